@@ -1,0 +1,12 @@
+//! Wrappers that contracts see as plain data: texts, sequences and boxes are equal where their contents are.
+#![tactic(auto)]
+
+mod boxed;
+mod exact;
+mod sequence;
+mod text;
+
+pub use boxed::Boxed;
+pub use exact::Exact;
+pub use sequence::Sequence;
+pub use text::{BorrowedText, Text};

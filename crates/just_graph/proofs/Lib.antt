@@ -1,0 +1,6 @@
+pub mod Targets
+pub mod Pushes
+pub mod Steps
+pub mod Frames
+pub mod Ends
+pub mod Adding

@@ -1,0 +1,3 @@
+pub mod ModulepathLemmas
+pub mod Shown
+pub mod Slashes

@@ -1,0 +1,108 @@
+-- What a change of a map says of the entries that a table shows.
+use Rattle.std.proofs.lemmas.Slice.Eq.{bytes_eq-Decides}
+use Rattle.std.proofs.Common.{rules, bytes_eq, ◌∙◌, ◌≡◌, ℕ, sym, ap, refl, suc, List, [], ◌∷◌, length, map, Bool, true, false, cond}
+use Rattle.std.specs.Borrow.{Bor}
+use Rattle.std.specs.declared.cmp.Ordering.{Ordering}
+use Rattle.std.specs.declared.cmp.Ordering.TheVariants.{Less, Equal, Greater}
+use Rattle.std.specs.Ordering.{nat_cmp, match_ordering, is_eq}
+use Rattle.std.specs.Cmp.Lexicographic.{slice_cmp}
+use Rattle.std.specs.List.{AllByRecursion}
+use Rattle.std.specs.List.Sorted.{IsStrictlySortedBy}
+use Rattle.std.specs.Map.{lookup, remove_entry, set_value, keys_of, values_of}
+use Rattle.std.specs.BTreeMap.{insert_entry}
+use Rattle.std.proofs.lemmas.Map.Lookups.{exact_bytes}
+use Rattle.std.proofs.lemmas.Map.Text.{is_eq-slice_cmp}
+use Rattle.std.proofs.lemmas.List.Elements.{All-nil, All-cons, All-head, All-tail}
+use Rattle.just_parts.specs.Entries.{shown, find, put, without, write, IsSorted, IsKeyed}
+
+-- what a `&str` key shows
+abbrev pub text_now : Bor (List ℕ) → List ℕ
+text_now k = k.now
+
+module _ {K : Type 0} (text : K → List ℕ) where
+  -- a query by the bytes bs
+  abbrev pub at : List ℕ → K → Bool
+  at bs q = is_eq (slice_cmp nat_cmp bs (text q))
+
+  abbrev pub by : K → K → Ordering
+  by x y = slice_cmp nat_cmp (text x) (text y)
+
+module _ {K V : Type 0} (text : K → List ℕ) where
+  pub find_shown : (k : List ℕ) (es : List (K × V)) → find k (shown text es) ≡ lookup (at text k) es
+  find_shown k [] = refl
+  find_shown k (e ∷ es) = rw (is_eq-slice_cmp k (text e.0), find_shown k es) refl
+
+  match_shown : (o : Ordering) (x y z : List (K × V)) → shown text (match_ordering o x y z) ≡ match_ordering o (shown text x) (shown text y) (shown text z)
+  match_shown Less x y z = refl
+  match_shown Equal x y z = refl
+  match_shown Greater x y z = refl
+
+  cond_shown : (b : Bool) (x y : List (K × V)) → shown text (cond b x y) ≡ cond b (shown text x) (shown text y)
+  cond_shown true x y = refl
+  cond_shown false x y = refl
+
+  pub put_shown : (k : K) (v : V) (es : List (K × V)) → put (text k) v (shown text es) ≡ shown text (insert_entry (by text) es k v)
+  put_shown k v [] = refl
+  put_shown k v (e ∷ es) = rw (put_shown k v es) (sym (match_shown (by text k e.0) ((k, v) ∷ e ∷ es) ((e.0, v) ∷ es) (e ∷ insert_entry (by text) es k v)))
+
+  pub without_shown : (k : List ℕ) (es : List (K × V)) → without k (shown text es) ≡ shown text (remove_entry (at text k) es)
+  without_shown k [] = refl
+  without_shown k (e ∷ es) = rw (← is_eq-slice_cmp k (text e.0), without_shown k es) (sym (cond_shown (at text k e.0) es (e ∷ remove_entry (at text k) es)))
+
+  pub write_shown : (k : List ℕ) (w : V) (es : List (K × V)) → write k w (shown text es) ≡ shown text (set_value (at text k) es w)
+  write_shown k w [] = refl
+  write_shown k w (e ∷ es) = rw (← is_eq-slice_cmp k (text e.0), write_shown k w es) (sym (cond_shown (at text k e.0) ((e.0, w) ∷ es) (e ∷ set_value (at text k) es w)))
+
+  below_shown : (x : K) (es : List (K × V)) → AllByRecursion (λ y. by text x y ≡ Less) (keys_of es) → AllByRecursion (λ y. slice_cmp nat_cmp (text x) y ≡ Less) (keys_of (shown text es))
+  below_shown x [] h = h
+  below_shown x (e ∷ es) h = (h.0, below_shown x es h.1)
+
+  pub sorted_shown : (es : List (K × V)) → IsStrictlySortedBy (by text) (keys_of es) → IsSorted (shown text es)
+  unfolding IsStrictlySortedBy
+  sorted_shown [] h = tt
+  sorted_shown (e ∷ es) h = (below_shown e.0 es h.0, sorted_shown es h.1)
+
+  pub keys_shown : (es : List (K × V)) → map text (keys_of es) ≡ keys_of (shown text es)
+  keys_shown [] = refl
+  keys_shown (e ∷ es) = ap (λ ks. text e.0 ∷ ks) (keys_shown es)
+
+  pub length_shown : (es : List (K × V)) → length (shown text es) ≡ length es
+  length_shown [] = refl
+  length_shown (e ∷ es) = ap (λ n. suc n) (length_shown es)
+
+  pub values_shown : (es : List (K × V)) → values_of es ≡ values_of (shown text es)
+  values_shown [] = refl
+  values_shown (e ∷ es) = ap (λ vs. e.1 ∷ vs) (values_shown es)
+
+  -- the same at any comparison that goes by the text
+  module _ (cmp : K → K → Ordering) (same : (x y : K) → cmp x y ≡ slice_cmp nat_cmp (text x) (text y)) where
+    pub find_shown_by : (k : K) (es : List (K × V)) → find (text k) (shown text es) ≡ lookup (λ q. is_eq (cmp k q)) es
+    find_shown_by k [] = refl
+    find_shown_by k (e ∷ es) = rw (same k e.0, is_eq-slice_cmp (text k) (text e.0), find_shown_by k es) refl
+
+    pub write_shown_by : (k : K) (w : V) (es : List (K × V)) → write (text k) w (shown text es) ≡ shown text (set_value (λ q. is_eq (cmp k q)) es w)
+    write_shown_by k w [] = refl
+    write_shown_by k w (e ∷ es) = rw (← is_eq-slice_cmp (text k) (text e.0), ← same k e.0, write_shown_by k w es) (sym (cond_shown (is_eq (cmp k e.0)) ((e.0, w) ∷ es) (e ∷ set_value (λ q. is_eq (cmp k q)) es w)))
+
+-- ---- keyed tables stay keyed
+module _ {V : Type 0} (key_of : V → List ℕ) where
+  abbrev Fits : List ℕ × V → Type 0
+  Fits e = key_of e.1 ≡ e.0
+
+  pub put_keyed : (v : V) (es : List (List ℕ × V)) → IsKeyed key_of es → IsKeyed key_of (put (key_of v) v es)
+  put_keyed v [] h = All-cons Fits (key_of v, v) [] refl (All-nil Fits)
+  put_keyed v (e ∷ es) h = go (slice_cmp nat_cmp (key_of v) e.0) refl (put_keyed v es (All-tail Fits e es h))
+    where
+      go : (o : Ordering) → slice_cmp nat_cmp (key_of v) e.0 ≡ o → IsKeyed key_of (put (key_of v) v es) → IsKeyed key_of (match_ordering o ((key_of v, v) ∷ e ∷ es) ((e.0, v) ∷ es) (e ∷ put (key_of v) v es))
+      go Less q ih = All-cons Fits (key_of v, v) (e ∷ es) refl h
+      go Equal q ih = All-cons Fits (e.0, v) es (exact_bytes (key_of v) e.0 q) (All-tail Fits e es h)
+      go Greater q ih = All-cons Fits e (put (key_of v) v es) (All-head Fits e es h) ih
+
+  -- a writer that leaves the value's key leaves the table keyed
+  pub write_keyed : (k : List ℕ) (w : V) (es : List (List ℕ × V)) → key_of w ≡ k → IsKeyed key_of es → IsKeyed key_of (write k w es)
+  write_keyed k w [] e h = h
+  write_keyed k w (x ∷ xs) e h = go (bytes_eq k x.0) refl (write_keyed k w xs e (All-tail Fits x xs h))
+    where
+      go : (b : Bool) → bytes_eq k x.0 ≡ b → IsKeyed key_of (write k w xs) → IsKeyed key_of (cond b ((x.0, w) ∷ xs) (x ∷ write k w xs))
+      go true q ih = let same : k ≡ x.0 = search (rules, bytes_eq-Decides) in All-cons Fits (x.0, w) xs (e ∙ same) (All-tail Fits x xs h)
+      go false q ih = All-cons Fits x (write k w xs) (All-head Fits x xs h) ih

@@ -1,0 +1,31 @@
+-- Records without their numbers, and without what the source of a text says.
+use Rattle.std.specs.Prelude.{ℕ, List, [], map, Option, None}
+use Rattle.just_parts.specs.declared.layers.number.Number.{Number}
+use Rattle.just_parts.specs.declared.layers.parameter.Parameter.{Parameter}
+use Rattle.just_parts.specs.declared.layers.ast.UnresolvedDependency.{UnresolvedDependency}
+use Rattle.just_parts.specs.declared.recipe.Recipe.{Recipe}
+use Rattle.just_parts.specs.declared.layers.ast.Item.{Item}
+use Rattle.just_parts.specs.declared.layers.ast.Item.TheVariants as item
+
+abbrev pub no_number : Number
+no_number = record { 0 = 0 }
+
+abbrev pub bare_parameter : Parameter → Parameter
+bare_parameter p = record { name = p.name; number = no_number; kind = p.kind }
+
+abbrev pub bare_recipe : Recipe UnresolvedDependency → Recipe UnresolvedDependency
+bare_recipe r = record {
+  dependencies = r.dependencies;
+  file_depth = 0;
+  import_offsets = [];
+  name = r.name;
+  number = no_number;
+  parameters = map bare_parameter r.parameters;
+  priors = r.priors;
+  private = r.private;
+  module_path = None;
+  recipe_path = None;
+}
+
+abbrev pub bare_item : Item → Item
+bare_item (item.Recipe r) = item.Recipe (bare_recipe r)

@@ -1,0 +1,14 @@
+-- What a host is asked, and what it promises.
+use Rattle.std.specs.Prelude.{◌≡◌, List, [], ◌∷◌, Option, Some}
+use Rattle.std.specs.List.{flat_map}
+use Rattle.just_parts.specs.declared.layers.host.Entry.{Entry}
+use Rattle.just_parts.specs.declared.layers.host.Entry.TheVariants.{Begin}
+use Rattle.just_parts.specs.declared.modulepath.Modulepath.{Modulepath}
+
+-- what a host answers, where it has the memory: that it is done
+pub data Answer : Type 0 where
+  Done : Answer
+
+-- no promise is taken away or changed
+abbrev pub KeepsPromises : (Entry → Option Answer) → (Entry → Option Answer) → Type 0
+KeepsPromises old new = (entry : Entry) (answer : Answer) → old entry ≡ Some answer → new entry ≡ Some answer

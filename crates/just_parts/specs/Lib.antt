@@ -1,0 +1,11 @@
+pub mod Bare
+pub mod Clean
+pub mod Entries
+pub mod Host
+pub mod Identifier
+pub mod Lends
+pub mod Modulepath
+pub mod Name
+pub mod Parameter
+pub mod Syntax
+pub mod Token

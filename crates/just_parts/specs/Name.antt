@@ -1,0 +1,17 @@
+-- Names and paths of names.
+use Rattle.std.specs.Prelude.{ℕ, List, [], ◌∷◌, ◌++◌, map}
+use Rattle.just_parts.specs.Token.{lexeme}
+use Rattle.just_parts.specs.declared.layers.name.Name.{Name}
+use Rattle.just_parts.specs.declared.layers.name.Namepath.{Namepath}
+
+-- the text of a name
+abbrev pub text_of_name : Name → List ℕ
+text_of_name name = lexeme name.token
+
+-- the names of a path, first to last
+abbrev pub names_of_path : Namepath → List Name
+names_of_path path = path.front ++ path.last ∷ []
+
+-- their texts
+abbrev pub texts_of_path : Namepath → List (List ℕ)
+texts_of_path path = map text_of_name (names_of_path path)

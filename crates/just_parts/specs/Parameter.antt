@@ -1,0 +1,29 @@
+-- What a parameter takes.
+use Rattle.std.specs.Prelude.{ℕ, Bool, true, false, List, length, count_by, if◌then◌else◌}
+use Rattle.std.specs.List.{list_any}
+use Rattle.just_parts.specs.declared.layers.parameter.ParameterKind.{ParameterKind}
+use Rattle.just_parts.specs.declared.layers.parameter.ParameterKind.TheVariants.{Singular, Plus, Star}
+use Rattle.just_parts.specs.declared.layers.parameter.Parameter.{Parameter}
+
+-- it takes all words from its place on
+abbrev pub is_variadic : ParameterKind → Bool
+is_variadic Singular = false
+is_variadic Plus = true
+is_variadic Star = true
+
+abbrev needs_word : ParameterKind → Bool
+needs_word Singular = true
+needs_word Plus = true
+needs_word Star = false
+
+-- its group may not be empty
+abbrev pub is_required : Parameter → Bool
+is_required parameter = needs_word parameter.kind
+
+-- a word for each required parameter
+abbrev pub least_arguments : List Parameter → ℕ
+least_arguments parameters = count_by is_required parameters
+
+-- a word for each parameter, or without end where one is variadic: the greatest `usize` but one
+abbrev pub most_arguments : List Parameter → ℕ
+most_arguments parameters = if list_any (λ (p : Parameter). is_variadic p.kind) parameters then 18446744073709551614 else length parameters

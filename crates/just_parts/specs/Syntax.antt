@@ -1,0 +1,69 @@
+-- What the syntax layer keeps.
+use Rattle.std.specs.Prelude.{◌≡◌, ℕ, ◌+◌, ◌≤◌, ◌^◌, List, [], ◌∷◌, map, length, Option, Some, None, false}
+use Rattle.std.specs.List.{All, flat_map}
+use Rattle.just_parts.specs.Modulepath.{text_of}
+use Rattle.just_parts.specs.Name.{texts_of_path}
+use Rattle.just_parts.specs.declared.modulepath.Modulepath.{Modulepath}
+use Rattle.just_parts.specs.declared.layers.name.Namepath.{Namepath}
+use Rattle.just_parts.specs.declared.layers.parameter.Parameter.{Parameter}
+use Rattle.just_parts.specs.declared.layers.ast.UnresolvedDependency.{UnresolvedDependency}
+use Rattle.just_parts.specs.declared.recipe.Recipe.{Recipe}
+use Rattle.just_parts.specs.declared.source.Source.{Source}
+use Rattle.just_parts.specs.declared.layers.ast.Ast.{Ast}
+use Rattle.just_parts.specs.declared.layers.ast.Item.{Item}
+use Rattle.just_parts.specs.declared.layers.ast.Item.TheVariants as item
+use Rattle.just_parts.specs.declared.layers.error.Error.{Error}
+use Rattle.just_parts.specs.declared.layers.error.Error.TheVariants as error
+
+abbrev pub parameter_numbers : List Parameter → List ℕ
+parameter_numbers = map (λ p. p.number.0)
+
+-- a recipe's number and those of its parameters, in the order of the text
+abbrev pub recipe_numbers : Recipe UnresolvedDependency → List ℕ
+recipe_numbers r = r.number.0 ∷ parameter_numbers r.parameters
+
+abbrev pub item_numbers : Item → List ℕ
+item_numbers (item.Recipe r) = recipe_numbers r
+
+-- the numbers that items were given, in the order of the text
+abbrev pub numbers : List Item → List ℕ
+numbers = flat_map item_numbers
+
+-- the numbers rise, each at least `low` and below `high`
+abbrev pub AreRising : ℕ → List ℕ → ℕ → Type 0
+AreRising low [] high = low ≤ high
+AreRising low (n ∷ ns) high = (low ≤ n) × AreRising (n + 1) ns high
+
+-- how deep a file lies, and where it was imported, stand in the item, and its paths are not there yet
+pub record CameBy (source : Source) (r : Recipe UnresolvedDependency) : Type 0 where
+  pub depth : r.file_depth ≡ source.file_depth
+  pub offsets : r.import_offsets ≡ source.import_offsets
+  pub module_path : r.module_path ≡ None
+  pub recipe_path : r.recipe_path ≡ None
+
+abbrev pub ItemCameBy : Source → Item → Type 0
+ItemCameBy source (item.Recipe r) = CameBy source r
+
+-- the texts of the names of a module's path; the root has none
+abbrev pub components_of : Option Namepath → List (List ℕ)
+components_of None = []
+components_of (Some path) = texts_of_path path
+
+pub record IsFrom (source : Source) (ast : Ast) : Type 0 where
+  pub components : ast.module_path.components ≡ components_of source.namepath
+  pub spaced : ast.module_path.spaced ≡ false
+  pub working_directory : ast.working_directory ≡ source.working_directory
+  pub items : All (ItemCameBy source) ast.items
+
+-- no more dependencies run before a recipe than it has
+abbrev pub PriorsAreDependencies : Item → Type 0
+PriorsAreDependencies (item.Recipe r) = r.priors ≤ length r.dependencies
+
+-- what a refusal says of the text and the numbers
+abbrev pub Refuses : Error → Option (List Item) → ℕ → Type 0
+Refuses (error.Compile e) parsed next = parsed ≡ None
+Refuses error.Exhausted parsed next = next + 1 ≡ 2 ^ 64
+Refuses error.Memory parsed next = Unit {0}
+Refuses (error.Load e) parsed next = ⊥
+Refuses (error.Invocation e) parsed next = ⊥
+Refuses (error.Run e) parsed next = ⊥

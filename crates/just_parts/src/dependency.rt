@@ -1,0 +1,16 @@
+use crate::layers::name::Namepath;
+use crate::layers::number::Number;
+use just_data::Exact;
+
+/// What a resolved recipe depends on: a recipe, and the path by which it is named.
+#[derive(Clone, Debug, PartialEq, Eq, Drop)]
+pub struct Dependency<'src> {
+    pub path: Namepath<'src>,
+    pub recipe: Number,
+}
+
+impl<'src> Exact for Dependency<'src> {
+    ghost use Rattle.std.proofs.Common.{rules};
+
+    ghost exact = { Prim.search rules };
+}

@@ -1,0 +1,26 @@
+ghost use Rattle.std.specs.Prelude.{◌≡◌};
+ghost use Rattle.just_parts.specs.Identifier.{is_identifier_start, is_identifier_continue, is_identifier};
+
+fn starts_identifier(b: u8) -> bool
+    ensures { result ≡ is_identifier_start b }
+{
+    matches!(b, b'a'..=b'z' | b'A'..=b'Z' | b'_')
+}
+
+fn continues_identifier(b: u8) -> bool
+    ensures { result ≡ is_identifier_continue b }
+{
+    starts_identifier(b) || matches!(b, b'0'..=b'9' | b'-')
+}
+
+/// Whether a word is an identifier.
+pub fn is_identifier(word: &str) -> bool
+    ensures { result ≡ is_identifier word.now }
+{
+    match word.as_bytes().split_first() {
+        Some((first, rest)) => {
+            starts_identifier(*first) && rest.iter().all(|b| continues_identifier(*b))
+        }
+        None => false,
+    }
+}

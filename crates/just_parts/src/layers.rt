@@ -1,0 +1,27 @@
+//! What the layers around the analyzer hand over and are handed: records, errors, and the traits that they implement.
+
+pub mod ast;
+pub mod config;
+pub mod error;
+pub mod evaluation;
+pub mod host;
+pub mod name;
+pub mod number;
+pub mod output;
+pub mod parameter;
+pub mod syntax;
+pub mod token;
+
+pub use ast::{Ast, Item, UnresolvedDependency};
+pub use config::Config;
+pub use error::{
+    CompileError, CompileErrorKind, Error, InvocationError, LoadError, RunError, SourceError,
+};
+pub use evaluation::Evaluation;
+pub use host::{Entry, Groups, Host};
+pub use name::{Name, Namepath};
+pub use number::{Exhausted, Number, Numerator};
+pub use output::{Output, WriteFailed};
+pub use parameter::{Parameter, ParameterKind};
+pub use syntax::Syntax;
+pub use token::Token;

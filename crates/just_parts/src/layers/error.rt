@@ -1,0 +1,332 @@
+use crate::layers::name::Namepath;
+use crate::layers::number::Exhausted;
+use crate::layers::token::Token;
+use just_data::{BorrowedText, Sequence, Text};
+use std::alloc::{AllocError, AllocFailed};
+use std::fmt;
+use thiserror::Error;
+
+/// Why the files could not be loaded.
+#[derive(Debug, Drop, Error)]
+pub enum LoadError {
+    /// The root is no key of the source map.
+    #[error("Could not find source file `{path}`")]
+    Load { path: Text },
+}
+
+impl LoadError {
+    /// The name of the variant.
+    pub fn name(&self) -> &'static str {
+        match self {
+            LoadError::Load { .. } => "Load",
+        }
+    }
+}
+
+/// What a name is defined as.
+#[derive(Clone, Copy, Debug, PartialEq, Eq)]
+pub enum Definition {
+    Recipe,
+}
+
+impl fmt::Display for Definition {
+    fn fmt<W: fmt::Write>(&self, f: &mut fmt::Formatter<W>) -> fmt::Result {
+        match self {
+            Definition::Recipe => f.write_str("Recipe"),
+        }
+    }
+}
+
+/// Which rule of compilation is broken.
+#[derive(Debug, PartialEq, Eq, Drop)]
+pub enum CompileErrorKind<'src> {
+    /// A text does not follow the grammar.
+    Syntax,
+    /// A recipe has two parameters of one name.
+    DuplicateParameter {
+        recipe: BorrowedText<'src>,
+        parameter: BorrowedText<'src>,
+    },
+    /// A name is defined twice. `first` is the line of the first definition, which counts from 0.
+    Redefinition {
+        first_type: Definition,
+        second_type: Definition,
+        name: BorrowedText<'src>,
+        first: usize,
+    },
+    /// A recipe depends on what is no recipe.
+    UnknownDependency {
+        recipe: BorrowedText<'src>,
+        unknown: Namepath<'src>,
+    },
+    /// A recipe depends on itself. The circle begins and ends with one name, and each member depends on the next;
+    /// `recipe` is the last that does.
+    CircularRecipeDependency {
+        recipe: BorrowedText<'src>,
+        circle: Sequence<BorrowedText<'src>>,
+    },
+    /// A recipe is depended on with fewer or more arguments than it takes.
+    DependencyArgumentCountMismatch {
+        dependency: Namepath<'src>,
+        found: usize,
+        min: usize,
+        max: usize,
+    },
+}
+
+impl<'src> CompileErrorKind<'src> {
+    /// The name of the variant.
+    pub fn name(&self) -> &'static str {
+        match self {
+            CompileErrorKind::Syntax => "Syntax",
+            CompileErrorKind::DuplicateParameter { .. } => "DuplicateParameter",
+            CompileErrorKind::Redefinition { .. } => "Redefinition",
+            CompileErrorKind::UnknownDependency { .. } => "UnknownDependency",
+            CompileErrorKind::CircularRecipeDependency { .. } => "CircularRecipeDependency",
+            CompileErrorKind::DependencyArgumentCountMismatch { .. } => {
+                "DependencyArgumentCountMismatch"
+            }
+        }
+    }
+}
+
+// Writes the names of a circle, with arrows between them.
+fn write_circle<W: fmt::Write>(f: &mut fmt::Formatter<W>, circle: &[BorrowedText]) -> fmt::Result {
+    let Some((first, rest)) = circle.split_first() else {
+        return Ok(());
+    };
+    write!(f, "{first}")?;
+    for name in rest {
+        write!(f, " -> {name}")?;
+    }
+    Ok(())
+}
+
+impl<'src> fmt::Display for CompileErrorKind<'src> {
+    fn fmt<W: fmt::Write>(&self, f: &mut fmt::Formatter<W>) -> fmt::Result {
+        match self {
+            CompileErrorKind::Syntax => f.write_str("The line does not follow the grammar"),
+            CompileErrorKind::DuplicateParameter { recipe, parameter } => {
+                write!(f, "Recipe `{recipe}` has duplicate parameter `{parameter}`")
+            }
+            CompileErrorKind::Redefinition {
+                first_type,
+                second_type,
+                name,
+                first,
+            } => {
+                let line = first.saturating_add(1);
+                write!(
+                    f,
+                    "{first_type} `{name}` first defined on line {line} is redefined as {second_type}"
+                )
+            }
+            CompileErrorKind::UnknownDependency { recipe, unknown } => {
+                write!(f, "Recipe `{recipe}` has unknown dependency `{unknown}`")
+            }
+            CompileErrorKind::CircularRecipeDependency { recipe, circle } => {
+                write!(f, "Recipe `{recipe}` has circular dependency `")?;
+                write_circle(f, circle.as_slice())?;
+                f.write_str("`")
+            }
+            CompileErrorKind::DependencyArgumentCountMismatch {
+                dependency,
+                found,
+                min,
+                max,
+            } => {
+                write!(
+                    f,
+                    "Dependency `{dependency}` got {found} arguments but takes {min} to {max}"
+                )
+            }
+        }
+    }
+}
+
+/// A broken rule of compilation, and the token at which it is told.
+#[derive(Debug, PartialEq, Eq, Drop)]
+pub struct CompileError<'src> {
+    pub token: Token<'src>,
+    pub kind: CompileErrorKind<'src>,
+}
+
+impl<'src> fmt::Display for CompileError<'src> {
+    fn fmt<W: fmt::Write>(&self, f: &mut fmt::Formatter<W>) -> fmt::Result {
+        let path = self.token.path();
+        let line = self.token.line().saturating_add(1);
+        let column = self.token.column().saturating_add(1);
+        let kind = &self.kind;
+        write!(f, "{path}:{line}:{column}: {kind}")
+    }
+}
+
+impl<'src> std::error::Error for CompileError<'src> {}
+
+/// Why words are no invocations. Paths are spaced where words were, and joined by `::` where a path was given.
+#[derive(Debug, PartialEq, Eq, Drop, Error)]
+pub enum InvocationError<'src> {
+    #[error("Justfile does not contain recipe `{recipe}`")]
+    UnknownRecipe {
+        recipe: Text,
+    },
+    #[error("Justfile does not contain submodule `{path}`")]
+    UnknownSubmodule {
+        path: Text,
+    },
+    #[error("Expected submodule at `{path}` but found recipe")]
+    ExpectedSubmoduleButFoundRecipe {
+        path: Text,
+    },
+    #[error("Justfile contains no recipes")]
+    NoRecipes,
+    #[error("Justfile contains no default recipe")]
+    NoDefaultRecipe,
+    #[error("Recipe `{recipe}` cannot be used as default recipe since it requires at least {min_arguments} arguments")]
+    DefaultRecipeRequiresArguments {
+        recipe: BorrowedText<'src>,
+        min_arguments: usize,
+    },
+    #[error("Recipe `{recipe}` got {found} positional arguments but takes {min} to {max}")]
+    PositionalArgumentCountMismatch {
+        recipe: BorrowedText<'src>,
+        found: usize,
+        min: usize,
+        max: usize,
+    },
+}
+
+impl<'src> InvocationError<'src> {
+    /// The name of the variant.
+    pub fn name(&self) -> &'static str {
+        match self {
+            InvocationError::UnknownRecipe { .. } => "UnknownRecipe",
+            InvocationError::UnknownSubmodule { .. } => "UnknownSubmodule",
+            InvocationError::ExpectedSubmoduleButFoundRecipe { .. } => {
+                "ExpectedSubmoduleButFoundRecipe"
+            }
+            InvocationError::NoRecipes => "NoRecipes",
+            InvocationError::NoDefaultRecipe => "NoDefaultRecipe",
+            InvocationError::DefaultRecipeRequiresArguments { .. } => {
+                "DefaultRecipeRequiresArguments"
+            }
+            InvocationError::PositionalArgumentCountMismatch { .. } => {
+                "PositionalArgumentCountMismatch"
+            }
+        }
+    }
+}
+
+/// Why a run ended early.
+#[derive(Debug, PartialEq, Eq, Drop)]
+pub enum RunError<'src> {
+    /// There are several invocations where one alone is allowed.
+    ExcessInvocations { invocations: usize },
+    /// A reachable recipe has what can't be run yet.
+    NotYet { recipe: BorrowedText<'src> },
+}
+
+impl<'src> RunError<'src> {
+    /// The name of the variant.
+    pub fn name(&self) -> &'static str {
+        match self {
+            RunError::ExcessInvocations { .. } => "ExcessInvocations",
+            RunError::NotYet { .. } => "NotYet",
+        }
+    }
+}
+
+impl<'src> fmt::Display for RunError<'src> {
+    fn fmt<W: fmt::Write>(&self, f: &mut fmt::Formatter<W>) -> fmt::Result {
+        match self {
+            RunError::ExcessInvocations { invocations } => {
+                write!(
+                    f,
+                    "Expected 1 command-line recipe invocation but found {invocations}"
+                )
+            }
+            RunError::NotYet { recipe } => {
+                write!(f, "Recipe `{recipe}` has parts that cannot be run yet")
+            }
+        }
+    }
+}
+
+impl<'src> std::error::Error for RunError<'src> {}
+
+/// Why a text is not taken into a source map.
+#[derive(Clone, Copy, Debug, PartialEq, Eq, Error)]
+pub enum SourceError {
+    /// The path is not clean.
+    #[error("The path is not clean")]
+    NotClean,
+    /// Memory was refused.
+    #[error("Out of memory")]
+    Memory,
+}
+
+/// Every fault of compiling, of reading words and of running.
+#[derive(Debug, Drop, Error)]
+pub enum Error<'src> {
+    #[error(transparent)]
+    Load(LoadError),
+    #[error(transparent)]
+    Compile(CompileError<'src>),
+    #[error(transparent)]
+    Invocation(InvocationError<'src>),
+    #[error(transparent)]
+    Run(RunError<'src>),
+    /// A number, a depth or a counter no longer fits.
+    #[error("No number is left")]
+    Exhausted,
+    /// Memory was refused.
+    #[error("Out of memory")]
+    Memory,
+}
+
+impl<'src> Error<'src> {
+    /// The name of the fault: that of the variant, of a broken rule of compilation that of its kind.
+    pub fn name(&self) -> &'static str {
+        match self {
+            Error::Load(error) => error.name(),
+            Error::Compile(error) => error.kind.name(),
+            Error::Invocation(error) => error.name(),
+            Error::Run(error) => error.name(),
+            Error::Exhausted => "Exhausted",
+            Error::Memory => "Memory",
+        }
+    }
+}
+
+impl<'src> From<AllocError> for Error<'src> {
+    ghost use Rattle.std.specs.Prelude.{◌≡◌};
+    ghost use Rattle.just_parts.specs.declared.layers.error.Error.TheVariants.{Memory};
+
+    ghost from_gives = { λ _ error. error ≡ Memory };
+
+    fn from(_refused: AllocError) -> Error<'src> {
+        Error::Memory
+    }
+}
+
+impl<'src, T: Drop> From<AllocFailed<T>> for Error<'src> {
+    ghost use Rattle.std.specs.Prelude.{◌≡◌};
+    ghost use Rattle.just_parts.specs.declared.layers.error.Error.TheVariants.{Memory};
+
+    ghost from_gives = { λ _ error. error ≡ Memory };
+
+    fn from(_refused: AllocFailed<T>) -> Error<'src> {
+        Error::Memory
+    }
+}
+
+impl<'src> From<Exhausted> for Error<'src> {
+    ghost use Rattle.std.specs.Prelude.{◌≡◌};
+    ghost use Rattle.just_parts.specs.declared.layers.error.Error.TheVariants as variant;
+
+    ghost from_gives = { λ _ error. error ≡ variant.Exhausted };
+
+    fn from(_exhausted: Exhausted) -> Error<'src> {
+        Error::Exhausted
+    }
+}

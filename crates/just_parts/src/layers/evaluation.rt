@@ -1,0 +1,2 @@
+/// What evaluates expressions. Plain recipes have none, so nothing is asked of it yet.
+pub trait Evaluation {}

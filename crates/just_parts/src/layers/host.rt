@@ -1,0 +1,39 @@
+ghost use Rattle.std.specs.Prelude.{◌≡◌, ◌++◌, ◌∷◌, [], List, Option, OnOk, OnErr};
+ghost use Rattle.just_parts.specs.declared.layers.host.Entry.{Entry};
+ghost use Rattle.just_parts.specs.Host.{Answer, KeepsPromises};
+
+use crate::modulepath::Modulepath;
+use just_data::{Exact, Sequence, Text};
+use std::alloc::AllocError;
+
+/// The arguments of a recipe: for each parameter the texts that it was given.
+pub type Groups = Sequence<Sequence<Text>>;
+
+/// A call of a host, as it is recorded.
+#[derive(Clone, Debug, PartialEq, Eq, Drop)]
+pub enum Entry {
+    /// A recipe begins.
+    Begin { path: Modulepath, groups: Groups },
+}
+
+impl Exact for Entry {
+    ghost use Rattle.std.proofs.Common.{rules};
+
+    ghost exact = { Prim.search rules };
+}
+
+/// The outside of a run. It stores what it was asked: each call appends one entry, or answers want of memory and
+/// appends none.
+pub trait Host {
+    /// What it was asked, in order.
+    ghost entries: { Self → List Entry };
+
+    /// The answer to a call, where that is fixed for good.
+    ghost promised: { Self → Entry → Option Answer };
+
+    /// The recipe at this path begins, with these groups.
+    fn begin(&mut self, path: &Modulepath, groups: &Groups) -> Result<(), AllocError>
+        ensures recorded { OnOk result (entries self.new ≡ entries self.old ++ Entry.Begin path.now groups.now ∷ []) }
+        ensures refused { OnErr result (entries self.new ≡ entries self.old) }
+        ensures keeps { KeepsPromises (promised self.old) (promised self.new) };
+}
