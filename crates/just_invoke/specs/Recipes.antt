@@ -24,6 +24,10 @@ AreApart these those = (number : ℕ) → Contains (numbers these) number → Co
 abbrev pub find_number : List (Recipe Dependency) → ℕ → Option (Recipe Dependency)
 find_number recipes number = find (λ r. r.number.0 == number) recipes
 
+-- the recipe at the place has the number
+abbrev pub IsPlaceOf : List (Recipe Dependency) → ℕ → ℕ → Type 0
+IsPlaceOf recipes number place = (place < length recipes) × (slice_index (numbers recipes) place ≡ number)
+
 -- where these numbers stand already: each recipe has a number of its own, and depends on numbers that stand before it
 abbrev pub AreOrderedAfter : List ℕ → List (Recipe Dependency) → Type 0
 AreOrderedAfter before [] = Unit {0}

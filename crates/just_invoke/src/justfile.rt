@@ -1,14 +1,6 @@
-ghost use Rattle.std.specs.Prelude.{◌≡◌};
-ghost use Rattle.just_invoke.specs.Closed.{IsClosed};
-
-use crate::invocation_parser::InvocationParser;
-use crate::recipes::Recipes;
-use crate::running::{Report, run_invocations};
 use just_data::{Exact, Sequence, Text};
-use just_parts::layers::{Config, Error, Evaluation, Host, Name, Number, Output, RunError, Syntax};
+use just_parts::layers::{Name, Number};
 use just_parts::{Keyed, Modulepath, Table};
-use std::alloc::Global;
-use std::collections::HashMap;
 
 /// The name and the number of a recipe.
 #[derive(Clone, Debug, PartialEq, Eq, Drop)]
@@ -45,34 +37,4 @@ pub struct Justfile<'src> {
     /// The path of the module's own file.
     pub source: Text,
     pub working_directory: Text,
-}
-
-impl<'src> Justfile<'src> {
-    /// Runs what the words mean: each invocation in turn under one once table, and each recipe's prior dependencies
-    /// before it. Where the words or a host's call are refused, what was executed before stands, and nothing else runs.
-    ///
-    /// The writer and the evaluated layers are asked nothing yet.
-    pub fn run<S: Syntax, E: Evaluation, H: Host, W: Output>(
-        &self,
-        alloc: Global,
-        config: &Config,
-        recipes: &Recipes<'src>,
-        syntax: &S,
-        evaluation: &E,
-        host: &mut H,
-        writer: &mut W,
-        words: &[&str],
-        overrides: &HashMap<Number, Text>,
-    ) -> Result<Report, Error<'src>>
-        requires { IsClosed self.now recipes.now }
-    {
-        let invocations =
-            InvocationParser::parse_invocations(alloc, self, recipes, evaluation, words)?;
-        if config.one && invocations.len() > 1 {
-            return Err(Error::Run(RunError::ExcessInvocations {
-                invocations: invocations.len(),
-            }));
-        }
-        run_invocations(alloc, recipes, host, invocations.as_slice())
-    }
 }

@@ -1,7 +1,9 @@
-ghost use Rattle.std.specs.Prelude.{◌≡◌, ◌<◌, ◌≤◌, ◌++◌, ◌∷◌, [], length, IsSome, IfSome, IfNone, IfErr, OnOk, OnErr, Some};
+ghost use Rattle.std.specs.Prelude.{◌≡◌, ◌≢◌, ◌+◌, ◌^◌, ◌<◌, ℕ, ◌++◌, ◌∷◌, [], ◌↔◌, length, slice_get, slice_index, IsTrue, IfSome, IfNone, IfErr, OnOk, OnErr, Some};
 ghost use Rattle.std.specs.List.{All, Contains};
 ghost use Rattle.std.specs.Option.{option_copied};
-ghost use Rattle.just_invoke.specs.Recipes.{numbers, needs, find_number, IsNew, AreApart};
+ghost use Rattle.std.specs.Ordering.{nat_cmp};
+ghost use Rattle.std.specs.BTreeMap.{get};
+ghost use Rattle.just_invoke.specs.Recipes.{numbers, needs, find_number, IsPlaceOf, IsNew, AreApart};
 
 use just_parts::Recipe;
 use just_parts::layers::Number;
@@ -43,16 +45,49 @@ impl<'src> Recipes<'src> {
         }
     }
 
+    /// How many recipes there are.
+    pub fn len(&self) -> usize
+        ensures { result ≡ length self.now }
+    {
+        self.recipes.len()
+    }
+
+    /// Whether there are no recipes.
+    pub fn is_empty(&self) -> bool
+        ensures { IsTrue result ↔ (self.now ≡ []) }
+    {
+        self.recipes.is_empty()
+    }
+
+    // The place of the recipe of that number.
+    pub(crate) fn place_of(&self, number: Number) -> Option<usize>
+        ensures found { IfSome result (IsPlaceOf self.now number.0) }
+        ensures missing { IfNone result (IsNew self.now number.0) }
+    {
+        let Some(place) = self.places.get(&number.0).copied() else {
+            return None;
+        };
+        if place < self.recipes.len() && self.recipes[place].number == number {
+            return Some(place);
+        }
+        None
+    }
+
+    // The recipe at a place.
+    pub(crate) fn at(&self, place: usize) -> &Recipe<'src>
+        requires { place < length self.now }
+        ensures { slice_get self.now place ≡ Some result.now }
+    {
+        &self.recipes[place]
+    }
+
     /// The recipe of that number.
     pub fn get(&self, number: Number) -> Option<&Recipe<'src>>
         ensures { option_copied result ≡ find_number self.now number.0 }
     {
-        let place = *self.places.get(&number.0)?;
-        let recipe = self.recipes.get(place)?;
-        if recipe.number == number {
-            Some(recipe)
-        } else {
-            None
+        match self.place_of(number) {
+            Some(place) => Some(&self.recipes[place]),
+            None => None,
         }
     }
 
@@ -64,10 +99,10 @@ impl<'src> Recipes<'src> {
         ensures err { OnErr result (self.new ≡ self.old) }
         ensures returned { IfErr result (λ refused. refused.value ≡ recipe.entry) }
     {
-        if self.places.insert(recipe.number.0, self.recipes.len()).is_err() {
-            return Err(AllocFailed { value: recipe });
+        match self.places.insert(recipe.number.0, self.recipes.len()) {
+            Ok(_) => self.recipes.push(recipe),
+            Err(_) => Err(AllocFailed { value: recipe }),
         }
-        self.recipes.push(recipe)
     }
 
     /// Moves the recipes of `other` to the end. Where memory is refused, both stand.
@@ -79,9 +114,24 @@ impl<'src> Recipes<'src> {
         ensures other_stands { OnErr result (other.new ≡ other.old) }
     {
         let start = self.recipes.len();
-        for (place, recipe) in other.recipes.iter().enumerate() {
-            self.places.insert(recipe.number.0, start + place)?;
-        }
+        index_all(&mut self.places, other.recipes.as_slice(), start)?;
         self.recipes.append(&mut other.recipes)
     }
+}
+
+// Puts the places of recipes, which begin at `start`, under their numbers. No other number has another place then.
+fn index_all(
+    places: &mut BTreeMap<u64, usize>,
+    recipes: &[Recipe],
+    start: usize,
+) -> Result<(), AllocError>
+    requires once { (i j : ℕ) → i < j → j < length recipes.now → slice_index (numbers recipes.now) i ≢ slice_index (numbers recipes.now) j }
+    requires fits { start + length recipes.now < 2 ^ 64 }
+    ensures placed { OnOk result ((k : ℕ) → k < length recipes.now → get nat_cmp places.new (slice_index (numbers recipes.now) k) ≡ Some (start + k)) }
+    ensures kept { (n : ℕ) → IsNew recipes.now n → get nat_cmp places.new n ≡ get nat_cmp places.old n }
+{
+    for (place, recipe) in recipes.iter().enumerate() {
+        places.insert(recipe.number.0, start + place)?;
+    }
+    Ok(())
 }

@@ -1,0 +1,41 @@
+-- A module whose recipes are among those that are held.
+use Rattle.std.specs.Prelude.{◌≡◌, ◌≤◌, ℕ, List, length, Option, Some, None, IsSome}
+use Rattle.std.specs.List.{All}
+use Rattle.just_parts.specs.Entries.{find}
+use Rattle.just_parts.specs.declared.layers.number.Number.{Number}
+use Rattle.just_parts.specs.declared.dependency.Dependency.{Dependency}
+use Rattle.just_parts.specs.declared.recipe.Recipe.{Recipe}
+use Rattle.just_invoke.specs.declared.justfile.Justfile.{Justfile}
+use Rattle.just_invoke.specs.declared.justfile.RecipeKey.{RecipeKey}
+use Rattle.just_invoke.specs.Recipes.{find_number}
+
+-- the recipe is held, under its number
+abbrev pub IsHeld : List (Recipe Dependency) → Recipe Dependency → Type 0
+IsHeld recipes recipe = find_number recipes recipe.number.0 ≡ Some recipe
+
+-- the recipe of a name: the held one that the module's table names
+abbrev pub recipe_of_key : List (Recipe Dependency) → Option RecipeKey → Option (Recipe Dependency)
+recipe_of_key recipes None = None
+recipe_of_key recipes (Some key) = find_number recipes key.number.0
+
+abbrev pub recipe_named : Justfile → List (Recipe Dependency) → List ℕ → Option (Recipe Dependency)
+recipe_named justfile recipes name = recipe_of_key recipes (find name justfile.recipes)
+
+abbrev pub recipe_of_number : List (Recipe Dependency) → Option Number → Option (Recipe Dependency)
+recipe_of_number recipes None = None
+recipe_of_number recipes (Some number) = find_number recipes number.0
+
+-- the recipe that is run without words
+abbrev pub default_recipe : Justfile → List (Recipe Dependency) → Option (Recipe Dependency)
+default_recipe justfile recipes = recipe_of_number recipes justfile.default
+
+-- A recipe as it is resolved: it has its path, and no more dependencies run before it than it has.
+pub record IsResolved (recipe : Recipe Dependency) : Type 0 where
+  pub path : IsSome recipe.recipe_path
+  pub priors : recipe.priors ≤ length recipe.dependencies
+
+-- Each name of the module, and its default, is that of a recipe that is held, and the held recipes are resolved.
+pub record IsClosed (justfile : Justfile) (recipes : List (Recipe Dependency)) : Type 0 where
+  pub named : (name : List ℕ) → IsSome (find name justfile.recipes) → IsSome (recipe_named justfile recipes name)
+  pub default : IsSome justfile.default → IsSome (default_recipe justfile recipes)
+  pub resolved : All IsResolved recipes
