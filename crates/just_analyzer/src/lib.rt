@@ -1,1 +1,14 @@
+//! Compiles a source map of justfiles, or names a broken rule.
 #![tactic(auto)]
+
+mod analyzer;
+mod definitions;
+mod headers;
+mod names;
+mod recipe_resolver;
+pub mod sources;
+mod unresolved_recipe;
+
+pub use just_invoke::{Invocation, Justfile, RecipeKey, Recipes};
+pub use just_parts::{Modulepath, is_clean};
+pub use sources::Sources;

@@ -2,9 +2,12 @@
 #![tactic(auto)]
 
 mod invocation;
+pub mod invocation_parser;
 pub mod justfile;
+pub mod laws;
 pub mod recipes;
 
 pub use invocation::Invocation;
+pub use invocation_parser::InvocationParser;
 pub use justfile::{Justfile, RecipeKey};
 pub use recipes::Recipes;

@@ -1,9 +1,9 @@
-use Rattle.std.proofs.Common.{◌≡◌, ◌≢◌, ℕ, ◌+◌, ◌<◌, suc, Bool, true, false, List, [], ◌∷◌, ◌++◌, length, get_or, drop, map, refl, sym, ap, ◌∙◌, subst, arith, rules, IsTrue, append_assoc}
-use Rattle.std.specs.List.{AllByRecursion, list_all, flat_map}
+use Rattle.std.proofs.Common.{◌≡◌, ◌≢◌, ℕ, ◌<◌, suc, true, List, [], ◌∷◌, ◌++◌, length, get_or, refl, sym, ap, ◌∙◌, subst, arith}
+use Rattle.std.specs.List.{list_all}
 use Rattle.std.proofs.lemmas.List.{append-nil}
-use Rattle.std.proofs.lemmas.Bool.{and_parts, and_from, false≢true}
+use Rattle.std.proofs.lemmas.Bool.{and_parts, false≢true}
 use Rattle.just_parts.specs.Identifier.{is_identifier_start, is_identifier_continue, is_identifier}
-use Rattle.just_parts.specs.Modulepath.{AllIdentifiers, IsPath, IsWordPath, texts, text_of, Text, joined}
+use Rattle.just_parts.specs.Modulepath.{IsWordPath, Text, joined}
 
 abbrev pub LacksColon : List ℕ → Type 0
 LacksColon [] = Unit {0}

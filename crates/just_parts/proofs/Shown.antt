@@ -1,6 +1,6 @@
 -- What a change of a map says of the entries that a table shows.
 use Rattle.std.proofs.lemmas.Slice.Eq.{bytes_eq-Decides}
-use Rattle.std.proofs.Common.{rules, bytes_eq, ◌∙◌, ◌≡◌, ℕ, sym, ap, refl, suc, List, [], ◌∷◌, length, map, Bool, true, false, cond}
+use Rattle.std.proofs.Common.{rules, bytes_eq, ◌∙◌, ◌≡◌, ℕ, sym, ap, refl, suc, List, [], ◌∷◌, length, map, Bool, true, false, true≢false, cond, Option, None, Some, is_some}
 use Rattle.std.specs.Borrow.{Bor}
 use Rattle.std.specs.declared.cmp.Ordering.{Ordering}
 use Rattle.std.specs.declared.cmp.Ordering.TheVariants.{Less, Equal, Greater}
@@ -10,10 +10,11 @@ use Rattle.std.specs.List.{AllByRecursion}
 use Rattle.std.specs.List.Sorted.{IsStrictlySortedBy}
 use Rattle.std.specs.Map.{lookup, remove_entry, set_value, keys_of, values_of}
 use Rattle.std.specs.BTreeMap.{insert_entry}
+use Rattle.std.specs.Map.Calls.{RetainsPairs}
 use Rattle.std.proofs.lemmas.Map.Lookups.{exact_bytes}
 use Rattle.std.proofs.lemmas.Map.Text.{is_eq-slice_cmp}
 use Rattle.std.proofs.lemmas.List.Elements.{All-nil, All-cons, All-head, All-tail}
-use Rattle.just_parts.specs.Entries.{shown, find, put, without, write, IsSorted, IsKeyed}
+use Rattle.just_parts.specs.Entries.{shown, find, put, without, write, IsSorted, IsKeyed, UpdatesEach}
 
 -- what a `&str` key shows
 abbrev pub text_now : Bor (List ℕ) → List ℕ
@@ -83,6 +84,40 @@ module _ {K V : Type 0} (text : K → List ℕ) where
     pub write_shown_by : (k : K) (w : V) (es : List (K × V)) → write (text k) w (shown text es) ≡ shown text (set_value (λ q. is_eq (cmp k q)) es w)
     write_shown_by k w [] = refl
     write_shown_by k w (e ∷ es) = rw (← is_eq-slice_cmp (text k) (text e.0), ← same k e.0, write_shown_by k w es) (sym (cond_shown (is_eq (cmp k e.0)) ((e.0, w) ∷ es) (e ∷ set_value (λ q. is_eq (cmp k q)) es w)))
+
+-- ---- a key that is not there
+pub none_by : {V : Type 0} (o : Option V) → is_some o ≡ false → o ≡ None
+none_by None h = refl
+none_by (Some v) h = absurd (true≢false h)
+
+module _ {V : Type 0} where
+  pub write_absent : (k : List ℕ) (w : V) (es : List (List ℕ × V)) → find k es ≡ None → write k w es ≡ es
+  write_absent k w [] h = refl
+  write_absent k w (e ∷ es) h = go (bytes_eq k e.0) h (write_absent k w es)
+    where
+      go : (b : Bool) → cond b (Some e.1) (find k es) ≡ None → (find k es ≡ None → write k w es ≡ es) → cond b ((e.0, w) ∷ es) (e ∷ write k w es) ≡ e ∷ es
+      go true q ih = absurd (true≢false (ap is_some q))
+      go false q ih = ap (λ rest. e ∷ rest) (ih q)
+
+-- ---- values that a closure changed, each in turn
+module _ {F V : Type 0} (U : F → V → V → F → Type 0) where
+  pub updated_keys : (f : F) (es new : List (List ℕ × V)) → UpdatesEach U f es new → keys_of new ≡ keys_of es
+  updated_keys f [] new r = ap keys_of r
+  updated_keys f (e ∷ es) new r = ap keys_of r.5 ∙ ap (λ ks. e.0 ∷ ks) (updated_keys r.1 es r.2 r.4)
+
+  -- where each call leaves a function of the value that was there
+  pub updated_map : (change : V → V) → ((f : F) (v w : V) (g : F) → U f v w g → w ≡ change v) → (f : F) (es new : List (List ℕ × V)) → UpdatesEach U f es new → new ≡ map (λ e. (e.0, change e.1)) es
+  updated_map change h f [] new r = r
+  updated_map change h f (e ∷ es) new r =
+      r.5 ∙ ap (λ w. (e.0, w) ∷ r.2) (h f e.1 r.0 r.1 r.3) ∙ ap (λ rest. (e.0, change e.1) ∷ rest) (updated_map change h r.1 es r.2 r.4)
+
+module _ {K V S F : Type 0} (text : K → List ℕ) (T : S → K → V → Bool → V → S → Type 0) (U : F → V → V → F → Type 0) (state : S → F) where
+  pub updated_by : ((s : S) (k : K) (v : V) (b : Bool) (w : V) (t : S) → T s k v b w t → (b ≡ true) × U (state s) v w (state t))
+      → (s : S) (es kept : List (K × V)) → RetainsPairs T s es kept → UpdatesEach U (state s) (shown text es) (shown text kept)
+  updated_by h s [] kept r = ap (shown text) r
+  updated_by h s (e ∷ es) kept r =
+      let one = h s e.0 e.1 r.0 r.1 r.2 r.4 in
+      (r.1, state r.2, shown text r.3, one.1, updated_by h r.2 es r.3 r.5, ap (shown text) (r.6 ∙ ap (λ b. cond b ((e.0, r.1) ∷ r.3) r.3) one.0))
 
 -- ---- keyed tables stay keyed
 module _ {V : Type 0} (key_of : V → List ℕ) where

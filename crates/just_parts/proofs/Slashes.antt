@@ -1,9 +1,9 @@
 -- Texts as they are cut at their slashes.
-use Rattle.std.proofs.Common.{◌≡◌, ◌≢◌, ◌↔◌, ℕ, ◌+◌, ◌-◌, ◌<◌, ◌≤◌, ◌==◌, suc, Bool, true, false, not, ◌&&◌, List, [], ◌∷◌, ◌++◌, reverse, length, get_or, take, drop, refl, sym, ap, ◌∙◌, subst, arith, IsTrue, Option, None, Some, MatchOption, Bor, append_assoc, append-nil, length-append, length-take, length-drop, take-append-drop, take_at, drop_at, zero-add, get_or-drop}
-use Rattle.std.specs.Str.Pattern.{FindsChar, RFindsChar}
+use Rattle.std.proofs.Common.{◌≡◌, ◌≢◌, ◌↔◌, ℕ, ◌+◌, ◌-◌, ◌<◌, ◌≤◌, ◌==◌, suc, Bool, true, false, not, ◌&&◌, List, [], ◌∷◌, ◌++◌, reverse, length, get_or, take, drop, refl, sym, ap, ◌∙◌, subst, arith, IsTrue, Option, None, Some, MatchOption, Bor, append_assoc, length-append, take-append-drop, take_at, drop_at, zero-add}
+use Rattle.std.specs.Str.Pattern.{RFindsChar}
 use Rattle.std.specs.Str.{NoCharPasses}
 use Rattle.std.specs.List.{All, list_all, slice_split, prefix_len, suffix_len, before_last, after_last}
-use Rattle.std.proofs.lemmas.Bool.{cond-true, cond-false, not_from_true, false≢true}
+use Rattle.std.proofs.lemmas.Bool.{cond-true, cond-false, false≢true}
 use Rattle.std.proofs.lemmas.List.{length_push, length-reverse, reverse-append}
 use Rattle.std.proofs.lemmas.List.Elements.{All-nil, All-cons, All-head, All-tail, All-append}
 use Rattle.std.proofs.lemmas.List.Splits.{slice_split_at, slice_split_none}

@@ -1,5 +1,5 @@
 -- Records without their numbers, and without what the source of a text says.
-use Rattle.std.specs.Prelude.{ℕ, List, [], map, Option, None}
+use Rattle.std.specs.Prelude.{[], map, None}
 use Rattle.just_parts.specs.declared.layers.number.Number.{Number}
 use Rattle.just_parts.specs.declared.layers.parameter.Parameter.{Parameter}
 use Rattle.just_parts.specs.declared.layers.ast.UnresolvedDependency.{UnresolvedDependency}

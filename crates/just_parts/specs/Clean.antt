@@ -1,5 +1,5 @@
 -- Clean paths.
-use Rattle.std.specs.Prelude.{◌≡◌, ℕ, ◌==◌, ◌||◌, Bool, not, List, [], ◌∷◌, IsTrue, if◌then◌else◌}
+use Rattle.std.specs.Prelude.{◌≡◌, ℕ, ◌==◌, ◌||◌, Bool, not, List, [], ◌∷◌, IsTrue}
 use Rattle.std.specs.List.{list_all, slice_split, before_last, after_last}
 use Rattle.std.specs.Str.{bytes_eq}
 

@@ -1,9 +1,6 @@
 -- What a host is asked, and what it promises.
-use Rattle.std.specs.Prelude.{◌≡◌, List, [], ◌∷◌, Option, Some}
-use Rattle.std.specs.List.{flat_map}
+use Rattle.std.specs.Prelude.{◌≡◌, Option, Some}
 use Rattle.just_parts.specs.declared.layers.host.Entry.{Entry}
-use Rattle.just_parts.specs.declared.layers.host.Entry.TheVariants.{Begin}
-use Rattle.just_parts.specs.declared.modulepath.Modulepath.{Modulepath}
 
 -- what a host answers, where it has the memory: that it is done
 pub data Answer : Type 0 where

@@ -1,8 +1,14 @@
 -- What a table ends as, where a `&mut` into it is returned.
-use Rattle.std.specs.Prelude.{◌≡◌, ℕ, Bool, List, Option}
+use Rattle.std.specs.Prelude.{◌≡◌, ℕ, Bool, List, [], Option}
+use denote.Text.{str-field}
+use mir.Syntax.{named}
 use Rattle.std.specs.Borrow.{LendsSo, Fml, RattleType, MutBor}
 use Rattle.std.specs.declared.cmp.Ordering.{Ordering}
 use Rattle.just_parts.specs.contracts.table.TableOf.{the_row}
+use Rattle.just_parts.specs.contracts.table.RefStrTextKey.TheImpl as text_key
+use Rattle.std.specs.contracts.prelude.RefStrOrd.TheImpl as text_ord
+use Rattle.std.specs.contracts.prelude.RefStrPartialEq.TheImpl as text_eq
+use Rattle.std.specs.contracts.prelude.RefStrPartialOrd.TheImpl as text_partial_ord
 use Rattle.just_parts.specs.Entries.{write}
 
 -- a table as a type
@@ -15,3 +21,9 @@ abbrev pub lends_at : (K V : RattleType) → (K.Denot → List ℕ) → (K.Denot
     → MutBor (List (List ℕ × V.Denot)) → List ℕ → Option (MutBor V.Denot) → Fml
 lends_at K V text cmp eq partial_cmp s key r =
     LendsSo (table_row K V text cmp eq partial_cmp) V s r (λ n w. n ≡ write key w s.now) (λ n. n ≡ s.now)
+
+-- the same at keys that are slices of a source
+abbrev pub lends_text : (V : RattleType) → MutBor (List (List ℕ × V.Denot)) → List ℕ → Option (MutBor V.Denot) → Fml
+lends_text V s key r =
+    LendsSo (the_row (str-field (record { mir = named 1; lft = [] })).row V text_key.ghosts text_ord.ghosts text_eq.ghosts text_partial_ord.ghosts)
+    V s r (λ n w. n ≡ write key w s.now) (λ n. n ≡ s.now)

@@ -1,9 +1,7 @@
 -- What the syntax layer keeps.
 use Rattle.std.specs.Prelude.{◌≡◌, ℕ, ◌+◌, ◌≤◌, ◌^◌, List, [], ◌∷◌, map, length, Option, Some, None, false}
 use Rattle.std.specs.List.{All, flat_map}
-use Rattle.just_parts.specs.Modulepath.{text_of}
 use Rattle.just_parts.specs.Name.{texts_of_path}
-use Rattle.just_parts.specs.declared.modulepath.Modulepath.{Modulepath}
 use Rattle.just_parts.specs.declared.layers.name.Namepath.{Namepath}
 use Rattle.just_parts.specs.declared.layers.parameter.Parameter.{Parameter}
 use Rattle.just_parts.specs.declared.layers.ast.UnresolvedDependency.{UnresolvedDependency}
@@ -12,6 +10,7 @@ use Rattle.just_parts.specs.declared.source.Source.{Source}
 use Rattle.just_parts.specs.declared.layers.ast.Ast.{Ast}
 use Rattle.just_parts.specs.declared.layers.ast.Item.{Item}
 use Rattle.just_parts.specs.declared.layers.ast.Item.TheVariants as item
+use Rattle.just_parts.specs.declared.layers.error.CompileErrorKind.TheVariants as kind
 use Rattle.just_parts.specs.declared.layers.error.Error.{Error}
 use Rattle.just_parts.specs.declared.layers.error.Error.TheVariants as error
 
@@ -61,7 +60,7 @@ PriorsAreDependencies (item.Recipe r) = r.priors ≤ length r.dependencies
 
 -- what a refusal says of the text and the numbers
 abbrev pub Refuses : Error → Option (List Item) → ℕ → Type 0
-Refuses (error.Compile e) parsed next = parsed ≡ None
+Refuses (error.Compile e) parsed next = (parsed ≡ None) × (e.kind ≡ kind.Syntax)
 Refuses error.Exhausted parsed next = next + 1 ≡ 2 ^ 64
 Refuses error.Memory parsed next = Unit {0}
 Refuses (error.Load e) parsed next = ⊥

@@ -11,16 +11,25 @@ use std::alloc::{AllocError, Global};
 use std::fmt;
 
 /// A path to a module or a recipe. Equality, order and hash are those of the components, then of `spaced`.
-#[derive(Clone, Debug, PartialEq, Eq, PartialOrd, Ord, Hash, Drop)]
+#[derive(Debug, PartialEq, Eq, PartialOrd, Ord, Hash, Drop)]
 pub struct Modulepath {
     pub components: Sequence<Text>,
     pub spaced: bool,
 }
 
-impl Exact for Modulepath {
-    ghost use Rattle.std.proofs.Common.{rules};
+impl Clone for Modulepath {
+    ghost is_clone = { λ path copy. copy ≡ path };
 
-    ghost exact = { Prim.search rules };
+    fn clone(&self) -> Result<Modulepath, AllocError> {
+        Ok(Modulepath {
+            components: self.components.clone()?,
+            spaced: self.spaced,
+        })
+    }
+}
+
+impl Exact for Modulepath {
+    ghost exact = { λ x y h. h };
 }
 
 // The components of one word.

@@ -1,11 +1,12 @@
-ghost use Rattle.std.specs.Prelude.{◌≡◌, [], ◌∷◌, length, is_some, IsSome, IsTrue, ◌↔◌, IfOk, IfErr, OnOk, OnErr, MatchOption, Some, List, ℕ, map, refl, ◌<◌, ◌^◌};
+ghost use Rattle.std.specs.Prelude.{◌≡◌, [], ◌∷◌, length, is_some, IsSome, IsTrue, ◌↔◌, IfOk, IfErr, OnOk, OnErr, MatchOption, Some, List, ℕ, map, refl, ◌<◌, ◌^◌, true};
 ghost use Rattle.std.specs.Borrow.{Bor};
 ghost use Rattle.std.specs.Cmp.Lexicographic.{slice_cmp};
 ghost use Rattle.std.specs.Ordering.{nat_cmp};
 ghost use Rattle.std.specs.Map.{keys_of, values_of};
 ghost use Rattle.std.specs.Map.Iter.{GivesInOrder, ShowsInOrder, ShowsValuesInOrder, deref, deref_pair};
 ghost use Rattle.std.specs.Option.{option_copied};
-ghost use Rattle.just_parts.specs.Entries.{shown, find, put, put_all, without, write, IsSorted, IsKeyed};
+ghost use Rattle.just_parts.specs.Entries.{shown, find, put, put_all, without, write, IsSorted, IsKeyed, UpdatesEach};
+ghost use Rattle.std.specs.Fn.{CalledAtMut};
 
 use std::alloc::{AllocError, AllocFailed, Global};
 use std::cmp::Ord;
@@ -178,12 +179,62 @@ impl<K: TextKey, V> TableOf<K, V> {
     ghost use Rattle.just_parts.specs.Entries.{find};
     ghost use Rattle.just_parts.specs.Lends.{lends_at};
 
-    /// The value at the key, to write.
-    pub fn get_mut(&mut self, key: K) -> Option<&mut V>
+    // The value at a stored key, to write.
+    fn value_mut(&mut self, key: K) -> Option<&mut V>
         ensures* writes_back { sem 𝓛 (lends_at K.row V.row K.text K.cmp K.eq K.partial_cmp self.entry (K.text key) result) }
         ensures value { option_copied_mut result ≡ find (K.text key) self.old }
     {
         self.map.get_mut(&key)
+    }
+}
+
+impl<'key, V> TableOf<&'key str, V> {
+    ghost use Rattle.std.specs.Prelude.{◌≡◌, is_some, IfSome};
+    ghost use Rattle.std.specs.Option.{option_copied_mut};
+    ghost use Rattle.std.specs.Borrow.{sem};
+    ghost use Rattle.just_parts.specs.Entries.{find};
+    ghost use Rattle.just_parts.specs.Lends.{lends_text};
+
+    // The key of this text, as it is stored.
+    fn stored_key(&self, key: &str) -> Option<&'key str>
+        ensures found { is_some result ≡ is_some (find key.now self.now) }
+        ensures same { IfSome result (λ stored. stored.now ≡ key.now) }
+    {
+        match self.map.get_key_value(key) {
+            Some((stored, _)) => Some(*stored),
+            None => None,
+        }
+    }
+
+    /// The value at the key, to write.
+    pub fn get_mut(&mut self, key: &str) -> Option<&mut V>
+        ensures* writes_back { sem 𝓛 (lends_text V.row self.entry key.now result) }
+        ensures value { option_copied_mut result ≡ find key.now self.old }
+    {
+        match self.stored_key(key) {
+            Some(stored) => self.value_mut(stored),
+            None => None,
+        }
+    }
+}
+
+impl<'key, V: Drop> TableOf<&'key str, V> {
+    /// Changes each value, in the order of the keys, which stay.
+    pub fn update_values<F: FnMut(&mut V)>(&mut self, mut update: F)
+        requires { (state : F) (x : _) → F.pre state x }
+        ensures keys { keys_of self.new ≡ keys_of self.old }
+        ensures values { UpdatesEach (λ before value after next. CalledAtMut F.FnMut before value tt next after) update self.old self.new }
+    {
+        self.map.retain(
+            |_, value|
+                requires { (state : F) (x : _) → F.pre state x }
+                ensures kept { result ≡ true }
+                ensures called { CalledAtMut F.FnMut update.entry value.old tt update.exit value.new }
+            {
+                update(value);
+                true
+            },
+        );
     }
 }
 

@@ -70,7 +70,7 @@ impl<'src> fmt::Display for Name<'src> {
 }
 
 /// One or more names, as `a::b` writes them: those before the last, and the last.
-#[derive(Clone, Debug, PartialEq, Eq, Drop)]
+#[derive(Debug, PartialEq, Eq, Drop)]
 pub struct Namepath<'src> {
     pub front: Sequence<Name<'src>>,
     pub last: Name<'src>,
@@ -93,13 +93,28 @@ impl<'src> Namepath<'src> {
     }
 }
 
-impl<'src> Exact for Namepath<'src> {
-    ghost use Rattle.std.proofs.Common.{rules};
+impl<'src> Clone for Namepath<'src> {
+    ghost is_clone = { λ path copy. copy ≡ path };
 
-    ghost exact = { Prim.search rules };
+    fn clone(&self) -> Result<Namepath<'src>, AllocError> {
+        Ok(Namepath {
+            front: self.front.clone()?,
+            last: self.last.copied(),
+        })
+    }
+}
+
+impl<'src> Exact for Namepath<'src> {
+    ghost exact = { λ x y h. h };
 }
 
 impl<'src> fmt::Display for Namepath<'src> {
+    ghost use Rattle.std.specs.Prelude.{Some, false};
+    ghost use Rattle.just_parts.specs.Name.{texts_of_path};
+    ghost use Rattle.just_parts.specs.Modulepath.{text_of};
+
+    ghost output = { λ path. Some (text_of (texts_of_path path) false) };
+
     fn fmt<W: fmt::Write>(&self, f: &mut fmt::Formatter<W>) -> fmt::Result {
         for name in self.front.as_slice() {
             write!(f, "{name}::")?;

@@ -1,8 +1,8 @@
-use Rattle.std.proofs.Common.{rules, tests, ◌≡◌, ◌&&◌, ℕ, Bool, true, false, List, [], ◌∷◌, subst, sym, ap, ◌∙◌}
+use Rattle.std.proofs.Common.{rules, tests, ◌≡◌, true, ◌∷◌}
 use Rattle.std.specs.List.{list_all}
 use Rattle.std.proofs.lemmas.Iterator.{YieldsList-from_slice}
 use Rattle.std.proofs.lemmas.Iterator.Search.{all_from_yields_List}
-use Rattle.just_parts.specs.Identifier.{is_identifier_start, is_identifier_continue, is_identifier}
+use Rattle.just_parts.specs.Identifier.{is_identifier_start, is_identifier_continue}
 use Rattle.just_parts.proofs.identifier.is_identifier.Goals as goal
 
 pub returns-then-starts_identifier : goal.returns-then-starts_identifier

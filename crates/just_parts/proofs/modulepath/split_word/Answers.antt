@@ -1,9 +1,9 @@
-use Rattle.std.proofs.Common.{rules, ◌≡◌, ◌≢◌, List, [], ◌∷◌, ◌++◌, Bool, map, IfOk, OnErr, OnOk, IsTrue, ◌<◌, length, ℕ, ◌+◌, true, false, arith, Some, None, get_or, append_assoc, subst, sym, ◌∙◌, ap}
+use Rattle.std.proofs.Common.{rules, ◌≡◌, List, [], ◌∷◌, ◌++◌, true, arith, Some, None, subst, sym, ◌∙◌, ap}
 use Rattle.std.proofs.lemmas.Bool.{false≢true}
 use Rattle.std.proofs.lemmas.Str.Pattern.{split_parts, strip_prefix_char}
 use Rattle.just_parts.specs.Identifier.{is_identifier}
-use Rattle.just_parts.specs.Modulepath.{AllIdentifiers, IsPath, IsWordPath, texts, text_of, Text}
-use Rattle.just_parts.proofs.ModulepathLemmas.{LacksColon, lacks_by_index, lacks_identifier, path_one, path_cons, only_one, only_cons, components_push}
+use Rattle.just_parts.specs.Modulepath.{IsWordPath, Text}
+use Rattle.just_parts.proofs.ModulepathLemmas.{lacks_by_index, path_cons, only_one, only_cons, components_push}
 use Rattle.just_parts.proofs.modulepath.split_word.Goals as goal
 
 pub returns-then-not-is_identifier-clause-refusal : goal.returns-then-not-is_identifier-clause-refusal

@@ -1,7 +1,7 @@
-use Rattle.std.proofs.Common.{◌≡◌, ◌≢◌, List, [], ◌∷◌, ◌++◌, ◌+◌, ◌<◌, ℕ, refl, sym, ap, ◌∙◌, arith, Some, None, append_assoc, inr}
+use Rattle.std.proofs.Common.{◌≡◌, ◌≢◌, [], ◌∷◌, ◌++◌, refl, sym, ◌∙◌, arith, Some, None, append_assoc, inr}
 use Rattle.std.proofs.lemmas.Str.Pattern.{strip_suffix_char}
 use Rattle.std.proofs.lemmas.List.{append_cancel_right}
-use Rattle.just_parts.specs.Modulepath.{DropsEnd, Text}
+use Rattle.just_parts.specs.Modulepath.{Text}
 use Rattle.just_parts.proofs.modulepath.without_end.Goals as goal
 
 pub returns-in-None-strip_suffix : goal.returns-in-None-strip_suffix

@@ -1,4 +1,4 @@
-use Rattle.std.proofs.Common.{rules, ◌≡◌, ◌≢◌, List, ℕ, [], ◌∙◌, ap, sym, Some, None}
+use Rattle.std.proofs.Common.{rules, ◌≡◌, ◌≢◌, [], ◌∙◌, ap, sym, Some, None}
 use Rattle.just_parts.specs.Clean.{or_root}
 use Rattle.just_parts.proofs.Slashes.{last_parts, folder_is, some_folder, clean_has}
 use Rattle.just_parts.proofs.source.folder_of.Goals as goal

@@ -1,8 +1,8 @@
-use Rattle.std.proofs.Common.{rules, refl, take, ◌≡◌, List, ℕ, [], ◌∷◌, ◌++◌, subst, sym, ◌∙◌, ap}
+use Rattle.std.proofs.Common.{rules, refl, take, ◌≡◌, ◌∷◌, ◌++◌, sym, ◌∙◌, ap}
 use Rattle.std.specs.List.{flat_map}
 use Rattle.std.proofs.lemmas.Grind.{put_two}
 use Rattle.std.proofs.lemmas.List.{take_all}
-use Rattle.just_parts.specs.Modulepath.{text_of, joined, separator_of}
+use Rattle.just_parts.specs.Modulepath.{text_of, joined}
 use Rattle.just_parts.proofs.modulepath.ModulepathDisplay.fmt.Goals as goal
 
 pub returns-after-loop-name-clause-writes : goal.returns-after-loop-name-clause-writes

@@ -1,7 +1,7 @@
 use Rattle.std.proofs.Common.{ap, refl}
 use Rattle.just_parts.specs.Entries.{shown}
 use Rattle.just_parts.proofs.Shown.{find_shown_by, write_shown_by}
-use Rattle.just_parts.proofs.table.TableOf.get_mut.Goals as goal
+use Rattle.just_parts.proofs.table.TableOf.value_mut.Goals as goal
 
 pub returns : goal.returns
 returns g c = (

@@ -1,0 +1,10 @@
+pub mod Analyses
+pub mod Circles
+pub mod Edges
+pub mod Indexing
+pub mod Keys
+pub mod Lifts
+pub mod Outlines
+pub mod Refuted
+pub mod Resolving
+pub mod Targets

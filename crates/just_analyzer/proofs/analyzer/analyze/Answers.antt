@@ -1,0 +1,52 @@
+use Rattle.std.proofs.Common.{◌≡◌, ◌∙◌, ℕ, List, length, ap, sym, subst, rules, IfErr}
+use Rattle.std.specs.List.{All}
+use Rattle.just_graph.specs.Steps.{IsOnce}
+use Rattle.just_parts.specs.declared.layers.ast.UnresolvedDependency.{UnresolvedDependency}
+use Rattle.just_parts.specs.declared.recipe.Recipe.{Recipe}
+use Rattle.just_analyzer.specs.Outline.{outlines_of, recipes_of}
+use Rattle.just_analyzer.specs.Definitions.{recipes_in, outlines_in}
+use Rattle.just_analyzer.specs.Resolved.{unresolved_numbers, HasPriors}
+use Rattle.just_analyzer.specs.Analysis.{AreKeysOf}
+use Rattle.just_analyzer.specs.Rules.{Cause, Headers, Dependencies, NamesInRecipes, in_headers, in_dependencies, Keeps, Reports}
+use Rattle.just_analyzer.proofs.Lifts.{lifted}
+use Rattle.just_analyzer.proofs.Outlines.{length-lent}
+use Rattle.just_analyzer.proofs.Analyses.{rising_recipes, rising_once, priors_of_recipes, closed, names_kept}
+use Rattle.just_analyzer.proofs.analyzer.analyze.Goals as goal
+
+pub returns-in_err-index-clause-named : goal.returns-in_err-index-clause-named
+returns-in_err-index-clause-named g c =
+    let same : recipes_in c.in_ok-definitions.definitions ≡ recipes_of (g.S.Syntax.enabled c.args.syntax.now) c.args.ast.now.items = c.in_ok-definitions.ensures ∙ ap (recipes_of (g.S.Syntax.enabled c.args.syntax.now)) c.as_slice.ensures in
+    lifted (Headers (outlines_in c.in_ok-definitions.definitions)) (NamesInRecipes (outlines_of (recipes_of (g.S.Syntax.enabled c.args.syntax.now) c.args.ast.now.items)))
+    (λ k h. in_headers (subst (λ (rs : List (Recipe UnresolvedDependency)). Headers (outlines_of rs) k) same h)) c.from_residual-in_err-index.result (search rules)
+
+pub resolve_recipes-requires-clause-once : goal.resolve_recipes-requires-clause-once
+resolve_recipes-requires-clause-once g c =
+    let same : recipes_in c.in_ok-definitions.definitions ≡ recipes_of (g.S.Syntax.enabled c.args.syntax.now) c.args.ast.now.items = c.in_ok-definitions.ensures ∙ ap (recipes_of (g.S.Syntax.enabled c.args.syntax.now)) c.as_slice.ensures in
+    subst (λ (rs : List (Recipe UnresolvedDependency)). IsOnce (unresolved_numbers rs)) (sym same)
+    (rising_once c.requires.numbers.low _ c.requires.numbers.high (rising_recipes (g.S.Syntax.enabled c.args.syntax.now) c.args.ast.now.items c.requires.numbers.low c.requires.numbers.high c.requires.numbers.rising))
+
+pub resolve_recipes-requires-clause-priors : goal.resolve_recipes-requires-clause-priors
+resolve_recipes-requires-clause-priors g c =
+    let same : recipes_in c.in_ok-definitions.definitions ≡ recipes_of (g.S.Syntax.enabled c.args.syntax.now) c.args.ast.now.items = c.in_ok-definitions.ensures ∙ ap (recipes_of (g.S.Syntax.enabled c.args.syntax.now)) c.as_slice.ensures in
+    subst (λ (rs : List (Recipe UnresolvedDependency)). All HasPriors rs) (sym same) (priors_of_recipes (g.S.Syntax.enabled c.args.syntax.now) c.args.ast.now.items c.requires.priors)
+
+pub returns-in_err-recipes-clause-named : goal.returns-in_err-recipes-clause-named
+returns-in_err-recipes-clause-named g c =
+    let same : recipes_in c.in_ok-definitions.definitions ≡ recipes_of (g.S.Syntax.enabled c.args.syntax.now) c.args.ast.now.items = c.in_ok-definitions.ensures ∙ ap (recipes_of (g.S.Syntax.enabled c.args.syntax.now)) c.as_slice.ensures in
+    lifted (Dependencies (outlines_in c.in_ok-definitions.definitions)) (NamesInRecipes (outlines_of (recipes_of (g.S.Syntax.enabled c.args.syntax.now) c.args.ast.now.items)))
+    (λ k d. in_dependencies (subst (λ (rs : List (Recipe UnresolvedDependency)). Keeps (Headers (outlines_of rs))) same c.in_ok-index.ensures.kept) (subst (λ (rs : List (Recipe UnresolvedDependency)). Dependencies (outlines_of rs) k) same d))
+    c.from_residual-in_err-recipes.result (search rules)
+
+pub returns-clause-kept : goal.returns-clause-kept
+returns-clause-kept g c =
+    let same : recipes_in c.in_ok-definitions.definitions ≡ recipes_of (g.S.Syntax.enabled c.args.syntax.now) c.args.ast.now.items = c.in_ok-definitions.ensures ∙ ap (recipes_of (g.S.Syntax.enabled c.args.syntax.now)) c.as_slice.ensures in
+    subst (λ (rs : List (Recipe UnresolvedDependency)). Keeps (NamesInRecipes (outlines_of rs))) same (λ k n. names_kept (outlines_in c.in_ok-definitions.definitions) c.in_ok-index.ensures.kept c.in_ok-recipes.ensures.kept n)
+
+pub returns-clause-closed : goal.returns-clause-closed
+returns-clause-closed g c =
+    let many : length (recipes_in c.in_ok-definitions.definitions) ≡ length c.in_ok-definitions.definitions.recipes.items = length-lent c.in_ok-definitions.definitions.recipes.items in
+    closed (recipes_in c.in_ok-definitions.definitions) c.in_ok-recipes.recipes c.in_ok-recipes.ensures.resolved c.in_ok-justfile.justfile
+    (subst (λ n. AreKeysOf (recipes_in c.in_ok-definitions.definitions) n c.in_ok-justfile.justfile.recipes) (sym many) c.in_ok-justfile.ensures.keys) c.in_ok-justfile.ensures.default
+
+pub returns-clause-fields : goal.returns-clause-fields
+returns-clause-fields g c = ?

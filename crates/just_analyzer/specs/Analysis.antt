@@ -1,0 +1,46 @@
+-- What a module's recipes are compiled to.
+use Rattle.std.specs.Prelude.{◌≡◌, ℕ, ◌<◌, ◌≤◌, List, [], length, Option, Some, None}
+use Rattle.std.specs.List.{AllByRecursion}
+use Rattle.just_parts.specs.Syntax.{AreRising, numbers}
+use Rattle.just_parts.specs.declared.layers.ast.Ast.{Ast}
+use Rattle.just_parts.specs.declared.layers.ast.Item.{Item}
+use Rattle.just_parts.specs.declared.layers.number.Number.{Number}
+use Rattle.just_invoke.specs.declared.justfile.Justfile.{Justfile}
+use Rattle.just_parts.specs.declared.layers.ast.UnresolvedDependency.{UnresolvedDependency}
+use Rattle.just_parts.specs.declared.recipe.Recipe.{Recipe}
+use Rattle.just_invoke.specs.declared.justfile.RecipeKey.{RecipeKey}
+use Rattle.just_analyzer.specs.Outline.{outlines_of, outline_at}
+use Rattle.just_analyzer.specs.Resolved.{number_at}
+
+-- the numbers of items rise
+pub record NumbersRise (items : List Item) : Type 0 where
+  pub low : ℕ
+  pub high : ℕ
+  pub rising : AreRising low (numbers items) high
+
+-- a key has the number of one of the first n recipes
+abbrev pub IsKeyOf : List (Recipe UnresolvedDependency) → ℕ → RecipeKey → Type 0
+IsKeyOf recipes n key = (place : ℕ) × (place < n) × (number_at recipes place ≡ key.number.0)
+
+-- so has each key of the table
+abbrev pub AreKeysOf : List (Recipe UnresolvedDependency) → ℕ → List (List ℕ × RecipeKey) → Type 0
+AreKeysOf recipes n table = AllByRecursion (λ entry. IsKeyOf recipes n entry.1) table
+
+-- no recipe stands on a smaller line
+pub record IsDefault (recipes : List (Recipe UnresolvedDependency)) (place : ℕ) : Type 0 where
+  pub there : place < length recipes
+  pub least : (k : ℕ) → k < length recipes → (outline_at (outlines_of recipes) place).line ≤ (outline_at (outlines_of recipes) k).line
+
+-- the default: none where there are no recipes, else the recipe on the least line
+abbrev pub IsDefaultOf : List (Recipe UnresolvedDependency) → Option Number → Type 0
+IsDefaultOf recipes None = recipes ≡ []
+IsDefaultOf recipes (Some number) = (place : ℕ) × IsDefault recipes place × (number_at recipes place ≡ number.0)
+
+-- A module has the keys and the default of these recipes, the paths that it was given, and what its file says.
+pub record IsOf (recipes : List (Recipe UnresolvedDependency)) (ast : Ast) (loaded : List (List ℕ)) (source : List ℕ) (justfile : Justfile) : Type 0 where
+  pub keys : AreKeysOf recipes (length recipes) justfile.recipes
+  pub default : IsDefaultOf recipes justfile.default
+  pub loaded_is : justfile.loaded ≡ loaded
+  pub source_is : justfile.source ≡ source
+  pub module_path : justfile.module_path ≡ ast.module_path
+  pub working_directory : justfile.working_directory ≡ ast.working_directory

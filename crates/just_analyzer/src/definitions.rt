@@ -1,0 +1,59 @@
+ghost use Rattle.std.specs.Prelude.{◌≡◌, ◌<◌, IfOk, Some, length, slice_get};
+ghost use Rattle.just_analyzer.specs.Outline.{outline_of, outline_at, recipes_of};
+ghost use Rattle.just_analyzer.specs.Definitions.{recipes_in, outlines_in};
+
+use just_parts::UnresolvedRecipe;
+use just_parts::layers::{Item, Syntax};
+use std::alloc::{AllocError, Global};
+
+/// The recipes of a module, before they are resolved.
+#[derive(Drop)]
+pub struct Definitions<'a, 'src> {
+    pub recipes: Vec<&'a UnresolvedRecipe<'src>>,
+}
+
+impl<'a, 'src> Definitions<'a, 'src> {
+    ghost use Rattle.just_analyzer.specs.Definitions.{recipes_in};
+
+    /// The recipes of the enabled items, in the order of the text.
+    pub fn from_items<S: Syntax>(
+        alloc: Global,
+        syntax: &S,
+        items: &'a [Item<'src>],
+    ) -> Result<Definitions<'a, 'src>, AllocError>
+        ensures { IfOk result (λ m. recipes_in m ≡ recipes_of (S.enabled syntax.now) items.now) }
+    {
+        let mut recipes = Vec::new(alloc);
+        for item in items {
+            if !syntax.is_enabled(item) {
+                continue;
+            }
+            let Item::Recipe(recipe) = item;
+            recipes.push(recipe)?;
+        }
+        Ok(Definitions { recipes })
+    }
+}
+
+// The recipe that is lent at a place.
+fn lent_at<'b, 'a, 'src>(
+    definitions: &'b Definitions<'a, 'src>,
+    place: usize,
+) -> &'b UnresolvedRecipe<'src>
+    requires { place < length definitions.now.recipes.items }
+    ensures { slice_get (recipes_in definitions.now) place ≡ Some result.now }
+{
+    &*definitions.recipes[place]
+}
+
+/// The recipe at a place.
+pub fn recipe_at<'b, 'a, 'src>(
+    definitions: &'b Definitions<'a, 'src>,
+    place: usize,
+) -> &'b UnresolvedRecipe<'src>
+    requires { place < length definitions.now.recipes.items }
+    ensures recipe { slice_get (recipes_in definitions.now) place ≡ Some result.now }
+    ensures outline { outline_of result.now ≡ outline_at (outlines_in definitions.now) place }
+{
+    lent_at(definitions, place)
+}

@@ -1,0 +1,92 @@
+ghost use Rattle.std.specs.Prelude.{◌≡◌, ◌↔◌, [], IfSome, IsErrOf, OnOk, OnErr};
+ghost use Rattle.std.specs.Option.{option_map, option_copied};
+ghost use Rattle.just_parts.specs.Clean.{IsClean};
+ghost use Rattle.just_parts.specs.Entries.{find, put};
+ghost use Rattle.just_analyzer.specs.Sources.{text_at};
+
+use just_data::BorrowedText;
+use just_parts::layers::SourceError;
+use just_parts::{Keyed, Table, is_clean};
+use std::alloc::Global;
+use std::marker::Model;
+
+/// A file of a source map.
+#[derive(Debug, PartialEq, Eq, Drop)]
+pub struct SourceFile<'src> {
+    pub path: BorrowedText<'src>,
+    pub text: BorrowedText<'src>,
+}
+
+impl<'src> Keyed<'src> for SourceFile<'src> {
+    ghost key_of = { λ file. file.path };
+
+    fn key(&self) -> &'src str {
+        self.path.as_str()
+    }
+}
+
+/// A map from clean paths to texts.
+#[derive(Drop)]
+pub struct Sources<'src> {
+    files: Table<'src, SourceFile<'src>>,
+}
+
+impl<'src> Model for Sources<'src> {
+    ghost use Rattle.just_analyzer.specs.Sources.{Files, AreSources};
+
+    ghost Value = { Files };
+
+    ghost view = { λ sources. sources.files };
+
+    ghost invariant = { λ sources. AreSources sources.files };
+}
+
+impl<'src> Sources<'src> {
+    /// No files, which takes no memory.
+    pub fn new(alloc: Global) -> Sources<'src>
+        ensures { result ≡ [] }
+    {
+        Sources {
+            files: Table::new(alloc),
+        }
+    }
+
+    /// Puts a text under a path, in place of one that it had. A path that is not clean is refused, and then, or where
+    /// memory is refused, nothing changes.
+    pub fn insert(&mut self, path: &'src str, text: &'src str) -> Result<(), SourceError>
+        ensures ok { OnOk result (self.new ≡ put path.now (record { path = path.now; text = text.now }) self.old) }
+        ensures clean { OnOk result (IsClean path.now) }
+        ensures not_clean { IsErrOf result SourceError.NotClean ↔ (IsClean path.now → ⊥) }
+        ensures err { OnErr result (self.new ≡ self.old) }
+    {
+        if !is_clean(path) {
+            return Err(SourceError::NotClean);
+        }
+        let file = SourceFile {
+            path: BorrowedText::new(path),
+            text: BorrowedText::new(text),
+        };
+        match self.files.insert(file) {
+            Ok(_) => Ok(()),
+            Err(_) => Err(SourceError::Memory),
+        }
+    }
+
+    /// The text of a path.
+    pub fn get(&self, path: &str) -> Option<&'src str>
+        ensures { option_map (λ text. text.now) result ≡ text_at self.now path.now }
+    {
+        match self.files.get(path) {
+            Some(file) => Some(file.text.as_str()),
+            None => None,
+        }
+    }
+
+    // The file of a path.
+    pub(crate) fn file(&self, path: &str) -> Option<&SourceFile<'src>>
+        ensures found { option_copied result ≡ find path.now self.now }
+        ensures path { IfSome result (λ file. file.now.path ≡ path.now) }
+    {
+        self.files.get(path)
+    }
+}

@@ -1,0 +1,114 @@
+-- One line of the loop over the lines, and numbers.
+use Rattle.std.proofs.Common.{Some, ◌≡◌, ℕ, ◌+◌, ◌<◌, ◌≤◌, sym, ◌∙◌, ap, refl, subst, List, [], ◌∷◌, ◌++◌, length, map, drop, get_or, arith, add-one, length-append, Err}
+use Rattle.std.proofs.Math.Seq.{drop-cons}
+use Rattle.std.specs.List.{All, slice_get}
+use Rattle.std.proofs.lemmas.List.{map-append, append-nil, length-map}
+use Rattle.std.proofs.lemmas.List.Elements.{All-push, All-nil}
+use Rattle.std.proofs.lemmas.Grind.{flat_map-append}
+use Rattle.just_parts.specs.declared.source.Source.{Source}
+use Rattle.just_parts.specs.declared.layers.ast.Item.{Item}
+use Rattle.just_parts.specs.declared.layers.ast.Item.TheVariants as item
+use Rattle.just_parts.specs.declared.layers.parameter.Parameter.{Parameter}
+use Rattle.just_parts.specs.declared.recipe.Recipe.{Recipe}
+use Rattle.just_parts.specs.declared.layers.ast.UnresolvedDependency.{UnresolvedDependency}
+use Rattle.just_bench.specs.declared.lines.Line.{Line}
+use Rattle.just_bench.specs.declared.grammar.Heading.{Heading}
+use Rattle.just_bench.specs.declared.grammar.Reading.{Reading}
+use Rattle.just_bench.specs.declared.grammar.Reading.TheVariants.{Bad, Ignored, Begins}
+use Rattle.just_parts.specs.Bare.{bare_item, bare_recipe}
+use Rattle.just_parts.specs.Syntax.{CameBy, ItemCameBy, PriorsAreDependencies, item_numbers, parameter_numbers, recipe_numbers, numbers, AreRising}
+use Rattle.just_parts.specs.Token.{Place}
+use Rattle.just_parts.specs.declared.layers.error.CompileErrorKind.TheVariants.{Syntax}
+use Rattle.just_bench.specs.Lines.{lines_of, line_place}
+use Rattle.just_bench.specs.Refusal.{IsFirstBadLine}
+use Rattle.just_bench.proofs.Cuts.{line_at_number}
+use Rattle.just_bench.specs.Grammar.{reading}
+use Rattle.just_bench.specs.Items.{items_of, recipe, dependency, with_line, with_lines}
+
+pub AreRising-lower : (low middle : ℕ) (ms : List ℕ) (high : ℕ) → low ≤ middle → AreRising middle ms high → AreRising low ms high
+AreRising-lower low middle [] high h q = omega (arith, h, q)
+AreRising-lower low middle (m ∷ ms) high h q = (omega (arith, h, q.0), q.1)
+
+pub AreRising-onward : (low : ℕ) (ns : List ℕ) (high : ℕ) → AreRising low ns high → low ≤ high
+AreRising-onward low [] high p = p
+AreRising-onward low (n ∷ ns) high p = omega (arith, p.0, AreRising-onward (n + 1) ns high p.1)
+
+pub AreRising-append : (low : ℕ) (ns : List ℕ) (middle : ℕ) (ms : List ℕ) (high : ℕ) → AreRising low ns middle → AreRising middle ms high → AreRising low (ns ++ ms) high
+AreRising-append low [] middle ms high p q = AreRising-lower low middle ms high p q
+AreRising-append low (n ∷ ns) middle ms high p q = (p.0, AreRising-append (n + 1) ns middle ms high p.1 q)
+
+-- what the lines so far gave, and the lines that are left, make the whole
+pub record Read (path text : List ℕ) (source : Source) (low : ℕ) (all : List Line) (n : ℕ) (items : List Item) (high : ℕ) : Type 0 where
+  pub whole : items_of path text ≡ with_lines path text (map bare_item items) (drop n all)
+  pub source_of : All (ItemCameBy source) items
+  pub priors : All PriorsAreDependencies items
+  pub rising : AreRising low (numbers items) high
+  pub onward : low ≤ high
+
+pub Read-start : (path text : List ℕ) (source : Source) (low : ℕ) (all : List Line) (items : List Item) → all ≡ lines_of text → items ≡ [] → Read path text source low all 0 items low
+unfolding items_of
+Read-start path text source low all items whole none = rw (whole, none) (record {
+  whole = refl;
+  source_of = All-nil (ItemCameBy source);
+  priors = All-nil PriorsAreDependencies;
+  rising = omega arith;
+  onward = omega arith;
+})
+
+pub rest_of : (all : List Line) (n : ℕ) (line : Line) → n < length all → get_or all n line ≡ line → drop n all ≡ line ∷ drop (n + 1) all
+rest_of all n line within is = drop-cons all n line within ∙ ap (λ m. get_or all n line ∷ drop m all) (sym (add-one n)) ∙ ap (λ x. x ∷ drop (n + 1) all) is
+
+-- the lines that are left, by what the first of them says
+pub by_line : (path text : List ℕ) (items : List Item) (all : List Line) (n : ℕ) (line : Line) (r : Reading) → n < length all → get_or all n line ≡ line → r ≡ reading path text line
+    → with_lines path text items (drop n all) ≡ with_line r line.number items (λ more. with_lines path text more (drop (n + 1) all))
+by_line path text items all n line r within is read = rw (rest_of all n line within is, read) refl
+
+pub Read-ignored : (path text : List ℕ) (source : Source) (low : ℕ) (all : List Line) (n : ℕ) (items : List Item) (high : ℕ) (line : Line)
+    → Read path text source low all n items high → n < length all → get_or all n line ≡ line → Ignored ≡ reading path text line → Read path text source low all (n + 1) items high
+Read-ignored path text source low all n items high line so_far within is read = record {
+  whole = so_far.whole ∙ by_line path text (map bare_item items) all n line Ignored within is read;
+  source_of = so_far.source_of;
+  priors = so_far.priors;
+  rising = so_far.rising;
+  onward = so_far.onward;
+}
+
+pub Read-bad : (path text : List ℕ) (source : Source) (low : ℕ) (all : List Line) (n : ℕ) (items : List Item) (high : ℕ) (line : Line) (token : Place)
+    → all ≡ lines_of text → Read path text source low all n items high → n < length all → get_or all n line ≡ line → Bad ≡ reading path text line → token ≡ line_place path text line
+    → IsFirstBadLine path text (record { token = token; kind = Syntax })
+Read-bad path text source low all n items high line token whole so_far within is read told = record {
+  kind = refl;
+  first = so_far.whole ∙ by_line path text (map bare_item items) all n line Bad within is read ∙ ap (λ t. Err t.line) (sym told);
+  line = line;
+  stands = subst (λ t. slice_get (lines_of text) t.line ≡ Some line) (sym told) (line_at_number text n line (subst (λ ls. n < length ls) whole within) (subst (λ ls. get_or ls n line ≡ line) whole is));
+  whole = told;
+}
+
+-- of a recipe that was made of a heading
+pub priors_of : (r : Recipe UnresolvedDependency) (h : Heading) → bare_recipe r ≡ recipe h → PriorsAreDependencies (item.Recipe r)
+priors_of r h bare =
+    let all : r.dependencies ≡ map dependency h.priors ++ map dependency h.subsequents = ap (λ b. b.dependencies) bare in
+    let some : r.priors ≡ length h.priors = ap (λ b. b.priors) bare in
+    rw (all, some, length-append (map dependency h.priors) (map dependency h.subsequents), length-map h.priors dependency) (omega arith)
+
+pub Read-recipe : (path text : List ℕ) (source : Source) (low : ℕ) (all : List Line) (n : ℕ) (items : List Item) (high : ℕ) (line : Line) (h : Heading) (r : Recipe UnresolvedDependency) (items' : List Item) (high' : ℕ)
+    → Read path text source low all n items high → n < length all → get_or all n line ≡ line → Begins h ≡ reading path text line
+    → bare_recipe r ≡ recipe h → CameBy source r → AreRising high (recipe_numbers r) high'
+    → items' ≡ items ++ item.Recipe r ∷ []
+    → Read path text source low all (n + 1) items' high'
+Read-recipe path text source low all n items high line h r items' high' so_far within is read bare came given pushed =
+    let more : map bare_item (items ++ item.Recipe r ∷ []) ≡ map bare_item items ++ item.Recipe (recipe h) ∷ [] = map-append bare_item items (item.Recipe r ∷ []) ∙ ap (λ b. map bare_item items ++ item.Recipe b ∷ []) bare in
+    let all_numbers : numbers (items ++ item.Recipe r ∷ []) ≡ numbers items ++ (recipe_numbers r ++ []) = flat_map-append item_numbers items (item.Recipe r ∷ []) in
+    rw pushed (record {
+      whole = so_far.whole ∙ by_line path text (map bare_item items) all n line (Begins h) within is read ∙ ap (λ bares. with_lines path text bares (drop (n + 1) all)) (sym more);
+      source_of = All-push (ItemCameBy source) items (item.Recipe r) so_far.source_of came;
+      priors = All-push PriorsAreDependencies items (item.Recipe r) so_far.priors (priors_of r h bare);
+      rising = rw (all_numbers, append-nil (recipe_numbers r)) (AreRising-append low (numbers items) high (recipe_numbers r) high' so_far.rising given);
+      onward = omega (arith, so_far.onward, AreRising-onward high (recipe_numbers r) high' given);
+    })
+
+pub parameter_push : (low : ℕ) (made : List Parameter) (high : ℕ) (p : Parameter) (made' : List Parameter) (high' : ℕ)
+    → AreRising low (parameter_numbers made) high → p.number.0 ≡ high → high' ≡ high + 1 → made' ≡ made ++ p ∷ [] → AreRising low (parameter_numbers made') high'
+parameter_push low made high p made' high' rising is more pushed =
+    let all_numbers : parameter_numbers (made ++ p ∷ []) ≡ parameter_numbers made ++ p.number.0 ∷ [] = map-append (λ p. p.number.0) made (p ∷ []) in
+    rw (pushed, all_numbers) (AreRising-append low (parameter_numbers made) high (p.number.0 ∷ []) high' rising (omega (arith, is), omega (arith, is, more)))

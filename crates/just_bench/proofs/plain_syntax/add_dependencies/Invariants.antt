@@ -1,0 +1,6 @@
+use Rattle.std.proofs.Common.{◌≡◌, ◌++◌, map, take}
+use Rattle.just_bench.specs.Items.{dependency}
+use Rattle.just_bench.proofs.plain_syntax.add_dependencies.Given as goal
+
+abbrev pub invariant-loop-name : goal.invariant-loop-name
+invariant-loop-name l = l.made ≡ l.initial.made ++ map dependency (take l.name-index l.names)

@@ -1,0 +1,11 @@
+use Rattle.std.proofs.Common.{arith}
+use Rattle.std.proofs.lemmas.Grind.{common_steps}
+use Rattle.just_bench.proofs.Parsing.{parameter_push}
+use Rattle.just_bench.proofs.plain_syntax.make_parameters.Goals as goal
+
+pub loop-name-preserved : goal.loop-name-preserved
+loop-name-preserved c = record {
+  bare = grind (arith, common_steps);
+  numbers = parameter_push c.args.numerator.now.next c.loop-name.made c.loop-name.numerator.next _ c.push.new.self c.give.new.self.next c.loop-name.invariant.numbers c.in_ok-number.ensures.0 c.in_ok-number.ensures.1 c.in_ok-push.ensures.ok;
+  onward = omega (arith, c.loop-name.invariant.onward, c.in_ok-number.ensures.1);
+}

@@ -1,0 +1,60 @@
+-- The items of a text, over its lines.
+use Rattle.std.specs.Prelude.{ℕ, ◌==◌, Bool, false, List, [], ◌∷◌, ◌++◌, map, length, None, Result, Ok, Err}
+use Rattle.just_parts.specs.Token.{lexeme}
+use Rattle.just_parts.specs.Bare.{no_number}
+use Rattle.just_parts.specs.declared.layers.name.Name.{Name}
+use Rattle.just_parts.specs.declared.layers.parameter.Parameter.{Parameter}
+use Rattle.just_parts.specs.declared.layers.parameter.ParameterKind.TheVariants as parameter_kind
+use Rattle.just_parts.specs.declared.layers.ast.UnresolvedDependency.{UnresolvedDependency}
+use Rattle.just_parts.specs.declared.recipe.Recipe.{Recipe}
+use Rattle.just_parts.specs.declared.layers.ast.Item.{Item}
+use Rattle.just_parts.specs.declared.layers.ast.Item.TheVariants as item
+use Rattle.just_bench.specs.declared.lines.Line.{Line}
+use Rattle.just_bench.specs.declared.grammar.Heading.{Heading}
+use Rattle.just_bench.specs.declared.grammar.Reading.{Reading}
+use Rattle.just_bench.specs.declared.grammar.Reading.TheVariants.{Bad, Ignored, Begins}
+use Rattle.just_bench.specs.Lines.{lines_of}
+use Rattle.just_bench.specs.Grammar.{reading}
+
+-- a parameter of one word
+abbrev pub parameter : Name → Parameter
+parameter name = record { name = name; number = no_number; kind = parameter_kind.Singular }
+
+-- a dependency on a recipe of the same module
+abbrev pub dependency : Name → UnresolvedDependency
+dependency name = record { recipe = record { front = []; last = name } }
+
+-- a name is private that begins with `_`
+abbrev pub is_private : List ℕ → Bool
+is_private [] = false
+is_private (b ∷ rest) = b == 95
+
+-- the recipe of a heading, without numbers and without what the source says
+abbrev pub recipe : Heading → Recipe UnresolvedDependency
+recipe h = record {
+  dependencies = map dependency h.priors ++ map dependency h.subsequents;
+  file_depth = 0;
+  import_offsets = [];
+  name = h.name;
+  number = no_number;
+  parameters = map parameter h.parameters;
+  priors = length h.priors;
+  private = is_private (lexeme h.name.token);
+  module_path = None;
+  recipe_path = None;
+}
+
+-- a line after these items, and then those lines that follow
+abbrev pub with_line : Reading → ℕ → List Item → (List Item → Result (List Item) ℕ) → Result (List Item) ℕ
+with_line Bad number items others = Err number
+with_line Ignored number items others = others items
+with_line (Begins h) number items others = others (items ++ item.Recipe (recipe h) ∷ [])
+
+-- lines after these items
+abbrev pub with_lines : List ℕ → List ℕ → List Item → List Line → Result (List Item) ℕ
+with_lines path text items [] = Ok items
+with_lines path text items (line ∷ rest) = with_line (reading path text line) line.number items (λ more. with_lines path text more rest)
+
+-- the items of a text, or the number of the first line that does not follow the grammar
+unfoldable pub items_of : List ℕ → List ℕ → Result (List Item) ℕ
+items_of path text = with_lines path text [] (lines_of text)

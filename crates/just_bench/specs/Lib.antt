@@ -1,0 +1,6 @@
+pub mod Grammar
+pub mod Items
+pub mod Lexemes
+pub mod Lines
+pub mod Refusal
+pub mod StopWriter

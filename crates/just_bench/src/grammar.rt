@@ -1,0 +1,173 @@
+//! What a line says, from its lexemes.
+ghost use Rattle.std.specs.Prelude.{◌≡◌, IfOk};
+ghost use Rattle.just_bench.specs.Lines.{IsLineOf};
+ghost use Rattle.just_bench.specs.Grammar as spec;
+
+use crate::lexer::{Kind, Lexeme, is_blank, lex};
+use crate::lines::Line;
+use just_data::Sequence;
+use just_parts::layers::Name;
+use std::alloc::{AllocError, Global};
+
+/// The line that a recipe begins with: its name, its parameters, and what runs before and after it.
+#[derive(Debug, PartialEq, Eq, Drop)]
+pub struct Heading<'src> {
+    pub name: Name<'src>,
+    pub parameters: Sequence<Name<'src>>,
+    pub priors: Sequence<Name<'src>>,
+    pub subsequents: Sequence<Name<'src>>,
+}
+
+/// What a line says.
+#[derive(Debug, PartialEq, Eq, Drop)]
+pub enum Reading<'src> {
+    /// It does not follow the grammar.
+    Bad,
+    /// Nothing.
+    Ignored,
+    /// A recipe begins.
+    Begins(Heading<'src>),
+}
+
+fn is_name(kind: Kind) -> bool
+    ensures { result ≡ spec.is_name kind }
+{
+    matches!(kind, Kind::Name)
+}
+
+fn is_colon(kind: Kind) -> bool
+    ensures { result ≡ spec.is_colon kind }
+{
+    matches!(kind, Kind::Colon)
+}
+
+fn is_and(kind: Kind) -> bool
+    ensures { result ≡ spec.is_and kind }
+{
+    matches!(kind, Kind::And)
+}
+
+// The names at the front, and what follows them.
+fn names<'a, 'src>(
+    alloc: Global,
+    lexemes: &'a [Lexeme<'src>],
+) -> Result<(Sequence<Name<'src>>, &'a [Lexeme<'src>]), AllocError>
+    ensures found { IfOk result (λ read. read.0 ≡ spec.names_of lexemes.now) }
+    ensures rest { IfOk result (λ read. read.1.now ≡ spec.after_names lexemes.now) }
+{
+    let mut found = Sequence::new(alloc);
+    for (at, lexeme) in lexemes.iter().enumerate() {
+        if !is_name(lexeme.kind) {
+            let (_, rest) = lexemes.split_at(at);
+            return Ok((found, rest));
+        }
+        found.push(Name {
+            token: lexeme.token.copied(),
+        })?;
+    }
+    let (_, rest) = lexemes.split_at(lexemes.len());
+    Ok((found, rest))
+}
+
+// The heading that the lexemes of a line are.
+fn read_heading<'src>(
+    alloc: Global,
+    lexemes: &[Lexeme<'src>],
+) -> Result<Option<Heading<'src>>, AllocError>
+    ensures { IfOk result (λ found. found ≡ spec.heading lexemes.now) }
+{
+    let Some((first, rest)) = lexemes.split_first() else {
+        return Ok(None);
+    };
+    if !is_name(first.kind) {
+        return Ok(None);
+    }
+    let name = Name {
+        token: first.token.copied(),
+    };
+    let (parameters, rest) = names(alloc, rest)?;
+    after_parameters(alloc, name, parameters, rest)
+}
+
+// The heading whose name and parameters were read, from what follows them.
+fn after_parameters<'src>(
+    alloc: Global,
+    name: Name<'src>,
+    parameters: Sequence<Name<'src>>,
+    lexemes: &[Lexeme<'src>],
+) -> Result<Option<Heading<'src>>, AllocError>
+    ensures { IfOk result (λ found. found ≡ spec.after_parameters name.entry parameters.entry lexemes.now) }
+{
+    let Some((first, rest)) = lexemes.split_first() else {
+        return Ok(None);
+    };
+    if !is_colon(first.kind) {
+        return Ok(None);
+    }
+    let (priors, rest) = names(alloc, rest)?;
+    after_priors(alloc, name, parameters, priors, rest)
+}
+
+// The heading that was read as far as what runs before it, from what follows.
+fn after_priors<'src>(
+    alloc: Global,
+    name: Name<'src>,
+    parameters: Sequence<Name<'src>>,
+    priors: Sequence<Name<'src>>,
+    lexemes: &[Lexeme<'src>],
+) -> Result<Option<Heading<'src>>, AllocError>
+    ensures { IfOk result (λ found. found ≡ spec.after_priors name.entry parameters.entry priors.entry lexemes.now) }
+{
+    let Some((first, rest)) = lexemes.split_first() else {
+        return Ok(Some(Heading {
+            name,
+            parameters,
+            priors,
+            subsequents: Sequence::new(alloc),
+        }));
+    };
+    if !is_and(first.kind) {
+        return Ok(None);
+    }
+    let (subsequents, rest) = names(alloc, rest)?;
+    if !rest.is_empty() {
+        return Ok(None);
+    }
+    Ok(Some(Heading {
+        name,
+        parameters,
+        priors,
+        subsequents,
+    }))
+}
+
+/// What a line of a text says. The error is want of memory.
+#[tactic(auto, unfolding(crate::specs::Grammar::reading))]
+pub fn read_line<'src>(
+    alloc: Global,
+    path: &'src str,
+    text: &'src str,
+    line: &Line<'src>,
+) -> Result<Reading<'src>, AllocError>
+    requires { IsLineOf text.now line.now }
+    ensures { IfOk result (λ found. found ≡ spec.reading path.now text.now line.now) }
+{
+    let bytes = line.text.as_str().as_bytes();
+    let Some((first, _)) = bytes.split_first() else {
+        return Ok(Reading::Ignored);
+    };
+    let byte = *first;
+    if byte == b'#' {
+        return Ok(Reading::Ignored);
+    }
+    if is_blank(byte) {
+        return Ok(Reading::Bad);
+    }
+    let Some(lexemes) = lex(alloc, path, text, line)? else {
+        return Ok(Reading::Bad);
+    };
+    match read_heading(alloc, lexemes.as_slice())? {
+        None => Ok(Reading::Bad),
+        Some(heading) => Ok(Reading::Begins(heading)),
+    }
+}

@@ -1,0 +1,147 @@
+//! The lexemes of a line, as parts of the whole text.
+ghost use Rattle.std.specs.Prelude.{◌≡◌, ◌≤◌, ◌<◌, ◌+◌, ◌-◌, length, slice_index, IfOk, IfSome};
+ghost use Rattle.std.specs.List.{prefix_len};
+ghost use Rattle.just_parts.specs.Identifier.{is_identifier_start, is_identifier_continue};
+ghost use Rattle.just_bench.specs.Lines.{IsLineOf};
+ghost use Rattle.just_bench.specs.Lexemes as spec;
+
+use crate::lines::Line;
+use just_data::{BorrowedText, Sequence};
+use just_parts::layers::Token;
+use std::alloc::{AllocError, Global};
+
+/// What a lexeme is.
+#[derive(Clone, Copy, Debug, PartialEq, Eq)]
+pub enum Kind {
+    /// An identifier.
+    Name,
+    /// `:`.
+    Colon,
+    /// `&&`.
+    And,
+}
+
+/// The smallest part of a line that means something.
+#[derive(Debug, PartialEq, Eq, Drop)]
+pub struct Lexeme<'src> {
+    pub kind: Kind,
+    pub token: Token<'src>,
+}
+
+fn starts_name(byte: u8) -> bool
+    ensures { result ≡ is_identifier_start byte }
+{
+    matches!(byte, b'a'..=b'z' | b'A'..=b'Z' | b'_')
+}
+
+fn continues_name(byte: u8) -> bool
+    ensures { result ≡ is_identifier_continue byte }
+{
+    starts_name(byte) || matches!(byte, b'0'..=b'9' | b'-')
+}
+
+/// Whether a byte separates lexemes.
+pub fn is_blank(byte: u8) -> bool
+    ensures { result ≡ spec.is_blank byte }
+{
+    byte == b' ' || byte == b'\t'
+}
+
+// How many bytes at the front may follow the first of a name.
+fn name_rest(bytes: &[u8]) -> usize
+    ensures is { result ≡ prefix_len is_identifier_continue bytes.now }
+    ensures within { result ≤ length bytes.now }
+{
+    for (i, byte) in bytes.iter().enumerate() {
+        if !continues_name(*byte) {
+            return i;
+        }
+    }
+    bytes.len()
+}
+
+// The kind of the lexeme at the front, and its length.
+fn first(bytes: &[u8]) -> Option<(Kind, usize)>
+    ensures is { result ≡ spec.first bytes.now }
+    ensures takes { IfSome result (λ found. spec.Takes bytes.now found.1) }
+{
+    let Some((byte, rest)) = bytes.split_first() else {
+        return None;
+    };
+    let byte = *byte;
+    if starts_name(byte) {
+        let more = name_rest(rest);
+        return Some((Kind::Name, more + 1));
+    }
+    if byte == b':' {
+        return Some((Kind::Colon, 1));
+    }
+    if byte != b'&' {
+        return None;
+    }
+    if rest.is_empty() {
+        return None;
+    }
+    if rest[0] == b'&' {
+        return Some((Kind::And, 2));
+    }
+    None
+}
+
+// A part of a line as a token.
+fn token<'src>(
+    path: &'src str,
+    text: &'src str,
+    line: &Line<'src>,
+    at: usize,
+    size: usize,
+) -> Token<'src>
+    requires line { IsLineOf text.now line.now }
+    requires some { 0 < size }
+    requires within { at + size ≤ length line.now.text }
+    requires first { slice_index line.now.text at < 128 }
+    requires last { slice_index line.now.text (at + size - 1) < 128 }
+    ensures { result ≡ spec.place path.now text.now line.now at size }
+{
+    Token::new(
+        line.number,
+        at,
+        line.offset + at,
+        size,
+        BorrowedText::new(path),
+        BorrowedText::new(text),
+    )
+}
+
+/// The lexemes of a line, or `None` where a part of it is no lexeme. The error is want of memory.
+pub fn lex<'src>(
+    alloc: Global,
+    path: &'src str,
+    text: &'src str,
+    line: &Line<'src>,
+) -> Result<Option<Sequence<Lexeme<'src>>>, AllocError>
+    requires { IsLineOf text.now line.now }
+    ensures { IfOk result (λ found. found ≡ spec.lexemes path.now text.now line.now) }
+{
+    let bytes = line.text.as_str().as_bytes();
+    let mut found = Sequence::new(alloc);
+    let mut at = 0;
+    while at < bytes.len() {
+        if is_blank(bytes[at]) {
+            at += 1;
+            continue;
+        }
+        let (_, rest) = bytes.split_at(at);
+        match first(rest) {
+            None => return Ok(None),
+            Some((kind, size)) => {
+                found.push(Lexeme {
+                    kind,
+                    token: token(path, text, line, at, size),
+                })?;
+                at += size;
+            }
+        }
+    }
+    Ok(Some(found))
+}

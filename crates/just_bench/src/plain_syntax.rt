@@ -1,0 +1,188 @@
+//! The small grammar as a syntax layer.
+ghost use Rattle.std.specs.Prelude.{◌≡◌, ◌≤◌, ◌++◌, Ok, map, IfOk, IfErr, OnOk, false};
+ghost use Rattle.std.specs.List.{All};
+ghost use Rattle.just_parts.specs.Token.{lexeme};
+ghost use Rattle.just_parts.specs.Bare.{bare_item, bare_recipe, bare_parameter};
+ghost use Rattle.just_parts.specs.Syntax.{CameBy, ItemCameBy, PriorsAreDependencies, components_of, parameter_numbers, recipe_numbers, numbers, AreRising};
+ghost use Rattle.just_bench.specs.Refusal.{Spent, RefusesLine};
+ghost use Rattle.just_bench.specs.Items as spec;
+
+use crate::grammar::{Heading, Reading, read_line};
+use crate::lines::{line_token, lines};
+use just_data::Sequence;
+use just_parts::layers::{
+    Ast, CompileError, CompileErrorKind, Error, Item, Name, Namepath, Numerator, Parameter,
+    ParameterKind, Syntax, UnresolvedDependency,
+};
+use just_parts::{Modulepath, Recipe, Source, UnresolvedRecipe};
+use std::alloc::{AllocError, Global};
+
+/// A small grammar, line by line, that has nothing but recipes without bodies.
+///
+/// A line that is empty or begins with `#` is ignored. Any other line is `NAME P .. : D .. && D ..`, where a name, a
+/// parameter and a dependency is an identifier, each list may be empty and the part from `&&` on may be missing.
+/// Blanks and tabs separate, but begin no line.
+#[derive(Clone, Copy, Debug, Default, PartialEq, Eq)]
+pub struct PlainSyntax;
+
+impl Syntax for PlainSyntax {
+    ghost use Rattle.std.specs.Prelude.{true};
+    ghost use Rattle.std.specs.Result.{result_ok};
+    ghost use Rattle.just_bench.specs.Items as spec;
+
+    ghost parsed = { λ syntax relative text. result_ok (spec.items_of relative text) };
+
+    ghost enabled = { λ syntax item. true };
+
+    fn parse_source<'src>(
+        &self,
+        alloc: Global,
+        numerator: &mut Numerator,
+        relative: &'src str,
+        source: &Source<'src>,
+        text: &'src str,
+    ) -> Result<Ast<'src>, Error<'src>> {
+        let items = parse(alloc, numerator, relative, source, text)?;
+        Ok(Ast {
+            items,
+            module_path: module_path_of(alloc, &source.namepath)?,
+            working_directory: source.working_directory.clone()?,
+        })
+    }
+
+    fn is_enabled<'src>(&self, item: &Item<'src>) -> bool {
+        true
+    }
+}
+
+// The path of the module of these names, or of the root.
+fn module_path_of<'src>(
+    alloc: Global,
+    namepath: &Option<Namepath<'src>>,
+) -> Result<Modulepath, AllocError>
+    ensures { IfOk result (λ path. (path.components ≡ components_of namepath.now) × (path.spaced ≡ false)) }
+{
+    match namepath {
+        None => Ok(Modulepath::root(alloc)),
+        Some(names) => Modulepath::from_namepath(alloc, names),
+    }
+}
+
+// The parameters of these names, each with a number of its own.
+fn make_parameters<'src>(
+    alloc: Global,
+    numerator: &mut Numerator,
+    names: &[Name<'src>],
+) -> Result<Sequence<Parameter<'src>>, Error<'src>>
+    ensures bare { IfOk result (λ made. map bare_parameter made ≡ map spec.parameter names.now) }
+    ensures numbers { IfOk result (λ made. AreRising numerator.old.next (parameter_numbers made) numerator.new.next) }
+    ensures refused { IfErr result (λ e. Spent e numerator.new.next) }
+    ensures onward { numerator.old.next ≤ numerator.new.next }
+{
+    let mut made = Sequence::new(alloc);
+    for name in names {
+        let number = numerator.give()?;
+        made.push(Parameter {
+            name: name.copied(),
+            number,
+            kind: ParameterKind::Singular,
+        })?;
+    }
+    Ok(made)
+}
+
+// Puts the dependencies of these names at the end.
+fn add_dependencies<'src>(
+    alloc: Global,
+    made: &mut Sequence<UnresolvedDependency<'src>>,
+    names: &[Name<'src>],
+) -> Result<(), AllocError>
+    ensures { OnOk result (made.new ≡ made.old ++ map spec.dependency names.now) }
+{
+    for name in names {
+        made.push(UnresolvedDependency {
+            recipe: Namepath {
+                front: Sequence::new(alloc),
+                last: name.copied(),
+            },
+        })?;
+    }
+    Ok(())
+}
+
+fn is_private<'src>(name: &Name<'src>) -> bool
+    ensures { result ≡ spec.is_private (lexeme name.now.token) }
+{
+    match name.lexeme().as_bytes().split_first() {
+        None => false,
+        Some((first, _)) => *first == b'_',
+    }
+}
+
+// The recipe of a heading. Its number is below those of its parameters.
+fn make_recipe<'src>(
+    alloc: Global,
+    numerator: &mut Numerator,
+    source: &Source<'src>,
+    heading: &Heading<'src>,
+) -> Result<UnresolvedRecipe<'src>, Error<'src>>
+    ensures bare { IfOk result (λ made. bare_recipe made ≡ spec.recipe heading.now) }
+    ensures source { IfOk result (CameBy source.now) }
+    ensures numbers { IfOk result (λ made. AreRising numerator.old.next (recipe_numbers made) numerator.new.next) }
+    ensures refused { IfErr result (λ e. Spent e numerator.new.next) }
+    ensures onward { numerator.old.next ≤ numerator.new.next }
+{
+    let number = numerator.give()?;
+    let parameters = make_parameters(alloc, numerator, heading.parameters.as_slice())?;
+    let mut dependencies = Sequence::new(alloc);
+    add_dependencies(alloc, &mut dependencies, heading.priors.as_slice())?;
+    add_dependencies(alloc, &mut dependencies, heading.subsequents.as_slice())?;
+    Ok(Recipe {
+        dependencies,
+        file_depth: source.file_depth,
+        import_offsets: source.import_offsets.clone()?,
+        name: heading.name.copied(),
+        number,
+        parameters,
+        priors: heading.priors.len(),
+        private: is_private(&heading.name),
+        module_path: None,
+        recipe_path: None,
+    })
+}
+
+// The items of a text, or the first line that does not follow the grammar.
+#[tactic(auto, unfolding(crate::specs::Items::items_of))]
+fn parse<'src>(
+    alloc: Global,
+    numerator: &mut Numerator,
+    relative: &'src str,
+    source: &Source<'src>,
+    text: &'src str,
+) -> Result<Sequence<Item<'src>>, Error<'src>>
+    ensures items { IfOk result (λ items. spec.items_of relative.now text.now ≡ Ok (map bare_item items)) }
+    ensures source { IfOk result (λ items. All (ItemCameBy source.now) items) }
+    ensures numbers { IfOk result (λ items. AreRising numerator.old.next (numbers items) numerator.new.next) }
+    ensures priors { IfOk result (λ items. All PriorsAreDependencies items) }
+    ensures refused { IfErr result (λ e. RefusesLine relative.now text.now e numerator.new.next) }
+    ensures onward { numerator.old.next ≤ numerator.new.next }
+{
+    let all = lines(alloc, text)?;
+    let mut items = Sequence::new(alloc);
+    for line in all.as_slice() {
+        match read_line(alloc, relative, text, line)? {
+            Reading::Bad => {
+                return Err(Error::Compile(CompileError {
+                    token: line_token(relative, text, line),
+                    kind: CompileErrorKind::Syntax,
+                }));
+            }
+            Reading::Ignored => continue,
+            Reading::Begins(heading) => {
+                let recipe = make_recipe(alloc, numerator, source, &heading)?;
+                items.push(Item::Recipe(recipe))?;
+            }
+        }
+    }
+    Ok(items)
+}

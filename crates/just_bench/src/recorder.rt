@@ -1,0 +1,60 @@
+//! A host that only records what it is asked.
+ghost use Rattle.std.specs.Prelude.{◌≡◌, [], Some};
+ghost use Rattle.just_parts.specs.declared.layers.host.Entry.{Entry};
+ghost use Rattle.just_parts.specs.Host.{Answer};
+
+use just_data::Sequence;
+use just_parts::Modulepath;
+use just_parts::layers::{Entry, Groups, Host};
+use std::alloc::{AllocError, Global};
+use std::marker::Model;
+
+/// A host that keeps what it was asked, and answers every call that it is done. Contracts see the list of entries.
+#[derive(Debug, Drop)]
+pub struct Recorder {
+    entries: Sequence<Entry>,
+}
+
+impl Model for Recorder {
+    ghost use Rattle.std.specs.Prelude.{List};
+    ghost use Rattle.just_parts.specs.declared.layers.host.Entry.{Entry};
+
+    ghost Value = { List Entry };
+
+    ghost view = { λ recorder. recorder.entries };
+}
+
+impl Recorder {
+    /// A host that was asked nothing, which takes no memory.
+    pub fn new(alloc: Global) -> Recorder
+        ensures { result ≡ [] }
+    {
+        Recorder {
+            entries: Sequence::new(alloc),
+        }
+    }
+
+    /// What it was asked, in order. Its promises hold for every call.
+    pub fn entries(&self) -> &[Entry]
+        ensures list { result.now ≡ self.now }
+        ensures asked { ⟦<Recorder as Host>⟧.entries self.now ≡ self.now }
+        ensures answered { (entry : Entry) → ⟦<Recorder as Host>⟧.promised self.now entry ≡ Some Answer.Done }
+    {
+        self.entries.as_slice()
+    }
+}
+
+impl Host for Recorder {
+    ghost use Rattle.std.specs.Prelude.{Some};
+    ghost use Rattle.just_parts.specs.Host.{Answer};
+
+    ghost entries = { λ recorder. recorder };
+
+    ghost promised = { λ recorder entry. Some Answer.Done };
+
+    fn begin(&mut self, path: &Modulepath, groups: &Groups) -> Result<(), AllocError> {
+        let path = path.clone()?;
+        let groups = groups.clone()?;
+        self.entries.push(Entry::Begin { path, groups })
+    }
+}

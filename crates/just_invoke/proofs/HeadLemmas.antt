@@ -1,0 +1,79 @@
+-- Heads, and why there is none.
+use Rattle.std.proofs.Common.{◌≡◌, ℕ, zero, suc, ◌+◌, ◌<◌, Bool, true, false, List, [], ◌∷◌, ◌++◌, Option, Some, None, length, get_or, take, drop, refl, sym, ap, ◌∙◌, subst, eqb, cond, IfSome}
+use Rattle.std.proofs.Math.Dec.{eqb-suc-zero}
+use Rattle.std.proofs.lemmas.Bool.{eqb-true}
+use Rattle.std.specs.Bool.{MatchBool}
+use Rattle.std.specs.Option.{option_copied}
+use Rattle.std.specs.Borrow.{Bor}
+use Rattle.std.proofs.lemmas.List.{take_more, drop_more, map-append}
+use Rattle.just_parts.specs.Modulepath.{Text, texts}
+use Rattle.just_parts.specs.declared.dependency.Dependency.{Dependency}
+use Rattle.just_parts.specs.declared.recipe.Recipe.{Recipe}
+use Rattle.just_invoke.specs.declared.justfile.Justfile.{Justfile}
+use Rattle.just_invoke.specs.Closed.{IsHeld}
+use Rattle.just_invoke.specs.Recipes.{find_number}
+use Rattle.just_invoke.specs.Cause.{Cause}
+use Rattle.just_invoke.specs.Head.{Held, Leads, Misleads, IsHead, has_colon, is_empty, PathLeads, NoPath, NoHead}
+
+pub texts_front : (names : List (Bor Text)) (i : ℕ) (d : Bor Text) → i < length names →
+    texts (take (i + 1) names) ≡ texts (take i names) ++ (get_or names i d).now ∷ []
+texts_front names i d h = ap texts (take_more names i d h) ∙ map-append (λ w. w.now) (take i names) (get_or names i d ∷ [])
+
+pub texts_back : (names : List (Bor Text)) (i : ℕ) (d : Bor Text) → i < length names →
+    texts (drop i names) ≡ (get_or names i d).now ∷ texts (drop (i + 1) names)
+texts_back names i d h = ap texts (drop_more names i d h)
+
+number_step : (b : Bool) (x : Recipe Dependency) (rest : Option (Recipe Dependency)) (n : ℕ) (r : Recipe Dependency) → (b ≡ true → x.number.0 ≡ n) →
+    (rest ≡ Some r → r.number.0 ≡ n) → cond b (Some x) rest ≡ Some r → r.number.0 ≡ n
+number_step true x rest n r here later e = let same : x ≡ r = (cc) in ap (λ (q : Recipe Dependency). q.number.0) (sym same) ∙ here refl
+number_step false x rest n r here later e = later e
+
+number_found : (recipes : Held) (n : ℕ) (r : Recipe Dependency) → find_number recipes n ≡ Some r → r.number.0 ≡ n
+number_found [] n r e = (cc)
+number_found (x ∷ xs) n r e = number_step (eqb x.number.0 n) x (find_number xs n) n r (eqb-true x.number.0 n) (number_found xs n r) e
+
+-- a recipe that is found by a number is held
+pub held_found : (recipes : Held) (n : ℕ) (o : Option (Bor (Recipe Dependency))) → option_copied o ≡ find_number recipes n → IfSome o (λ r. IsHeld recipes r.now)
+held_found recipes n None e = tt
+held_found recipes n (Some r) e = ap (find_number recipes) (number_found recipes n r.now (sym e)) ∙ sym e
+
+head_of_front : (root : Justfile) (recipes : Held) (word : Bor Text) (others : List (Bor Text)) (k : ℕ) (r : Recipe Dependency) → has_colon word.now ≡ false →
+    Leads root recipes (texts (take k (word ∷ others))) (texts (drop k (word ∷ others))) r → IsHead root recipes (texts (take k (word ∷ others))) (texts (drop k (word ∷ others))) r
+head_of_front root recipes word others zero r e p = p
+head_of_front root recipes word others (suc k) r e p =
+    subst (λ b. MatchBool b ((texts (take k others) ≡ []) × PathLeads root recipes (is_empty (texts (drop k others))) word.now r)
+    (Leads root recipes (texts (take (suc k) (word ∷ others))) (texts (drop (suc k) (word ∷ others))) r)) (sym e) p
+
+-- names in turn are a head where the first has no colon
+pub head_by_names : (root : Justfile) (recipes : Held) (words : List (Bor Text)) (word : Bor Text) (others : List (Bor Text)) (k : ℕ) (r : Recipe Dependency) →
+    words ≡ word ∷ others → has_colon word.now ≡ false →
+    Leads root recipes (texts (take k words)) (texts (drop k words)) r → IsHead root recipes (texts (take k words)) (texts (drop k words)) r
+head_by_names root recipes words word others k r e f =
+    subst (λ ws. Leads root recipes (texts (take k ws)) (texts (drop k ws)) r → IsHead root recipes (texts (take k ws)) (texts (drop k ws)) r) (sym e) (head_of_front root recipes word others k r f)
+
+empty_by_length : (others : List (Bor Text)) (last : Bool) → last ≡ eqb (length others) 0 → last ≡ is_empty (texts others)
+empty_by_length [] last e = e
+empty_by_length (x ∷ xs) last e = e ∙ eqb-suc-zero (length xs)
+
+head_of_path : (root : Justfile) (recipes : Held) (word : Bor Text) (others : List (Bor Text)) (last : Bool) (r : Recipe Dependency) → has_colon word.now ≡ true → last ≡ is_empty (texts others) →
+    PathLeads root recipes last word.now r → IsHead root recipes (word.now ∷ []) (texts others) r
+head_of_path root recipes word others last r f g p =
+    subst (λ b. MatchBool b ((texts [] ≡ []) × PathLeads root recipes (is_empty (texts others)) word.now r) (Leads root recipes (word.now ∷ []) (texts others) r)) (sym f)
+    (refl, subst (λ b. PathLeads root recipes b word.now r) g p)
+
+-- a word with a colon is a head where its path leads to a recipe
+pub head_by_path : (root : Justfile) (recipes : Held) (words : List (Bor Text)) (word : Bor Text) (others : List (Bor Text)) (last : Bool) (r : Recipe Dependency) →
+    words ≡ word ∷ others → has_colon word.now ≡ true → last ≡ eqb (length others) 0 →
+    PathLeads root recipes last word.now r → IsHead root recipes (texts (take 1 words)) (texts (drop 1 words)) r
+head_by_path root recipes words word others last r e f g p =
+    subst (λ ws. IsHead root recipes (texts (take 1 ws)) (texts (drop 1 ws)) r) (sym e) (head_of_path root recipes word others last r f (empty_by_length others last g) p)
+
+-- a word with a colon is none where its path leads to no recipe
+pub no_head_by_path : (root : Justfile) (recipes : Held) (words : List (Bor Text)) (word : Bor Text) (others : List (Bor Text)) (last : Bool) (o : Option Cause) →
+    words ≡ word ∷ others → has_colon word.now ≡ true → last ≡ eqb (length others) 0 →
+    IfSome o (NoPath root recipes last word.now) → IfSome o (NoHead root recipes (texts words))
+no_head_by_path root recipes words word others last None e f g p = p
+no_head_by_path root recipes words word others last (Some cause) e f g p =
+    subst (λ ws. NoHead root recipes (texts ws) cause) (sym e)
+    (subst (λ b. MatchBool b (NoPath root recipes (is_empty (texts others)) word.now cause) (Misleads root recipes false (word.now ∷ texts others) cause)) (sym f)
+    (subst (λ b. NoPath root recipes b word.now cause) (empty_by_length others last g) p))

@@ -1,0 +1,62 @@
+-- Words as invocations, and why words are none.
+use Rattle.std.specs.Prelude.{◌≡◌, ◌≢◌, ◌⊎◌, true, false, List, [], ◌∷◌, ◌++◌, length}
+use Rattle.just_parts.specs.Parameter.{least_arguments, most_arguments}
+use Rattle.just_parts.specs.declared.dependency.Dependency.{Dependency}
+use Rattle.just_parts.specs.declared.recipe.Recipe.{Recipe}
+use Rattle.just_invoke.specs.declared.invocation.Invocation.{Invocation}
+use Rattle.just_invoke.specs.declared.justfile.Justfile.{Justfile}
+use Rattle.just_invoke.specs.Cause.{Cause, count_mismatch}
+use Rattle.just_invoke.specs.Head.{Words, Held, name_of, IsHead, NoHead}
+use Rattle.just_invoke.specs.Tail.{IsTail, any_missing, shown}
+
+-- a recipe, with a group of words for each parameter
+pub record Reading : Type 0 where
+  pub recipe : Recipe Dependency
+  pub groups : List Words
+
+-- an invocation, as its recipe and the texts of its groups
+abbrev pub reading_of : Invocation → Reading
+reading_of i = record { recipe = i.recipe.now; groups = shown i.arguments.items }
+
+-- the words begin with an invocation, its head and then its tail, and these words follow it
+pub record Invokes (root : Justfile) (recipes : Held) (words after : Words) (i : Reading) : Type 0 where
+  pub head : Words
+  pub tail : Words
+  pub whole : words ≡ head ++ (tail ++ after)
+  pub names : IsHead root recipes head (tail ++ after) i.recipe
+  pub reads : IsTail i.recipe.parameters tail after i.groups
+  pub complete : any_missing i.recipe.parameters i.groups ≡ false
+
+-- invocations, one after another, and the words that are left
+abbrev pub Chain : Justfile → Held → Words → List Reading → Words → Type 0
+Chain root recipes words [] rest = words ≡ rest
+Chain root recipes words (i ∷ is) rest =
+    (words ≢ []) × (after : Words) × Invokes root recipes words after i × Chain root recipes after is rest
+
+-- the words are these invocations; no words are one
+abbrev pub IsSplit : Justfile → Held → Words → List Reading → Type 0
+IsSplit root recipes [] is = (i : Reading) × (is ≡ i ∷ []) × Invokes root recipes [] [] i
+IsSplit root recipes (w ∷ ws) is = Chain root recipes (w ∷ ws) is []
+
+-- the words begin with a head and a tail, in which a group is empty that may not be
+pub record Lacks (root : Justfile) (recipes : Held) (words : Words) (cause : Cause) : Type 0 where
+  pub recipe : Recipe Dependency
+  pub head : Words
+  pub tail : Words
+  pub after : Words
+  pub groups : List Words
+  pub whole : words ≡ head ++ (tail ++ after)
+  pub names : IsHead root recipes head (tail ++ after) recipe
+  pub reads : IsTail recipe.parameters tail after groups
+  pub lacks : any_missing recipe.parameters groups ≡ true
+  pub says : cause ≡ count_mismatch (name_of recipe) (length tail) (least_arguments recipe.parameters)
+      (most_arguments recipe.parameters)
+
+-- why no invocation begins here
+abbrev pub Stops : Justfile → Held → Words → Cause → Type 0
+Stops root recipes words cause = NoHead root recipes words cause ⊎ Lacks root recipes words cause
+
+-- why the words are no invocations: some of them are, and then none begins
+abbrev pub IsFault : Justfile → Held → Words → Cause → Type 0
+IsFault root recipes words cause =
+    (is : List Reading) × (rest : Words) × Chain root recipes words is rest × ((rest ≢ []) ⊎ (words ≡ [])) × Stops root recipes rest cause

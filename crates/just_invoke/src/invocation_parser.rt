@@ -1,0 +1,478 @@
+ghost use Rattle.std.specs.Prelude.{◌≡◌, ◌≤◌, ◌<◌, ◌++◌, ◌∷◌, [], ℕ, true, false, Some, IfOk, IfErr, IfSome, OnOk, OnErr, map, length, take, drop, slice_set, slice_index_or, vec_len};
+ghost use Rattle.std.specs.List.{All};
+ghost use Rattle.std.specs.Option.{option_copied};
+ghost use Rattle.just_parts.specs.Modulepath.{texts};
+ghost use Rattle.just_parts.specs.Parameter.{least_arguments, most_arguments};
+ghost use Rattle.just_parts.specs.declared.layers.error.Error.TheVariants as error;
+ghost use Rattle.just_parts.specs.declared.layers.error.InvocationError.TheVariants as fault;
+ghost use Rattle.just_invoke.specs.Cause.{cause_of, count_mismatch, IsExpected};
+ghost use Rattle.just_invoke.specs.Closed.{recipe_named, default_recipe, IsHeld, IsClosed};
+ghost use Rattle.just_invoke.specs.Head.{Words, name_of, has_colon, is_empty, goes_on, TakesDefault, NoDefault, BadName, Leads, Misleads, IsPathWord, PathLeads, NoPath, IsHead, NoHead};
+ghost use Rattle.just_invoke.specs.Tail.{shown, first_variadic, IsTail, is_missing, any_missing};
+ghost use Rattle.just_invoke.specs.Split.{reading_of, Invokes, Chain, IsSplit, Stops, IsFault};
+
+use crate::invocation::Invocation;
+use crate::justfile::Justfile;
+use crate::recipes::Recipes;
+use just_data::{BorrowedText, Text};
+use just_parts::layers::{Error, Evaluation, InvocationError, Parameter};
+use just_parts::{Modulepath, Recipe};
+use std::alloc::{AllocError, Global};
+
+/// Reads command words as invocations of recipes.
+pub struct InvocationParser;
+
+impl InvocationParser {
+    /// The invocations that the words are: the root's default where there are no words, else as many as it takes to use
+    /// every word, each at least one. The groups of an invocation borrow its words, one group for each parameter.
+    ///
+    /// An error is `Memory`, or says why the first invocation that cannot be read is none. Nothing is changed either way.
+    pub fn parse_invocations<'run, 'src, 'words, E: Evaluation>(
+        alloc: Global,
+        root: &'run Justfile<'src>,
+        recipes: &'run Recipes<'src>,
+        _evaluation: &E,
+        words: &[&'words str],
+    ) -> Result<Vec<Invocation<'run, 'src, 'words>>, Error<'src>>
+        requires { IsClosed root.now recipes.now }
+        ensures split { IfOk result (λ found. IsSplit root.now recipes.now (texts words.now) (map reading_of found.items)) }
+        ensures held { IfOk result (λ found. All (λ i. IsHeld recipes.now i.recipe.now) found.items) }
+        ensures fault { IfErr result (λ e. IfSome (cause_of e) (IsFault root.now recipes.now (texts words.now))) }
+        ensures expected { IfErr result (λ e. IsExpected e) }
+    {
+        if words.is_empty() {
+            parse_none(alloc, root, recipes, words)
+        } else {
+            parse_some(alloc, root, recipes, words)
+        }
+    }
+}
+
+// The recipe of a name.
+fn recipe_named<'run, 'src>(
+    root: &Justfile<'src>,
+    recipes: &'run Recipes<'src>,
+    name: &str,
+) -> Option<&'run Recipe<'src>>
+    ensures found { option_copied result ≡ recipe_named root.now recipes.now name.now }
+    ensures held { IfSome result (λ r. IsHeld recipes.now r.now) }
+{
+    match root.recipes.get(name) {
+        Some(key) => recipes.get(key.number),
+        None => None,
+    }
+}
+
+// The recipe that is run without words.
+fn default_recipe<'run, 'src>(
+    root: &Justfile<'src>,
+    recipes: &'run Recipes<'src>,
+) -> Option<&'run Recipe<'src>>
+    ensures found { option_copied result ≡ default_recipe root.now recipes.now }
+    ensures held { IfSome result (λ r. IsHeld recipes.now r.now) }
+{
+    match root.default {
+        Some(number) => recipes.get(number),
+        None => None,
+    }
+}
+
+// Why a recipe that needs arguments is no default.
+fn default_requires<'src>(recipe: &Recipe<'src>, min_arguments: usize) -> Error<'src>
+    ensures { result ≡ error.Invocation (fault.DefaultRecipeRequiresArguments (name_of recipe.now) min_arguments) }
+{
+    Error::Invocation(InvocationError::DefaultRecipeRequiresArguments {
+        recipe: BorrowedText::new(recipe.name.lexeme()),
+        min_arguments,
+    })
+}
+
+// The default, which needs no argument.
+fn take_default<'run, 'src>(
+    root: &Justfile<'src>,
+    recipes: &'run Recipes<'src>,
+) -> Result<&'run Recipe<'src>, Error<'src>>
+    ensures ok { IfOk result (λ r. TakesDefault root.now recipes.now r.now) }
+    ensures held { IfOk result (λ r. IsHeld recipes.now r.now) }
+    ensures err { IfErr result (λ e. IfSome (cause_of e) (NoDefault root.now.recipes (default_recipe root.now recipes.now))) }
+    ensures expected { IfErr result (λ e. IsExpected e) }
+{
+    match default_recipe(root, recipes) {
+        Some(recipe) => {
+            let min_arguments = recipe.min_arguments();
+            if min_arguments == 0 {
+                Ok(recipe)
+            } else {
+                Err(default_requires(recipe, min_arguments))
+            }
+        }
+        None => {
+            if root.recipes.is_empty() {
+                Err(Error::Invocation(InvocationError::NoRecipes))
+            } else {
+                Err(Error::Invocation(InvocationError::NoDefaultRecipe))
+            }
+        }
+    }
+}
+
+// Whether names of one path follow.
+fn goes_on(one: bool, names: &[&str]) -> bool
+    ensures { result ≡ goes_on one (texts names.now) }
+{
+    match names {
+        [] => false,
+        _ => one,
+    }
+}
+
+// The recipe of the first name, where it ends a head.
+fn end_head<'run, 'src>(
+    alloc: Global,
+    found: Option<&'run Recipe<'src>>,
+    one: bool,
+    goes_on: bool,
+    name: &str,
+) -> Result<&'run Recipe<'src>, Error<'src>>
+    ensures ok { IfOk result (λ r. option_copied found.entry ≡ Some r.now) }
+    ensures ends { IfOk result (λ r. goes_on ≡ false) }
+    ensures err { IfErr result (λ e. IfSome (cause_of e) (BadName one goes_on (name.now ∷ []) (option_copied found.entry))) }
+    ensures expected { IfErr result (λ e. IsExpected e) }
+{
+    if goes_on {
+        let path = Text::from_str(alloc, name)?;
+        return Err(Error::Invocation(match found {
+            Some(_) => InvocationError::ExpectedSubmoduleButFoundRecipe { path },
+            None => InvocationError::UnknownSubmodule { path },
+        }));
+    }
+    match found {
+        Some(recipe) => Ok(recipe),
+        None => Err(Error::Invocation(InvocationError::UnknownRecipe {
+            recipe: Text::from_str(alloc, name)?,
+        })),
+    }
+}
+
+// Walks the names: the recipe to which they lead, and how many of them do. `one` says that they are one word.
+fn walk<'run, 'src>(
+    alloc: Global,
+    root: &Justfile<'src>,
+    recipes: &'run Recipes<'src>,
+    one: bool,
+    names: &[&str],
+) -> Result<(&'run Recipe<'src>, usize), Error<'src>>
+    ensures within { IfOk result (λ found. found.1 ≤ length names.now) }
+    ensures moves { IfOk result (λ found. 0 < length names.now → 0 < found.1) }
+    ensures whole { IfOk result (λ found. one ≡ true → found.1 ≡ length names.now) }
+    ensures ok { IfOk result (λ found. Leads root.now recipes.now (texts (take found.1 names.now)) (texts (drop found.1 names.now)) found.0.now) }
+    ensures held { IfOk result (λ found. IsHeld recipes.now found.0.now) }
+    ensures err { IfErr result (λ e. IfSome (cause_of e) (Misleads root.now recipes.now one (texts names.now))) }
+    ensures expected { IfErr result (λ e. IsExpected e) }
+{
+    let Some((name, rest)) = names.split_first() else {
+        return match take_default(root, recipes) {
+            Ok(recipe) => Ok((recipe, 0)),
+            Err(error) => Err(error),
+        };
+    };
+    match end_head(
+        alloc,
+        recipe_named(root, recipes, name),
+        one,
+        goes_on(one, rest),
+        name,
+    ) {
+        Ok(recipe) => Ok((recipe, 1)),
+        Err(error) => Err(error),
+    }
+}
+
+fn contains_colon(word: &str) -> bool
+    ensures { result ≡ has_colon word.now }
+{
+    for byte in word.as_bytes() {
+        if *byte == b':' {
+            return true;
+        }
+    }
+    false
+}
+
+// The path that a word with a colon is.
+fn path_word(alloc: Global, word: &str, last: bool) -> Result<Result<Modulepath, ()>, AllocError>
+    ensures path { IfOk result (λ found. IfOk found (λ p. IsPathWord last word.now p.components)) }
+    ensures refusal { IfOk result (λ found. OnErr found ((names : Words) → IsPathWord last word.now names → ⊥)) }
+{
+    if last {
+        Modulepath::from_argument(alloc, word)
+    } else {
+        Modulepath::try_from(alloc, &[word])
+    }
+}
+
+fn as_words<'a>(alloc: Global, components: &'a [Text]) -> Result<Vec<&'a str>, AllocError>
+    ensures { IfOk result (λ words. texts words.items ≡ components.now) }
+{
+    let mut words = Vec::new(alloc);
+    for component in components {
+        words.push(component.as_str())?;
+    }
+    Ok(words)
+}
+
+// Walks all the names, which are one word.
+fn walk_path<'run, 'src>(
+    alloc: Global,
+    root: &Justfile<'src>,
+    recipes: &'run Recipes<'src>,
+    names: &[&str],
+) -> Result<&'run Recipe<'src>, Error<'src>>
+    ensures ok { IfOk result (λ r. Leads root.now recipes.now (texts names.now) [] r.now) }
+    ensures held { IfOk result (λ r. IsHeld recipes.now r.now) }
+    ensures err { IfErr result (λ e. IfSome (cause_of e) (Misleads root.now recipes.now true (texts names.now))) }
+    ensures expected { IfErr result (λ e. IsExpected e) }
+{
+    match walk(alloc, root, recipes, true, names) {
+        Ok((recipe, _)) => Ok(recipe),
+        Err(error) => Err(error),
+    }
+}
+
+// The recipe to which a word with a colon leads.
+fn parse_path<'run, 'src>(
+    alloc: Global,
+    root: &Justfile<'src>,
+    recipes: &'run Recipes<'src>,
+    word: &str,
+    last: bool,
+) -> Result<&'run Recipe<'src>, Error<'src>>
+    ensures ok { IfOk result (λ r. PathLeads root.now recipes.now last word.now r.now) }
+    ensures held { IfOk result (λ r. IsHeld recipes.now r.now) }
+    ensures err { IfErr result (λ e. IfSome (cause_of e) (NoPath root.now recipes.now last word.now)) }
+    ensures expected { IfErr result (λ e. IsExpected e) }
+{
+    match path_word(alloc, word, last)? {
+        Ok(path) => {
+            let names = as_words(alloc, path.components.as_slice())?;
+            match walk_path(alloc, root, recipes, &names) {
+                Ok(recipe) => Ok(recipe),
+                Err(error) => Err(error),
+            }
+        }
+        Err(()) => Err(Error::Invocation(InvocationError::UnknownRecipe {
+            recipe: Text::from_str(alloc, word)?,
+        })),
+    }
+}
+
+// The recipe that a front of the words names, and how many words do.
+fn parse_head<'run, 'src>(
+    alloc: Global,
+    root: &Justfile<'src>,
+    recipes: &'run Recipes<'src>,
+    words: &[&str],
+) -> Result<(&'run Recipe<'src>, usize), Error<'src>>
+    ensures within { IfOk result (λ found. found.1 ≤ length words.now) }
+    ensures moves { IfOk result (λ found. 0 < length words.now → 0 < found.1) }
+    ensures ok { IfOk result (λ found. IsHead root.now recipes.now (texts (take found.1 words.now)) (texts (drop found.1 words.now)) found.0.now) }
+    ensures held { IfOk result (λ found. IsHeld recipes.now found.0.now) }
+    ensures err { IfErr result (λ e. IfSome (cause_of e) (NoHead root.now recipes.now (texts words.now))) }
+    ensures expected { IfErr result (λ e. IsExpected e) }
+{
+    let Some((word, rest)) = words.split_first() else {
+        return walk(alloc, root, recipes, false, words);
+    };
+    if !contains_colon(word) {
+        return walk(alloc, root, recipes, false, words);
+    }
+    match parse_path(alloc, root, recipes, word, rest.is_empty()) {
+        Ok(recipe) => Ok((recipe, 1)),
+        Err(error) => Err(error),
+    }
+}
+
+// The place of the first variadic parameter, or the number of parameters.
+fn first_variadic(parameters: &[Parameter]) -> usize
+    ensures { result ≡ first_variadic parameters.now }
+{
+    let mut place = 0;
+    for parameter in parameters {
+        if parameter.kind.is_variadic() {
+            return place;
+        }
+        place += 1;
+    }
+    place
+}
+
+// As many empty groups as there are parameters.
+fn empty_groups<'words>(
+    alloc: Global,
+    parameters: &[Parameter],
+) -> Result<Vec<Vec<&'words str>>, AllocError>
+    ensures count { IfOk result (λ groups. length (shown groups.items) ≡ length parameters.now) }
+    ensures each { IfOk result (λ groups. (j : ℕ) → slice_index_or (shown groups.items) j [] ≡ []) }
+{
+    let mut groups = Vec::new(alloc);
+    for _ in parameters {
+        groups.push(Vec::new(alloc))?;
+    }
+    Ok(groups)
+}
+
+// Puts a word at the end of one group.
+fn push_at<'words>(
+    groups: &mut Vec<Vec<&'words str>>,
+    place: usize,
+    word: &'words str,
+) -> Result<(), AllocError>
+    requires { place < vec_len groups.old }
+    ensures { OnOk result (shown groups.new.items
+        ≡ slice_set (shown groups.old.items) place (slice_index_or (shown groups.old.items) place [] ++ word.now ∷ [])) }
+{
+    groups[place].push(word)?;
+    Ok(())
+}
+
+// The groups of the words that the parameters take, and how many words these are.
+fn read_tail<'words>(
+    alloc: Global,
+    parameters: &[Parameter],
+    words: &[&'words str],
+) -> Result<(Vec<Vec<&'words str>>, usize), AllocError>
+    ensures within { IfOk result (λ found. found.1 ≤ length words.now) }
+    ensures count { IfOk result (λ found. vec_len found.0 ≡ length parameters.now) }
+    ensures tail { IfOk result (λ found. IsTail parameters.now (texts (take found.1 words.now)) (texts (drop found.1 words.now)) (shown found.0.items)) }
+{
+    let variadic = first_variadic(parameters);
+    let mut groups = empty_groups(alloc, parameters)?;
+    let mut taken = 0;
+    for word in words {
+        let place = taken.min(variadic);
+        if place >= parameters.len() {
+            return Ok((groups, taken));
+        }
+        push_at(&mut groups, place, word)?;
+        taken += 1;
+    }
+    Ok((groups, taken))
+}
+
+fn is_missing(parameter: &Parameter, group: &[&str]) -> bool
+    ensures { result ≡ is_missing parameter.now (texts group.now) }
+{
+    match group {
+        [] => parameter.is_required(),
+        _ => false,
+    }
+}
+
+// Whether some group is empty that may not be.
+fn any_missing(parameters: &[Parameter], groups: &[Vec<&str>]) -> bool
+    requires { length groups.now ≡ length parameters.now }
+    ensures { result ≡ any_missing parameters.now (shown groups.now) }
+{
+    for (place, parameter) in parameters.iter().enumerate() {
+        if is_missing(parameter, &groups[place]) {
+            return true;
+        }
+    }
+    false
+}
+
+// Why a recipe is not run with so many positional words.
+fn count_mismatch<'src>(recipe: &Recipe<'src>, found: usize) -> Error<'src>
+    ensures cause { cause_of result ≡ Some (count_mismatch (name_of recipe.now) found (least_arguments recipe.now.parameters) (most_arguments recipe.now.parameters)) }
+    ensures expected { IsExpected result }
+{
+    Error::Invocation(InvocationError::PositionalArgumentCountMismatch {
+        recipe: BorrowedText::new(recipe.name.lexeme()),
+        found,
+        min: recipe.min_arguments(),
+        max: recipe.max_arguments(),
+    })
+}
+
+// The words after those that were taken.
+fn after<'a, 'words>(words: &'a [&'words str], taken: usize) -> &'a [&'words str]
+    requires { taken ≤ length words.now }
+    ensures { result.now ≡ drop taken words.now }
+{
+    &words[taken..]
+}
+
+// The invocation with which the words begin, and how many words it takes.
+fn parse_invocation<'run, 'src, 'words>(
+    alloc: Global,
+    root: &Justfile<'src>,
+    recipes: &'run Recipes<'src>,
+    words: &[&'words str],
+) -> Result<(Invocation<'run, 'src, 'words>, usize), Error<'src>>
+    ensures within { IfOk result (λ found. found.1 ≤ length words.now) }
+    ensures moves { IfOk result (λ found. 0 < length words.now → 0 < found.1) }
+    ensures ok { IfOk result (λ found. Invokes root.now recipes.now (texts words.now) (texts (drop found.1 words.now)) (reading_of found.0)) }
+    ensures held { IfOk result (λ found. IsHeld recipes.now found.0.recipe.now) }
+    ensures err { IfErr result (λ e. IfSome (cause_of e) (Stops root.now recipes.now (texts words.now))) }
+    ensures expected { IfErr result (λ e. IsExpected e) }
+{
+    let (recipe, named) = match parse_head(alloc, root, recipes, words) {
+        Ok(found) => found,
+        Err(error) => return Err(error),
+    };
+    let (arguments, taken) = read_tail(alloc, recipe.parameters.as_slice(), after(words, named))?;
+    if any_missing(recipe.parameters.as_slice(), &arguments) {
+        return Err(count_mismatch(recipe, taken));
+    }
+    Ok((Invocation { recipe, arguments }, named + taken))
+}
+
+// The one invocation that no words are.
+fn parse_none<'run, 'src, 'words>(
+    alloc: Global,
+    root: &Justfile<'src>,
+    recipes: &'run Recipes<'src>,
+    words: &[&'words str],
+) -> Result<Vec<Invocation<'run, 'src, 'words>>, Error<'src>>
+    requires { words.now ≡ [] }
+    ensures split { IfOk result (λ found. IsSplit root.now recipes.now (texts words.now) (map reading_of found.items)) }
+    ensures held { IfOk result (λ found. All (λ i. IsHeld recipes.now i.recipe.now) found.items) }
+    ensures fault { IfErr result (λ e. IfSome (cause_of e) (IsFault root.now recipes.now (texts words.now))) }
+    ensures expected { IfErr result (λ e. IsExpected e) }
+{
+    match parse_invocation(alloc, root, recipes, words) {
+        Ok((invocation, _)) => {
+            let mut invocations = Vec::new(alloc);
+            invocations.push(invocation)?;
+            Ok(invocations)
+        }
+        Err(error) => Err(error),
+    }
+}
+
+// The invocations that some words are.
+fn parse_some<'run, 'src, 'words>(
+    alloc: Global,
+    root: &Justfile<'src>,
+    recipes: &'run Recipes<'src>,
+    words: &[&'words str],
+) -> Result<Vec<Invocation<'run, 'src, 'words>>, Error<'src>>
+    requires { 0 < length words.now }
+    ensures chain { IfOk result (λ found. Chain root.now recipes.now (texts words.now) (map reading_of found.items) []) }
+    ensures held { IfOk result (λ found. All (λ i. IsHeld recipes.now i.recipe.now) found.items) }
+    ensures fault { IfErr result (λ e. IfSome (cause_of e) (IsFault root.now recipes.now (texts words.now))) }
+    ensures expected { IfErr result (λ e. IsExpected e) }
+{
+    let mut invocations = Vec::new(alloc);
+    let mut next = 0;
+    while next < words.len() {
+        match parse_invocation(alloc, root, recipes, after(words, next)) {
+            Ok((invocation, taken)) => {
+                invocations.push(invocation)?;
+                next += taken;
+            }
+            Err(fault) => return Err(fault),
+        }
+    }
+    Ok(invocations)
+}

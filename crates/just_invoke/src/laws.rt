@@ -1,0 +1,25 @@
+ghost use Rattle.std.specs.Prelude.{◌≡◌, ◌≢◌, ◌<◌, List, [], length};
+ghost use Rattle.just_invoke.specs.Cause.{Cause};
+ghost use Rattle.just_invoke.specs.Head.{Words, Held};
+ghost use Rattle.just_invoke.specs.Split.{Reading, Invokes, IsSplit, IsFault};
+ghost use Rattle.just_invoke.specs.declared.justfile.Justfile.{Justfile};
+
+/// Words are invocations in at most one way.
+pub fn one_split()
+    ensures { (root : Justfile) (recipes : Held) (words : Words) (a b : List Reading) → IsSplit root recipes words a → IsSplit root recipes words b → a ≡ b }
+{}
+
+/// Words that are invocations have no fault.
+pub fn no_fault()
+    ensures { (root : Justfile) (recipes : Held) (words : Words) (a : List Reading) (cause : Cause) → IsSplit root recipes words a → IsFault root recipes words cause → ⊥ }
+{}
+
+/// Words have at most one fault.
+pub fn one_fault()
+    ensures { (root : Justfile) (recipes : Held) (words : Words) (a b : Cause) → IsFault root recipes words a → IsFault root recipes words b → a ≡ b }
+{}
+
+/// An invocation with which some words begin takes at least one of them.
+pub fn takes_some()
+    ensures { (root : Justfile) (recipes : Held) (words after : Words) (i : Reading) → words ≢ [] → Invokes root recipes words after i → length after < length words }
+{}
