@@ -1,6 +1,7 @@
 pub mod Analyses
 pub mod Circles
 pub mod Edges
+pub mod Files
 pub mod Indexing
 pub mod Keys
 pub mod Lifts

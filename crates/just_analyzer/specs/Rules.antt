@@ -62,9 +62,12 @@ pub data NamesInRecipes (recipes : List Outline) : Cause → Type 0 where
   in_headers : {c : Cause} → Headers recipes c → NamesInRecipes recipes c
   in_dependencies : {c : Cause} → Keeps (Headers recipes) → Dependencies recipes c → NamesInRecipes recipes c
 
--- What a source map breaks from a root, where `parsed` gives the items of a text under its relative path, and `enabled` tells which count.
+-- What the text of the root file breaks, where `parsed` gives the items of a text under its relative path, and `enabled` tells which count.
+pub data NamesInFile (parsed : List ℕ → List ℕ → Option (List Item)) (enabled : Item → Bool) (root text : List ℕ) : Cause → Type 0 where
+  no_grammar : parsed (file_name_of root) text ≡ None → NamesInFile parsed enabled root text (Broken kind.Syntax)
+  in_recipes : {c : Cause} (items : List Item) → parsed (file_name_of root) text ≡ Some items → NamesInRecipes (outlines_of (recipes_of enabled items)) c → NamesInFile parsed enabled root text c
+
+-- What a source map breaks from a root.
 pub data Names (parsed : List ℕ → List ℕ → Option (List Item)) (enabled : Item → Bool) (files : Files) (root : List ℕ) : Cause → Type 0 where
   no_file : {path : List ℕ} → text_at files root ≡ None → root ≡ path → Names parsed enabled files root (NoFile path)
-  no_grammar : (text : List ℕ) → text_at files root ≡ Some text → parsed (file_name_of root) text ≡ None → Names parsed enabled files root (Broken kind.Syntax)
-  in_recipes : {c : Cause} (text : List ℕ) (items : List Item) → text_at files root ≡ Some text → parsed (file_name_of root) text ≡ Some items → NamesInRecipes (outlines_of (recipes_of enabled items)) c
-      → Names parsed enabled files root c
+  in_file : {c : Cause} (text : List ℕ) → text_at files root ≡ Some text → NamesInFile parsed enabled root text c → Names parsed enabled files root c

@@ -2,6 +2,8 @@
 #![tactic(auto)]
 
 mod analyzer;
+pub mod compilation;
+pub mod compiler;
 mod definitions;
 mod headers;
 mod names;
@@ -9,6 +11,8 @@ mod recipe_resolver;
 pub mod sources;
 mod unresolved_recipe;
 
+pub use compilation::Compilation;
+pub use compiler::Compiler;
 pub use just_invoke::{Invocation, Justfile, RecipeKey, Recipes};
 pub use just_parts::{Modulepath, is_clean};
 pub use sources::Sources;

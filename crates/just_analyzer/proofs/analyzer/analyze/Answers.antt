@@ -6,7 +6,7 @@ use Rattle.just_parts.specs.declared.recipe.Recipe.{Recipe}
 use Rattle.just_analyzer.specs.Outline.{outlines_of, recipes_of}
 use Rattle.just_analyzer.specs.Definitions.{recipes_in, outlines_in}
 use Rattle.just_analyzer.specs.Resolved.{unresolved_numbers, HasPriors}
-use Rattle.just_analyzer.specs.Analysis.{AreKeysOf}
+use Rattle.just_analyzer.specs.Analysis.{AreKeysOf, IsOf}
 use Rattle.just_analyzer.specs.Rules.{Cause, Headers, Dependencies, NamesInRecipes, in_headers, in_dependencies, Keeps, Reports}
 use Rattle.just_analyzer.proofs.Lifts.{lifted}
 use Rattle.just_analyzer.proofs.Outlines.{length-lent}
@@ -49,4 +49,14 @@ returns-clause-closed g c =
     (subst (λ n. AreKeysOf (recipes_in c.in_ok-definitions.definitions) n c.in_ok-justfile.justfile.recipes) (sym many) c.in_ok-justfile.ensures.keys) c.in_ok-justfile.ensures.default
 
 pub returns-clause-fields : goal.returns-clause-fields
-returns-clause-fields g c = ?
+returns-clause-fields g c =
+    let same : recipes_in c.in_ok-definitions.definitions ≡ recipes_of (g.S.Syntax.enabled c.args.syntax.now) c.args.ast.now.items = c.in_ok-definitions.ensures ∙ ap (recipes_of (g.S.Syntax.enabled c.args.syntax.now)) c.as_slice.ensures in
+    let many : length (recipes_in c.in_ok-definitions.definitions) ≡ length c.in_ok-definitions.definitions.recipes.items = length-lent c.in_ok-definitions.definitions.recipes.items in
+    subst (λ (rs : List (Recipe UnresolvedDependency)). IsOf rs c.args.ast.now c.args.loaded c.args.source c.in_ok-justfile.justfile) same (record {
+      keys = subst (λ n. AreKeysOf (recipes_in c.in_ok-definitions.definitions) n c.in_ok-justfile.justfile.recipes) (sym many) c.in_ok-justfile.ensures.keys;
+      default = c.in_ok-justfile.ensures.default;
+      loaded_is = c.in_ok-justfile.ensures.loaded;
+      source_is = c.in_ok-justfile.ensures.source;
+      module_path = c.in_ok-justfile.ensures.module_path;
+      working_directory = c.in_ok-justfile.ensures.working_directory;
+    })
