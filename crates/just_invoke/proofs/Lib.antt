@@ -1,7 +1,17 @@
+pub mod Accounts
 pub mod Faults
+pub mod Follow
 pub mod HeadLemmas
+pub mod Keeps
+pub mod Keyed
+pub mod Pairs
 pub mod PathLemmas
+pub mod Places
+pub mod Ranks
+pub mod Reaching
 pub mod RecipeLemmas
 pub mod SplitLemmas
+pub mod Steps
 pub mod TailLemmas
 pub mod Unique
+pub mod Whole

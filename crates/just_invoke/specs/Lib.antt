@@ -1,6 +1,13 @@
+pub mod Account
 pub mod Cause
 pub mod Closed
+pub mod Expansion
+pub mod Firsts
 pub mod Head
+pub mod Pairs
 pub mod Recipes
+pub mod Run
 pub mod Split
 pub mod Tail
+pub mod Unready
+pub mod Walk

@@ -1,12 +1,15 @@
-ghost use Rattle.std.specs.Prelude.{◌≡◌, ◌≢◌, ◌+◌, ◌^◌, ◌<◌, ℕ, ◌++◌, ◌∷◌, [], ◌↔◌, length, slice_get, slice_index, IsTrue, IfSome, IfNone, IfErr, OnOk, OnErr, Some};
+ghost use Rattle.std.specs.Prelude.{◌≡◌, ◌≢◌, ◌+◌, ◌^◌, ◌<◌, ℕ, ◌++◌, ◌∷◌, [], ◌↔◌, length, map, slice_get, slice_index, IsTrue, IfSome, IfNone, IfErr, OnOk, OnErr, Some};
 ghost use Rattle.std.specs.List.{All, Contains};
 ghost use Rattle.std.specs.Option.{option_copied};
 ghost use Rattle.std.specs.Ordering.{nat_cmp};
 ghost use Rattle.std.specs.BTreeMap.{get};
-ghost use Rattle.just_invoke.specs.Recipes.{numbers, needs, find_number, IsPlaceOf, IsNew, AreApart};
+ghost use Rattle.just_parts.specs.declared.dependency.Dependency.{Dependency};
+ghost use Rattle.just_invoke.specs.Closed.{IsResolved};
+ghost use Rattle.just_invoke.specs.Pairs.{place_of, pair_of, needed, prior_dependencies, subsequent_dependencies, AllBelow};
+ghost use Rattle.just_invoke.specs.Recipes.{numbers, needs, find_number, IsOrdered, IsPlaceOf, IsNew, AreApart};
 
-use just_parts::Recipe;
 use just_parts::layers::Number;
+use just_parts::{Dependency, Recipe};
 use std::alloc::{AllocError, AllocFailed, Global};
 use std::collections::BTreeMap;
 use std::marker::Model;
@@ -71,6 +74,54 @@ impl<'src> Recipes<'src> {
             return Some(place);
         }
         None
+    }
+
+    // The place past all recipes, each of which depends on earlier ones.
+    pub(crate) fn end(&self) -> usize
+        ensures is { result ≡ length self.now }
+        ensures ordered { IsOrdered self.now }
+    {
+        self.recipes.len()
+    }
+
+    // The place of a number that a recipe has.
+    pub(crate) fn place(&self, number: Number) -> usize
+        requires { Contains (numbers self.now) number.0 }
+        ensures is { result ≡ place_of self.now number.0 }
+        ensures within { result < length self.now }
+    {
+        self.places.get(&number.0).copied().unwrap()
+    }
+
+    // What the recipe at a place depends on: it stands earlier.
+    pub(crate) fn dependencies(&self, place: usize) -> &[Dependency<'src>]
+        requires { place < length self.now }
+        ensures is { result.now ≡ needed self.now place }
+        ensures held { All (λ (d : Dependency). Contains (numbers self.now) d.recipe.0) result.now }
+    {
+        self.recipes[place].dependencies.as_slice()
+    }
+
+    // Those that run before it.
+    pub(crate) fn priors(&self, place: usize) -> &[Dependency<'src>]
+        requires place { place < length self.now }
+        requires resolved { All IsResolved self.now }
+        ensures is { result.now ≡ prior_dependencies self.now place }
+        ensures held { All (λ (d : Dependency). Contains (numbers self.now) d.recipe.0) result.now }
+        ensures below { AllBelow place (map (pair_of self.now) result.now) }
+    {
+        self.recipes[place].priors()
+    }
+
+    // Those that run after it.
+    pub(crate) fn subsequents(&self, place: usize) -> &[Dependency<'src>]
+        requires place { place < length self.now }
+        requires resolved { All IsResolved self.now }
+        ensures is { result.now ≡ subsequent_dependencies self.now place }
+        ensures held { All (λ (d : Dependency). Contains (numbers self.now) d.recipe.0) result.now }
+        ensures below { AllBelow place (map (pair_of self.now) result.now) }
+    {
+        self.recipes[place].subsequents()
     }
 
     // The recipe at a place.

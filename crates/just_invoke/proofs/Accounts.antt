@@ -1,0 +1,265 @@
+-- Accounts put together.
+use Rattle.std.proofs.Common.{◌≡◌, ℕ, zero, suc, ◌+◌, ◌<◌, ◌≤◌, true, false, ◌||◌, List, [], ◌∷◌, ◌++◌, length, get_or, set, refl, sym, ◌∙◌, ap, subst, inl, inr, arith, append_assoc}
+use Rattle.std.specs.Prelude.{All, flat_map}
+use Rattle.std.proofs.lemmas.List.{append-nil}
+use Rattle.std.proofs.lemmas.Grind.{flat_map-append}
+use Rattle.std.proofs.lemmas.List.Elements.{All-weaker, All-append, All-cons, All-nil}
+use Rattle.std.proofs.lemmas.Bool.{or_left, or_right, or_cases, true≢false, false_from_ne_true}
+use Rattle.just_parts.specs.declared.dependency.Dependency.{Dependency}
+use Rattle.just_parts.specs.declared.layers.host.Entry.{Entry}
+use Rattle.just_parts.specs.declared.recipe.Recipe.{Recipe}
+use Rattle.just_invoke.specs.declared.pair.Pair.{Pair}
+use Rattle.just_invoke.specs.Firsts.{has}
+use Rattle.just_invoke.specs.Pairs.{same_pair}
+use Rattle.just_invoke.specs.Run.{beginning, Holds}
+use Rattle.just_invoke.specs.Account.{Asked, Table, Empty, Asks, Runs, asks, own, begun, In, AreIn, known, pairs_asked, Fits, Complete, prior_count, if_any, counts_below, beginnings, add_at, AllLow, AreDone, Settled}
+use Rattle.just_invoke.proofs.Keeps.{has-append, or_false}
+use Rattle.just_invoke.proofs.Pairs.{pair-exact}
+
+abbrev pub join : Table → Table → Table
+join Empty u = u
+join (Asks a r) u = Asks a (join r u)
+join (Runs t ps ss b r) u = Runs t ps ss b (join r u)
+
+pub own-join : (t u : Table) → own (join t u) ≡ own t ++ own u
+own-join Empty u = refl
+own-join (Asks a r) u = own-join r u
+own-join (Runs t ps ss b r) u = ap (λ x. t ∷ x) (own-join r u)
+
+pub asks-join : (t u : Table) → asks (join t u) ≡ asks t ++ asks u
+asks-join Empty u = refl
+asks-join (Asks a r) u = ap (λ x. a ∷ x) (asks-join r u)
+asks-join (Runs t ps ss b r) u = asks-join r u
+
+pub begun-join : (t u : Table) → begun (join t u) ≡ begun t ++ begun u
+begun-join Empty u = refl
+begun-join (Asks a r) u = begun-join r u
+begun-join (Runs t ps ss b r) u = ap (λ x. t ∷ (begun b ++ x)) (begun-join r u) ∙ ap (λ x. t ∷ x) (sym (append_assoc (begun b) (begun r) (begun u)))
+
+pub priors-join : (t u : Table) → prior_count (join t u) ≡ prior_count t + prior_count u
+priors-join Empty u = omega arith
+priors-join (Asks a r) u = priors-join r u
+priors-join (Runs t ps ss b r) u = let h = priors-join r u in omega arith
+
+pub below-join : (t u : Table) → counts_below (join t u) ≡ counts_below t ++ counts_below u
+below-join Empty u = refl
+below-join (Asks a r) u = below-join r u
+below-join (Runs t ps ss b r) u = ap (λ x. if_any ss ((length ss + prior_count b) ∷ counts_below b) ++ x) (below-join r u) ∙ sym (append_assoc (if_any ss ((length ss + prior_count b) ∷ counts_below b)) (counts_below r) (counts_below u))
+
+pub Complete-join : (plan : List (Recipe Dependency)) (t u : Table) → Complete plan t → Complete plan u → Complete plan (join t u)
+Complete-join plan Empty u h k = k
+Complete-join plan (Asks a r) u h k = Complete-join plan r u h k
+Complete-join plan (Runs t ps ss b r) u h k = (h.0, h.1, h.2, Complete-join plan r u h.3 k)
+
+pub Fits-join : (plan : List (Recipe Dependency)) (tops : List Pair) (t u : Table) (asked : List Asked) (done : List Pair) → Fits plan tops asked done t → Fits plan tops (asked ++ asks t) (done ++ own t) u → Fits plan tops asked done (join t u)
+Fits-join plan tops Empty u asked done h k = subst (λ a. Fits plan tops a done u) (append-nil asked) (subst (λ d. Fits plan tops (asked ++ []) d u) (append-nil done) k)
+Fits-join plan tops (Asks a r) u asked done h k = (h.0, h.1, Fits-join plan tops r u (asked ++ a ∷ []) done h.2 (subst (λ x. Fits plan tops x (done ++ own r) u) (sym (append_assoc asked (a ∷ []) (asks r))) k))
+Fits-join plan tops (Runs t ps ss b r) u asked done h k = (h.0, h.1, h.2, h.3, h.4, Fits-join plan tops r u asked (done ++ t ∷ []) h.5 (subst (λ d. Fits plan tops (asked ++ asks r) d u) (sym (append_assoc done (t ∷ []) (own r))) k))
+
+pub AreIn-more : (done more : List Pair) (ts : List Pair) → AreIn done ts → AreIn (done ++ more) ts
+AreIn-more done more ts h = All-weaker (λ (t : Pair). has same_pair done t ≡ true) (λ (t : Pair). has same_pair (done ++ more) t ≡ true)
+    (λ t k. has-append same_pair done more t ∙ or_left (has same_pair done t) (has same_pair more t) k) ts h
+
+pub AllLow-more : (k n : ℕ) (ps : List Pair) → k ≤ n → AllLow k ps → AllLow n ps
+AllLow-more k n ps l h = All-weaker (λ (p : Pair). p.recipe < k) (λ (p : Pair). p.recipe < n) (λ p q. omega arith) ps h
+
+-- a pair is not among pairs of lower rank
+not-below : (p : Pair) → (ps : List Pair) → AllLow p.recipe ps → has same_pair ps p ≡ true → ⊥
+not-below p [] h k = true≢false (sym k)
+not-below p (q ∷ ps) h k = elim (or_cases (same_pair q p) (has same_pair ps p) k) [
+  | inl m ↦ let e : q.recipe ≡ p.recipe = ap (λ (r : Pair). r.recipe) (pair-exact.only q p m) in let l : q.recipe < p.recipe = h 0 p (omega arith) in absurd (omega arith)
+  | inr m ↦ not-below p ps (λ i d l. h (suc i) d (omega arith)) m
+]
+
+pub still-new : (done ps : List Pair) (p : Pair) → has same_pair done p ≡ false → AllLow p.recipe ps → has same_pair (done ++ ps) p ≡ false
+still-new done ps p h k = false_from_ne_true (has same_pair (done ++ ps) p) (λ m. elim (or_cases (has same_pair done p) (has same_pair ps p) (sym (has-append same_pair done ps p) ∙ m)) [
+  | inl a ↦ true≢false (sym a ∙ h)
+  | inr a ↦ not-below p ps k a
+])
+
+pub has-last : (done : List Pair) (p : Pair) → has same_pair (done ++ p ∷ []) p ≡ true
+has-last done p = has-append same_pair done (p ∷ []) p ∙ or_right (has same_pair done p) (same_pair p p || false) (or_left (same_pair p p) false (pair-exact.itself p))
+
+pub beginnings-append : (rs : List (Recipe Dependency)) (xs ys : List Pair) → beginnings rs (xs ++ ys) ≡ beginnings rs xs ++ beginnings rs ys
+beginnings-append rs xs ys = flat_map-append (beginning rs) xs ys
+
+-- what is known grows with what was asked
+pub In-left : {A : Type 0} (x : A) (xs ys : List A) → In x xs → In x (xs ++ ys)
+In-left x [] ys h = absurd h
+In-left x (z ∷ xs) ys (inl h) = inl h
+In-left x (z ∷ xs) ys (inr h) = inr (In-left x xs ys h)
+
+pub In-right : {A : Type 0} (x : A) (xs ys : List A) → In x ys → In x (xs ++ ys)
+In-right x [] ys h = h
+In-right x (z ∷ xs) ys h = inr (In-right x xs ys h)
+
+known-append : (tops : List Pair) (a b : List Asked) → known tops (a ++ b) ≡ known tops a ++ flat_map (λ (a : Asked). a.priors) b
+known-append tops a b = ap (λ x. tops ++ x) (flat_map-append (λ (a : Asked). a.priors) a b) ∙ sym (append_assoc tops (flat_map (λ (a : Asked). a.priors) a) (flat_map (λ (a : Asked). a.priors) b))
+
+pub known-more : (tops : List Pair) (a b : List Asked) (t : Pair) → In t (known tops a) → In t (known tops (a ++ b))
+known-more tops a b t h = subst (λ x. In t x) (sym (known-append tops a b)) (In-left t (known tops a) (flat_map (λ (a : Asked). a.priors) b) h)
+
+All-In : {A : Type 0} → (qs xs : List A) → ((q : A) → In q qs → In q xs) → All (λ (q : A). In q xs) qs
+All-In {A} [] xs h = All-nil (λ (q : A). In q xs)
+All-In {A} (q ∷ qs) xs h = All-cons (λ (q : A). In q xs) q qs (h q (inl refl)) (All-In qs xs (λ r i. h r (inr i)))
+
+-- the priors of a pair just asked are known
+pub known-priors : (tops : List Pair) (asked : List Asked) (t : Pair) (ps : List Pair) → All (λ (q : Pair). In q (known tops (asked ++ record { pair = t; priors = ps } ∷ []))) ps
+known-priors tops asked t ps = All-In ps (known tops (asked ++ record { pair = t; priors = ps } ∷ [])) (λ q i.
+    subst (λ x. In q x) (sym (known-append tops asked (record { pair = t; priors = ps } ∷ []))) (In-right q (known tops asked) (ps ++ []) (In-left q ps [] i)))
+
+pub known-all : (tops : List Pair) → All (λ (q : Pair). In q (known tops [])) tops
+known-all tops = All-In tops (known tops []) (λ q i. In-left q tops [] i)
+
+-- those asked and done
+pub AreDone-more : (done more : List Pair) (rest : List Asked) → AreDone done rest → AreDone (done ++ more) rest
+AreDone-more done more [] h = tt
+AreDone-more done more (a ∷ rest) h = (has-append same_pair done more a.pair ∙ or_left (has same_pair done a.pair) (has same_pair more a.pair) h.0, AreDone-more done more rest h.1)
+
+pub AreDone-after : (done more : List Pair) (rest : List Asked) → AreDone more rest → AreDone (done ++ more) rest
+AreDone-after done more [] h = tt
+AreDone-after done more (a ∷ rest) h = (has-append same_pair done more a.pair ∙ or_right (has same_pair done a.pair) (has same_pair more a.pair) h.0, AreDone-after done more rest h.1)
+
+AreDone-append : (done : List Pair) (rest bs : List Asked) → AreDone done rest → AreDone done bs → AreDone done (rest ++ bs)
+AreDone-append done [] bs h k = k
+AreDone-append done (a ∷ rest) bs h k = (h.0, AreDone-append done rest bs h.1 k)
+
+pub AreDone-join : (t u : Table) → AreDone (own t) (asks t) → AreDone (own u) (asks u) → AreDone (own (join t u)) (asks (join t u))
+AreDone-join t u h k = subst (λ d. AreDone d (asks (join t u))) (sym (own-join t u)) (subst (λ a. AreDone (own t ++ own u) a) (sym (asks-join t u))
+    (AreDone-append (own t ++ own u) (asks t) (asks u) (AreDone-more (own t) (own u) (asks t) h) (AreDone-after (own t) (own u) (asks u) k)))
+
+Settled-append : (k : ℕ) (done : List Pair) (rest bs : List Asked) → Settled k rest done → Settled k bs done → Settled k (rest ++ bs) done
+Settled-append k done [] bs h i = i
+Settled-append k done (a ∷ rest) bs h i = (h.0, Settled-append k done rest bs h.1 i)
+
+Settled-more : (k : ℕ) (done more : List Pair) (rest : List Asked) → Settled k rest done → Settled k rest (done ++ more)
+Settled-more k done more [] h = tt
+Settled-more k done more (a ∷ rest) h = ((λ l. has-append same_pair done more a.pair ∙ or_left (has same_pair done a.pair) (has same_pair more a.pair) (h.0 l)), Settled-more k done more rest h.1)
+
+pub Settled-low : (k n : ℕ) (done : List Pair) (rest : List Asked) → k ≤ n → Settled n rest done → Settled k rest done
+Settled-low k n done [] l h = tt
+Settled-low k n done (a ∷ rest) l h = ((λ i. h.0 (omega arith)), Settled-low k n done rest l h.1)
+
+Settled-done : (k : ℕ) (done : List Pair) (rest : List Asked) → AreDone done rest → Settled k rest done
+Settled-done k done [] h = tt
+Settled-done k done (a ∷ rest) h = ((λ i. h.0), Settled-done k done rest h.1)
+
+pub Settled-then : (k : ℕ) (done now : List Pair) (asked : List Asked) (t : Table) → Settled k asked done → AreDone (own t) (asks t) → now ≡ done ++ own t → Settled k (asked ++ asks t) now
+Settled-then k done now asked t h i e = subst (λ d. Settled k (asked ++ asks t) d) (sym e)
+    (Settled-append k (done ++ own t) asked (asks t) (Settled-more k done (own t) asked h) (Settled-done k (done ++ own t) (asks t) (AreDone-after done (own t) (asks t) i)))
+
+-- the pair itself, asked, does not count below it
+pub Settled-asked : (done : List Pair) (asked : List Asked) (a : Asked) → Settled (suc a.pair.recipe) asked done → Settled a.pair.recipe (asked ++ a ∷ []) done
+Settled-asked done asked a h = Settled-append a.pair.recipe done asked (a ∷ []) (Settled-low a.pair.recipe (suc a.pair.recipe) done asked (omega arith) h) ((λ l. absurd (omega arith)), tt)
+
+-- a pair that is not done was not asked
+unasked-not : (p : Pair) (done : List Pair) (rest : List Asked) → Settled (suc p.recipe) rest done → has same_pair done p ≡ false → has same_pair (pairs_asked rest) p ≡ true → ⊥
+unasked-not p done [] h n k = true≢false (sym k)
+unasked-not p done (a ∷ rest) h n k = elim (or_cases (same_pair a.pair p) (has same_pair (pairs_asked rest) p) k) [
+  | inl m ↦ let e : a.pair ≡ p = pair-exact.only a.pair p m in
+      let l : a.pair.recipe ≡ p.recipe = ap (λ (q : Pair). q.recipe) e in
+      true≢false (sym (h.0 (omega arith)) ∙ ap (has same_pair done) e ∙ n)
+  | inr m ↦ unasked-not p done rest h.1 n m
+]
+
+pub unasked : (p : Pair) (done : List Pair) (rest : List Asked) → Settled (suc p.recipe) rest done → has same_pair done p ≡ false → has same_pair (pairs_asked rest) p ≡ false
+unasked p done rest h n = false_from_ne_true (has same_pair (pairs_asked rest) p) (λ k. unasked-not p done rest h n k)
+
+pub add-twice : (ns : List ℕ) (i a b : ℕ) → add_at (add_at ns i a) i b ≡ add_at ns i (a + b)
+add-twice [] i a b = refl
+add-twice (n ∷ ns) zero a b = ap (λ x. x ∷ ns) (omega arith)
+add-twice (n ∷ ns) (suc i) a b = ap (λ x. n ∷ x) (add-twice ns i a b)
+
+pub add-append : (ns ms : List ℕ) (i a : ℕ) → i < length ns → add_at (ns ++ ms) i a ≡ add_at ns i a ++ ms
+add-append [] ms i a h = absurd (omega arith)
+add-append (n ∷ ns) ms zero a h = refl
+add-append (n ∷ ns) ms (suc i) a h = ap (λ x. n ∷ x) (add-append ns ms i a (omega arith))
+
+pub add-zero : (ns : List ℕ) (i : ℕ) → add_at ns i 0 ≡ ns
+add-zero [] i = refl
+add-zero (n ∷ ns) zero = ap (λ x. x ∷ ns) (omega arith)
+add-zero (n ∷ ns) (suc i) = ap (λ x. n ∷ x) (add-zero ns i)
+
+pub length-add : (ns : List ℕ) (i a : ℕ) → length (add_at ns i a) ≡ length ns
+length-add [] i a = refl
+length-add (n ∷ ns) zero a = refl
+length-add (n ∷ ns) (suc i) a = ap suc (length-add ns i a)
+
+pub add-last : (ns : List ℕ) (a : ℕ) → add_at (ns ++ 0 ∷ []) (length ns) a ≡ ns ++ a ∷ []
+add-last [] a = ap (λ x. x ∷ []) (omega arith)
+add-last (n ∷ ns) a = ap (λ x. n ∷ x) (add-last ns a)
+
+pub add-set : (ns : List ℕ) (i d a : ℕ) → i < length ns → set ns i (get_or ns i d + a) ≡ add_at ns i a
+add-set [] i d a h = absurd (omega arith)
+add-set (n ∷ ns) zero d a h = refl
+add-set (n ∷ ns) (suc i) d a h = ap (λ x. n ∷ x) (add-set ns i d a (omega arith))
+
+-- two parts of a run, one after the other, counted under one table
+pub counted-join : (c0 c1 c2 : List ℕ) (i a b : ℕ) (x y : List ℕ) → i < length c0 → c1 ≡ add_at c0 i a ++ x → c2 ≡ add_at c1 i b ++ y → c2 ≡ add_at c0 i (a + b) ++ (x ++ y)
+counted-join c0 c1 c2 i a b x y h e k =
+    k ∙ ap (λ t. add_at t i b ++ y) e ∙ ap (λ t. t ++ y) (add-append (add_at c0 i a) x i b (let l = length-add c0 i a in omega arith))
+    ∙ ap (λ t. (t ++ x) ++ y) (add-twice c0 i a b) ∙ append_assoc (add_at c0 i (a + b)) x y
+
+pub joined-begun : (rs : List (Recipe Dependency)) (t u : Table) (old mid new : List Entry) → mid ≡ old ++ beginnings rs (begun t) → new ≡ mid ++ beginnings rs (begun u) → new ≡ old ++ beginnings rs (begun (join t u))
+joined-begun rs t u old mid new h k = k ∙ ap (λ x. x ++ beginnings rs (begun u)) h ∙ append_assoc old (beginnings rs (begun t)) (beginnings rs (begun u))
+    ∙ ap (λ x. old ++ x) (sym (beginnings-append rs (begun t) (begun u)) ∙ ap (beginnings rs) (sym (begun-join t u)))
+
+pub joined-fits : (plan : List (Recipe Dependency)) (tops : List Pair) (t u : Table) (asked : List Asked) (done now : List Pair) → Fits plan tops asked done t → now ≡ done ++ own t → Fits plan tops (asked ++ asks t) now u → Fits plan tops asked done (join t u)
+joined-fits plan tops t u asked done now h e k = Fits-join plan tops t u asked done h (subst (λ d. Fits plan tops (asked ++ asks t) d u) e k)
+
+pub joined-low : (t u : Table) (k m n : ℕ) → m ≤ k → n ≤ k → AllLow m (own t) → AllLow n (own u) → AllLow k (own (join t u))
+joined-low t u k m n l j h i = subst (λ ps. AllLow k ps) (sym (own-join t u)) (All-append (λ (p : Pair). p.recipe < k) (own t) (own u) (AllLow-more m k (own t) l h) (AllLow-more n k (own u) j i))
+
+pub joined-table : (t u : Table) (done now new : List Pair) → now ≡ done ++ own t → new ≡ now ++ own u → new ≡ done ++ own (join t u)
+joined-table t u done now new h k = k ∙ ap (λ x. x ++ own u) h ∙ append_assoc done (own t) (own u) ∙ ap (λ x. done ++ x) (sym (own-join t u))
+
+pub joined-counts : (t u : Table) (c0 c1 c2 : List ℕ) (i a b : ℕ) → i < length c0 → c1 ≡ add_at c0 i (a + prior_count t) ++ counts_below t → c2 ≡ add_at c1 i (b + prior_count u) ++ counts_below u → c2 ≡ add_at c0 i ((a + b) + prior_count (join t u)) ++ counts_below (join t u)
+joined-counts t u c0 c1 c2 i a b h e k =
+    let n : (a + prior_count t) + (b + prior_count u) ≡ (a + b) + prior_count (join t u) = omega (arith, priors-join t u) in
+    counted-join c0 c1 c2 i (a + prior_count t) (b + prior_count u) (counts_below t) (counts_below u) h e k
+    ∙ ap (λ x. add_at c0 i x ++ (counts_below t ++ counts_below u)) n ∙ ap (λ x. add_at c0 i ((a + b) + prior_count (join t u)) ++ x) (sym (below-join t u))
+
+-- the priors, and then the block, which counts nothing in the table itself
+pub block-counts : (t u : Table) (c0 c1 c2 : List ℕ) (i k a : ℕ) → c1 ≡ add_at c0 i ((k + a) + prior_count t) ++ counts_below t → c2 ≡ c1 ++ counts_below u → prior_count u ≡ a → c2 ≡ add_at c0 i (k + prior_count (join t u)) ++ counts_below (join t u)
+block-counts t u c0 c1 c2 i k a e g h =
+    let n : (k + a) + prior_count t ≡ k + prior_count (join t u) = omega (arith, priors-join t u) in
+    g ∙ ap (λ x. x ++ counts_below u) e ∙ append_assoc (add_at c0 i ((k + a) + prior_count t)) (counts_below t) (counts_below u)
+    ∙ ap (λ x. add_at c0 i x ++ (counts_below t ++ counts_below u)) n ∙ ap (λ x. add_at c0 i (k + prior_count (join t u)) ++ x) (sym (below-join t u))
+
+pub none-in : (done : List Pair) → AreIn done []
+none-in done i d h = absurd (omega arith)
+
+pub none-below : (k : ℕ) → AllLow k []
+none-below k i d h = absurd (omega arith)
+
+pub one-below : (p : Pair) → AllLow (suc p.recipe) (p ∷ [])
+one-below p = All-cons (λ (q : Pair). q.recipe < suc p.recipe) p [] (omega arith) (none-below (suc p.recipe))
+
+pub counts-empty : (ns : List ℕ) → ns ≡ ns ++ if_any [] []
+counts-empty ns = sym (append-nil ns)
+
+pub if_any-none : (ps : List Pair) (ns : List ℕ) → length ps ≡ 0 → if_any ps ns ≡ []
+if_any-none [] ns h = refl
+if_any-none (p ∷ ps) ns h = absurd (omega arith)
+
+pub if_any-some : (ps : List Pair) (ns : List ℕ) → 0 < length ps → if_any ps ns ≡ ns
+if_any-some [] ns h = absurd (omega arith)
+if_any-some (p ∷ ps) ns h = refl
+
+pub opened-counts : (calls pushed new : List ℕ) (n k : ℕ) (below : List ℕ) (ps : List Pair) → 0 < length ps → n ≡ length calls → pushed ≡ calls ++ 0 ∷ [] → new ≡ add_at pushed n k ++ below → new ≡ calls ++ if_any ps (k ∷ below)
+opened-counts calls pushed new n k below ps some e h g =
+    g ∙ ap (λ x. add_at x n k ++ below) h ∙ ap (λ x. add_at (calls ++ 0 ∷ []) x k ++ below) e ∙ ap (λ x. x ++ below) (add-last calls k)
+    ∙ append_assoc calls (k ∷ []) below ∙ ap (λ x. calls ++ x) (sym (if_any-some ps (k ∷ below) some))
+
+-- the lists that a table has
+pub holds-none : Holds [] []
+holds-none p = refl
+
+pub holds-more : (old new done : List Pair) (p : Pair) → Holds old done → ((q : Pair) → has same_pair new q ≡ (has same_pair old q || same_pair p q)) → Holds new (done ++ p ∷ [])
+holds-more old new done p h k q = k q ∙ ap (λ b. b || same_pair p q) (h q) ∙ ap (λ b. has same_pair done q || b) (sym (or_false (same_pair p q))) ∙ sym (has-append same_pair done (p ∷ []) q)
+
+pub holds-same : (table done more : List Pair) → done ≡ more → Holds table done → Holds table more
+holds-same table done more e h = subst (Holds table) e h
+
+pub has-more : (done more : List Pair) (p : Pair) → has same_pair done p ≡ true → has same_pair (done ++ more) p ≡ true
+has-more done more p h = has-append same_pair done more p ∙ or_left (has same_pair done p) (has same_pair more p) h

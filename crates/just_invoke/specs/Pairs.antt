@@ -1,0 +1,67 @@
+-- The pairs that recipes name: those that run before a pair, and those that run after it.
+use Rattle.std.specs.Prelude.{ℕ, zero, suc, ◌==◌, ◌&&◌, ◌<◌, Bool, cond, List, [], ◌∷◌, map, take, drop, nat_eq}
+use Rattle.std.specs.List.{All}
+use Rattle.std.specs.Cmp.Lexicographic.{pointwise}
+use Rattle.just_parts.specs.declared.dependency.Dependency.{Dependency}
+use Rattle.just_parts.specs.declared.recipe.Recipe.{Recipe}
+use Rattle.just_invoke.specs.declared.invocation.Invocation.{Invocation}
+use Rattle.just_invoke.specs.declared.pair.Pair.{Pair}
+
+-- whether two pairs have one recipe and the same texts
+abbrev pub same_pair : Pair → Pair → Bool
+same_pair p q = (p.recipe == q.recipe) && pointwise (pointwise (pointwise nat_eq)) p.groups q.groups
+
+-- the pair itself is what a once table holds
+abbrev pub key : Pair → Pair
+key p = p
+
+-- the place of the first recipe of a number, and the length of the list where there is none
+abbrev pub place_of : List (Recipe Dependency) → ℕ → ℕ
+place_of [] number = 0
+place_of (r ∷ rs) number = cond (r.number.0 == number) 0 (suc (place_of rs number))
+
+-- what f gives of the recipe at a place, and nothing past the last
+abbrev pub at_place : {A : Type 0} → (Recipe Dependency → List A) → List (Recipe Dependency) → ℕ → List A
+at_place f [] k = []
+at_place f (r ∷ rs) zero = f r
+at_place f (r ∷ rs) (suc k) = at_place f rs k
+
+-- one empty group for each parameter of the recipe at a place
+abbrev pub empty_groups : List (Recipe Dependency) → ℕ → List (List (List ℕ))
+empty_groups recipes place = at_place (λ r. map (λ _. []) r.parameters) recipes place
+
+-- the pair of a dependency
+abbrev pub pair_of : List (Recipe Dependency) → Dependency → Pair
+pair_of recipes d = record { recipe = place_of recipes d.recipe.0; groups = empty_groups recipes (place_of recipes d.recipe.0) }
+
+-- what the recipe at a place depends on
+abbrev pub needed : List (Recipe Dependency) → ℕ → List Dependency
+needed recipes place = at_place (λ r. r.dependencies) recipes place
+
+-- the dependencies that run before the recipe at a place
+abbrev pub prior_dependencies : List (Recipe Dependency) → ℕ → List Dependency
+prior_dependencies recipes place = at_place (λ r. take r.priors r.dependencies) recipes place
+
+-- the dependencies that run after the recipe at a place
+abbrev pub subsequent_dependencies : List (Recipe Dependency) → ℕ → List Dependency
+subsequent_dependencies recipes place = at_place (λ r. drop r.priors r.dependencies) recipes place
+
+-- the pairs that run before a pair
+abbrev pub priors : List (Recipe Dependency) → Pair → List Pair
+priors recipes p = map (pair_of recipes) (prior_dependencies recipes p.recipe)
+
+-- the pairs that run after a pair
+abbrev pub subsequents : List (Recipe Dependency) → Pair → List Pair
+subsequents recipes p = map (pair_of recipes) (subsequent_dependencies recipes p.recipe)
+
+-- the pair of an invocation: its groups are the texts of its words
+abbrev pub top_of : List (Recipe Dependency) → Invocation → Pair
+top_of recipes i = record { recipe = place_of recipes i.recipe.now.number.0; groups = map (λ words. map (λ word. word.now) words.items) i.arguments.items }
+
+-- the pairs of invocations
+abbrev pub tops_of : List (Recipe Dependency) → List Invocation → List Pair
+tops_of recipes invocations = map (top_of recipes) invocations
+
+-- each pair's recipe stands below the place
+abbrev pub AllBelow : ℕ → List Pair → Type 0
+AllBelow bound ps = All (λ (p : Pair). p.recipe < bound) ps

@@ -1,0 +1,15 @@
+use just_data::Exact;
+use just_parts::layers::Groups;
+
+/// A recipe, by its place, with its groups: what a once table holds.
+#[derive(Clone, Debug, PartialEq, Eq, PartialOrd, Ord, Drop)]
+pub struct Pair {
+    pub recipe: usize,
+    pub groups: Groups,
+}
+
+impl Exact for Pair {
+    ghost use Rattle.std.proofs.Common.{rules};
+
+    ghost exact = { Prim.search rules };
+}
