@@ -4,6 +4,7 @@ pub mod Follow
 pub mod HeadLemmas
 pub mod Keeps
 pub mod Keyed
+pub mod Outcomes
 pub mod Pairs
 pub mod PathLemmas
 pub mod Places

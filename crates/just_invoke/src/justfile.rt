@@ -1,6 +1,11 @@
+use crate::invocation_parser::InvocationParser;
+use crate::recipes::Recipes;
+use crate::running::{Report, run_invocations};
 use just_data::{Exact, Sequence, Text};
-use just_parts::layers::{Name, Number};
+use just_parts::layers::{Config, Error, Evaluation, Host, Name, Number, Output, RunError, Syntax};
 use just_parts::{Keyed, Modulepath, Table};
+use std::alloc::Global;
+use std::collections::HashMap;
 
 /// The name and the number of a recipe.
 #[derive(Clone, Debug, PartialEq, Eq, Drop)]
@@ -37,4 +42,48 @@ pub struct Justfile<'src> {
     /// The path of the module's own file.
     pub source: Text,
     pub working_directory: Text,
+}
+
+impl<'src> Justfile<'src> {
+    ghost use Rattle.std.specs.Prelude.{List, IfOk};
+    ghost use Rattle.just_parts.specs.Modulepath.{texts};
+    ghost use Rattle.just_invoke.specs.Account.{Table};
+    ghost use Rattle.just_invoke.specs.Closed.{IsClosed};
+    ghost use Rattle.just_invoke.specs.declared.pair.Pair.{Pair};
+    ghost use Rattle.just_invoke.specs.Outcome.{IsOutcome, HasAccount, IsWhole};
+
+    /// Runs what the words mean: each invocation in turn under one once table, where a recipe with equal arguments runs
+    /// once, its prior dependencies before it, and its subsequent ones after it under a table of their own. Where the
+    /// words are refused, or a recipe that they lead to can't be run yet, the host is left as it was.
+    ///
+    /// The writer and the layers that evaluate are asked nothing yet.
+    pub fn run<S: Syntax, E: Evaluation, H: Host, W: Output>(
+        &self,
+        alloc: Global,
+        config: &Config,
+        recipes: &Recipes<'src>,
+        syntax: &S,
+        evaluation: &E,
+        host: &mut H,
+        writer: &mut W,
+        words: &[&str],
+        overrides: &HashMap<Number, Text>,
+    ) -> Result<Report, Error<'src>>
+        requires { IsClosed self.now recipes.now }
+        ensures outcome { IsOutcome self.now recipes.now (texts words.now) (H.entries host.old) (H.entries host.new) result }
+        ensures account { (ps : List Pair) × (t : Table) × HasAccount recipes.now (H.entries host.old) (H.entries host.new) ps t × IfOk result (IsWhole self.now recipes.now (texts words.now) ps t) }
+    {
+        let invocations = match InvocationParser::parse_invocations(
+            alloc, self, recipes, evaluation, words,
+        ) {
+            Ok(invocations) => invocations,
+            Err(error) => return Err(error),
+        };
+        if config.one && invocations.len() > 1 {
+            return Err(Error::Run(RunError::ExcessInvocations {
+                invocations: invocations.len(),
+            }));
+        }
+        run_invocations(alloc, recipes, host, invocations.as_slice())
+    }
 }

@@ -1,0 +1,46 @@
+-- From the words' invocations to the outcome of their run.
+use Rattle.std.proofs.Common.{◌≡◌, ℕ, List, [], ◌∷◌, ◌++◌, map, length, Option, None, Result, Ok, Err, IfSome, IfOk, refl, sym, ◌∙◌, ap, subst, inl, inr, ◌⊎◌}
+use Rattle.just_parts.specs.declared.dependency.Dependency.{Dependency}
+use Rattle.just_parts.specs.declared.layers.host.Entry.{Entry}
+use Rattle.just_parts.specs.declared.layers.error.Error.{Error}
+use Rattle.just_parts.specs.declared.layers.error.Error.TheVariants.{Load, Compile, Invocation, Run, Exhausted, Memory}
+use Rattle.just_parts.specs.declared.recipe.Recipe.{Recipe}
+use Rattle.just_invoke.specs.declared.invocation.Invocation as parsed
+use Rattle.just_invoke.specs.declared.justfile.Justfile.{Justfile}
+use Rattle.just_invoke.specs.declared.running.Report.{Report}
+use Rattle.just_invoke.specs.Cause.{cause_of, IsExpected}
+use Rattle.just_invoke.specs.Pairs.{top_of, tops_of}
+use Rattle.just_invoke.specs.Run.{run_questions, IsRun, IsBroken}
+use Rattle.just_invoke.specs.Split.{Reading, reading_of, IsSplit, IsFault}
+use Rattle.just_invoke.specs.Outcome.{tops, expected_run, IsOutcome, IsWhole}
+use Rattle.just_invoke.specs.Account.{Table, own, AreIn, Complete, counts}
+use Rattle.just_invoke.specs.declared.pair.Pair.{Pair}
+
+pub tops_read : (recipes : List (Recipe Dependency)) (is : List parsed.Invocation) → tops_of recipes is ≡ tops recipes (map reading_of is)
+tops_read recipes [] = refl
+tops_read recipes (i ∷ is) = ap (λ ps. top_of recipes i ∷ ps) (tops_read recipes is)
+
+-- words that are refused
+pub outcome_refused : (root : Justfile) (recipes : List (Recipe Dependency)) (words : List (List ℕ)) (old : List Entry) (e : Error) → IfSome (cause_of e) (IsFault root recipes words) → IsExpected e → IsOutcome root recipes words old old (Err e)
+outcome_refused root recipes words old (Load e) f x = absurd x
+outcome_refused root recipes words old (Compile e) f x = absurd x
+outcome_refused root recipes words old (Invocation e) f x = (f, refl)
+outcome_refused root recipes words old (Run e) f x = absurd x
+outcome_refused root recipes words old Exhausted f x = absurd x
+outcome_refused root recipes words old Memory f x = inl refl
+
+-- words that are run
+pub outcome_run : (root : Justfile) (recipes : List (Recipe Dependency)) (words : List (List ℕ)) (old new : List Entry) (readings : List Reading) (r : Result Report Error) → IsSplit root recipes words readings → IsRun (expected_run recipes readings) old new r → IsOutcome root recipes words old new r
+outcome_run root recipes words old new readings (Ok report) s x = (readings, s, x)
+outcome_run root recipes words old new readings (Err (Load e)) s x = absurd x
+outcome_run root recipes words old new readings (Err (Compile e)) s x = absurd x
+outcome_run root recipes words old new readings (Err (Invocation e)) s x = absurd x
+outcome_run root recipes words old new readings (Err (Run e)) s x = (readings, s, x)
+outcome_run root recipes words old new readings (Err Exhausted) s x = (readings, s, x)
+outcome_run root recipes words old new readings (Err Memory) s x = inr (readings, s, x)
+
+-- what is known of a success
+pub whole_run : (root : Justfile) (recipes : List (Recipe Dependency)) (words : List (List ℕ)) (readings : List Reading) (ps : List Pair) (t : Table) (r : Result Report Error) → IsSplit root recipes words readings → ps ≡ tops recipes readings
+    → IfOk r (λ report. AreIn (own t) ps × Complete recipes t × (report.calls.items ≡ counts ps t)) → IfOk r (IsWhole root recipes words ps t)
+whole_run root recipes words readings ps t (Err e) s is x = tt
+whole_run root recipes words readings ps t (Ok report) s is x = record { readings = readings; split = s; tops_are = is; all_begun = x.0; complete = x.1; counted = x.2 }

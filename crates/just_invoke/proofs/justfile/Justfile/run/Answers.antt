@@ -1,0 +1,30 @@
+use Rattle.std.proofs.Common.{◌≡◌, ◌∙◌, List, [], map, length, ap, sym, subst, refl}
+use Rattle.std.proofs.lemmas.List.{append-nil}
+use Rattle.just_parts.specs.Modulepath.{texts}
+use Rattle.just_parts.specs.declared.layers.host.Entry.{Entry}
+use Rattle.just_invoke.specs.Account.{Empty}
+use Rattle.just_invoke.specs.Pairs.{tops_of}
+use Rattle.just_invoke.specs.Run.{run_questions, IsRun}
+use Rattle.just_invoke.specs.Split.{reading_of}
+use Rattle.just_invoke.specs.Outcome.{tops}
+use Rattle.just_invoke.proofs.Outcomes.{tops_read, outcome_run, whole_run}
+use Rattle.just_invoke.proofs.justfile.Justfile.run.Goals as goal
+
+pub returns-in-Err-clause-account : goal.returns-in-Err-clause-account
+returns-in-Err-clause-account g c = ([], Empty, record { gained = sym (append-nil (g.H.Host.entries c.args.host.now)); fits = tt }, tt)
+
+pub returns-then-len-gt1-clause-account : goal.returns-then-len-gt1-clause-account
+returns-then-len-gt1-clause-account g c = ([], Empty, record { gained = sym (append-nil (g.H.Host.entries c.args.host.now)); fits = tt }, tt)
+
+pub returns-clause-outcome : goal.returns-clause-outcome
+returns-clause-outcome g c =
+    let same : tops_of c.args.recipes.now c.as_slice.result.now ≡ tops c.args.recipes.now (map reading_of c.in-Ok.invocations.items) = ap (tops_of c.args.recipes.now) c.as_slice.ensures.value ∙ tops_read c.args.recipes.now c.in-Ok.invocations.items in
+    outcome_run c.args.self.now c.args.recipes.now (texts c.args.words.now) (g.H.Host.entries c.args.host.now) (g.H.Host.entries c.run_invocations.new.host) (map reading_of c.in-Ok.invocations.items) c.run_invocations.result c.in-Ok.ensures.split
+    (subst (λ ps. IsRun (run_questions c.args.recipes.now (length c.args.recipes.now) ps) (g.H.Host.entries c.args.host.now) (g.H.Host.entries c.run_invocations.new.host) c.run_invocations.result) same c.run_invocations.ensures.run)
+
+pub returns-clause-account : goal.returns-clause-account
+returns-clause-account g c =
+    let same : tops_of c.args.recipes.now c.as_slice.result.now ≡ tops c.args.recipes.now (map reading_of c.in-Ok.invocations.items) = ap (tops_of c.args.recipes.now) c.as_slice.ensures.value ∙ tops_read c.args.recipes.now c.in-Ok.invocations.items in
+    let a = c.run_invocations.ensures.account in
+    (tops_of c.args.recipes.now c.as_slice.result.now, a.0, record { gained = a.1; fits = a.2 },
+    whole_run c.args.self.now c.args.recipes.now (texts c.args.words.now) (map reading_of c.in-Ok.invocations.items) (tops_of c.args.recipes.now c.as_slice.result.now) a.0 c.run_invocations.result c.in-Ok.ensures.split same a.3)

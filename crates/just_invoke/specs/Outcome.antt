@@ -1,0 +1,52 @@
+-- What a run of command words comes to.
+use Rattle.std.specs.Prelude.{◌≡◌, ◌++◌, ◌⊎◌, ℕ, List, [], map, length, Option, Result, Ok, Err, IfSome}
+use Rattle.just_parts.specs.declared.dependency.Dependency.{Dependency}
+use Rattle.just_parts.specs.declared.layers.host.Entry.{Entry}
+use Rattle.just_parts.specs.declared.layers.error.Error.{Error}
+use Rattle.just_parts.specs.declared.layers.error.Error.TheVariants.{Load, Compile, Invocation, Run, Exhausted, Memory}
+use Rattle.just_parts.specs.declared.recipe.Recipe.{Recipe}
+use Rattle.just_invoke.specs.declared.justfile.Justfile.{Justfile}
+use Rattle.just_invoke.specs.declared.pair.Pair.{Pair}
+use Rattle.just_invoke.specs.declared.running.Report.{Report}
+use Rattle.just_invoke.specs.Account.{Table, own, begun, beginnings, AreIn, Fits, Complete, counts}
+use Rattle.just_invoke.specs.Cause.{cause_of}
+use Rattle.just_invoke.specs.Pairs.{place_of}
+use Rattle.just_invoke.specs.Run.{run_questions, IsBroken}
+use Rattle.just_invoke.specs.Split.{Reading, IsSplit, IsFault}
+
+-- the pair of an invocation
+abbrev pub pair_read : List (Recipe Dependency) → Reading → Pair
+pair_read recipes i = record { recipe = place_of recipes i.recipe.number.0; groups = i.groups }
+
+-- the pairs that invocations run
+abbrev pub tops : List (Recipe Dependency) → List Reading → List Pair
+tops recipes readings = map (pair_read recipes) readings
+
+-- what these invocations ask of the host, each shared dependency once
+abbrev pub expected_run : List (Recipe Dependency) → List Reading → List Entry
+expected_run recipes readings = run_questions recipes (length recipes) (tops recipes readings)
+
+-- A success is the expected run of the words' split. A fault of the words, or of what can't be run, leaves the host as it was.
+-- Want of memory or of numbers leaves a beginning of the expected run.
+abbrev pub IsOutcome : Justfile → List (Recipe Dependency) → List (List ℕ) → List Entry → List Entry → Result Report Error → Type 0
+IsOutcome root recipes words old new (Ok report) = (readings : List Reading) × IsSplit root recipes words readings × (new ≡ old ++ expected_run recipes readings)
+IsOutcome root recipes words old new (Err Memory) = (new ≡ old) ⊎ ((readings : List Reading) × IsSplit root recipes words readings × IsBroken (expected_run recipes readings) old new)
+IsOutcome root recipes words old new (Err Exhausted) = (readings : List Reading) × IsSplit root recipes words readings × IsBroken (expected_run recipes readings) old new
+IsOutcome root recipes words old new (Err (Invocation e)) = IfSome (cause_of (Invocation e)) (IsFault root recipes words) × (new ≡ old)
+IsOutcome root recipes words old new (Err (Run e)) = (readings : List Reading) × IsSplit root recipes words readings × (new ≡ old)
+IsOutcome root recipes words old new (Err (Load e)) = ⊥
+IsOutcome root recipes words old new (Err (Compile e)) = ⊥
+
+-- The account of a run, for every host: what was begun, in order, is what a tree of once tables has.
+pub record HasAccount (recipes : List (Recipe Dependency)) (old new : List Entry) (ps : List Pair) (t : Table) : Type 0 where
+  pub gained : new ≡ old ++ beginnings recipes (begun t)
+  pub fits : Fits recipes ps [] [] t
+
+-- where it succeeds, the first table's tops are the invocations' pairs, each was begun, and the report counts the calls
+pub record IsWhole (root : Justfile) (recipes : List (Recipe Dependency)) (words : List (List ℕ)) (ps : List Pair) (t : Table) (report : Report) : Type 0 where
+  pub readings : List Reading
+  pub split : IsSplit root recipes words readings
+  pub tops_are : ps ≡ tops recipes readings
+  pub all_begun : AreIn (own t) ps
+  pub complete : Complete recipes t
+  pub counted : report.calls.items ≡ counts ps t
