@@ -1,9 +1,8 @@
 -- From what a file says to its recipes.
-use Rattle.std.proofs.Common.{◌≡◌, ◌≢◌, ℕ, zero, suc, ◌+◌, ◌<◌, ◌≤◌, ◌==◌, Bool, true, false, cond, List, [], ◌∷◌, ◌++◌, length, map, slice_index, Option, Some, None, IsSome, refl, sym, ◌∙◌, ap, subst, arith, inl, inr}
-use Rattle.std.specs.List.{All, Contains, slice_get, list_any}
-use Rattle.std.specs.Prelude.{count_by, if◌then◌else◌}
+use Rattle.std.proofs.Common.{◌≡◌, ◌≢◌, ℕ, zero, suc, ◌+◌, ◌<◌, ◌≤◌, Bool, true, false, List, [], ◌∷◌, ◌++◌, length, slice_index, Option, Some, None, IsSome, refl, subst, arith, inl, inr}
+use Rattle.std.specs.List.{All, Contains}
+use Rattle.std.specs.Prelude.{if◌then◌else◌}
 use Rattle.std.proofs.lemmas.Bool.Decides.{eqb_tells}
-use Rattle.std.proofs.lemmas.List.{get_or_default, length-map, get_or-map}
 use Rattle.just_graph.specs.Steps.{IsOnce}
 use Rattle.just_parts.specs.Entries.{find}
 use Rattle.just_parts.specs.Syntax.{numbers, parameter_numbers, AreRising, PriorsAreDependencies}
@@ -21,8 +20,8 @@ use Rattle.just_invoke.specs.declared.justfile.RecipeKey.{RecipeKey}
 use Rattle.just_parts.specs.declared.layers.number.Number.{Number}
 use Rattle.just_analyzer.specs.Outline.{Outline, recipes_of}
 use Rattle.just_analyzer.specs.Rules.{Cause, Headers, Dependencies, NamesInRecipes, in_headers, in_dependencies, Keeps}
-use Rattle.just_analyzer.specs.Resolved.{unresolved_numbers, number_at, HasPriors, AreResolved}
-use Rattle.just_analyzer.specs.Analysis.{IsKeyOf, AreKeysOf, IsDefault, IsDefaultOf}
+use Rattle.just_analyzer.specs.Resolved.{unresolved_numbers, HasPriors, AreResolved}
+use Rattle.just_analyzer.specs.Analysis.{IsKeyOf, AreKeysOf, IsDefaultOf}
 use Rattle.just_analyzer.proofs.Keys.{all_head, all_tail, all_cons, each_found}
 
 -- numbers that rise from a number rise from a smaller one

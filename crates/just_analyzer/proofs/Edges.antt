@@ -1,5 +1,5 @@
 -- The graph's edges are the steps between recipes.
-use Rattle.std.proofs.Common.{◌≡◌, ◌≢◌, ℕ, zero, suc, ◌+◌, ◌<◌, ◌≤◌, List, [], ◌∷◌, length, take, get_or, slice_index, refl, sym, ◌∙◌, ap, subst, arith, inl, inr, ◌↔◌}
+use Rattle.std.proofs.Common.{◌≡◌, ℕ, zero, suc, ◌<◌, ◌≤◌, List, [], ◌∷◌, length, take, get_or, slice_index, refl, sym, ◌∙◌, subst, arith, inl, inr, ◌↔◌}
 use Rattle.std.proofs.lemmas.Bool.{cases_lt}
 use Rattle.std.proofs.lemmas.List.{get_or_default, length-take-le, get_or-take}
 use Rattle.std.proofs.lemmas.List.Elements.{Contains-get_or}
@@ -10,8 +10,8 @@ use Rattle.just_graph.specs.Graph.{targets, HasEdge, IsGraph}
 use Rattle.just_graph.specs.Building.{EachRow, targets_past}
 use Rattle.just_analyzer.specs.Index.{AreDifferent}
 use Rattle.just_analyzer.specs.Outline.{Outline, outline_at, names_of, Depends}
-use Rattle.just_analyzer.specs.Rows.{IsTarget, HasTargets, IsRow}
-use Rattle.just_analyzer.proofs.Outlines.{name_of_outline, one_place}
+use Rattle.just_analyzer.specs.Rows.{IsTarget, IsRow}
+use Rattle.just_analyzer.proofs.Outlines.{one_place}
 
 pub in_take : (xs : List ℕ) (k x : ℕ) → k ≤ length xs → Contains (take k xs) x → (j : ℕ) × (j < k) × (slice_index xs j ≡ x)
 in_take xs k x h c =

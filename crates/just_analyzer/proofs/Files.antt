@@ -1,8 +1,8 @@
 -- A file that is found, and what it says.
-use Rattle.std.proofs.Common.{◌≡◌, ℕ, ◌+◌, cond, List, [], ◌∷◌, map, length, Bool, true, false, Option, Some, None, IfSome, Result, Ok, Err, IfOk, refl, sym, ◌∙◌, ap, subst}
-use Rattle.std.specs.Prelude.{count_by, if◌then◌else◌}
+use Rattle.std.proofs.Common.{◌≡◌, ℕ, ◌+◌, cond, List, [], ◌∷◌, map, Bool, true, false, Option, Some, None, IfSome, Result, Ok, Err, IfOk, refl, sym, ◌∙◌, ap, subst}
+use Rattle.std.specs.Prelude.{if◌then◌else◌}
 use Rattle.std.specs.List.{list_any, fold}
-use Rattle.std.specs.Option.{option_copied, option_map}
+use Rattle.std.specs.Option.{option_copied}
 use Rattle.std.specs.Borrow.{Bor}
 use Rattle.std.proofs.lemmas.List.{length-map}
 use Rattle.just_parts.specs.Entries.{find, IsKeyed}
@@ -21,7 +21,7 @@ use Rattle.just_parts.specs.declared.layers.error.Error.TheVariants as error
 use Rattle.just_analyzer.specs.Rules.{Cause, Broken, Keeps, Reports, NamesInRecipes, NamesInFile, no_grammar, in_recipes, Names, no_file, in_file}
 use Rattle.just_analyzer.specs.declared.sources.SourceFile.{SourceFile}
 use Rattle.just_analyzer.specs.Sources.{Files, text_at}
-use Rattle.just_analyzer.specs.Outline.{Outline, outline_of, outlines_of, recipes_of}
+use Rattle.just_analyzer.specs.Outline.{outline_of, outlines_of, recipes_of}
 use Rattle.just_analyzer.proofs.Keys.{keyed_found}
 
 -- a file that is found has the path by which it is found

@@ -1,5 +1,5 @@
 -- Keys of recipes in a table.
-use Rattle.std.proofs.Common.{◌≡◌, ℕ, zero, suc, refl, ◌+◌, ◌<◌, ◌≤◌, Bool, true, false, cond, List, [], ◌∷◌, length, Option, Some, None, sym, ◌∙◌, ap, subst, arith}
+use Rattle.std.proofs.Common.{◌≡◌, ℕ, zero, suc, refl, ◌+◌, Bool, true, false, cond, List, [], ◌∷◌, Option, Some, sym, ◌∙◌, ap, subst, arith}
 use Rattle.std.specs.List.{All, AllByRecursion, slice_get}
 use Rattle.std.specs.Bool.{Decides}
 use Rattle.std.proofs.lemmas.Slice.Eq.{bytes_eq-Decides}
@@ -12,7 +12,6 @@ use Rattle.just_parts.specs.Entries.{find, put, IsKeyed}
 use Rattle.just_parts.specs.declared.layers.ast.UnresolvedDependency.{UnresolvedDependency}
 use Rattle.just_parts.specs.declared.recipe.Recipe.{Recipe}
 use Rattle.just_invoke.specs.declared.justfile.RecipeKey.{RecipeKey}
-use Rattle.just_analyzer.specs.Resolved.{number_at}
 use Rattle.just_analyzer.specs.Analysis.{IsKeyOf, AreKeysOf}
 use Rattle.just_analyzer.proofs.Resolving.{number_read}
 

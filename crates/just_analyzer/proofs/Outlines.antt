@@ -1,8 +1,8 @@
 -- Recipes and their outlines, place by place.
-use Rattle.std.proofs.Common.{◌≡◌, ◌≢◌, ℕ, zero, suc, ◌+◌, ◌<◌, ◌≤◌, List, [], ◌∷◌, ◌++◌, length, map, take, get_or, Option, Some, None, refl, sym, ◌∙◌, ap, subst, arith, min, inl, inr}
-use Rattle.std.specs.List.{slice_get, Contains}
+use Rattle.std.proofs.Common.{◌≡◌, ℕ, zero, suc, ◌+◌, ◌<◌, List, [], ◌∷◌, ◌++◌, length, take, Some, sym, ◌∙◌, ap, subst, arith, min, inl, inr}
+use Rattle.std.specs.List.{slice_get}
 use Rattle.std.proofs.lemmas.Bool.{cases_lt}
-use Rattle.std.proofs.lemmas.List.{length-map, take_more, map-append, get_or_default, get_or-map}
+use Rattle.std.proofs.lemmas.List.{length-map, take_more, map-append, get_or-map}
 use Rattle.std.specs.Borrow.{Bor}
 use Rattle.just_parts.specs.declared.layers.ast.UnresolvedDependency.{UnresolvedDependency}
 use Rattle.just_parts.specs.declared.recipe.Recipe.{Recipe}
@@ -11,7 +11,7 @@ use Rattle.just_parts.specs.declared.layers.error.CompileErrorKind.TheVariants a
 use Rattle.just_parts.specs.declared.layers.error.Definition.TheVariants as definition
 use Rattle.just_analyzer.specs.Outline.{Outline, outline_of, outlines_of, outline_at, no_outline, names_of, lent}
 use Rattle.just_analyzer.specs.Index.{name_at, Repeats, AreDifferent}
-use Rattle.just_analyzer.specs.Rules.{Cause, Broken, Headers, duplicate_parameter, redefinition, Keeps}
+use Rattle.just_analyzer.specs.Rules.{Cause, Broken, Headers, duplicate_parameter, redefinition}
 
 pub outline_read : (rs : List (Recipe UnresolvedDependency)) (i : ℕ) (r : Recipe UnresolvedDependency) → slice_get rs i ≡ Some r → outline_of r ≡ outline_at (outlines_of rs) i
 outline_read [] i r e = cc

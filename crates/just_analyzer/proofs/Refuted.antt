@@ -1,5 +1,5 @@
 -- Each rule on dependencies is refuted by the rows and their order.
-use Rattle.std.proofs.Common.{◌≡◌, ℕ, ◌+◌, ◌<◌, ◌≤◌, List, [], ◌∷◌, length, slice_index, sym, ◌∙◌, ap, subst, arith, inl, inr, ◌↔◌}
+use Rattle.std.proofs.Common.{◌≡◌, ℕ, ◌<◌, List, length, slice_index, sym, ◌∙◌, subst, arith, inl, inr}
 use Rattle.std.specs.List.{Contains}
 use Rattle.std.specs.declared.vec.Vec.{Vec}
 use Rattle.std.specs.declared.alloc.Global.{Global}
@@ -9,8 +9,8 @@ use Rattle.just_graph.specs.Steps.{IsOrder, order_by}
 use Rattle.just_parts.specs.Name.{texts_of_path}
 use Rattle.just_analyzer.specs.Index.{AreDifferent}
 use Rattle.just_analyzer.specs.Outline.{Outline, outline_at, names_of, Depends}
-use Rattle.just_analyzer.specs.Rows.{IsRow, IsTarget, IsOrderOf}
-use Rattle.just_analyzer.specs.Rules.{Cause, Dependencies, unknown_dependency, circular, argument_count, IsCircleOf}
+use Rattle.just_analyzer.specs.Rows.{IsRow, IsOrderOf}
+use Rattle.just_analyzer.specs.Rules.{Cause, Dependencies, unknown_dependency, circular, argument_count}
 use Rattle.just_analyzer.proofs.Outlines.{one_place}
 use Rattle.just_analyzer.proofs.Edges.{target_of, edges}
 use Rattle.just_analyzer.proofs.Circles.{circle_leads}

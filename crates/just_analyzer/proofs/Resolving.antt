@@ -1,11 +1,11 @@
 -- Recipes that are resolved along an order.
-use Rattle.std.proofs.Common.{◌≡◌, ◌≢◌, ℕ, zero, suc, ◌+◌, ◌<◌, ◌≤◌, List, [], ◌∷◌, ◌++◌, length, map, take, get_or, slice_index, Option, Some, IsSome, refl, sym, ◌∙◌, ap, subst, arith, inl, inr, add-one}
+use Rattle.std.proofs.Common.{◌≡◌, ℕ, zero, suc, ◌+◌, ◌<◌, List, [], ◌∷◌, ◌++◌, length, map, take, get_or, slice_index, Some, IsSome, refl, sym, ◌∙◌, ap, subst, arith, inl, inr, add-one}
 use Rattle.std.specs.List.{slice_get, Contains, All}
 use Rattle.std.proofs.lemmas.Bool.{cases_lt}
 use Rattle.std.proofs.lemmas.List.{get_or_default, get_or-map, length-map, map-append, take_more, take_all, length-take-le, get_or-take}
 use Rattle.std.proofs.lemmas.Option.{slice_get_within, get_or_from_slice_get}
 use Rattle.std.proofs.lemmas.List.Elements.{Contains-get_or, All-push}
-use Rattle.just_graph.specs.Steps.{IsOnce, ListsStepsFirst}
+use Rattle.just_graph.specs.Steps.{IsOnce}
 use Rattle.just_parts.specs.declared.dependency.Dependency.{Dependency}
 use Rattle.just_parts.specs.declared.layers.name.Namepath.{Namepath}
 use Rattle.just_parts.specs.declared.layers.number.Number.{Number}
@@ -15,7 +15,7 @@ use Rattle.just_parts.specs.declared.recipe.Recipe.{Recipe}
 use Rattle.just_invoke.specs.Recipes.{numbers, needs, IsNew}
 use Rattle.just_invoke.specs.Closed.{IsResolved}
 use Rattle.just_analyzer.specs.Index.{AreDifferent}
-use Rattle.just_analyzer.specs.Outline.{Outline, outlines_of, outline_at, names_of, Depends}
+use Rattle.just_analyzer.specs.Outline.{outlines_of, names_of, Depends}
 use Rattle.just_analyzer.specs.Rows.{IsRow, IsOrderOf}
 use Rattle.just_analyzer.specs.Resolved.{unresolved_numbers, number_at, HasPriors, linked, Resolves, Resolving, AreResolved}
 use Rattle.just_analyzer.proofs.Edges.{in_take, row_steps}

@@ -1,5 +1,5 @@
 -- What a dependency names.
-use Rattle.std.proofs.Common.{◌≡◌, ◌≢◌, ℕ, ◌<◌, List, [], ◌∷◌, length, map, get_or, Option, Some, None, sym, ◌∙◌, ap, subst, arith, inl, ◌⊎◌, zero, suc, ◌≤◌, ◌+◌, refl}
+use Rattle.std.proofs.Common.{◌≡◌, ◌≢◌, ℕ, ◌<◌, List, [], ◌∷◌, length, map, get_or, Option, Some, None, sym, ◌∙◌, ap, subst, arith, inl, refl}
 use Rattle.std.specs.List.{Contains}
 use Rattle.std.proofs.lemmas.List.{get_or_default, get_or-map, length-map}
 use Rattle.just_parts.specs.Name.{texts_of_path}

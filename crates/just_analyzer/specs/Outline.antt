@@ -2,7 +2,6 @@
 use Rattle.std.specs.Prelude.{◌≡◌, ℕ, ◌<◌, Bool, List, [], ◌∷◌, map, length, get_or, if◌then◌else◌}
 use Rattle.std.specs.List.{Contains}
 use Rattle.std.specs.Borrow.{Bor}
-use Rattle.just_parts.specs.Token.{lexeme}
 use Rattle.just_parts.specs.Name.{text_of_name, texts_of_path}
 use Rattle.just_parts.specs.Parameter.{least_arguments, most_arguments}
 use Rattle.just_parts.specs.Bare.{bare_item}

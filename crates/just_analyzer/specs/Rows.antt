@@ -1,5 +1,5 @@
 -- The places of the recipes that recipes depend on.
-use Rattle.std.specs.Prelude.{◌≡◌, ◌≢◌, ℕ, ◌<◌, ◌≤◌, List, [], ◌∷◌, length, get_or, slice_index}
+use Rattle.std.specs.Prelude.{◌≡◌, ℕ, ◌<◌, List, [], ◌∷◌, length, get_or, slice_index}
 use Rattle.std.specs.List.{Contains}
 use Rattle.just_graph.specs.Steps.{IsOnce, ListsStepsFirst}
 use Rattle.just_analyzer.specs.Outline.{Outline, outline_at, Depends}

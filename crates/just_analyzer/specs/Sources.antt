@@ -1,5 +1,5 @@
 -- A source map, from clean paths to texts.
-use Rattle.std.specs.Prelude.{◌≡◌, ℕ, List, Option}
+use Rattle.std.specs.Prelude.{ℕ, List, Option}
 use Rattle.std.specs.Option.{option_map}
 use Rattle.just_parts.specs.Entries.{find, IsKeyed}
 use Rattle.just_analyzer.specs.declared.sources.SourceFile.{SourceFile}

@@ -8,6 +8,8 @@ pub mod plain_evaluation;
 pub mod plain_syntax;
 pub mod recorder;
 pub mod stop_writer;
+#[cfg(test)]
+mod tests;
 
 pub use plain_evaluation::PlainEvaluation;
 pub use plain_syntax::PlainSyntax;

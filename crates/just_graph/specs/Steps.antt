@@ -1,5 +1,5 @@
 -- Walks, circles and orders, of any relation between numbers: `R a b` is a step from a to b.
-use Rattle.std.specs.Prelude.{◌≡◌, ◌≢◌, ℕ, ◌+◌, ◌-◌, ◌<◌, Bool, true, false, List, take, drop, length, get_or, slice_index}
+use Rattle.std.specs.Prelude.{◌≡◌, ◌≢◌, ℕ, ◌+◌, ◌-◌, ◌<◌, Bool, false, List, take, drop, length, get_or, slice_index}
 use Rattle.std.specs.List.{Contains, All}
 
 -- one or more steps lead from a to c

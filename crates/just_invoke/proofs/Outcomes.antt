@@ -1,5 +1,5 @@
 -- From the words' invocations to the outcome of their run.
-use Rattle.std.proofs.Common.{◌≡◌, ℕ, List, [], ◌∷◌, ◌++◌, map, length, Option, None, Result, Ok, Err, IfSome, IfOk, refl, sym, ◌∙◌, ap, subst, inl, inr, ◌⊎◌}
+use Rattle.std.proofs.Common.{◌≡◌, ℕ, List, [], ◌∷◌, map, Result, Ok, Err, IfSome, IfOk, refl, ap, inl, inr}
 use Rattle.just_parts.specs.declared.dependency.Dependency.{Dependency}
 use Rattle.just_parts.specs.declared.layers.host.Entry.{Entry}
 use Rattle.just_parts.specs.declared.layers.error.Error.{Error}
@@ -10,7 +10,7 @@ use Rattle.just_invoke.specs.declared.justfile.Justfile.{Justfile}
 use Rattle.just_invoke.specs.declared.running.Report.{Report}
 use Rattle.just_invoke.specs.Cause.{cause_of, IsExpected}
 use Rattle.just_invoke.specs.Pairs.{top_of, tops_of}
-use Rattle.just_invoke.specs.Run.{run_questions, IsRun, IsBroken}
+use Rattle.just_invoke.specs.Run.{IsRun}
 use Rattle.just_invoke.specs.Split.{Reading, reading_of, IsSplit, IsFault}
 use Rattle.just_invoke.specs.Outcome.{tops, expected_run, IsOutcome, IsWhole}
 use Rattle.just_invoke.specs.Account.{Table, own, AreIn, Complete, counts}

@@ -1,5 +1,5 @@
 -- What a run of command words comes to.
-use Rattle.std.specs.Prelude.{◌≡◌, ◌++◌, ◌⊎◌, ℕ, List, [], map, length, Option, Result, Ok, Err, IfSome}
+use Rattle.std.specs.Prelude.{◌≡◌, ◌++◌, ◌⊎◌, ℕ, List, [], map, length, Result, Ok, Err, IfSome}
 use Rattle.just_parts.specs.declared.dependency.Dependency.{Dependency}
 use Rattle.just_parts.specs.declared.layers.host.Entry.{Entry}
 use Rattle.just_parts.specs.declared.layers.error.Error.{Error}

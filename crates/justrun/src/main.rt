@@ -1,3 +1,71 @@
+//! Runs the recipes of a bundle of files, and prints which ones began.
 #![tactic(auto)]
 
-fn main() {}
+mod bundle;
+mod fault;
+mod program;
+#[cfg(test)]
+mod tests;
+
+use crate::fault::Fault;
+use crate::program::{program, tell};
+use std::alloc::AllocError;
+use std::env;
+use std::env::Args;
+use std::io::{BufReader, BufWriter, Error, ErrorKind};
+use std::process::ExitCode;
+
+// Runs the program on the words after its name, or on none.
+fn run_words(rt: &HostRuntime, words: Option<&[&str]>) -> u8 {
+    let alloc = rt.alloc();
+    let mut errors = rt.stderr();
+    let Ok(mut input) = BufReader::new(alloc, rt.stdin()) else {
+        return tell(&mut errors, &Fault::Memory);
+    };
+    let Ok(mut output) = BufWriter::new(alloc, rt.stdout()) else {
+        return tell(&mut errors, &Fault::Memory);
+    };
+    program(alloc, words, &mut input, &mut output, &mut errors)
+}
+
+// Runs the program on these words.
+fn run_texts(rt: &HostRuntime, texts: &[String]) -> u8 {
+    let mut words = Vec::new(rt.alloc());
+    for text in texts {
+        if words.push(text.as_str()).is_err() {
+            return tell(&mut rt.stderr(), &Fault::Memory);
+        }
+    }
+    run_words(rt, Some(words.as_slice()))
+}
+
+// Runs the program on the process's arguments, the first of which is its name.
+fn run_arguments(rt: &HostRuntime, arguments: Args) -> u8 {
+    let texts: Result<Vec<String>, AllocError> = arguments.skip(1).collect(rt.alloc());
+    match texts {
+        Ok(texts) => run_texts(rt, texts.as_slice()),
+        Err(_) => tell(&mut rt.stderr(), &Fault::Memory),
+    }
+}
+
+// Whether an error is want of memory.
+fn is_memory(error: &Error) -> bool {
+    error.kind() == ErrorKind::OutOfMemory
+}
+
+fn status(rt: &HostRuntime) -> u8 {
+    match env::args(rt) {
+        Ok(arguments) => run_arguments(rt, arguments),
+        Err(error) => {
+            if is_memory(&error) {
+                tell(&mut rt.stderr(), &Fault::Memory)
+            } else {
+                run_words(rt, None)
+            }
+        }
+    }
+}
+
+fn main(rt: HostRuntime) -> ExitCode {
+    ExitCode::from(status(&rt))
+}

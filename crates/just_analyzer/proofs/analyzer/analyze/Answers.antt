@@ -1,4 +1,4 @@
-use Rattle.std.proofs.Common.{◌≡◌, ◌∙◌, ℕ, List, length, ap, sym, subst, rules, IfErr}
+use Rattle.std.proofs.Common.{◌≡◌, ◌∙◌, List, length, ap, sym, subst, rules}
 use Rattle.std.specs.List.{All}
 use Rattle.just_graph.specs.Steps.{IsOnce}
 use Rattle.just_parts.specs.declared.layers.ast.UnresolvedDependency.{UnresolvedDependency}
@@ -7,7 +7,7 @@ use Rattle.just_analyzer.specs.Outline.{outlines_of, recipes_of}
 use Rattle.just_analyzer.specs.Definitions.{recipes_in, outlines_in}
 use Rattle.just_analyzer.specs.Resolved.{unresolved_numbers, HasPriors}
 use Rattle.just_analyzer.specs.Analysis.{AreKeysOf, IsOf}
-use Rattle.just_analyzer.specs.Rules.{Cause, Headers, Dependencies, NamesInRecipes, in_headers, in_dependencies, Keeps, Reports}
+use Rattle.just_analyzer.specs.Rules.{Headers, Dependencies, NamesInRecipes, in_headers, in_dependencies, Keeps}
 use Rattle.just_analyzer.proofs.Lifts.{lifted}
 use Rattle.just_analyzer.proofs.Outlines.{length-lent}
 use Rattle.just_analyzer.proofs.Analyses.{rising_recipes, rising_once, priors_of_recipes, closed, names_kept}

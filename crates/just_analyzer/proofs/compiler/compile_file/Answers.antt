@@ -1,7 +1,7 @@
-use Rattle.std.proofs.Common.{◌≡◌, ◌∙◌, List, ℕ, ap, rules, IfErr}
+use Rattle.std.proofs.Common.{◌≡◌, ◌∙◌, ap, rules}
 use Rattle.just_parts.specs.Clean.{file_name_of}
 use Rattle.just_analyzer.specs.Outline.{outlines_of, recipes_of}
-use Rattle.just_analyzer.specs.Rules.{NamesInRecipes, NamesInFile, Reports}
+use Rattle.just_analyzer.specs.Rules.{NamesInRecipes, NamesInFile}
 use Rattle.just_analyzer.proofs.Lifts.{lifted}
 use Rattle.just_analyzer.proofs.Files.{refused_named, in_file_named, file_kept}
 use Rattle.just_analyzer.proofs.compiler.compile_file.Goals as goal

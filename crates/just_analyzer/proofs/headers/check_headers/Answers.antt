@@ -1,6 +1,6 @@
-use Rattle.std.proofs.Common.{◌≡◌, ◌<◌, ◌∙◌, List, ℕ, length, subst, arith}
+use Rattle.std.proofs.Common.{◌≡◌, ◌∙◌, List, ℕ, length, subst, arith}
 use Rattle.just_analyzer.specs.Index.{Repeats, AreDifferent}
-use Rattle.just_analyzer.specs.Outline.{outline_of, names_of}
+use Rattle.just_analyzer.specs.Outline.{outline_of}
 use Rattle.just_analyzer.specs.Definitions.{outlines_in}
 use Rattle.just_analyzer.proofs.Outlines.{length-outlines, is_redefined, headers_kept}
 use Rattle.just_analyzer.proofs.headers.check_headers.Goals as goal

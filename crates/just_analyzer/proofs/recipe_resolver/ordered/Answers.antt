@@ -1,10 +1,10 @@
-use Rattle.std.proofs.Common.{◌≡◌, ◌<◌, ◌-◌, ℕ, ◌∙◌, ap, sym, subst, arith, length, get_or, slice_index, map}
+use Rattle.std.proofs.Common.{◌≡◌, ◌<◌, ◌-◌, ◌∙◌, ap, sym, subst, arith, length, get_or, slice_index, map}
 use Rattle.std.proofs.lemmas.List.{get_or_default}
 use Rattle.std.proofs.lemmas.Grind.{common_steps}
 use Rattle.just_graph.specs.Graph.{HasEdge}
 use Rattle.just_graph.specs.Building.{EachRow}
 use Rattle.just_graph.specs.Steps.{IsOrder, IsCircle, circle_by}
-use Rattle.just_analyzer.specs.Outline.{Outline, outline_of, outline_at, Depends}
+use Rattle.just_analyzer.specs.Outline.{Outline, outline_at, Depends}
 use Rattle.just_analyzer.specs.Definitions.{outlines_in}
 use Rattle.just_analyzer.specs.Rows.{IsRow}
 use Rattle.just_analyzer.specs.Rules.{circular}

@@ -1,9 +1,7 @@
 use Rattle.std.proofs.Common.{◌≡◌, ◌<◌, ◌∙◌, ℕ, List, ap, sym, subst, arith, length, slice_index}
 use Rattle.std.proofs.lemmas.List.{length-map}
-use Rattle.just_graph.specs.Graph.{targets}
 use Rattle.just_parts.specs.Name.{texts_of_path}
 use Rattle.just_parts.specs.declared.layers.ast.UnresolvedDependency.{UnresolvedDependency}
-use Rattle.just_parts.specs.declared.recipe.Recipe.{Recipe}
 use Rattle.just_analyzer.specs.Outline.{Outline}
 use Rattle.just_analyzer.specs.Definitions.{recipes_in, outlines_in}
 use Rattle.just_analyzer.specs.Rows.{IsRow}

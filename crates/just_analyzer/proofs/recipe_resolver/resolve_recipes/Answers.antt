@@ -1,4 +1,4 @@
-use Rattle.std.proofs.Common.{◌∙◌, ap, sym, subst, List, ℕ}
+use Rattle.std.proofs.Common.{sym, subst, List, ℕ}
 use Rattle.just_analyzer.specs.Definitions.{recipes_in, outlines_in}
 use Rattle.just_analyzer.specs.Rows.{IsOrderOf}
 use Rattle.just_analyzer.proofs.Resolving.{all_resolved}

@@ -2,7 +2,7 @@ use Rattle.std.proofs.Common.{◌≡◌, Some, None, ap, sym}
 use Rattle.std.specs.Option.{option_map}
 use Rattle.just_analyzer.specs.declared.sources.SourceFile.{SourceFile}
 use Rattle.just_analyzer.specs.Sources.{text_at}
-use Rattle.just_analyzer.specs.Rules.{Names, NamesInFile, no_file, in_file, Keeps, Reports}
+use Rattle.just_analyzer.specs.Rules.{Names, NamesInFile, no_file, in_file, Keeps}
 use Rattle.just_analyzer.proofs.Lifts.{lifted}
 use Rattle.just_analyzer.proofs.Files.{map_kept, ok_more}
 use Rattle.just_analyzer.proofs.compiler.Compiler.compile.Goals as goal

@@ -1,7 +1,6 @@
-use Rattle.std.proofs.Common.{◌≡◌, ◌∙◌, List, [], map, length, ap, sym, subst, refl}
+use Rattle.std.proofs.Common.{◌≡◌, ◌∙◌, [], map, length, ap, sym, subst}
 use Rattle.std.proofs.lemmas.List.{append-nil}
 use Rattle.just_parts.specs.Modulepath.{texts}
-use Rattle.just_parts.specs.declared.layers.host.Entry.{Entry}
 use Rattle.just_invoke.specs.Account.{Empty}
 use Rattle.just_invoke.specs.Pairs.{tops_of}
 use Rattle.just_invoke.specs.Run.{run_questions, IsRun}
@@ -25,6 +24,9 @@ returns-clause-outcome g c =
 pub returns-clause-account : goal.returns-clause-account
 returns-clause-account g c =
     let same : tops_of c.args.recipes.now c.as_slice.result.now ≡ tops c.args.recipes.now (map reading_of c.in-Ok.invocations.items) = ap (tops_of c.args.recipes.now) c.as_slice.ensures.value ∙ tops_read c.args.recipes.now c.in-Ok.invocations.items in
-    let a = c.run_invocations.ensures.account in
-    (tops_of c.args.recipes.now c.as_slice.result.now, a.0, record { gained = a.1; fits = a.2 },
-    whole_run c.args.self.now c.args.recipes.now (texts c.args.words.now) (map reading_of c.in-Ok.invocations.items) (tops_of c.args.recipes.now c.as_slice.result.now) a.0 c.run_invocations.result c.in-Ok.ensures.split same a.3)
+    let a = c.run_invocations.ensures.account in (
+      tops_of c.args.recipes.now c.as_slice.result.now,
+      a.0,
+      record { gained = a.1; fits = a.2 },
+      whole_run c.args.self.now c.args.recipes.now (texts c.args.words.now) (map reading_of c.in-Ok.invocations.items) (tops_of c.args.recipes.now c.as_slice.result.now) a.0 c.run_invocations.result c.in-Ok.ensures.split same a.3,
+    )

@@ -1,0 +1,97 @@
+//! Many files in one text.
+use just_analyzer::Sources;
+use just_parts::layers::SourceError;
+use std::alloc::Global;
+use std::fmt;
+use std::io::{ErrorKind, Read};
+
+// What stands before the path in a line that begins a file.
+const MARK: &str = "--- ";
+
+// The mark of a file that follows another, after the end of a line.
+const NEXT_MARK: &str = "\n--- ";
+
+/// Why an input is no bundle of files.
+#[derive(Clone, Copy, Debug, PartialEq, Eq)]
+pub enum BundleError {
+    /// It could not be read to its end.
+    Unreadable,
+    /// It is not UTF-8.
+    NotText,
+    /// A text stands before the first file.
+    NoFile,
+    /// The path of a file is not clean.
+    NotClean,
+    /// Memory was refused.
+    Memory,
+}
+
+impl fmt::Display for BundleError {
+    fn fmt<W: fmt::Write>(&self, f: &mut fmt::Formatter<W>) -> fmt::Result {
+        f.write_str(match self {
+            BundleError::Unreadable => "The input could not be read",
+            BundleError::NotText => "The input is not UTF-8",
+            BundleError::NoFile => "The input does not begin with a line `--- PATH`",
+            BundleError::NotClean => "A path in the input is not clean",
+            BundleError::Memory => "Out of memory",
+        })
+    }
+}
+
+/// The whole of an input as a text.
+pub fn read_text<R: Read>(alloc: Global, input: &mut R) -> Result<String, BundleError> {
+    let mut bytes = Vec::new(alloc);
+    if let Err(error) = input.read_to_end(&mut bytes) {
+        if error.kind() == ErrorKind::OutOfMemory {
+            return Err(BundleError::Memory);
+        }
+        return Err(BundleError::Unreadable);
+    }
+    match String::from_utf8(bytes) {
+        Ok(text) => Ok(text),
+        Err(_) => Err(BundleError::NotText),
+    }
+}
+
+// A file and the mark of the next, without that mark. The last file has none, and stays as it is.
+fn without_next_mark(part: &str) -> &str {
+    if !part.ends_with(NEXT_MARK) {
+        return part;
+    }
+    match part.strip_suffix(MARK) {
+        Some(file) => file,
+        None => part,
+    }
+}
+
+// Puts in a file: its path, a line end and its text, or its path alone.
+fn insert_file<'src>(sources: &mut Sources<'src>, file: &'src str) -> Result<(), BundleError> {
+    let (path, text) = match file.split_once('\n') {
+        Some(parts) => parts,
+        None => (file, ""),
+    };
+    match sources.insert(path, text) {
+        Ok(()) => Ok(()),
+        Err(SourceError::NotClean) => Err(BundleError::NotClean),
+        Err(SourceError::Memory) => Err(BundleError::Memory),
+    }
+}
+
+/// The files of a text. A line `--- PATH` begins a file, whose text is the lines up to the next such line, each with
+/// its line end. A later file of an equal path replaces the earlier. An empty text has no files.
+pub fn read_sources<'src>(alloc: Global, text: &'src str) -> Result<Sources<'src>, BundleError> {
+    let mut sources = Sources::new(alloc);
+    if text.is_empty() {
+        return Ok(sources);
+    }
+    let Some(files) = text.strip_prefix(MARK) else {
+        return Err(BundleError::NoFile);
+    };
+    if files.is_empty() || files.ends_with(NEXT_MARK) {
+        return Err(BundleError::NotClean);
+    }
+    for part in files.split_inclusive(NEXT_MARK) {
+        insert_file(&mut sources, without_next_mark(part))?;
+    }
+    Ok(sources)
+}
