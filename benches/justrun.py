@@ -1,0 +1,100 @@
+#!/usr/bin/env python3
+"""Makes large bundles, and reports the time and the peak memory that justrun takes for each.
+
+    cd crates/justrun && rt run -- /justfile a < stdin && cd ../..     builds the program
+    python3 benches/justrun.py [PROGRAM]
+
+Nothing is asserted. A line has the input's name, its size in bytes, the status, the lines printed, the seconds of wall
+time, the peak resident memory in MiB and the first line of the error output.
+"""
+import os
+import sys
+import tempfile
+import time
+
+PROGRAM = "crates/justrun/out/justrun"
+
+
+def bundle(*lines):
+    return "--- /justfile\n" + "".join(f"{line}\n" for line in lines)
+
+
+def chain(count):
+    """Each recipe depends on the next."""
+    return bundle(*(f"r{n}: r{n + 1}" for n in range(count - 1)), f"r{count - 1}:"), ["r0"]
+
+
+def two_each(count, width=1_000):
+    """Levels of recipes: each depends on two of the next level. The words name the first level."""
+    def row(n):
+        level, place = divmod(n, width)
+        below = (level + 1) * width
+        return f"r{below + place} r{below + (place + 1) % width}" if below < count else ""
+    return bundle(*(f"r{n}: {row(n)}" for n in range(count))), [f"r{n}" for n in range(width)]
+
+
+def diamonds(count):
+    """Each level has a top that depends on two recipes, both of which depend on the next level's top."""
+    rows = []
+    for n in range(count):
+        rows += [f"t{n}: a{n} b{n}", f"a{n}: t{n + 1}", f"b{n}: t{n + 1}"]
+    return bundle(*rows, f"t{count}:"), ["t0"]
+
+
+def lines(count):
+    """One recipe after many comments."""
+    return bundle(*("# a comment" for _ in range(count - 1)), "a:"), ["a"]
+
+
+def files(count):
+    """Many files beside the root, none of which it reads."""
+    return bundle("a:") + "".join(f"--- /f{n}\nx\n" for n in range(count)), ["a"]
+
+
+def words(count):
+    """One recipe with a parameter, named many times with different arguments."""
+    return bundle("p x:"), [part for n in range(count) for part in ("p", str(n))]
+
+
+INPUTS = {
+    "chain of 1,000 recipes": chain(1_000),
+    "chain of 10,000 recipes": chain(10_000),
+    "100,000 recipes with two dependencies each": two_each(100_000),
+    "40 diamonds on top of each other": diamonds(40),
+    "100,000 lines": lines(100_000),
+    "2,000 files": files(2_000),
+    "10,000 invocations": words(10_000),
+}
+
+
+def measure(program, text, arguments):
+    """The status, the lines printed, the seconds, the peak memory in MiB and the first line of errors."""
+    with tempfile.TemporaryFile() as given, tempfile.TemporaryFile() as output, tempfile.TemporaryFile() as errors:
+        given.write(text.encode())
+        given.seek(0)
+        began = time.monotonic()
+        child = os.fork()
+        if child == 0:
+            for stream, number in ((given, 0), (output, 1), (errors, 2)):
+                os.dup2(stream.fileno(), number)
+            os.execv(program, [program, *arguments])
+        _, status, used = os.wait4(child, 0)
+        seconds = time.monotonic() - began
+        output.seek(0)
+        errors.seek(0)
+        printed = output.read().count(b"\n")
+        told = errors.readline().decode(errors="replace").strip()
+        return os.waitstatus_to_exitcode(status), printed, seconds, used.ru_maxrss / 1024, told
+
+
+def main():
+    program = sys.argv[1] if len(sys.argv) > 1 else PROGRAM
+    if not os.path.exists(program):
+        sys.exit(f"{program} is not there: build it first (see the head of this file)")
+    for name, (text, arguments) in INPUTS.items():
+        status, printed, seconds, peak, told = measure(program, text, ["/justfile", *arguments])
+        print(f"{name}: {len(text)} bytes, status {status}, {printed} lines, {seconds:.2f} s, {peak:.0f} MiB {told}", flush=True)
+
+
+if __name__ == "__main__":
+    main()
