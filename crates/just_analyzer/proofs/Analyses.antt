@@ -10,6 +10,7 @@ use Rattle.just_parts.specs.declared.dependency.Dependency.{Dependency}
 use Rattle.just_parts.specs.declared.layers.ast.UnresolvedDependency.{UnresolvedDependency}
 use Rattle.just_parts.specs.declared.layers.ast.Item.{Item}
 use Rattle.just_parts.specs.declared.layers.ast.Item.TheVariants as item
+use Rattle.just_parts.specs.declared.modulepath.Modulepath.{Modulepath}
 use Rattle.just_parts.specs.declared.recipe.Recipe.{Recipe}
 use Rattle.just_parts.specs.Bare.{bare_item}
 use Rattle.just_invoke.specs.Recipes.{find_number}
@@ -77,7 +78,7 @@ number_found (x ∷ rs) n c = elim (eqb_tells x.number.0 n) [
     later m ms n (zero, h, e) ne = absurd (ne e)
     later m ms n (suc k, h, e) ne = (k, omega arith, e)
 
-module _ (rs : List (Recipe UnresolvedDependency)) (done : List (Recipe Dependency)) (all : AreResolved rs done) where
+module _ (rs : List (Recipe UnresolvedDependency)) (done : List (Recipe Dependency)) (path : Modulepath) (all : AreResolved rs path done) where
   key_found : (o : Option RecipeKey) → ((key : RecipeKey) → o ≡ Some key → IsKeyOf rs (length rs) key) → IsSome o → IsSome (recipe_of_key done o)
   key_found None f some = some
   key_found (Some key) f some =

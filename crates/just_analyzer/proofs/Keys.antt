@@ -13,6 +13,8 @@ use Rattle.just_parts.specs.declared.layers.ast.UnresolvedDependency.{Unresolved
 use Rattle.just_parts.specs.declared.recipe.Recipe.{Recipe}
 use Rattle.just_invoke.specs.declared.justfile.RecipeKey.{RecipeKey}
 use Rattle.just_analyzer.specs.Analysis.{IsKeyOf, AreKeysOf}
+use Rattle.just_analyzer.specs.Outline.{outlines_of, outline_at}
+use Rattle.just_parts.specs.Name.{text_of_name}
 use Rattle.just_analyzer.proofs.Resolving.{number_read}
 
 module _ (Q : RecipeKey → Type 0) where
@@ -43,10 +45,10 @@ each_by P Q f [] all = tt
 each_by P Q f (e ∷ es) all = (f e.1 all.0, each_by P Q f es all.1)
 
 -- one more key
-pub keys_more : (rs : List (Recipe UnresolvedDependency)) (n : ℕ) (r : Recipe UnresolvedDependency) (k : List ℕ) (key : RecipeKey) (old new : List (List ℕ × RecipeKey)) → AreKeysOf rs n old → slice_get rs n ≡ Some r → key.number ≡ r.number → new ≡ put k key old → AreKeysOf rs (n + 1) new
-keys_more rs n r k key old new all read number e =
+pub keys_more : (rs : List (Recipe UnresolvedDependency)) (n : ℕ) (r : Recipe UnresolvedDependency) (k : List ℕ) (key : RecipeKey) (old new : List (List ℕ × RecipeKey)) → AreKeysOf rs n old → slice_get rs n ≡ Some r → key.number ≡ r.number → (outline_at (outlines_of rs) n).name ≡ text_of_name key.name → new ≡ put k key old → AreKeysOf rs (n + 1) new
+keys_more rs n r k key old new all read number name e =
     subst (AreKeysOf rs (n + 1)) (sym e)
-    (each_put (IsKeyOf rs (n + 1)) k key old (n, omega arith, number_read rs n r read ∙ ap (λ m. m.0) (sym number)) (each_by (IsKeyOf rs n) (IsKeyOf rs (n + 1)) (λ x p. (p.0, omega (arith, p.1), p.2)) old all))
+    (each_put (IsKeyOf rs (n + 1)) k key old (n, omega arith, number_read rs n r read ∙ ap (λ m. m.0) (sym number), name) (each_by (IsKeyOf rs n) (IsKeyOf rs (n + 1)) (λ x p. (p.0, omega (arith, p.1), p.2, p.3)) old all))
 
 pub all_head : {X : Type 0} (P : X → Type 0) (x : X) (xs : List X) → All P (x ∷ xs) → P x
 all_head P x xs all = all 0 x (omega arith)

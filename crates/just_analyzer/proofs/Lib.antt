@@ -2,6 +2,7 @@ pub mod Analyses
 pub mod Circles
 pub mod Edges
 pub mod Files
+pub mod Held
 pub mod Indexing
 pub mod Keys
 pub mod Lifts

@@ -17,7 +17,7 @@ use Rattle.just_invoke.specs.Closed.{IsResolved}
 use Rattle.just_analyzer.specs.Index.{AreDifferent}
 use Rattle.just_analyzer.specs.Outline.{outlines_of, names_of, Depends}
 use Rattle.just_analyzer.specs.Rows.{IsRow, IsOrderOf}
-use Rattle.just_analyzer.specs.Resolved.{unresolved_numbers, number_at, HasPriors, linked, Resolves, Resolving, AreResolved}
+use Rattle.just_analyzer.specs.Resolved.{unresolved_numbers, number_at, HasPriors, linked, Resolves, IsMadeOf, AreMadeOf, Resolving, AreResolved}
 use Rattle.just_analyzer.proofs.Edges.{in_take, row_steps}
 
 -- the number of a recipe that is read
@@ -57,10 +57,18 @@ length-linked rs [] (p ∷ ps) e = absurd (omega arith)
 length-linked rs (d ∷ ds) [] e = absurd (omega arith)
 length-linked rs (d ∷ ds) (p ∷ ps) e = omega (arith, length-linked rs ds ps (omega arith))
 
-pub resolving_none : (rs : List (Recipe UnresolvedDependency)) (order : List ℕ) (made : List (Recipe Dependency)) → made ≡ [] → Resolving rs order 0 made
-resolving_none rs order made e = subst (Resolving rs order 0) (sym e) (record { numbered = refl; resolved = λ k d h. absurd (omega arith) })
+-- one more is made
+made_more : (rs : List (Recipe UnresolvedDependency)) (path : Modulepath) (order : List ℕ) (made : List (Recipe Dependency)) (place : ℕ) (r : Recipe Dependency) → AreMadeOf rs path order made → IsMadeOf rs path place r
+    → AreMadeOf rs path (order ++ place ∷ []) (made ++ r ∷ [])
+made_more rs path [] [] place r so m = (m, tt)
+made_more rs path [] (x ∷ made) place r so m = absurd so
+made_more rs path (p ∷ order) [] place r so m = absurd so
+made_more rs path (p ∷ order) (x ∷ made) place r so m = (so.0, made_more rs path order made place r so.1 m)
 
-module _ (rs : List (Recipe UnresolvedDependency)) (order : List ℕ) (different : AreDifferent (names_of (outlines_of rs))) (once : IsOnce (unresolved_numbers rs)) (o : IsOrderOf (outlines_of rs) order) (n : ℕ) (inside : n < length order) (made : List (Recipe Dependency)) (so : Resolving rs order n made) where
+pub resolving_none : (rs : List (Recipe UnresolvedDependency)) (path : Modulepath) (order : List ℕ) (made : List (Recipe Dependency)) → made ≡ [] → Resolving rs path order 0 made
+resolving_none rs path order made e = subst (Resolving rs path order 0) (sym e) (record { made_of = tt; numbered = refl; resolved = λ k d h. absurd (omega arith) })
+
+module _ (rs : List (Recipe UnresolvedDependency)) (order : List ℕ) (different : AreDifferent (names_of (outlines_of rs))) (once : IsOnce (unresolved_numbers rs)) (o : IsOrderOf (outlines_of rs) order) (n : ℕ) (inside : n < length order) (made : List (Recipe Dependency)) (path : Modulepath) (so : Resolving rs path order n made) where
   many : length (outlines_of rs) ≡ length rs
   many = length-map rs _
 
@@ -101,16 +109,20 @@ module _ (rs : List (Recipe UnresolvedDependency)) (order : List ℕ) (different
         subst (λ ns. Contains ns (get_or needed k d)) (sym so.numbered) (before.0, placed, there)
 
   -- one more is resolved
-  pub resolving_more : (r : Recipe Dependency) (more : List (Recipe Dependency)) → r.number.0 ≡ number_at rs (slice_index order n) → IsResolved r → more ≡ made ++ r ∷ [] → Resolving rs order (n + 1) more
-  resolving_more r more is resolved e = record {
+  pub resolving_more : (r : Recipe Dependency) (more : List (Recipe Dependency)) → r.number.0 ≡ number_at rs (slice_index order n) → IsResolved r → IsMadeOf rs path (slice_index order n) r → more ≡ made ++ r ∷ [] → Resolving rs path order (n + 1) more
+  resolving_more r more is resolved m e = record {
+    made_of = subst (AreMadeOf rs path (take (n + 1) order)) (sym e) (subst (λ ps. AreMadeOf rs path ps (made ++ r ∷ [])) (sym (take_more order n 0 inside)) (made_more rs path (take n order) made (slice_index order n) r so.made_of m));
     numbered = ap numbers e ∙ (map-append (λ (q : Recipe Dependency). q.number.0) made (r ∷ []) ∙ (ap (λ ns. ns ++ r.number.0 ∷ []) so.numbered ∙ (ap (λ x. map (number_at rs) (take n order) ++ x ∷ []) is
         ∙ (sym (map-append (number_at rs) (take n order) (slice_index order n ∷ [])) ∙ ap (map (number_at rs)) (sym (take_more order n 0 inside))))));
     resolved = subst (λ (xs : List (Recipe Dependency)). All IsResolved xs) (sym e) (All-push IsResolved made r so.resolved resolved);
   }
 
 -- all are resolved
-pub all_resolved : (rs : List (Recipe UnresolvedDependency)) (order : List ℕ) (made : List (Recipe Dependency)) → IsOrderOf (outlines_of rs) order → Resolving rs order (length order) made → AreResolved rs made
-all_resolved rs order made o so = record {
+pub all_resolved : (rs : List (Recipe UnresolvedDependency)) (path : Modulepath) (order : List ℕ) (made : List (Recipe Dependency)) → IsOrderOf (outlines_of rs) order → Resolving rs path order (length order) made → AreResolved rs path made
+all_resolved rs path order made o so = record {
+  order = order;
+  is_order = o;
+  made_of = subst (λ ps. AreMadeOf rs path ps made) (take_all (length order) order (omega arith)) so.made_of;
   there = λ place h.
       let many : length (outlines_of rs) ≡ length rs = length-map rs _ in
       let c : Contains order place = o.all place (omega arith) in

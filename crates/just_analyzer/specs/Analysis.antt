@@ -1,6 +1,9 @@
 -- What a module's recipes are compiled to.
 use Rattle.std.specs.Prelude.{◌≡◌, ℕ, ◌<◌, ◌≤◌, List, [], length, Option, Some, None}
 use Rattle.std.specs.List.{AllByRecursion}
+use Rattle.std.specs.Option.{option_map}
+use Rattle.just_parts.specs.Entries.{find}
+use Rattle.just_parts.specs.Name.{text_of_name}
 use Rattle.just_parts.specs.Syntax.{AreRising, numbers}
 use Rattle.just_parts.specs.declared.layers.ast.Ast.{Ast}
 use Rattle.just_parts.specs.declared.layers.ast.Item.{Item}
@@ -18,13 +21,17 @@ pub record NumbersRise (items : List Item) : Type 0 where
   pub high : ℕ
   pub rising : AreRising low (numbers items) high
 
--- a key has the number of one of the first n recipes
+-- a key has the number and the name of one of the first n recipes
 abbrev pub IsKeyOf : List (Recipe UnresolvedDependency) → ℕ → RecipeKey → Type 0
-IsKeyOf recipes n key = (place : ℕ) × (place < n) × (number_at recipes place ≡ key.number.0)
+IsKeyOf recipes n key = (place : ℕ) × (place < n) × (number_at recipes place ≡ key.number.0) × ((outline_at (outlines_of recipes) place).name ≡ text_of_name key.name)
 
 -- so has each key of the table
 abbrev pub AreKeysOf : List (Recipe UnresolvedDependency) → ℕ → List (List ℕ × RecipeKey) → Type 0
 AreKeysOf recipes n table = AllByRecursion (λ entry. IsKeyOf recipes n entry.1) table
+
+-- the table has each of the first n recipes under its name
+abbrev pub HasKeysOf : List (Recipe UnresolvedDependency) → ℕ → List (List ℕ × RecipeKey) → Type 0
+HasKeysOf recipes n table = (place : ℕ) → place < n → option_map (λ (key : RecipeKey). key.number.0) (find (outline_at (outlines_of recipes) place).name table) ≡ Some (number_at recipes place)
 
 -- no recipe stands on a smaller line
 pub record IsDefault (recipes : List (Recipe UnresolvedDependency)) (place : ℕ) : Type 0 where
@@ -39,6 +46,7 @@ IsDefaultOf recipes (Some number) = (place : ℕ) × IsDefault recipes place × 
 -- A module has the keys and the default of these recipes, the paths that it was given, and what its file says.
 pub record IsOf (recipes : List (Recipe UnresolvedDependency)) (ast : Ast) (loaded : List (List ℕ)) (source : List ℕ) (justfile : Justfile) : Type 0 where
   pub keys : AreKeysOf recipes (length recipes) justfile.recipes
+  pub held : HasKeysOf recipes (length recipes) justfile.recipes
   pub default : IsDefaultOf recipes justfile.default
   pub loaded_is : justfile.loaded ≡ loaded
   pub source_is : justfile.source ≡ source

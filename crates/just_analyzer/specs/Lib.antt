@@ -1,4 +1,5 @@
 pub mod Analysis
+pub mod Compiled
 pub mod Definitions
 pub mod Index
 pub mod Outline

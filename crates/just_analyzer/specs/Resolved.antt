@@ -1,6 +1,6 @@
 -- Recipes as they are resolved.
 use Rattle.std.specs.Prelude.{◌≡◌, ℕ, ◌<◌, ◌≤◌, List, [], ◌∷◌, ◌++◌, map, length, take, slice_index, Some}
-use Rattle.std.specs.List.{All, Contains}
+use Rattle.std.specs.List.{All, Contains, slice_get}
 use Rattle.just_parts.specs.Name.{text_of_name}
 use Rattle.just_parts.specs.declared.dependency.Dependency.{Dependency}
 use Rattle.just_parts.specs.declared.layers.ast.UnresolvedDependency.{UnresolvedDependency}
@@ -8,6 +8,8 @@ use Rattle.just_parts.specs.declared.modulepath.Modulepath.{Modulepath}
 use Rattle.just_parts.specs.declared.recipe.Recipe.{Recipe}
 use Rattle.just_invoke.specs.Recipes.{numbers}
 use Rattle.just_invoke.specs.Closed.{IsResolved}
+use Rattle.just_analyzer.specs.Outline.{outlines_of}
+use Rattle.just_analyzer.specs.Rows.{IsRow, IsOrderOf}
 
 -- the numbers of recipes that are not resolved
 abbrev pub unresolved_numbers : List (Recipe UnresolvedDependency) → List ℕ
@@ -44,12 +46,31 @@ pub record Resolves (recipes : List (Recipe UnresolvedDependency)) (path : Modul
   pub recipe_path : made.recipe_path ≡ Some (path_to path (text_of_name source.name))
   pub dependencies : made.dependencies ≡ linked recipes source.dependencies places
 
+-- What is made of the recipe at a place: its dependencies lead to the recipes that they name.
+pub record IsMadeOf (rs : List (Recipe UnresolvedDependency)) (path : Modulepath) (place : ℕ) (made : Recipe Dependency) : Type 0 where
+  pub source : Recipe UnresolvedDependency
+  pub places : List ℕ
+  pub there : slice_get rs place ≡ Some source
+  pub targets : IsRow (outlines_of rs) place places
+  pub resolves : Resolves rs path source places made
+
+-- each is made of the recipe at the place beside it
+abbrev pub AreMadeOf : List (Recipe UnresolvedDependency) → Modulepath → List ℕ → List (Recipe Dependency) → Type 0
+AreMadeOf rs path [] [] = Unit {0}
+AreMadeOf rs path [] (r ∷ made) = ⊥
+AreMadeOf rs path (place ∷ order) [] = ⊥
+AreMadeOf rs path (place ∷ order) (r ∷ made) = IsMadeOf rs path place r × AreMadeOf rs path order made
+
 -- The first n of an order are resolved.
-pub record Resolving (rs : List (Recipe UnresolvedDependency)) (order : List ℕ) (n : ℕ) (made : List (Recipe Dependency)) : Type 0 where
+pub record Resolving (rs : List (Recipe UnresolvedDependency)) (path : Modulepath) (order : List ℕ) (n : ℕ) (made : List (Recipe Dependency)) : Type 0 where
+  pub made_of : AreMadeOf rs path (take n order) made
   pub numbered : numbers made ≡ map (number_at rs) (take n order)
   pub resolved : All IsResolved made
 
--- Each recipe of the source is resolved under its number.
-pub record AreResolved (rs : List (Recipe UnresolvedDependency)) (made : List (Recipe Dependency)) : Type 0 where
+-- The recipes of the source, each once, after those that it depends on, and resolved under its number.
+pub record AreResolved (rs : List (Recipe UnresolvedDependency)) (path : Modulepath) (made : List (Recipe Dependency)) : Type 0 where
+  pub order : List ℕ
+  pub is_order : IsOrderOf (outlines_of rs) order
+  pub made_of : AreMadeOf rs path order made
   pub there : (place : ℕ) → place < length rs → Contains (numbers made) (number_at rs place)
   pub resolved : All IsResolved made

@@ -2,9 +2,11 @@ ghost use Rattle.std.specs.Prelude.{◌≡◌, ◌<◌, ◌≤◌, ℕ, [], fals
 ghost use Rattle.std.specs.List.{All};
 ghost use Rattle.just_parts.specs.Syntax.{PriorsAreDependencies};
 ghost use Rattle.just_invoke.specs.Closed.{IsClosed};
-ghost use Rattle.just_analyzer.specs.Analysis.{NumbersRise, AreKeysOf, IsDefault, IsDefaultOf, IsOf};
-ghost use Rattle.just_analyzer.specs.Definitions.{recipes_in};
-ghost use Rattle.just_analyzer.specs.Outline.{outlines_of, recipes_of};
+ghost use Rattle.just_analyzer.specs.Analysis.{NumbersRise, AreKeysOf, HasKeysOf, IsDefault, IsDefaultOf, IsOf};
+ghost use Rattle.just_analyzer.specs.Definitions.{recipes_in, outlines_in};
+ghost use Rattle.just_analyzer.specs.Index.{AreDifferent};
+ghost use Rattle.just_analyzer.specs.Outline.{outlines_of, names_of, recipes_of};
+ghost use Rattle.just_analyzer.specs.Resolved.{AreResolved};
 ghost use Rattle.just_analyzer.specs.Rules.{NamesInRecipes, Keeps, Reports};
 
 use crate::definitions::{Definitions, recipe_at};
@@ -28,7 +30,9 @@ fn recipe_keys<'a, 'src>(
     alloc: Global,
     definitions: &Definitions<'a, 'src>,
 ) -> Result<Table<'src, RecipeKey<'src>>, AllocError>
-    ensures { IfOk result (AreKeysOf (recipes_in definitions.now) (length definitions.now.recipes.items)) }
+    requires { AreDifferent (names_of (outlines_in definitions.now)) }
+    ensures keys { IfOk result (AreKeysOf (recipes_in definitions.now) (length definitions.now.recipes.items)) }
+    ensures held { IfOk result (HasKeysOf (recipes_in definitions.now) (length definitions.now.recipes.items)) }
 {
     let mut keys = Table::new(alloc);
     for place in 0..definitions.recipes.len() {
@@ -79,7 +83,9 @@ fn make_justfile<'a, 'src>(
     loaded: Sequence<Text>,
     source: Text,
 ) -> Result<Justfile<'src>, AllocError>
+    requires { AreDifferent (names_of (outlines_in definitions.now)) }
     ensures keys { IfOk result (λ j. AreKeysOf (recipes_in definitions.now) (length definitions.now.recipes.items) j.recipes) }
+    ensures held { IfOk result (λ j. HasKeysOf (recipes_in definitions.now) (length definitions.now.recipes.items) j.recipes) }
     ensures default { IfOk result (λ j. IsDefaultOf (recipes_in definitions.now) j.default) }
     ensures loaded { IfOk result (λ j. j.loaded ≡ loaded) }
     ensures source { IfOk result (λ j. j.source ≡ source) }
@@ -113,6 +119,7 @@ pub fn analyze<'src, S: Syntax>(
     requires priors { All PriorsAreDependencies ast.now.items }
     ensures kept { IfOk result (λ _. Keeps (NamesInRecipes (outlines_of (recipes_of (S.enabled syntax.now) ast.now.items)))) }
     ensures closed { IfOk result (λ a. IsClosed a.justfile a.recipes) }
+    ensures resolved { IfOk result (λ a. AreResolved (recipes_of (S.enabled syntax.now) ast.now.items) ast.now.module_path a.recipes) }
     ensures fields { IfOk result (λ a. IsOf (recipes_of (S.enabled syntax.now) ast.now.items) ast.now loaded source a.justfile) }
     ensures named { IfErr result (Reports (NamesInRecipes (outlines_of (recipes_of (S.enabled syntax.now) ast.now.items)))) }
 {

@@ -1,6 +1,7 @@
 ghost use Rattle.std.specs.Prelude.{◌≡◌, IfOk, IfErr};
 ghost use Rattle.just_parts.specs.Clean.{IsClean};
 ghost use Rattle.just_invoke.specs.Closed.{IsClosed};
+ghost use Rattle.just_analyzer.specs.Compiled.{IsModuleAt, IsModuleOf};
 ghost use Rattle.just_analyzer.specs.Rules.{Names, NamesInFile, Keeps, Reports};
 
 use crate::analyzer::{Analysis, analyze};
@@ -32,6 +33,8 @@ impl Compiler {
         requires { IsClean root.now }
         ensures kept { IfOk result (λ _. Keeps (Names (S.parsed syntax.now) (S.enabled syntax.now) sources.now root.now)) }
         ensures closed { IfOk result (λ c. IsClosed c.justfile c.recipes) }
+        ensures of_text { IfOk result (λ c. IsModuleAt (S.parsed syntax.now) (S.enabled syntax.now) sources.now root.now c.justfile c.recipes) }
+        ensures root { IfOk result (λ c. c.root ≡ root.now) }
         ensures named { IfErr result (Reports (Names (S.parsed syntax.now) (S.enabled syntax.now) sources.now root.now)) }
     {
         let Some(file) = sources.file(root) else {
@@ -54,6 +57,8 @@ fn compile_file<'src, S: Syntax>(
     requires path { file.now.path ≡ root.now }
     ensures kept { IfOk result (λ _. Keeps (NamesInFile (S.parsed syntax.now) (S.enabled syntax.now) root.now file.now.text)) }
     ensures closed { IfOk result (λ c. IsClosed c.justfile c.recipes) }
+    ensures of_text { IfOk result (λ c. IsModuleOf (S.parsed syntax.now) (S.enabled syntax.now) root.now file.now.text c.justfile c.recipes) }
+    ensures root { IfOk result (λ c. c.root ≡ root.now) }
     ensures named { IfErr result (Reports (NamesInFile (S.parsed syntax.now) (S.enabled syntax.now) root.now file.now.text)) }
 {
     let relative = file_name_of(file.path.as_str());
@@ -85,6 +90,7 @@ fn assemble<'src>(
 ) -> Result<Compilation<'src>, AllocError>
     ensures justfile { IfOk result (λ c. c.justfile ≡ analysis.entry.justfile) }
     ensures recipes { IfOk result (λ c. c.recipes ≡ analysis.entry.recipes) }
+    ensures root { IfOk result (λ c. c.root ≡ root.now) }
 {
     let mut asts = HashMap::new(alloc);
     asts.insert((Modulepath::root(alloc), Text::from_str(alloc, root)?), ast)?;

@@ -191,7 +191,7 @@ fn resolve_in_order<'a, 'src>(
     requires priors { All HasPriors (recipes_in definitions.now) }
     requires rows { EachRow (IsRow (outlines_in definitions.now)) (length definitions.now.recipes.items) rows.now }
     requires order { IsOrderOf (outlines_in definitions.now) order.now }
-    ensures { IfOk result (λ recipes. Resolving (recipes_in definitions.now) order.now (length order.now) recipes) }
+    ensures { IfOk result (λ recipes. Resolving (recipes_in definitions.now) module_path.now order.now (length order.now) recipes) }
 {
     let mut recipes = Recipes::new(alloc);
     for n in 0..order.len() {
@@ -216,7 +216,7 @@ pub fn resolve_recipes<'a, 'src>(
     requires once { IsOnce (unresolved_numbers (recipes_in definitions.now)) }
     requires priors { All HasPriors (recipes_in definitions.now) }
     ensures kept { IfOk result (λ _. Keeps (Dependencies (outlines_in definitions.now))) }
-    ensures resolved { IfOk result (λ recipes. AreResolved (recipes_in definitions.now) recipes) }
+    ensures resolved { IfOk result (λ recipes. AreResolved (recipes_in definitions.now) module_path.now recipes) }
     ensures named { IfErr result (Reports (Dependencies (outlines_in definitions.now))) }
 {
     let rows = rows(alloc, definitions, index)?;

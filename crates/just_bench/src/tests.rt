@@ -5,6 +5,7 @@ ghost use Rattle.just_invoke.specs.Closed.{IsClosed};
 mod compiling;
 mod copies;
 mod paths;
+mod refusals;
 mod running;
 mod tables;
 mod words;
@@ -13,7 +14,7 @@ use crate::{PlainEvaluation, PlainSyntax, Recorder, StopWriter};
 use just_analyzer::{Compilation, Compiler, Sources};
 use just_data::Text;
 use just_invoke::Report;
-use just_parts::layers::{Config, Entry, Error, Groups};
+use just_parts::layers::{Config, Entry, Error, Groups, Host};
 use std::alloc::{AllocError, Global};
 
 // Compiles a text as the one file there is.
@@ -36,11 +37,11 @@ pub fn compile<'src>(alloc: Global, text: &'src str) -> Result<Compilation<'src>
 }
 
 // Runs words, with room for 64 bytes of output.
-pub fn run<'src>(
+pub fn run<'src, H: Host>(
     alloc: Global,
     config: &Config,
     compilation: &Compilation<'src>,
-    host: &mut Recorder,
+    host: &mut H,
     words: &[&str],
 ) -> Result<Report, Error<'src>>
     requires { IsClosed compilation.now.justfile compilation.now.recipes }

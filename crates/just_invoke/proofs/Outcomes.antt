@@ -1,8 +1,10 @@
 -- From the words' invocations to the outcome of their run.
-use Rattle.std.proofs.Common.{◌≡◌, ℕ, List, [], ◌∷◌, map, Result, Ok, Err, IfSome, IfOk, refl, ap, inl, inr}
+use Rattle.std.proofs.Common.{◌≡◌, ◌≤◌, ℕ, Bool, true, List, [], ◌∷◌, map, length, Result, Ok, Err, IfSome, IfOk, IfErr, refl, ap, subst, sym, inl, inr}
+use Rattle.std.proofs.lemmas.List.{length-map}
 use Rattle.just_parts.specs.declared.dependency.Dependency.{Dependency}
 use Rattle.just_parts.specs.declared.layers.host.Entry.{Entry}
 use Rattle.just_parts.specs.declared.layers.error.Error.{Error}
+use Rattle.just_parts.specs.declared.layers.error.RunError.TheVariants.{ExcessInvocations, NotYet}
 use Rattle.just_parts.specs.declared.layers.error.Error.TheVariants.{Load, Compile, Invocation, Run, Exhausted, Memory}
 use Rattle.just_parts.specs.declared.recipe.Recipe.{Recipe}
 use Rattle.just_invoke.specs.declared.invocation.Invocation as parsed
@@ -12,7 +14,8 @@ use Rattle.just_invoke.specs.Cause.{cause_of, IsExpected}
 use Rattle.just_invoke.specs.Pairs.{top_of, tops_of}
 use Rattle.just_invoke.specs.Run.{IsRun}
 use Rattle.just_invoke.specs.Split.{Reading, reading_of, IsSplit, IsFault}
-use Rattle.just_invoke.specs.Outcome.{tops, expected_run, IsOutcome, IsWhole}
+use Rattle.just_invoke.specs.Unready.{IsUnready, AreReady, IsReason}
+use Rattle.just_invoke.specs.Outcome.{tops, expected_run, IsOutcome, IsRefusal, MayRun, IsWhole}
 use Rattle.just_invoke.specs.Account.{Table, own, AreIn, Complete, counts}
 use Rattle.just_invoke.specs.declared.pair.Pair.{Pair}
 
@@ -44,3 +47,25 @@ pub whole_run : (root : Justfile) (recipes : List (Recipe Dependency)) (words : 
     → IfOk r (λ report. AreIn (own t) ps × Complete recipes t × (report.calls.items ≡ counts ps t)) → IfOk r (IsWhole root recipes words ps t)
 whole_run root recipes words readings ps t (Err e) s is x = tt
 whole_run root recipes words readings ps t (Ok report) s is x = record { readings = readings; split = s; tops_are = is; all_begun = x.0; complete = x.1; counted = x.2 }
+
+-- what a run of invocations refuses is a refusal of their words
+pub refused_run : (root : Justfile) (recipes : List (Recipe Dependency)) (words : List (List ℕ)) (one : Bool) (readings : List Reading) (ps : List Pair) (r : Result Report Error) → IsSplit root recipes words readings → ps ≡ tops recipes readings
+    → IfErr r (IsReason recipes ps) → IfErr r (IsRefusal root recipes words one)
+refused_run root recipes words one readings ps (Ok report) s is x = tt
+refused_run root recipes words one readings ps (Err (Run (NotYet name))) s is x = (readings, s, subst (λ qs. IsUnready recipes qs name) is x)
+refused_run root recipes words one readings ps (Err (Run (ExcessInvocations n))) s is x = absurd x
+refused_run root recipes words one readings ps (Err (Load e)) s is x = tt
+refused_run root recipes words one readings ps (Err (Compile e)) s is x = tt
+refused_run root recipes words one readings ps (Err (Invocation e)) s is x = tt
+refused_run root recipes words one readings ps (Err Exhausted) s is x = tt
+refused_run root recipes words one readings ps (Err Memory) s is x = tt
+
+-- what runs may run
+pub allowed_run : (root : Justfile) (recipes : List (Recipe Dependency)) (words : List (List ℕ)) (one : Bool) (readings : List Reading) (ps : List Pair) (r : Result Report Error) → IsSplit root recipes words readings → ps ≡ tops recipes readings
+    → (one ≡ true → length readings ≤ 1) → IfOk r (λ _. AreReady recipes ps) → IfOk r (λ _. MayRun root recipes words one)
+allowed_run root recipes words one readings ps (Err e) s is few x = tt
+allowed_run root recipes words one readings ps (Ok report) s is few x = (readings, s, few, subst (AreReady recipes) is x)
+
+-- there are as many readings as invocations
+pub few_readings : (is : List parsed.Invocation) → length is ≤ 1 → length (map reading_of is) ≤ 1
+few_readings is few = subst (λ n. n ≤ 1) (sym (length-map is reading_of)) few

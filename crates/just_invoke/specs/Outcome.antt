@@ -1,8 +1,9 @@
 -- What a run of command words comes to.
-use Rattle.std.specs.Prelude.{◌≡◌, ◌++◌, ◌⊎◌, ℕ, List, [], map, length, Result, Ok, Err, IfSome}
+use Rattle.std.specs.Prelude.{◌≡◌, ◌<◌, ◌≤◌, ◌++◌, ◌⊎◌, ℕ, Bool, true, List, [], map, length, Result, Ok, Err, IfSome}
 use Rattle.just_parts.specs.declared.dependency.Dependency.{Dependency}
 use Rattle.just_parts.specs.declared.layers.host.Entry.{Entry}
 use Rattle.just_parts.specs.declared.layers.error.Error.{Error}
+use Rattle.just_parts.specs.declared.layers.error.RunError.TheVariants.{ExcessInvocations, NotYet}
 use Rattle.just_parts.specs.declared.layers.error.Error.TheVariants.{Load, Compile, Invocation, Run, Exhausted, Memory}
 use Rattle.just_parts.specs.declared.recipe.Recipe.{Recipe}
 use Rattle.just_invoke.specs.declared.justfile.Justfile.{Justfile}
@@ -13,6 +14,7 @@ use Rattle.just_invoke.specs.Cause.{cause_of}
 use Rattle.just_invoke.specs.Pairs.{place_of}
 use Rattle.just_invoke.specs.Run.{run_questions, IsBroken}
 use Rattle.just_invoke.specs.Split.{Reading, IsSplit, IsFault}
+use Rattle.just_invoke.specs.Unready.{IsUnready, AreReady}
 
 -- the pair of an invocation
 abbrev pub pair_read : List (Recipe Dependency) → Reading → Pair
@@ -36,6 +38,20 @@ IsOutcome root recipes words old new (Err (Invocation e)) = IfSome (cause_of (In
 IsOutcome root recipes words old new (Err (Run e)) = (readings : List Reading) × IsSplit root recipes words readings × (new ≡ old)
 IsOutcome root recipes words old new (Err (Load e)) = ⊥
 IsOutcome root recipes words old new (Err (Compile e)) = ⊥
+
+-- Why a run of words that are invocations is refused, where one alone is allowed or not: they are several, or lead to a recipe that cannot be run.
+abbrev pub IsRefusal : Justfile → List (Recipe Dependency) → List (List ℕ) → Bool → Error → Type 0
+IsRefusal root recipes words one (Run (ExcessInvocations n)) = (one ≡ true) × (readings : List Reading) × IsSplit root recipes words readings × (n ≡ length readings) × (1 < length readings)
+IsRefusal root recipes words one (Run (NotYet name)) = (readings : List Reading) × IsSplit root recipes words readings × IsUnready recipes (tops recipes readings) name
+IsRefusal root recipes words one (Load e) = Unit {0}
+IsRefusal root recipes words one (Compile e) = Unit {0}
+IsRefusal root recipes words one (Invocation e) = Unit {0}
+IsRefusal root recipes words one Exhausted = Unit {0}
+IsRefusal root recipes words one Memory = Unit {0}
+
+-- a run that is not refused: the words are invocations, one where one alone is allowed, and what they lead to can be run
+abbrev pub MayRun : Justfile → List (Recipe Dependency) → List (List ℕ) → Bool → Type 0
+MayRun root recipes words one = (readings : List Reading) × IsSplit root recipes words readings × (one ≡ true → length readings ≤ 1) × AreReady recipes (tops recipes readings)
 
 -- The account of a run, for every host: what was begun, in order, is what a tree of once tables has.
 pub record HasAccount (recipes : List (Recipe Dependency)) (old new : List Entry) (ps : List Pair) (t : Table) : Type 0 where

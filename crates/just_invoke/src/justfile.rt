@@ -45,12 +45,12 @@ pub struct Justfile<'src> {
 }
 
 impl<'src> Justfile<'src> {
-    ghost use Rattle.std.specs.Prelude.{List, IfOk};
+    ghost use Rattle.std.specs.Prelude.{List, IfOk, IfErr};
     ghost use Rattle.just_parts.specs.Modulepath.{texts};
     ghost use Rattle.just_invoke.specs.Account.{Table};
     ghost use Rattle.just_invoke.specs.Closed.{IsClosed};
     ghost use Rattle.just_invoke.specs.declared.pair.Pair.{Pair};
-    ghost use Rattle.just_invoke.specs.Outcome.{IsOutcome, HasAccount, IsWhole};
+    ghost use Rattle.just_invoke.specs.Outcome.{IsOutcome, IsRefusal, MayRun, HasAccount, IsWhole};
 
     /// Runs what the words mean: each invocation in turn under one once table, where a recipe with equal arguments runs
     /// once, its prior dependencies before it, and its subsequent ones after it under a table of their own. Where the
@@ -71,6 +71,8 @@ impl<'src> Justfile<'src> {
     ) -> Result<Report, Error<'src>>
         requires { IsClosed self.now recipes.now }
         ensures outcome { IsOutcome self.now recipes.now (texts words.now) (H.entries host.old) (H.entries host.new) result }
+        ensures refused { IfErr result (IsRefusal self.now recipes.now (texts words.now) config.now.one) }
+        ensures allowed { IfOk result (λ _. MayRun self.now recipes.now (texts words.now) config.now.one) }
         ensures account { (ps : List Pair) × (t : Table) × HasAccount recipes.now (H.entries host.old) (H.entries host.new) ps t × IfOk result (IsWhole self.now recipes.now (texts words.now) ps t) }
     {
         let invocations = match InvocationParser::parse_invocations(

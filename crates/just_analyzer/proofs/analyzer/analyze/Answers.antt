@@ -5,8 +5,8 @@ use Rattle.just_parts.specs.declared.layers.ast.UnresolvedDependency.{Unresolved
 use Rattle.just_parts.specs.declared.recipe.Recipe.{Recipe}
 use Rattle.just_analyzer.specs.Outline.{outlines_of, recipes_of}
 use Rattle.just_analyzer.specs.Definitions.{recipes_in, outlines_in}
-use Rattle.just_analyzer.specs.Resolved.{unresolved_numbers, HasPriors}
-use Rattle.just_analyzer.specs.Analysis.{AreKeysOf, IsOf}
+use Rattle.just_analyzer.specs.Resolved.{unresolved_numbers, HasPriors, AreResolved}
+use Rattle.just_analyzer.specs.Analysis.{AreKeysOf, HasKeysOf, IsOf}
 use Rattle.just_analyzer.specs.Rules.{Headers, Dependencies, NamesInRecipes, in_headers, in_dependencies, Keeps}
 use Rattle.just_analyzer.proofs.Lifts.{lifted}
 use Rattle.just_analyzer.proofs.Outlines.{length-lent}
@@ -45,8 +45,13 @@ returns-clause-kept g c =
 pub returns-clause-closed : goal.returns-clause-closed
 returns-clause-closed g c =
     let many : length (recipes_in c.in_ok-definitions.definitions) ≡ length c.in_ok-definitions.definitions.recipes.items = length-lent c.in_ok-definitions.definitions.recipes.items in
-    closed (recipes_in c.in_ok-definitions.definitions) c.in_ok-recipes.recipes c.in_ok-recipes.ensures.resolved c.in_ok-justfile.justfile
+    closed (recipes_in c.in_ok-definitions.definitions) c.in_ok-recipes.recipes c.args.ast.now.module_path c.in_ok-recipes.ensures.resolved c.in_ok-justfile.justfile
     (subst (λ n. AreKeysOf (recipes_in c.in_ok-definitions.definitions) n c.in_ok-justfile.justfile.recipes) (sym many) c.in_ok-justfile.ensures.keys) c.in_ok-justfile.ensures.default
+
+pub returns-clause-resolved : goal.returns-clause-resolved
+returns-clause-resolved g c =
+    let same : recipes_in c.in_ok-definitions.definitions ≡ recipes_of (g.S.Syntax.enabled c.args.syntax.now) c.args.ast.now.items = c.in_ok-definitions.ensures ∙ ap (recipes_of (g.S.Syntax.enabled c.args.syntax.now)) c.as_slice.ensures in
+    subst (λ (rs : List (Recipe UnresolvedDependency)). AreResolved rs c.args.ast.now.module_path c.in_ok-recipes.recipes) same c.in_ok-recipes.ensures.resolved
 
 pub returns-clause-fields : goal.returns-clause-fields
 returns-clause-fields g c =
@@ -54,6 +59,7 @@ returns-clause-fields g c =
     let many : length (recipes_in c.in_ok-definitions.definitions) ≡ length c.in_ok-definitions.definitions.recipes.items = length-lent c.in_ok-definitions.definitions.recipes.items in
     subst (λ (rs : List (Recipe UnresolvedDependency)). IsOf rs c.args.ast.now c.args.loaded c.args.source c.in_ok-justfile.justfile) same (record {
       keys = subst (λ n. AreKeysOf (recipes_in c.in_ok-definitions.definitions) n c.in_ok-justfile.justfile.recipes) (sym many) c.in_ok-justfile.ensures.keys;
+      held = subst (λ n. HasKeysOf (recipes_in c.in_ok-definitions.definitions) n c.in_ok-justfile.justfile.recipes) (sym many) c.in_ok-justfile.ensures.held;
       default = c.in_ok-justfile.ensures.default;
       loaded_is = c.in_ok-justfile.ensures.loaded;
       source_is = c.in_ok-justfile.ensures.source;

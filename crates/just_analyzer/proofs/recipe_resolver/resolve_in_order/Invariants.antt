@@ -3,4 +3,4 @@ use Rattle.just_analyzer.specs.Resolved.{Resolving}
 use Rattle.just_analyzer.proofs.recipe_resolver.resolve_in_order.Given as goal
 
 abbrev pub invariant-loop-n : goal.invariant-loop-n
-invariant-loop-n l = Resolving (recipes_in l.definitions) l.order l.n l.recipes
+invariant-loop-n l = Resolving (recipes_in l.definitions) l.module_path l.order l.n l.recipes

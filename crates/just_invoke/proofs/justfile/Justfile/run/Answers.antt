@@ -1,4 +1,4 @@
-use Rattle.std.proofs.Common.{◌≡◌, ◌∙◌, [], map, length, ap, sym, subst}
+use Rattle.std.proofs.Common.{◌≡◌, ◌∙◌, ◌≤◌, true, [], map, length, ap, sym, subst, rules}
 use Rattle.std.proofs.lemmas.List.{append-nil}
 use Rattle.just_parts.specs.Modulepath.{texts}
 use Rattle.just_invoke.specs.Account.{Empty}
@@ -6,8 +6,9 @@ use Rattle.just_invoke.specs.Pairs.{tops_of}
 use Rattle.just_invoke.specs.Run.{run_questions, IsRun}
 use Rattle.just_invoke.specs.Split.{reading_of}
 use Rattle.just_invoke.specs.Outcome.{tops}
-use Rattle.just_invoke.proofs.Outcomes.{tops_read, outcome_run, whole_run}
+use Rattle.just_invoke.proofs.Outcomes.{tops_read, outcome_run, refused_run, allowed_run, few_readings, whole_run}
 use Rattle.just_invoke.proofs.justfile.Justfile.run.Goals as goal
+use Rattle.just_invoke.proofs.justfile.Justfile.run.Goals.{else-config-via-then-config+else-len-gt1, else-config-via-else-config}
 
 pub returns-in-Err-clause-account : goal.returns-in-Err-clause-account
 returns-in-Err-clause-account g c = ([], Empty, record { gained = sym (append-nil (g.H.Host.entries c.args.host.now)); fits = tt }, tt)
@@ -30,3 +31,18 @@ returns-clause-account g c =
       record { gained = a.1; fits = a.2 },
       whole_run c.args.self.now c.args.recipes.now (texts c.args.words.now) (map reading_of c.in-Ok.invocations.items) (tops_of c.args.recipes.now c.as_slice.result.now) a.0 c.run_invocations.result c.in-Ok.ensures.split same a.3,
     )
+
+pub returns-clause-refused : goal.returns-clause-refused
+returns-clause-refused g c =
+    let same : tops_of c.args.recipes.now c.as_slice.result.now ≡ tops c.args.recipes.now (map reading_of c.in-Ok.invocations.items) = ap (tops_of c.args.recipes.now) c.as_slice.ensures.value ∙ tops_read c.args.recipes.now c.in-Ok.invocations.items in
+    refused_run c.args.self.now c.args.recipes.now (texts c.args.words.now) c.args.config.now.one (map reading_of c.in-Ok.invocations.items) (tops_of c.args.recipes.now c.as_slice.result.now) c.run_invocations.result c.in-Ok.ensures.split same c.run_invocations.ensures.unready
+
+pub returns-clause-allowed : goal.returns-clause-allowed
+returns-clause-allowed g c =
+    let same : tops_of c.args.recipes.now c.as_slice.result.now ≡ tops c.args.recipes.now (map reading_of c.in-Ok.invocations.items) = ap (tops_of c.args.recipes.now) c.as_slice.ensures.value ∙ tops_read c.args.recipes.now c.in-Ok.invocations.items in
+    let few : c.args.config.now.one ≡ true → length c.in-Ok.invocations.items ≤ 1 = elim c.else-config.branch [
+      | else-config-via-then-config+else-len-gt1 w ↦ λ yes. (search rules)
+      | else-config-via-else-config w ↦ λ yes. (search rules)
+    ] in
+    allowed_run c.args.self.now c.args.recipes.now (texts c.args.words.now) c.args.config.now.one (map reading_of c.in-Ok.invocations.items) (tops_of c.args.recipes.now c.as_slice.result.now) c.run_invocations.result c.in-Ok.ensures.split same
+    (λ yes. few_readings c.in-Ok.invocations.items (few yes)) c.run_invocations.ensures.ready
