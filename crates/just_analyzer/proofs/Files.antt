@@ -1,5 +1,5 @@
 -- A file that is found, and what it says.
-use Rattle.std.proofs.Common.{◌≡◌, ℕ, ◌+◌, cond, List, [], ◌∷◌, map, Bool, true, false, Option, Some, None, IfSome, Result, Ok, Err, IfOk, refl, sym, ◌∙◌, ap, subst}
+use Rattle.std.proofs.Common.{◌≡◌, ℕ, ◌+◌, ◌^◌, ◌<◌, ◌≤◌, cond, List, [], ◌∷◌, map, Bool, true, false, Option, Some, None, IfSome, Result, Ok, Err, IfOk, arith, refl, sym, ◌∙◌, ap, subst}
 use Rattle.std.specs.Prelude.{if◌then◌else◌}
 use Rattle.std.specs.List.{list_any, fold}
 use Rattle.std.specs.Option.{option_copied}
@@ -18,7 +18,7 @@ use Rattle.just_parts.specs.Clean.{file_name_of}
 use Rattle.just_parts.specs.Syntax.{Refuses}
 use Rattle.just_parts.specs.declared.layers.error.Error.{Error}
 use Rattle.just_parts.specs.declared.layers.error.Error.TheVariants as error
-use Rattle.just_analyzer.specs.Rules.{Cause, Broken, Keeps, Reports, NamesInRecipes, NamesInFile, no_grammar, in_recipes, Names, no_file, in_file}
+use Rattle.just_analyzer.specs.Rules.{Cause, Broken, Keeps, Reports, NamesInRecipes, NamesInFile, no_grammar, no_number, in_recipes, Names, no_file, in_file}
 use Rattle.just_analyzer.specs.declared.sources.SourceFile.{SourceFile}
 use Rattle.just_analyzer.specs.Sources.{Files, text_at}
 use Rattle.just_analyzer.specs.Outline.{outline_of, outlines_of, recipes_of}
@@ -73,38 +73,39 @@ outlines_bare enabled (item.Recipe r ∷ items) =
     outline_if (enabled (bare_item (bare_item (item.Recipe r)))) (enabled (bare_item (item.Recipe r))) r (recipes_of enabled (map bare_item items)) (recipes_of enabled items) (ap enabled again) (outlines_bare enabled items)
 
 -- what the grammar refuses is named
-pub refused_named : (parsed : List ℕ → List ℕ → Option (List Item)) (enabled : Item → Bool) (root text path found : List ℕ) (e : Error) (next : ℕ) → path ≡ file_name_of root → found ≡ text → Refuses e (parsed path found) next → Reports (NamesInFile parsed enabled root text) e
-refused_named parsed enabled root text path found (error.Load e) next p f r = absurd r
-refused_named parsed enabled root text path found (error.Compile e) next p f r =
+pub refused_named : (parsed : List ℕ → List ℕ → Option (List Item)) (spends : List ℕ → List ℕ → ℕ) (enabled : Item → Bool) (root text path found : List ℕ) (e : Error) → path ≡ file_name_of root → found ≡ text → Refuses e (parsed path found) (spends path found) → Reports (NamesInFile parsed spends enabled root text) e
+refused_named parsed spends enabled root text path found (error.Load e) p f r = absurd r
+refused_named parsed spends enabled root text path found (error.Compile e) p f r =
     let none : parsed (file_name_of root) text ≡ None = ap (λ x. parsed x text) (sym p) ∙ (ap (parsed path) (sym f) ∙ r.0) in
-    subst (λ k. NamesInFile parsed enabled root text (Broken k)) (sym r.1) (no_grammar none)
-refused_named parsed enabled root text path found (error.Invocation e) next p f r = absurd r
-refused_named parsed enabled root text path found (error.Run e) next p f r = absurd r
-refused_named parsed enabled root text path found error.Exhausted next p f r = tt
-refused_named parsed enabled root text path found error.Memory next p f r = tt
+    subst (λ k. NamesInFile parsed spends enabled root text (Broken k)) (sym r.1) (no_grammar none)
+refused_named parsed spends enabled root text path found (error.Invocation e) p f r = absurd r
+refused_named parsed spends enabled root text path found (error.Run e) p f r = absurd r
+refused_named parsed spends enabled root text path found error.Exhausted p f r = no_number (subst (λ n. 2 ^ 64 ≤ n) (ap (spends path) f ∙ ap (λ x. spends x text) p) r)
+refused_named parsed spends enabled root text path found error.Memory p f r = tt
 
-module _ (parsed : List ℕ → List ℕ → Option (List Item)) (enabled : Item → Bool) (root text path found : List ℕ) (items : List Item) (p : path ≡ file_name_of root) (f : found ≡ text) (said : parsed path found ≡ Some (map bare_item items)) where
+module _ (parsed : List ℕ → List ℕ → Option (List Item)) (spends : List ℕ → List ℕ → ℕ) (enabled : Item → Bool) (root text path found : List ℕ) (items : List Item) (p : path ≡ file_name_of root) (f : found ≡ text) (said : parsed path found ≡ Some (map bare_item items)) where
   said_here : parsed (file_name_of root) text ≡ Some (map bare_item items)
   said_here = ap (λ x. parsed x text) (sym p) ∙ (ap (parsed path) (sym f) ∙ said)
 
   -- what the recipes of a file break is what its text breaks
-  pub in_file_named : (c : Cause) → NamesInRecipes (outlines_of (recipes_of enabled items)) c → NamesInFile parsed enabled root text c
+  pub in_file_named : (c : Cause) → NamesInRecipes (outlines_of (recipes_of enabled items)) c → NamesInFile parsed spends enabled root text c
   in_file_named c n = in_recipes (map bare_item items) said_here (subst (λ os. NamesInRecipes os c) (sym (outlines_bare enabled items)) n)
 
   -- and the other way round
-  pub file_kept : Keeps (NamesInRecipes (outlines_of (recipes_of enabled items))) → (c : Cause) → NamesInFile parsed enabled root text c → ⊥
-  file_kept kept _ (no_grammar none) = let no : Some (map bare_item items) ≡ None = sym said_here ∙ none in cc
-  file_kept kept c (in_recipes others also n) =
+  pub file_kept : spends path found < 2 ^ 64 → Keeps (NamesInRecipes (outlines_of (recipes_of enabled items))) → (c : Cause) → NamesInFile parsed spends enabled root text c → ⊥
+  file_kept fits kept _ (no_grammar none) = let no : Some (map bare_item items) ≡ None = sym said_here ∙ none in cc
+  file_kept fits kept _ (no_number many) = let few : spends (file_name_of root) text < 2 ^ 64 = subst (λ n. n < 2 ^ 64) (ap (spends path) f ∙ ap (λ x. spends x text) p) fits in omega (arith, many, few)
+  file_kept fits kept c (in_recipes others also n) =
       let same : others ≡ map bare_item items = let e = sym also ∙ said_here in cc in
       kept c (subst (λ os. NamesInRecipes os c) (outlines_bare enabled items) (subst (λ xs. NamesInRecipes (outlines_of (recipes_of enabled xs)) c) same n))
 
-module _ (parsed : List ℕ → List ℕ → Option (List Item)) (enabled : Item → Bool) (files : Files) (root : List ℕ) where
+module _ (parsed : List ℕ → List ℕ → Option (List Item)) (spends : List ℕ → List ℕ → ℕ) (enabled : Item → Bool) (files : Files) (root : List ℕ) where
   -- the root is a key
-  pub map_kept : (text : List ℕ) → text_at files root ≡ Some text → Keeps (NamesInFile parsed enabled root text) → (c : Cause) → Names parsed enabled files root c → ⊥
+  pub map_kept : (text : List ℕ) → text_at files root ≡ Some text → Keeps (NamesInFile parsed spends enabled root text) → (c : Cause) → Names parsed spends enabled files root c → ⊥
   map_kept text there kept _ (no_file none same) = let no : Some text ≡ None = sym there ∙ none in cc
   map_kept text there kept c (in_file other also n) =
       let same : other ≡ text = let e = sym also ∙ there in cc in
-      kept c (subst (λ t. NamesInFile parsed enabled root t c) same n)
+      kept c (subst (λ t. NamesInFile parsed spends enabled root t c) same n)
 
 -- what holds of a success
 pub ok_more : {A E : Type 0} (P Q : Type 0) → (P → Q) → (r : Result A E) → IfOk r (λ _. P) → IfOk r (λ _. Q)

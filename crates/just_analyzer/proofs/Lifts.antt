@@ -3,14 +3,14 @@ use Rattle.std.proofs.Common.{Result, Ok, Err, IfErr}
 use Rattle.just_parts.specs.declared.layers.error.LoadError.TheVariants as load
 use Rattle.just_parts.specs.declared.layers.error.Error.{Error}
 use Rattle.just_parts.specs.declared.layers.error.Error.TheVariants as error
-use Rattle.just_analyzer.specs.Rules.{Cause, NoFile, Broken, Reports}
+use Rattle.just_analyzer.specs.Rules.{Cause, NoFile, Broken, NoNumber, Reports}
 
 pub reports_by : (G H : Cause → Type 0) → ((c : Cause) → G c → H c) → (e : Error) → Reports G e → Reports H e
 reports_by G H f (error.Load (load.Load path)) g = f (NoFile path) g
 reports_by G H f (error.Compile e) g = f (Broken e.kind) g
 reports_by G H f (error.Invocation e) g = g
 reports_by G H f (error.Run e) g = g
-reports_by G H f error.Exhausted g = tt
+reports_by G H f error.Exhausted g = f NoNumber g
 reports_by G H f error.Memory g = tt
 
 pub lifted : {A : Type 0} (G H : Cause → Type 0) → ((c : Cause) → G c → H c) → (r : Result A Error) → IfErr r (Reports G) → IfErr r (Reports H)

@@ -1,5 +1,5 @@
 -- The rules of compilation: each relates what is compiled to the errors that report where it is broken.
-use Rattle.std.specs.Prelude.{◌≡◌, ◌≢◌, ℕ, ◌+◌, ◌-◌, ◌<◌, ◌⊎◌, min, Bool, List, [], ◌∷◌, length, get_or, Option, Some, None}
+use Rattle.std.specs.Prelude.{◌≡◌, ◌≢◌, ℕ, ◌+◌, ◌-◌, ◌^◌, ◌<◌, ◌≤◌, ◌⊎◌, min, Bool, List, [], ◌∷◌, length, get_or, Option, Some, None}
 use Rattle.std.specs.List.{Contains}
 use Rattle.just_parts.specs.Name.{texts_of_path}
 use Rattle.just_parts.specs.Clean.{file_name_of}
@@ -15,22 +15,23 @@ use Rattle.just_analyzer.specs.Outline.{Outline, outline_at, names_of, outlines_
 use Rattle.just_analyzer.specs.Index.{Repeats}
 use Rattle.just_analyzer.specs.Sources.{Files, text_at}
 
--- What reports a broken rule: an error without its token.
+-- What reports a broken rule: an error without its token. That there are not as many numbers as wanted counts as one.
 pub data Cause : Type 0 where
   NoFile : List ℕ → Cause
   Broken : CompileErrorKind → Cause
+  NoNumber : Cause
 
 -- a group of rules is kept where no cause is named
 abbrev pub Keeps : (Cause → Type 0) → Type 0
 Keeps group = (c : Cause) → group c → ⊥
 
--- an error is named; want of memory and of numbers aside
+-- an error is named; want of memory aside
 abbrev pub Reports : (Cause → Type 0) → Error → Type 0
 Reports group (error.Load (load.Load path)) = group (NoFile path)
 Reports group (error.Compile e) = group (Broken e.kind)
 Reports group (error.Invocation e) = ⊥
 Reports group (error.Run e) = ⊥
-Reports group error.Exhausted = Unit {0}
+Reports group error.Exhausted = group NoNumber
 Reports group error.Memory = Unit {0}
 
 -- A recipe has a parameter's name twice, or two recipes have one name: those two that follow each other under that name.
@@ -61,12 +62,13 @@ pub data NamesInRecipes (recipes : List Outline) : Cause → Type 0 where
   in_headers : {c : Cause} → Headers recipes c → NamesInRecipes recipes c
   in_dependencies : {c : Cause} → Keeps (Headers recipes) → Dependencies recipes c → NamesInRecipes recipes c
 
--- What the text of the root file breaks, where `parsed` gives the items of a text under its relative path, and `enabled` tells which count.
-pub data NamesInFile (parsed : List ℕ → List ℕ → Option (List Item)) (enabled : Item → Bool) (root text : List ℕ) : Cause → Type 0 where
-  no_grammar : parsed (file_name_of root) text ≡ None → NamesInFile parsed enabled root text (Broken kind.Syntax)
-  in_recipes : {c : Cause} (items : List Item) → parsed (file_name_of root) text ≡ Some items → NamesInRecipes (outlines_of (recipes_of enabled items)) c → NamesInFile parsed enabled root text c
+-- What the text of the root file breaks, where `parsed` gives the items of a text under its relative path, `spends` the numbers that it takes, and `enabled` tells which items count.
+pub data NamesInFile (parsed : List ℕ → List ℕ → Option (List Item)) (spends : List ℕ → List ℕ → ℕ) (enabled : Item → Bool) (root text : List ℕ) : Cause → Type 0 where
+  no_grammar : parsed (file_name_of root) text ≡ None → NamesInFile parsed spends enabled root text (Broken kind.Syntax)
+  no_number : 2 ^ 64 ≤ spends (file_name_of root) text → NamesInFile parsed spends enabled root text NoNumber
+  in_recipes : {c : Cause} (items : List Item) → parsed (file_name_of root) text ≡ Some items → NamesInRecipes (outlines_of (recipes_of enabled items)) c → NamesInFile parsed spends enabled root text c
 
 -- What a source map breaks from a root.
-pub data Names (parsed : List ℕ → List ℕ → Option (List Item)) (enabled : Item → Bool) (files : Files) (root : List ℕ) : Cause → Type 0 where
-  no_file : {path : List ℕ} → text_at files root ≡ None → root ≡ path → Names parsed enabled files root (NoFile path)
-  in_file : {c : Cause} (text : List ℕ) → text_at files root ≡ Some text → NamesInFile parsed enabled root text c → Names parsed enabled files root c
+pub data Names (parsed : List ℕ → List ℕ → Option (List Item)) (spends : List ℕ → List ℕ → ℕ) (enabled : Item → Bool) (files : Files) (root : List ℕ) : Cause → Type 0 where
+  no_file : {path : List ℕ} → text_at files root ≡ None → root ≡ path → Names parsed spends enabled files root (NoFile path)
+  in_file : {c : Cause} (text : List ℕ) → text_at files root ≡ Some text → NamesInFile parsed spends enabled root text c → Names parsed spends enabled files root c

@@ -31,11 +31,11 @@ impl Compiler {
         root: &str,
     ) -> Result<Compilation<'src>, Error<'src>>
         requires { IsClean root.now }
-        ensures kept { IfOk result (λ _. Keeps (Names (S.parsed syntax.now) (S.enabled syntax.now) sources.now root.now)) }
+        ensures kept { IfOk result (λ _. Keeps (Names (S.parsed syntax.now) (S.spends syntax.now) (S.enabled syntax.now) sources.now root.now)) }
         ensures closed { IfOk result (λ c. IsClosed c.justfile c.recipes) }
         ensures of_text { IfOk result (λ c. IsModuleAt (S.parsed syntax.now) (S.enabled syntax.now) sources.now root.now c.justfile c.recipes) }
         ensures root { IfOk result (λ c. c.root ≡ root.now) }
-        ensures named { IfErr result (Reports (Names (S.parsed syntax.now) (S.enabled syntax.now) sources.now root.now)) }
+        ensures named { IfErr result (Reports (Names (S.parsed syntax.now) (S.spends syntax.now) (S.enabled syntax.now) sources.now root.now)) }
     {
         let Some(file) = sources.file(root) else {
             return Err(Error::Load(LoadError::Load {
@@ -55,11 +55,11 @@ fn compile_file<'src, S: Syntax>(
 ) -> Result<Compilation<'src>, Error<'src>>
     requires clean { IsClean root.now }
     requires path { file.now.path ≡ root.now }
-    ensures kept { IfOk result (λ _. Keeps (NamesInFile (S.parsed syntax.now) (S.enabled syntax.now) root.now file.now.text)) }
+    ensures kept { IfOk result (λ _. Keeps (NamesInFile (S.parsed syntax.now) (S.spends syntax.now) (S.enabled syntax.now) root.now file.now.text)) }
     ensures closed { IfOk result (λ c. IsClosed c.justfile c.recipes) }
     ensures of_text { IfOk result (λ c. IsModuleOf (S.parsed syntax.now) (S.enabled syntax.now) root.now file.now.text c.justfile c.recipes) }
     ensures root { IfOk result (λ c. c.root ≡ root.now) }
-    ensures named { IfErr result (Reports (NamesInFile (S.parsed syntax.now) (S.enabled syntax.now) root.now file.now.text)) }
+    ensures named { IfErr result (Reports (NamesInFile (S.parsed syntax.now) (S.spends syntax.now) (S.enabled syntax.now) root.now file.now.text)) }
 {
     let relative = file_name_of(file.path.as_str());
     let source = Source::root(alloc, root)?;

@@ -1,5 +1,5 @@
 -- One line of the loop over the lines, and numbers.
-use Rattle.std.proofs.Common.{Some, ◌≡◌, ℕ, ◌+◌, ◌<◌, ◌≤◌, sym, ◌∙◌, ap, refl, subst, List, [], ◌∷◌, ◌++◌, length, map, drop, get_or, arith, add-one, length-append, Err}
+use Rattle.std.proofs.Common.{Some, ◌≡◌, ℕ, ◌+◌, ◌^◌, ◌<◌, ◌≤◌, sym, ◌∙◌, ap, refl, subst, List, [], ◌∷◌, ◌++◌, length, map, drop, get_or, arith, add-one, length-append, Result, Ok, Err, IfErr}
 use Rattle.std.proofs.Math.Seq.{drop-cons}
 use Rattle.std.specs.List.{All, slice_get}
 use Rattle.std.proofs.lemmas.List.{map-append, append-nil, length-map}
@@ -20,10 +20,12 @@ use Rattle.just_parts.specs.Syntax.{CameBy, ItemCameBy, PriorsAreDependencies, i
 use Rattle.just_parts.specs.Token.{Place}
 use Rattle.just_parts.specs.declared.layers.error.CompileErrorKind.TheVariants.{Syntax}
 use Rattle.just_bench.specs.Lines.{lines_of, line_place}
-use Rattle.just_bench.specs.Refusal.{IsFirstBadLine}
+use Rattle.just_parts.specs.declared.layers.error.Error.{Error}
+use Rattle.just_parts.specs.declared.layers.error.Error.TheVariants as error
+use Rattle.just_bench.specs.Refusal.{IsFirstBadLine, Spent, RefusesLine}
 use Rattle.just_bench.proofs.Cuts.{line_at_number}
 use Rattle.just_bench.specs.Grammar.{reading}
-use Rattle.just_bench.specs.Items.{items_of, recipe, dependency, with_line, with_lines}
+use Rattle.just_bench.specs.Items.{items_of, recipe, dependency, with_line, with_lines, spends, spends_line, spends_lines}
 
 pub AreRising-lower : (low middle : ℕ) (ms : List ℕ) (high : ℕ) → low ≤ middle → AreRising middle ms high → AreRising low ms high
 AreRising-lower low middle [] high h q = omega (arith, h, q)
@@ -43,16 +45,20 @@ pub record Read (path text : List ℕ) (source : Source) (low : ℕ) (all : List
   pub source_of : All (ItemCameBy source) items
   pub priors : All PriorsAreDependencies items
   pub rising : AreRising low (numbers items) high
+  pub spent : low + spends path text ≡ high + spends_lines path text (drop n all)
   pub onward : low ≤ high
+  pub fits : low < 2 ^ 64 → high < 2 ^ 64
 
 pub Read-start : (path text : List ℕ) (source : Source) (low : ℕ) (all : List Line) (items : List Item) → all ≡ lines_of text → items ≡ [] → Read path text source low all 0 items low
-unfolding items_of
+unfolding items_of spends
 Read-start path text source low all items whole none = rw (whole, none) (record {
   whole = refl;
   source_of = All-nil (ItemCameBy source);
   priors = All-nil PriorsAreDependencies;
   rising = omega arith;
+  spent = refl;
   onward = omega arith;
+  fits = λ h. h;
 })
 
 pub rest_of : (all : List Line) (n : ℕ) (line : Line) → n < length all → get_or all n line ≡ line → drop n all ≡ line ∷ drop (n + 1) all
@@ -63,6 +69,11 @@ pub by_line : (path text : List ℕ) (items : List Item) (all : List Line) (n : 
     → with_lines path text items (drop n all) ≡ with_line r line.number items (λ more. with_lines path text more (drop (n + 1) all))
 by_line path text items all n line r within is read = rw (rest_of all n line within is, read) refl
 
+-- the numbers of the lines that are left, by what the first of them says
+pub spends_by_line : (path text : List ℕ) (all : List Line) (n : ℕ) (line : Line) (r : Reading) → n < length all → get_or all n line ≡ line → r ≡ reading path text line
+    → spends_lines path text (drop n all) ≡ spends_line r (spends_lines path text (drop (n + 1) all))
+spends_by_line path text all n line r within is read = rw (rest_of all n line within is, read) refl
+
 pub Read-ignored : (path text : List ℕ) (source : Source) (low : ℕ) (all : List Line) (n : ℕ) (items : List Item) (high : ℕ) (line : Line)
     → Read path text source low all n items high → n < length all → get_or all n line ≡ line → Ignored ≡ reading path text line → Read path text source low all (n + 1) items high
 Read-ignored path text source low all n items high line so_far within is read = record {
@@ -70,7 +81,9 @@ Read-ignored path text source low all n items high line so_far within is read = 
   source_of = so_far.source_of;
   priors = so_far.priors;
   rising = so_far.rising;
+  spent = so_far.spent ∙ ap (λ k. high + k) (spends_by_line path text all n line Ignored within is read);
   onward = so_far.onward;
+  fits = so_far.fits;
 }
 
 pub Read-bad : (path text : List ℕ) (source : Source) (low : ℕ) (all : List Line) (n : ℕ) (items : List Item) (high : ℕ) (line : Line) (token : Place)
@@ -93,10 +106,10 @@ priors_of r h bare =
 
 pub Read-recipe : (path text : List ℕ) (source : Source) (low : ℕ) (all : List Line) (n : ℕ) (items : List Item) (high : ℕ) (line : Line) (h : Heading) (r : Recipe UnresolvedDependency) (items' : List Item) (high' : ℕ)
     → Read path text source low all n items high → n < length all → get_or all n line ≡ line → Begins h ≡ reading path text line
-    → bare_recipe r ≡ recipe h → CameBy source r → AreRising high (recipe_numbers r) high'
+    → bare_recipe r ≡ recipe h → CameBy source r → AreRising high (recipe_numbers r) high' → high' ≡ high + (1 + length h.parameters) → high' < 2 ^ 64
     → items' ≡ items ++ item.Recipe r ∷ []
     → Read path text source low all (n + 1) items' high'
-Read-recipe path text source low all n items high line h r items' high' so_far within is read bare came given pushed =
+Read-recipe path text source low all n items high line h r items' high' so_far within is read bare came given taken fits pushed =
     let more : map bare_item (items ++ item.Recipe r ∷ []) ≡ map bare_item items ++ item.Recipe (recipe h) ∷ [] = map-append bare_item items (item.Recipe r ∷ []) ∙ ap (λ b. map bare_item items ++ item.Recipe b ∷ []) bare in
     let all_numbers : numbers (items ++ item.Recipe r ∷ []) ≡ numbers items ++ (recipe_numbers r ++ []) = flat_map-append item_numbers items (item.Recipe r ∷ []) in
     rw pushed (record {
@@ -104,7 +117,9 @@ Read-recipe path text source low all n items high line h r items' high' so_far w
       source_of = All-push (ItemCameBy source) items (item.Recipe r) so_far.source_of came;
       priors = All-push PriorsAreDependencies items (item.Recipe r) so_far.priors (priors_of r h bare);
       rising = rw (all_numbers, append-nil (recipe_numbers r)) (AreRising-append low (numbers items) high (recipe_numbers r) high' so_far.rising given);
+      spent = so_far.spent ∙ omega (arith, taken, spends_by_line path text all n line (Begins h) within is read);
       onward = omega (arith, so_far.onward, AreRising-onward high (recipe_numbers r) high' given);
+      fits = λ _. fits;
     })
 
 pub parameter_push : (low : ℕ) (made : List Parameter) (high : ℕ) (p : Parameter) (made' : List Parameter) (high' : ℕ)
@@ -112,3 +127,22 @@ pub parameter_push : (low : ℕ) (made : List Parameter) (high : ℕ) (p : Param
 parameter_push low made high p made' high' rising is more pushed =
     let all_numbers : parameter_numbers (made ++ p ∷ []) ≡ parameter_numbers made ++ p.number.0 ∷ [] = map-append (λ p. p.number.0) made (p ∷ []) in
     rw (pushed, all_numbers) (AreRising-append low (parameter_numbers made) high (p.number.0 ∷ []) high' rising (omega (arith, is), omega (arith, is, more)))
+
+-- numbers that are wanted for one item are wanted for the text
+spent_by : (path text : List ℕ) (few many : ℕ) → few ≤ many → (e : Error) → Spent e few → RefusesLine path text e many
+spent_by path text few many h (error.Load e) s = s
+spent_by path text few many h (error.Compile e) s = absurd s
+spent_by path text few many h (error.Invocation e) s = s
+spent_by path text few many h (error.Run e) s = s
+spent_by path text few many h error.Exhausted s = omega (arith, h, s)
+spent_by path text few many h error.Memory s = tt
+
+pub spent_on_line : {A : Type 0} (path text : List ℕ) (few many : ℕ) → few ≤ many → (r : Result A Error) → IfErr r (λ e. Spent e few) → IfErr r (λ e. RefusesLine path text e many)
+spent_on_line path text few many h (Ok a) s = tt
+spent_on_line path text few many h (Err e) s = spent_by path text few many h e s
+
+-- the numbers of a recipe's line are wanted for the text
+pub Read-wants : (path text : List ℕ) (source : Source) (low : ℕ) (all : List Line) (n : ℕ) (items : List Item) (high : ℕ) (line : Line) (h : Heading)
+    → Read path text source low all n items high → n < length all → get_or all n line ≡ line → Begins h ≡ reading path text line
+    → high + (1 + length h.parameters) ≤ low + spends path text
+Read-wants path text source low all n items high line h so_far within is read = omega (arith, so_far.spent, spends_by_line path text all n line (Begins h) within is read)

@@ -1,5 +1,5 @@
 -- The items of a text, over its lines.
-use Rattle.std.specs.Prelude.{ℕ, ◌==◌, Bool, false, List, [], ◌∷◌, ◌++◌, map, length, None, Result, Ok, Err}
+use Rattle.std.specs.Prelude.{ℕ, ◌+◌, ◌==◌, Bool, false, List, [], ◌∷◌, ◌++◌, map, length, None, Result, Ok, Err}
 use Rattle.just_parts.specs.Token.{lexeme}
 use Rattle.just_parts.specs.Bare.{no_number}
 use Rattle.just_parts.specs.declared.layers.name.Name.{Name}
@@ -54,6 +54,20 @@ with_line (Begins h) number items others = others (items ++ item.Recipe (recipe 
 abbrev pub with_lines : List ℕ → List ℕ → List Item → List Line → Result (List Item) ℕ
 with_lines path text items [] = Ok items
 with_lines path text items (line ∷ rest) = with_line (reading path text line) line.number items (λ more. with_lines path text more rest)
+
+-- how many numbers a line takes, and then those that follow; a line that does not follow the grammar ends the text
+abbrev pub spends_line : Reading → ℕ → ℕ
+spends_line Bad others = 0
+spends_line Ignored others = others
+spends_line (Begins h) others = (1 + length h.parameters) + others
+
+abbrev pub spends_lines : List ℕ → List ℕ → List Line → ℕ
+spends_lines path text [] = 0
+spends_lines path text (line ∷ rest) = spends_line (reading path text line) (spends_lines path text rest)
+
+-- how many numbers a text takes: one for each recipe and each parameter
+unfoldable pub spends : List ℕ → List ℕ → ℕ
+spends path text = spends_lines path text (lines_of text)
 
 -- the items of a text, or the number of the first line that does not follow the grammar
 unfoldable pub items_of : List ℕ → List ℕ → Result (List Item) ℕ

@@ -1,5 +1,5 @@
 -- What a refusal of the small grammar says.
-use Rattle.std.specs.Prelude.{◌≡◌, ℕ, ◌+◌, ◌^◌, List, Some, Err}
+use Rattle.std.specs.Prelude.{◌≡◌, ◌≤◌, ℕ, ◌^◌, List, Some, Err}
 use Rattle.std.specs.List.{slice_get}
 use Rattle.just_parts.specs.declared.layers.error.CompileError.{CompileError}
 use Rattle.just_parts.specs.declared.layers.error.CompileErrorKind.TheVariants.{Syntax}
@@ -17,20 +17,20 @@ pub record IsFirstBadLine (path text : List ℕ) (e : CompileError) : Type 0 whe
   pub stands : slice_get (lines_of text) e.token.line ≡ Some line
   pub whole : e.token ≡ line_place path text line
 
--- why an item could not be made
+-- why an item could not be made, where so many numbers are wanted, those that were given before among them
 abbrev pub Spent : Error → ℕ → Type 0
-Spent error.Exhausted next = next + 1 ≡ 2 ^ 64
-Spent error.Memory next = Unit {0}
-Spent (error.Compile e) next = ⊥
-Spent (error.Load e) next = ⊥
-Spent (error.Invocation e) next = ⊥
-Spent (error.Run e) next = ⊥
+Spent error.Exhausted wanted = 2 ^ 64 ≤ wanted
+Spent error.Memory wanted = Unit {0}
+Spent (error.Compile e) wanted = ⊥
+Spent (error.Load e) wanted = ⊥
+Spent (error.Invocation e) wanted = ⊥
+Spent (error.Run e) wanted = ⊥
 
 -- why the items of a text could not be made
 abbrev pub RefusesLine : List ℕ → List ℕ → Error → ℕ → Type 0
-RefusesLine path text (error.Compile e) next = IsFirstBadLine path text e
-RefusesLine path text error.Exhausted next = next + 1 ≡ 2 ^ 64
-RefusesLine path text error.Memory next = Unit {0}
-RefusesLine path text (error.Load e) next = ⊥
-RefusesLine path text (error.Invocation e) next = ⊥
-RefusesLine path text (error.Run e) next = ⊥
+RefusesLine path text (error.Compile e) wanted = IsFirstBadLine path text e
+RefusesLine path text error.Exhausted wanted = 2 ^ 64 ≤ wanted
+RefusesLine path text error.Memory wanted = Unit {0}
+RefusesLine path text (error.Load e) wanted = ⊥
+RefusesLine path text (error.Invocation e) wanted = ⊥
+RefusesLine path text (error.Run e) wanted = ⊥

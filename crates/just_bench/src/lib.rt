@@ -1,9 +1,10 @@
 //! A small grammar, a recorder and a writer for trying the analyzer without a host of its own.
 #![tactic(auto)]
 
-pub mod grammar;
-pub mod lexer;
-pub mod lines;
+mod grammar;
+pub mod laws;
+mod lexer;
+mod lines;
 pub mod plain_evaluation;
 pub mod plain_syntax;
 pub mod recorder;

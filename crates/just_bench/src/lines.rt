@@ -1,6 +1,6 @@
 //! The lines of a text, and where each begins.
-ghost use Rattle.std.specs.Prelude.{◌≡◌, IfOk, map};
-ghost use Rattle.std.specs.List.{All, join_with_byte};
+ghost use Rattle.std.specs.Prelude.{◌≡◌, IfOk};
+ghost use Rattle.std.specs.List.{All};
 ghost use Rattle.just_bench.specs.declared.lines.Line.{Line};
 ghost use Rattle.just_bench.specs.Lines.{lines_of, line_place, IsLineOf};
 
@@ -44,11 +44,6 @@ pub fn lines<'src>(alloc: Global, text: &'src str) -> Result<Sequence<Line<'src>
     })?;
     Ok(all)
 }
-
-/// Nothing of a text is lost: its lines, joined by line ends, are the text. The call does nothing.
-pub fn lines_joined(text: &str)
-    ensures { join_with_byte 10 (map (λ line. line.text) (lines_of text.now)) ≡ text.now }
-{}
 
 /// The whole line as a token, where a fault of the line is told.
 pub fn line_token<'src>(path: &'src str, text: &'src str, line: &Line<'src>) -> Token<'src>

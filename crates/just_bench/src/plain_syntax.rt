@@ -1,5 +1,5 @@
 //! The small grammar as a syntax layer.
-ghost use Rattle.std.specs.Prelude.{◌≡◌, ◌≤◌, ◌++◌, Ok, map, IfOk, IfErr, OnOk, false};
+ghost use Rattle.std.specs.Prelude.{◌≡◌, ◌<◌, ◌≤◌, ◌+◌, ◌^◌, ◌++◌, Ok, length, map, IfOk, IfErr, OnOk, false};
 ghost use Rattle.std.specs.List.{All};
 ghost use Rattle.just_parts.specs.Token.{lexeme};
 ghost use Rattle.just_parts.specs.Bare.{bare_item, bare_recipe, bare_parameter};
@@ -31,6 +31,8 @@ impl Syntax for PlainSyntax {
     ghost use Rattle.just_bench.specs.Items as spec;
 
     ghost parsed = { λ syntax relative text. result_ok (spec.items_of relative text) };
+
+    ghost spends = { λ syntax relative text. spec.spends relative text };
 
     ghost enabled = { λ syntax item. true };
 
@@ -76,7 +78,9 @@ fn make_parameters<'src>(
 ) -> Result<Sequence<Parameter<'src>>, Error<'src>>
     ensures bare { IfOk result (λ made. map bare_parameter made ≡ map spec.parameter names.now) }
     ensures numbers { IfOk result (λ made. AreRising numerator.old.next (parameter_numbers made) numerator.new.next) }
-    ensures refused { IfErr result (λ e. Spent e numerator.new.next) }
+    ensures spent { OnOk result (numerator.new.next ≡ numerator.old.next + length names.now) }
+    ensures fits { OnOk result (numerator.old.next < 2 ^ 64 → numerator.new.next < 2 ^ 64) }
+    ensures refused { IfErr result (λ e. Spent e (numerator.old.next + length names.now)) }
     ensures onward { numerator.old.next ≤ numerator.new.next }
 {
     let mut made = Sequence::new(alloc);
@@ -129,7 +133,9 @@ fn make_recipe<'src>(
     ensures bare { IfOk result (λ made. bare_recipe made ≡ spec.recipe heading.now) }
     ensures source { IfOk result (CameBy source.now) }
     ensures numbers { IfOk result (λ made. AreRising numerator.old.next (recipe_numbers made) numerator.new.next) }
-    ensures refused { IfErr result (λ e. Spent e numerator.new.next) }
+    ensures spent { OnOk result (numerator.new.next ≡ numerator.old.next + (1 + length heading.now.parameters)) }
+    ensures fits { OnOk result (numerator.new.next < 2 ^ 64) }
+    ensures refused { IfErr result (λ e. Spent e (numerator.old.next + (1 + length heading.now.parameters))) }
     ensures onward { numerator.old.next ≤ numerator.new.next }
 {
     let number = numerator.give()?;
@@ -152,7 +158,7 @@ fn make_recipe<'src>(
 }
 
 // The items of a text, or the first line that does not follow the grammar.
-#[tactic(auto, unfolding(crate::specs::Items::items_of))]
+#[tactic(auto, unfolding(crate::specs::Items::items_of, crate::specs::Items::spends))]
 fn parse<'src>(
     alloc: Global,
     numerator: &mut Numerator,
@@ -164,7 +170,9 @@ fn parse<'src>(
     ensures source { IfOk result (λ items. All (ItemCameBy source.now) items) }
     ensures numbers { IfOk result (λ items. AreRising numerator.old.next (numbers items) numerator.new.next) }
     ensures priors { IfOk result (λ items. All PriorsAreDependencies items) }
-    ensures refused { IfErr result (λ e. RefusesLine relative.now text.now e numerator.new.next) }
+    ensures spent { OnOk result (numerator.new.next ≡ numerator.old.next + spec.spends relative.now text.now) }
+    ensures fits { OnOk result (numerator.old.next < 2 ^ 64 → numerator.old.next + spec.spends relative.now text.now < 2 ^ 64) }
+    ensures refused { IfErr result (λ e. RefusesLine relative.now text.now e (numerator.old.next + spec.spends relative.now text.now)) }
     ensures onward { numerator.old.next ≤ numerator.new.next }
 {
     let all = lines(alloc, text)?;

@@ -4,6 +4,7 @@ pub mod Entries
 pub mod Host
 pub mod Identifier
 pub mod Lends
+pub mod Messages
 pub mod Modulepath
 pub mod Name
 pub mod Parameter

@@ -58,11 +58,11 @@ pub record IsFrom (source : Source) (ast : Ast) : Type 0 where
 abbrev pub PriorsAreDependencies : Item → Type 0
 PriorsAreDependencies (item.Recipe r) = r.priors ≤ length r.dependencies
 
--- what a refusal says of the text and the numbers
+-- what a refusal says of the text, and of the numbers that are wanted, those that were given before among them
 abbrev pub Refuses : Error → Option (List Item) → ℕ → Type 0
-Refuses (error.Compile e) parsed next = (parsed ≡ None) × (e.kind ≡ kind.Syntax)
-Refuses error.Exhausted parsed next = next + 1 ≡ 2 ^ 64
-Refuses error.Memory parsed next = Unit {0}
-Refuses (error.Load e) parsed next = ⊥
-Refuses (error.Invocation e) parsed next = ⊥
-Refuses (error.Run e) parsed next = ⊥
+Refuses (error.Compile e) parsed wanted = (parsed ≡ None) × (e.kind ≡ kind.Syntax)
+Refuses error.Exhausted parsed wanted = 2 ^ 64 ≤ wanted
+Refuses error.Memory parsed wanted = Unit {0}
+Refuses (error.Load e) parsed wanted = ⊥
+Refuses (error.Invocation e) parsed wanted = ⊥
+Refuses (error.Run e) parsed wanted = ⊥

@@ -1,3 +1,8 @@
+ghost use Rattle.std.specs.Prelude.{◌≡◌, OnOk, codes};
+ghost use Rattle.std.specs.Fmt.{HasWritten, IsPlainFormatter};
+ghost use Rattle.just_parts.specs.Modulepath.{joined};
+ghost use Rattle.just_parts.specs.Messages.{load_name, kind_name, invocation_name, run_name, error_name};
+
 use crate::layers::name::Namepath;
 use crate::layers::number::Exhausted;
 use crate::layers::token::Token;
@@ -16,7 +21,9 @@ pub enum LoadError {
 
 impl LoadError {
     /// The name of the variant.
-    pub fn name(&self) -> &'static str {
+    pub fn name(&self) -> &'static str
+        ensures { result.now ≡ load_name self.now }
+    {
         match self {
             LoadError::Load { .. } => "Load",
         }
@@ -30,6 +37,11 @@ pub enum Definition {
 }
 
 impl fmt::Display for Definition {
+    ghost use Rattle.std.specs.Prelude.{Some};
+    ghost use Rattle.just_parts.specs.Messages.{definition_text};
+
+    ghost output = { λ e. Some (definition_text e) };
+
     fn fmt<W: fmt::Write>(&self, f: &mut fmt::Formatter<W>) -> fmt::Result {
         match self {
             Definition::Recipe => f.write_str("Recipe"),
@@ -76,7 +88,9 @@ pub enum CompileErrorKind<'src> {
 
 impl<'src> CompileErrorKind<'src> {
     /// The name of the variant.
-    pub fn name(&self) -> &'static str {
+    pub fn name(&self) -> &'static str
+        ensures { result.now ≡ kind_name self.now }
+    {
         match self {
             CompileErrorKind::Syntax => "Syntax",
             CompileErrorKind::DuplicateParameter { .. } => "DuplicateParameter",
@@ -91,7 +105,9 @@ impl<'src> CompileErrorKind<'src> {
 }
 
 // Writes the names of a circle, with arrows between them.
-fn write_circle<W: fmt::Write>(f: &mut fmt::Formatter<W>, circle: &[BorrowedText]) -> fmt::Result {
+fn write_circle<W: fmt::Write>(f: &mut fmt::Formatter<W>, circle: &[BorrowedText]) -> fmt::Result
+    ensures { IsPlainFormatter f.old → OnOk result (HasWritten W.write_str_gives f.old (joined (codes " -> ") circle.now) f.new) }
+{
     let Some((first, rest)) = circle.split_first() else {
         return Ok(());
     };
@@ -103,6 +119,11 @@ fn write_circle<W: fmt::Write>(f: &mut fmt::Formatter<W>, circle: &[BorrowedText
 }
 
 impl<'src> fmt::Display for CompileErrorKind<'src> {
+    ghost use Rattle.std.specs.Prelude.{Some};
+    ghost use Rattle.just_parts.specs.Messages.{kind_text};
+
+    ghost output = { λ e. Some (kind_text e) };
+
     fn fmt<W: fmt::Write>(&self, f: &mut fmt::Formatter<W>) -> fmt::Result {
         match self {
             CompileErrorKind::Syntax => f.write_str("The line does not follow the grammar"),
@@ -152,6 +173,11 @@ pub struct CompileError<'src> {
 }
 
 impl<'src> fmt::Display for CompileError<'src> {
+    ghost use Rattle.std.specs.Prelude.{Some};
+    ghost use Rattle.just_parts.specs.Messages.{compile_text};
+
+    ghost output = { λ e. Some (compile_text e) };
+
     fn fmt<W: fmt::Write>(&self, f: &mut fmt::Formatter<W>) -> fmt::Result {
         let path = self.token.path();
         let line = self.token.line().saturating_add(1);
@@ -198,7 +224,9 @@ pub enum InvocationError<'src> {
 
 impl<'src> InvocationError<'src> {
     /// The name of the variant.
-    pub fn name(&self) -> &'static str {
+    pub fn name(&self) -> &'static str
+        ensures { result.now ≡ invocation_name self.now }
+    {
         match self {
             InvocationError::UnknownRecipe { .. } => "UnknownRecipe",
             InvocationError::UnknownSubmodule { .. } => "UnknownSubmodule",
@@ -228,7 +256,9 @@ pub enum RunError<'src> {
 
 impl<'src> RunError<'src> {
     /// The name of the variant.
-    pub fn name(&self) -> &'static str {
+    pub fn name(&self) -> &'static str
+        ensures { result.now ≡ run_name self.now }
+    {
         match self {
             RunError::ExcessInvocations { .. } => "ExcessInvocations",
             RunError::NotYet { .. } => "NotYet",
@@ -237,6 +267,11 @@ impl<'src> RunError<'src> {
 }
 
 impl<'src> fmt::Display for RunError<'src> {
+    ghost use Rattle.std.specs.Prelude.{Some};
+    ghost use Rattle.just_parts.specs.Messages.{run_text};
+
+    ghost output = { λ e. Some (run_text e) };
+
     fn fmt<W: fmt::Write>(&self, f: &mut fmt::Formatter<W>) -> fmt::Result {
         match self {
             RunError::ExcessInvocations { invocations } => {
@@ -286,7 +321,9 @@ pub enum Error<'src> {
 
 impl<'src> Error<'src> {
     /// The name of the fault: that of the variant, of a broken rule of compilation that of its kind.
-    pub fn name(&self) -> &'static str {
+    pub fn name(&self) -> &'static str
+        ensures { result.now ≡ error_name self.now }
+    {
         match self {
             Error::Load(error) => error.name(),
             Error::Compile(error) => error.kind.name(),

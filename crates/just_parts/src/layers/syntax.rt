@@ -1,4 +1,4 @@
-ghost use Rattle.std.specs.Prelude.{◌≡◌, ◌≤◌, ℕ, Bool, List, Option, Some, map, IfOk, IfErr};
+ghost use Rattle.std.specs.Prelude.{◌≡◌, ◌+◌, ◌^◌, ◌<◌, ◌≤◌, ℕ, Bool, List, Option, Some, map, IfOk, IfErr, OnOk};
 ghost use Rattle.just_parts.specs.declared.layers.ast.Item.{Item};
 ghost use Rattle.just_parts.specs.Bare.{bare_item};
 ghost use Rattle.just_parts.specs.Syntax.{IsFrom, numbers, AreRising, Refuses, PriorsAreDependencies};
@@ -15,6 +15,9 @@ pub trait Syntax {
     /// The items of a text under a relative path, without numbers and without what the source says; none where the
     /// text does not follow the grammar.
     ghost parsed: { Self → List ℕ → List ℕ → Option (List Item) };
+
+    /// How many numbers a text under a relative path takes, as far as it follows the grammar.
+    ghost spends: { Self → List ℕ → List ℕ → ℕ };
 
     /// Whether an item, without its numbers, is enabled here.
     ghost enabled: { Self → Item → Bool };
@@ -33,7 +36,9 @@ pub trait Syntax {
         ensures source { IfOk result (IsFrom source.now) }
         ensures numbers { IfOk result (λ ast. AreRising numerator.old.next (numbers ast.items) numerator.new.next) }
         ensures priors { IfOk result (λ ast. All PriorsAreDependencies ast.items) }
-        ensures refused { IfErr result (λ e. Refuses e (parsed self.now relative.now text.now) numerator.new.next) }
+        ensures spent { OnOk result (numerator.new.next ≡ numerator.old.next + spends self.now relative.now text.now) }
+        ensures fits { OnOk result (numerator.old.next < 2 ^ 64 → numerator.old.next + spends self.now relative.now text.now < 2 ^ 64) }
+        ensures refused { IfErr result (λ e. Refuses e (parsed self.now relative.now text.now) (numerator.old.next + spends self.now relative.now text.now)) }
         ensures onward { numerator.old.next ≤ numerator.new.next };
 
     /// Whether the item counts here.

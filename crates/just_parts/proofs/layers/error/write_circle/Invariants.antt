@@ -1,0 +1,9 @@
+use Rattle.std.proofs.Common.{◌++◌, take}
+use Rattle.std.specs.Prelude.{codes}
+use Rattle.std.specs.List.{flat_map}
+use Rattle.std.specs.Fmt.{HasWritten, IsPlainFormatter}
+use Rattle.just_parts.proofs.layers.error.write_circle.Given as goal
+
+abbrev pub invariant-loop-name : goal.invariant-loop-name
+invariant-loop-name g l =
+    IsPlainFormatter l.initial.f → HasWritten g.W.Write.write_str_gives l.initial.f (flat_map (λ d. codes " -> " ++ d) (take l.name-index l.rest)) l.f

@@ -1,0 +1,83 @@
+-- The names of errors, and what they say.
+use Rattle.std.specs.Prelude.{ℕ, ◌+◌, min, false, List, [], ◌∷◌, ◌++◌, codes, decimal}
+use Rattle.just_parts.specs.Modulepath.{joined, text_of}
+use Rattle.just_parts.specs.Name.{texts_of_path}
+use Rattle.just_parts.specs.declared.layers.name.Namepath.{Namepath}
+use Rattle.just_parts.specs.declared.layers.error.LoadError.{LoadError}
+use Rattle.just_parts.specs.declared.layers.error.LoadError.TheVariants as load
+use Rattle.just_parts.specs.declared.layers.error.Definition.{Definition}
+use Rattle.just_parts.specs.declared.layers.error.Definition.TheVariants as definition
+use Rattle.just_parts.specs.declared.layers.error.CompileErrorKind.{CompileErrorKind}
+use Rattle.just_parts.specs.declared.layers.error.CompileErrorKind.TheVariants as kind
+use Rattle.just_parts.specs.declared.layers.error.CompileError.{CompileError}
+use Rattle.just_parts.specs.declared.layers.error.InvocationError.{InvocationError}
+use Rattle.just_parts.specs.declared.layers.error.InvocationError.TheVariants as invocation
+use Rattle.just_parts.specs.declared.layers.error.RunError.{RunError}
+use Rattle.just_parts.specs.declared.layers.error.RunError.TheVariants as run
+use Rattle.just_parts.specs.declared.layers.error.Error.{Error}
+use Rattle.just_parts.specs.declared.layers.error.Error.TheVariants as error
+
+-- the names of the variants
+abbrev pub load_name : LoadError → List ℕ
+load_name (load.Load path) = codes "Load"
+
+abbrev pub kind_name : CompileErrorKind → List ℕ
+kind_name kind.Syntax = codes "Syntax"
+kind_name (kind.DuplicateParameter recipe parameter) = codes "DuplicateParameter"
+kind_name (kind.Redefinition first_type second_type name first) = codes "Redefinition"
+kind_name (kind.UnknownDependency recipe unknown) = codes "UnknownDependency"
+kind_name (kind.CircularRecipeDependency recipe circle) = codes "CircularRecipeDependency"
+kind_name (kind.DependencyArgumentCountMismatch dependency found least most) = codes "DependencyArgumentCountMismatch"
+
+abbrev pub invocation_name : InvocationError → List ℕ
+invocation_name (invocation.UnknownRecipe recipe) = codes "UnknownRecipe"
+invocation_name (invocation.UnknownSubmodule path) = codes "UnknownSubmodule"
+invocation_name (invocation.ExpectedSubmoduleButFoundRecipe path) = codes "ExpectedSubmoduleButFoundRecipe"
+invocation_name invocation.NoRecipes = codes "NoRecipes"
+invocation_name invocation.NoDefaultRecipe = codes "NoDefaultRecipe"
+invocation_name (invocation.DefaultRecipeRequiresArguments recipe least) = codes "DefaultRecipeRequiresArguments"
+invocation_name (invocation.PositionalArgumentCountMismatch recipe found least most) = codes "PositionalArgumentCountMismatch"
+
+abbrev pub run_name : RunError → List ℕ
+run_name (run.ExcessInvocations invocations) = codes "ExcessInvocations"
+run_name (run.NotYet recipe) = codes "NotYet"
+
+-- the name of an error: that of a broken rule is that of its kind
+abbrev pub error_name : Error → List ℕ
+error_name (error.Load e) = load_name e
+error_name (error.Compile e) = kind_name e.kind
+error_name (error.Invocation e) = invocation_name e
+error_name (error.Run e) = run_name e
+error_name error.Exhausted = codes "Exhausted"
+error_name error.Memory = codes "Memory"
+
+abbrev pub definition_text : Definition → List ℕ
+definition_text definition.Recipe = codes "Recipe"
+
+-- a line or a column, counted from 1
+abbrev pub place_text : ℕ → List ℕ
+place_text n = decimal (min (n + 1) 18446744073709551615)
+
+-- the text of a path of names
+abbrev pub path_text : Namepath → List ℕ
+path_text path = text_of (texts_of_path path) false
+
+-- what a broken rule says
+abbrev pub kind_text : CompileErrorKind → List ℕ
+kind_text kind.Syntax = codes "The line does not follow the grammar"
+kind_text (kind.DuplicateParameter recipe parameter) = codes "Recipe `" ++ (recipe ++ (codes "` has duplicate parameter `" ++ (parameter ++ codes "`")))
+kind_text (kind.Redefinition first_type second_type name first) =
+    definition_text first_type ++ (codes " `" ++ (name ++ (codes "` first defined on line " ++ (place_text first ++ (codes " is redefined as " ++ definition_text second_type)))))
+kind_text (kind.UnknownDependency recipe unknown) = codes "Recipe `" ++ (recipe ++ (codes "` has unknown dependency `" ++ (path_text unknown ++ codes "`")))
+kind_text (kind.CircularRecipeDependency recipe circle) = codes "Recipe `" ++ (recipe ++ (codes "` has circular dependency `" ++ (joined (codes " -> ") circle ++ codes "`")))
+kind_text (kind.DependencyArgumentCountMismatch dependency found least most) =
+    codes "Dependency `" ++ (path_text dependency ++ (codes "` got " ++ (decimal found ++ (codes " arguments but takes " ++ (decimal least ++ (codes " to " ++ decimal most))))))
+
+-- the same, after the place where it is told
+abbrev pub compile_text : CompileError → List ℕ
+compile_text e = e.token.path ++ (codes ":" ++ (place_text e.token.line ++ (codes ":" ++ (place_text e.token.column ++ (codes ": " ++ kind_text e.kind)))))
+
+-- what a fault of a run says
+abbrev pub run_text : RunError → List ℕ
+run_text (run.ExcessInvocations invocations) = codes "Expected 1 command-line recipe invocation but found " ++ decimal invocations
+run_text (run.NotYet recipe) = codes "Recipe `" ++ (recipe ++ codes "` has parts that cannot be run yet")
