@@ -1,4 +1,5 @@
 pub mod Analysis
+pub mod Asts
 pub mod Compiled
 pub mod Definitions
 pub mod Index

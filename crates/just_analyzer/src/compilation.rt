@@ -1,3 +1,7 @@
+ghost use Rattle.std.specs.Prelude.{◌≡◌, Some, IsSome};
+ghost use Rattle.std.specs.HashMap.{get};
+ghost use Rattle.just_analyzer.specs.Asts.{same_key, root_key};
+
 use just_data::Text;
 use just_invoke::{Justfile, Recipes};
 use just_parts::Modulepath;
@@ -16,4 +20,30 @@ pub struct Compilation<'src> {
     pub overrides: HashMap<Number, Text>,
     /// The path of the root file.
     pub root: Text,
+}
+
+// Whether a key is that of the root file.
+fn is_root_key(key: &(Modulepath, Text), root: &str) -> bool
+    ensures { result ≡ same_key (root_key root.now) key.now }
+{
+    key.0.components.is_empty() && !key.0.spaced && key.1.as_str() == root
+}
+
+impl<'src> Compilation<'src> {
+    ghost use Rattle.std.specs.Prelude.{Some, IsSome};
+    ghost use Rattle.std.specs.HashMap.{get};
+    ghost use Rattle.just_analyzer.specs.Asts.{same_key, root_key};
+
+    /// What the root file says.
+    pub fn root_ast(&self) -> &Ast<'src>
+        requires { IsSome (get same_key self.now.asts (root_key self.now.root)) }
+        ensures { get same_key self.now.asts (root_key self.now.root) ≡ Some result.now }
+    {
+        for (key, ast) in &self.asts {
+            if is_root_key(key, self.root.as_str()) {
+                return ast;
+            }
+        }
+        unreachable!()
+    }
 }

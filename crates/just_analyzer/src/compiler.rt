@@ -1,6 +1,8 @@
 ghost use Rattle.std.specs.Prelude.{◌≡◌, IfOk, IfErr};
+ghost use Rattle.std.specs.HashMap.{get};
 ghost use Rattle.just_parts.specs.Clean.{IsClean};
 ghost use Rattle.just_invoke.specs.Closed.{IsClosed};
+ghost use Rattle.just_analyzer.specs.Asts.{same_key, IsOnlyAst};
 ghost use Rattle.just_analyzer.specs.Compiled.{IsModuleAt, IsModuleOf};
 ghost use Rattle.just_analyzer.specs.Rules.{Names, NamesInFile, Keeps, Reports};
 
@@ -33,7 +35,7 @@ impl Compiler {
         requires { IsClean root.now }
         ensures kept { IfOk result (λ _. Keeps (Names (S.parsed syntax.now) (S.spends syntax.now) (S.enabled syntax.now) sources.now root.now)) }
         ensures closed { IfOk result (λ c. IsClosed c.justfile c.recipes) }
-        ensures of_text { IfOk result (λ c. IsModuleAt (S.parsed syntax.now) (S.enabled syntax.now) sources.now root.now c.justfile c.recipes) }
+        ensures of_text { IfOk result (λ c. IsModuleAt (S.parsed syntax.now) (S.enabled syntax.now) sources.now root.now (get same_key c.asts) c.justfile c.recipes) }
         ensures root { IfOk result (λ c. c.root ≡ root.now) }
         ensures named { IfErr result (Reports (Names (S.parsed syntax.now) (S.spends syntax.now) (S.enabled syntax.now) sources.now root.now)) }
     {
@@ -57,7 +59,7 @@ fn compile_file<'src, S: Syntax>(
     requires path { file.now.path ≡ root.now }
     ensures kept { IfOk result (λ _. Keeps (NamesInFile (S.parsed syntax.now) (S.spends syntax.now) (S.enabled syntax.now) root.now file.now.text)) }
     ensures closed { IfOk result (λ c. IsClosed c.justfile c.recipes) }
-    ensures of_text { IfOk result (λ c. IsModuleOf (S.parsed syntax.now) (S.enabled syntax.now) root.now file.now.text c.justfile c.recipes) }
+    ensures of_text { IfOk result (λ c. IsModuleOf (S.parsed syntax.now) (S.enabled syntax.now) root.now file.now.text (get same_key c.asts) c.justfile c.recipes) }
     ensures root { IfOk result (λ c. c.root ≡ root.now) }
     ensures named { IfErr result (Reports (NamesInFile (S.parsed syntax.now) (S.spends syntax.now) (S.enabled syntax.now) root.now file.now.text)) }
 {
@@ -88,6 +90,7 @@ fn assemble<'src>(
     ast: Ast<'src>,
     root: &str,
 ) -> Result<Compilation<'src>, AllocError>
+    ensures asts { IfOk result (λ c. IsOnlyAst (get same_key c.asts) root.now ast.entry) }
     ensures justfile { IfOk result (λ c. c.justfile ≡ analysis.entry.justfile) }
     ensures recipes { IfOk result (λ c. c.recipes ≡ analysis.entry.recipes) }
     ensures root { IfOk result (λ c. c.root ≡ root.now) }
