@@ -171,21 +171,12 @@ fn walk<'run, 'src>(
     ensures expected { IfErr result (λ e. IsExpected e) }
 {
     let Some((name, rest)) = names.split_first() else {
-        return match take_default(root, recipes) {
-            Ok(recipe) => Ok((recipe, 0)),
-            Err(error) => Err(error),
-        };
+        let recipe = take_default(root, recipes)?;
+        return Ok((recipe, 0));
     };
-    match end_head(
-        alloc,
-        recipe_named(root, recipes, name),
-        one,
-        goes_on(one, rest),
-        name,
-    ) {
-        Ok(recipe) => Ok((recipe, 1)),
-        Err(error) => Err(error),
-    }
+    let found = recipe_named(root, recipes, name);
+    let recipe = end_head(alloc, found, one, goes_on(one, rest), name)?;
+    Ok((recipe, 1))
 }
 
 fn contains_colon(word: &str) -> bool
@@ -233,10 +224,8 @@ fn walk_path<'run, 'src>(
     ensures err { IfErr result (λ e. IfSome (cause_of e) (Misleads root.now recipes.now true (texts names.now))) }
     ensures expected { IfErr result (λ e. IsExpected e) }
 {
-    match walk(alloc, root, recipes, true, names) {
-        Ok((recipe, _)) => Ok(recipe),
-        Err(error) => Err(error),
-    }
+    let (recipe, _) = walk(alloc, root, recipes, true, names)?;
+    Ok(recipe)
 }
 
 // The recipe to which a word with a colon leads.
@@ -255,10 +244,7 @@ fn parse_path<'run, 'src>(
     match path_word(alloc, word, last)? {
         Ok(path) => {
             let names = as_words(alloc, path.components.as_slice())?;
-            match walk_path(alloc, root, recipes, &names) {
-                Ok(recipe) => Ok(recipe),
-                Err(error) => Err(error),
-            }
+            walk_path(alloc, root, recipes, &names)
         }
         Err(()) => Err(Error::Invocation(InvocationError::UnknownRecipe {
             recipe: Text::from_str(alloc, word)?,
@@ -286,10 +272,8 @@ fn parse_head<'run, 'src>(
     if !contains_colon(word) {
         return walk(alloc, root, recipes, false, words);
     }
-    match parse_path(alloc, root, recipes, word, rest.is_empty()) {
-        Ok(recipe) => Ok((recipe, 1)),
-        Err(error) => Err(error),
-    }
+    let recipe = parse_path(alloc, root, recipes, word, rest.is_empty())?;
+    Ok((recipe, 1))
 }
 
 // The place of the first variadic parameter, or the number of parameters.
@@ -416,10 +400,7 @@ fn parse_invocation<'run, 'src, 'words>(
     ensures err { IfErr result (λ e. IfSome (cause_of e) (Stops root.now recipes.now (texts words.now))) }
     ensures expected { IfErr result (λ e. IsExpected e) }
 {
-    let (recipe, named) = match parse_head(alloc, root, recipes, words) {
-        Ok(found) => found,
-        Err(error) => return Err(error),
-    };
+    let (recipe, named) = parse_head(alloc, root, recipes, words)?;
     let (arguments, taken) = read_tail(alloc, recipe.parameters.as_slice(), after(words, named))?;
     if any_missing(recipe.parameters.as_slice(), &arguments) {
         return Err(count_mismatch(recipe, taken));
@@ -440,14 +421,10 @@ fn parse_none<'run, 'src, 'words>(
     ensures fault { IfErr result (λ e. IfSome (cause_of e) (IsFault root.now recipes.now (texts words.now))) }
     ensures expected { IfErr result (λ e. IsExpected e) }
 {
-    match parse_invocation(alloc, root, recipes, words) {
-        Ok((invocation, _)) => {
-            let mut invocations = Vec::new(alloc);
-            invocations.push(invocation)?;
-            Ok(invocations)
-        }
-        Err(error) => Err(error),
-    }
+    let (invocation, _) = parse_invocation(alloc, root, recipes, words)?;
+    let mut invocations = Vec::new(alloc);
+    invocations.push(invocation)?;
+    Ok(invocations)
 }
 
 // The invocations that some words are.
@@ -466,13 +443,9 @@ fn parse_some<'run, 'src, 'words>(
     let mut invocations = Vec::new(alloc);
     let mut next = 0;
     while next < words.len() {
-        match parse_invocation(alloc, root, recipes, after(words, next)) {
-            Ok((invocation, taken)) => {
-                invocations.push(invocation)?;
-                next += taken;
-            }
-            Err(fault) => return Err(fault),
-        }
+        let (invocation, taken) = parse_invocation(alloc, root, recipes, after(words, next))?;
+        invocations.push(invocation)?;
+        next += taken;
     }
     Ok(invocations)
 }

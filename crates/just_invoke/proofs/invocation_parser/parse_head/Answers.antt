@@ -1,8 +1,8 @@
-use Rattle.std.proofs.Common.{rules, ◌≡◌, ◌∷◌, sym, ◌∙◌, take, drop, false, true}
-use Rattle.std.proofs.lemmas.Result.{IfOk-weaker}
+use Rattle.std.proofs.Common.{rules, IfSome, ◌≡◌, ◌∷◌, sym, ◌∙◌, take, drop, false, true}
+use Rattle.std.proofs.lemmas.Result.{IfOk-weaker, IfErr-weaker}
 use Rattle.just_parts.specs.Modulepath.{texts}
 use Rattle.just_invoke.specs.Cause.{cause_of}
-use Rattle.just_invoke.specs.Head.{Leads, IsHead, has_colon}
+use Rattle.just_invoke.specs.Head.{Leads, IsHead, NoPath, NoHead, has_colon}
 use Rattle.just_invoke.proofs.HeadLemmas.{head_by_names, head_by_path, no_head_by_path}
 use Rattle.just_invoke.proofs.invocation_parser.parse_head.Goals as goal
 
@@ -19,14 +19,18 @@ returns-then-not-contains_colon-clause-ok c =
     (λ found p. head_by_names root recipes words c.in-Some.word.now c.in-Some.rest.now found.1 found.0.now whole none p)
     c.walk-then-not-contains_colon.ensures.ok
 
-pub returns-in-Ok-clause-ok : goal.returns-in-Ok-clause-ok
-returns-in-Ok-clause-ok c =
+pub returns-clause-ok : goal.returns-clause-ok
+returns-clause-ok c =
     let whole : c.args.words.now ≡ c.in-Some.word.now ∷ c.in-Some.rest.now = search rules in
     let colon : has_colon c.in-Some.word.now.now ≡ true = sym c.contains_colon.ensures ∙ c.if-not-contains_colon.false in
-    head_by_path c.args.root.now c.args.recipes.now c.args.words.now c.in-Some.word.now c.in-Some.rest.now c.is_empty.result c.in-Ok.recipe.now whole colon c.is_empty.ensures c.in-Ok.ensures.ok
+    head_by_path c.args.root.now c.args.recipes.now c.args.words.now c.in-Some.word.now c.in-Some.rest.now c.is_empty.result c.in_ok-recipe.recipe.now whole colon c.is_empty.ensures c.in_ok-recipe.ensures.ok
 
-pub returns-in-Err-clause-err : goal.returns-in-Err-clause-err
-returns-in-Err-clause-err c =
+pub returns-in_err-recipe-clause-err : goal.returns-in_err-recipe-clause-err
+returns-in_err-recipe-clause-err c =
     let whole : c.args.words.now ≡ c.in-Some.word.now ∷ c.in-Some.rest.now = search rules in
     let colon : has_colon c.in-Some.word.now.now ≡ true = sym c.contains_colon.ensures ∙ c.if-not-contains_colon.false in
-    no_head_by_path c.args.root.now c.args.recipes.now c.args.words.now c.in-Some.word.now c.in-Some.rest.now c.is_empty.result (cause_of c.in-Err.error) whole colon c.is_empty.ensures c.in-Err.ensures.err
+    IfErr-weaker c.from_residual.result
+    (λ e. IfSome (cause_of e) (NoPath c.args.root.now c.args.recipes.now c.is_empty.result c.in-Some.word.now.now))
+    (λ e. IfSome (cause_of e) (NoHead c.args.root.now c.args.recipes.now (texts c.args.words.now)))
+    (λ e. no_head_by_path c.args.root.now c.args.recipes.now c.args.words.now c.in-Some.word.now c.in-Some.rest.now c.is_empty.result (cause_of e) whole colon c.is_empty.ensures)
+    (search rules)
