@@ -1,4 +1,5 @@
 pub mod Accounts
+pub mod Decides
 pub mod Faults
 pub mod Follow
 pub mod HeadLemmas

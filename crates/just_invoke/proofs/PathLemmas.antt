@@ -18,7 +18,7 @@ word_path_once word (c ∷ d ∷ cs) ds p q =
     ap (λ t. c ∷ t) rest ∙ sym o.4
 
 -- one end is dropped
-drops_once : (word x y : Text) → DropsEnd word x → DropsEnd word y → x ≡ y
+pub drops_once : (word x y : Text) → DropsEnd word x → DropsEnd word y → x ≡ y
 drops_once word x y (inl p) (inl q) = append_cancel_right x y (58 ∷ (58 ∷ [])) (sym p ∙ q)
 drops_once word x y (inl p) (inr q) = absurd (q.0 x p)
 drops_once word x y (inr p) (inl q) = absurd (p.0 y q)

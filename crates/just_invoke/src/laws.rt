@@ -1,4 +1,4 @@
-ghost use Rattle.std.specs.Prelude.{◌≡◌, ◌≢◌, ◌<◌, List, [], length};
+ghost use Rattle.std.specs.Prelude.{◌≡◌, ◌≢◌, ◌<◌, ◌⊎◌, List, [], length};
 ghost use Rattle.just_invoke.specs.Cause.{Cause};
 ghost use Rattle.just_invoke.specs.Head.{Words, Held};
 ghost use Rattle.just_invoke.specs.Split.{Reading, Invokes, IsSplit, IsFault};
@@ -17,6 +17,11 @@ pub fn no_fault()
 /// Words have at most one fault.
 pub fn one_fault()
     ensures { (root : Justfile) (recipes : Held) (words : Words) (a b : Cause) → IsFault root recipes words a → IsFault root recipes words b → a ≡ b }
+{}
+
+/// Words are invocations, or have a fault.
+pub fn split_or_fault()
+    ensures { (root : Justfile) (recipes : Held) (words : Words) → ((is : List Reading) × IsSplit root recipes words is) ⊎ ((cause : Cause) × IsFault root recipes words cause) }
 {}
 
 /// An invocation with which some words begin takes at least one of them.

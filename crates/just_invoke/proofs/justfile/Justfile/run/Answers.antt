@@ -10,39 +10,39 @@ use Rattle.just_invoke.proofs.Outcomes.{tops_read, outcome_run, refused_run, all
 use Rattle.just_invoke.proofs.justfile.Justfile.run.Goals as goal
 use Rattle.just_invoke.proofs.justfile.Justfile.run.Goals.{else-config-via-then-config+else-len-gt1, else-config-via-else-config}
 
-pub returns-in-Err-clause-account : goal.returns-in-Err-clause-account
-returns-in-Err-clause-account g c = ([], Empty, record { gained = sym (append-nil (g.H.Host.entries c.args.host.now)); fits = tt }, tt)
+pub returns-in_err-invocations-clause-account : goal.returns-in_err-invocations-clause-account
+returns-in_err-invocations-clause-account g c = ([], Empty, record { gained = sym (append-nil (g.H.Host.entries c.args.host.now)); fits = tt }, search rules)
 
 pub returns-then-len-gt1-clause-account : goal.returns-then-len-gt1-clause-account
 returns-then-len-gt1-clause-account g c = ([], Empty, record { gained = sym (append-nil (g.H.Host.entries c.args.host.now)); fits = tt }, tt)
 
 pub returns-clause-outcome : goal.returns-clause-outcome
 returns-clause-outcome g c =
-    let same : tops_of c.args.recipes.now c.as_slice.result.now ≡ tops c.args.recipes.now (map reading_of c.in-Ok.invocations.items) = ap (tops_of c.args.recipes.now) c.as_slice.ensures.value ∙ tops_read c.args.recipes.now c.in-Ok.invocations.items in
-    outcome_run c.args.self.now c.args.recipes.now (texts c.args.words.now) (g.H.Host.entries c.args.host.now) (g.H.Host.entries c.run_invocations.new.host) (map reading_of c.in-Ok.invocations.items) c.run_invocations.result c.in-Ok.ensures.split
+    let same : tops_of c.args.recipes.now c.as_slice.result.now ≡ tops c.args.recipes.now (map reading_of c.in_ok-invocations.invocations.items) = ap (tops_of c.args.recipes.now) c.as_slice.ensures.value ∙ tops_read c.args.recipes.now c.in_ok-invocations.invocations.items in
+    outcome_run c.args.self.now c.args.recipes.now (texts c.args.words.now) (g.H.Host.entries c.args.host.now) (g.H.Host.entries c.run_invocations.new.host) (map reading_of c.in_ok-invocations.invocations.items) c.run_invocations.result c.in_ok-invocations.ensures.split
     (subst (λ ps. IsRun (run_questions c.args.recipes.now (length c.args.recipes.now) ps) (g.H.Host.entries c.args.host.now) (g.H.Host.entries c.run_invocations.new.host) c.run_invocations.result) same c.run_invocations.ensures.run)
 
 pub returns-clause-account : goal.returns-clause-account
 returns-clause-account g c =
-    let same : tops_of c.args.recipes.now c.as_slice.result.now ≡ tops c.args.recipes.now (map reading_of c.in-Ok.invocations.items) = ap (tops_of c.args.recipes.now) c.as_slice.ensures.value ∙ tops_read c.args.recipes.now c.in-Ok.invocations.items in
+    let same : tops_of c.args.recipes.now c.as_slice.result.now ≡ tops c.args.recipes.now (map reading_of c.in_ok-invocations.invocations.items) = ap (tops_of c.args.recipes.now) c.as_slice.ensures.value ∙ tops_read c.args.recipes.now c.in_ok-invocations.invocations.items in
     let a = c.run_invocations.ensures.account in (
       tops_of c.args.recipes.now c.as_slice.result.now,
       a.0,
       record { gained = a.1; fits = a.2 },
-      whole_run c.args.self.now c.args.recipes.now (texts c.args.words.now) (map reading_of c.in-Ok.invocations.items) (tops_of c.args.recipes.now c.as_slice.result.now) a.0 c.run_invocations.result c.in-Ok.ensures.split same a.3,
+      whole_run c.args.self.now c.args.recipes.now (texts c.args.words.now) (map reading_of c.in_ok-invocations.invocations.items) (tops_of c.args.recipes.now c.as_slice.result.now) a.0 c.run_invocations.result c.in_ok-invocations.ensures.split same a.3,
     )
 
 pub returns-clause-refused : goal.returns-clause-refused
 returns-clause-refused g c =
-    let same : tops_of c.args.recipes.now c.as_slice.result.now ≡ tops c.args.recipes.now (map reading_of c.in-Ok.invocations.items) = ap (tops_of c.args.recipes.now) c.as_slice.ensures.value ∙ tops_read c.args.recipes.now c.in-Ok.invocations.items in
-    refused_run c.args.self.now c.args.recipes.now (texts c.args.words.now) c.args.config.now.one (map reading_of c.in-Ok.invocations.items) (tops_of c.args.recipes.now c.as_slice.result.now) c.run_invocations.result c.in-Ok.ensures.split same c.run_invocations.ensures.unready
+    let same : tops_of c.args.recipes.now c.as_slice.result.now ≡ tops c.args.recipes.now (map reading_of c.in_ok-invocations.invocations.items) = ap (tops_of c.args.recipes.now) c.as_slice.ensures.value ∙ tops_read c.args.recipes.now c.in_ok-invocations.invocations.items in
+    refused_run c.args.self.now c.args.recipes.now (texts c.args.words.now) c.args.config.now.one (map reading_of c.in_ok-invocations.invocations.items) (tops_of c.args.recipes.now c.as_slice.result.now) c.run_invocations.result c.in_ok-invocations.ensures.split same c.run_invocations.ensures.unready
 
 pub returns-clause-allowed : goal.returns-clause-allowed
 returns-clause-allowed g c =
-    let same : tops_of c.args.recipes.now c.as_slice.result.now ≡ tops c.args.recipes.now (map reading_of c.in-Ok.invocations.items) = ap (tops_of c.args.recipes.now) c.as_slice.ensures.value ∙ tops_read c.args.recipes.now c.in-Ok.invocations.items in
-    let few : c.args.config.now.one ≡ true → length c.in-Ok.invocations.items ≤ 1 = elim c.else-config.branch [
+    let same : tops_of c.args.recipes.now c.as_slice.result.now ≡ tops c.args.recipes.now (map reading_of c.in_ok-invocations.invocations.items) = ap (tops_of c.args.recipes.now) c.as_slice.ensures.value ∙ tops_read c.args.recipes.now c.in_ok-invocations.invocations.items in
+    let few : c.args.config.now.one ≡ true → length c.in_ok-invocations.invocations.items ≤ 1 = elim c.else-config.branch [
       | else-config-via-then-config+else-len-gt1 w ↦ λ yes. (search rules)
       | else-config-via-else-config w ↦ λ yes. (search rules)
     ] in
-    allowed_run c.args.self.now c.args.recipes.now (texts c.args.words.now) c.args.config.now.one (map reading_of c.in-Ok.invocations.items) (tops_of c.args.recipes.now c.as_slice.result.now) c.run_invocations.result c.in-Ok.ensures.split same
-    (λ yes. few_readings c.in-Ok.invocations.items (few yes)) c.run_invocations.ensures.ready
+    allowed_run c.args.self.now c.args.recipes.now (texts c.args.words.now) c.args.config.now.one (map reading_of c.in_ok-invocations.invocations.items) (tops_of c.args.recipes.now c.as_slice.result.now) c.run_invocations.result c.in_ok-invocations.ensures.split same
+    (λ yes. few_readings c.in_ok-invocations.invocations.items (few yes)) c.run_invocations.ensures.ready
