@@ -1,8 +1,8 @@
-ghost use Rattle.std.specs.Prelude.{◌≡◌, IfOk, IfErr};
+ghost use Rattle.std.specs.Prelude.{◌≡◌, IsSome, IfOk, IfErr};
 ghost use Rattle.std.specs.HashMap.{get};
 ghost use Rattle.just_parts.specs.Clean.{IsClean};
 ghost use Rattle.just_invoke.specs.Closed.{IsClosed};
-ghost use Rattle.just_analyzer.specs.Asts.{same_key, IsOnlyAst};
+ghost use Rattle.just_analyzer.specs.Asts.{same_key, root_key, IsOnlyAst};
 ghost use Rattle.just_analyzer.specs.Compiled.{IsModuleAt, IsModuleOf};
 ghost use Rattle.just_analyzer.specs.Rules.{Names, NamesInFile, Keeps, Reports};
 
@@ -37,6 +37,7 @@ impl Compiler {
         ensures closed { IfOk result (λ c. IsClosed c.justfile c.recipes) }
         ensures of_text { IfOk result (λ c. IsModuleAt (S.parsed syntax.now) (S.enabled syntax.now) sources.now root.now (get same_key c.asts) c.justfile c.recipes) }
         ensures root { IfOk result (λ c. c.root ≡ root.now) }
+        ensures root_ast { IfOk result (λ c. IsSome (get same_key c.asts (root_key c.root))) }
         ensures named { IfErr result (Reports (Names (S.parsed syntax.now) (S.spends syntax.now) (S.enabled syntax.now) sources.now root.now)) }
     {
         let Some(file) = sources.file(root) else {
@@ -61,6 +62,7 @@ fn compile_file<'src, S: Syntax>(
     ensures closed { IfOk result (λ c. IsClosed c.justfile c.recipes) }
     ensures of_text { IfOk result (λ c. IsModuleOf (S.parsed syntax.now) (S.enabled syntax.now) root.now file.now.text (get same_key c.asts) c.justfile c.recipes) }
     ensures root { IfOk result (λ c. c.root ≡ root.now) }
+    ensures root_ast { IfOk result (λ c. IsSome (get same_key c.asts (root_key c.root))) }
     ensures named { IfErr result (Reports (NamesInFile (S.parsed syntax.now) (S.spends syntax.now) (S.enabled syntax.now) root.now file.now.text)) }
 {
     let relative = file_name_of(file.path.as_str());
@@ -94,6 +96,7 @@ fn assemble<'src>(
     ensures justfile { IfOk result (λ c. c.justfile ≡ analysis.entry.justfile) }
     ensures recipes { IfOk result (λ c. c.recipes ≡ analysis.entry.recipes) }
     ensures root { IfOk result (λ c. c.root ≡ root.now) }
+    ensures root_ast { IfOk result (λ c. IsSome (get same_key c.asts (root_key c.root))) }
 {
     let mut asts = HashMap::new(alloc);
     asts.insert((Modulepath::root(alloc), Text::from_str(alloc, root)?), ast)?;

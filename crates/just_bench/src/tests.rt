@@ -1,5 +1,7 @@
 //! Worked examples: what texts compile to, what words mean, and what a run calls.
-ghost use Rattle.std.specs.Prelude.{IfOk};
+ghost use Rattle.std.specs.Prelude.{IfOk, IsSome};
+ghost use Rattle.std.specs.HashMap.{get};
+ghost use Rattle.just_analyzer.specs.Asts.{same_key, root_key};
 ghost use Rattle.just_invoke.specs.Closed.{IsClosed};
 
 mod compiling;
@@ -19,7 +21,8 @@ use std::alloc::{AllocError, Global};
 
 // Compiles a text as the one file there is.
 pub fn compile<'src>(alloc: Global, text: &'src str) -> Result<Compilation<'src>, Error<'src>>
-    ensures { IfOk result (λ c. IsClosed c.justfile c.recipes) }
+    ensures closed { IfOk result (λ c. IsClosed c.justfile c.recipes) }
+    ensures root_ast { IfOk result (λ c. IsSome (get same_key c.asts (root_key c.root))) }
 {
     let root = "/justfile";
     let mut sources = Sources::new(alloc);

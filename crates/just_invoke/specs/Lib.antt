@@ -9,6 +9,7 @@ pub mod Pairs
 pub mod Recipes
 pub mod Run
 pub mod Split
+pub mod Steady
 pub mod Tail
 pub mod Unready
 pub mod Walk

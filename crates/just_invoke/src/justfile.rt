@@ -46,6 +46,7 @@ pub struct Justfile<'src> {
 
 impl<'src> Justfile<'src> {
     ghost use Rattle.std.specs.Prelude.{List, IfOk, IfErr};
+    ghost use Rattle.just_parts.specs.Host.{KeepsPromises};
     ghost use Rattle.just_parts.specs.Modulepath.{texts};
     ghost use Rattle.just_invoke.specs.Account.{Table};
     ghost use Rattle.just_invoke.specs.Closed.{IsClosed};
@@ -70,6 +71,7 @@ impl<'src> Justfile<'src> {
         overrides: &HashMap<Number, Text>,
     ) -> Result<Report, Error<'src>>
         requires { IsClosed self.now recipes.now }
+        ensures keeps { KeepsPromises (H.promised host.old) (H.promised host.new) }
         ensures outcome { IsOutcome self.now recipes.now (texts words.now) (H.entries host.old) (H.entries host.new) result }
         ensures refused { IfErr result (IsRefusal self.now recipes.now (texts words.now) config.now.one) }
         ensures allowed { IfOk result (λ _. MayRun self.now recipes.now (texts words.now) config.now.one) }

@@ -1,7 +1,10 @@
-ghost use Rattle.std.specs.Prelude.{◌≡◌, ◌≢◌, ◌<◌, ◌⊎◌, List, [], length};
+ghost use Rattle.std.specs.Prelude.{◌≡◌, ◌≢◌, Option, ◌<◌, ◌⊎◌, List, [], length};
+ghost use Rattle.just_parts.specs.Host.{Answer, KeepsPromises};
+ghost use Rattle.just_parts.specs.declared.layers.host.Entry.{Entry};
 ghost use Rattle.just_invoke.specs.Cause.{Cause};
 ghost use Rattle.just_invoke.specs.Head.{Words, Held};
 ghost use Rattle.just_invoke.specs.Split.{Reading, Invokes, IsSplit, IsFault};
+ghost use Rattle.just_invoke.specs.Steady.{IsSteady};
 ghost use Rattle.just_invoke.specs.declared.justfile.Justfile.{Justfile};
 
 /// Words are invocations in at most one way.
@@ -27,4 +30,9 @@ pub fn split_or_fault()
 /// An invocation with which some words begin takes at least one of them.
 pub fn takes_some()
     ensures { (root : Justfile) (recipes : Held) (words after : Words) (i : Reading) → words ≢ [] → Invokes root recipes words after i → length after < length words }
+{}
+
+/// A host that is steady on some questions stays so while it keeps its promises, as it does in a run.
+pub fn stays_steady()
+    ensures { (old new : Entry → Option Answer) (answer : Entry → Answer) (questions : List Entry) → KeepsPromises old new → IsSteady old answer questions → IsSteady new answer questions }
 {}

@@ -1,5 +1,6 @@
 ghost use Rattle.std.specs.Prelude.{◌≡◌, ℕ, suc, ◌+◌, ◌<◌, ◌≤◌, ◌++◌, ◌∷◌, [], List, map, flat_map, length, true, false, IfErr, IfOk, OnOk, OnErr};
 ghost use Rattle.std.specs.List.{All};
+ghost use Rattle.just_parts.specs.Host.{KeepsPromises};
 ghost use Rattle.just_invoke.specs.declared.invocation.Invocation.{Invocation};
 ghost use Rattle.just_invoke.specs.declared.pair.Pair.{Pair};
 ghost use Rattle.just_invoke.specs.Account.{Asked, Table, own, asks, begun, beginnings, In, AreIn, known, Fits, Complete, prior_count, counts_below, counts, add_at, AllLow, AreDone, Settled};
@@ -66,6 +67,7 @@ fn ask_subsequents(alloc: Global, recipes: &Recipes, pair: &Pair) -> Result<Vec<
 fn execute<H: Host>(recipes: &Recipes, host: &mut H, pair: &Pair) -> Result<(), Halt>
     requires place { pair.now.recipe < length recipes.now }
     requires resolved { All IsResolved recipes.now }
+    ensures keeps { KeepsPromises (H.promised host.old) (H.promised host.new) }
     ensures ok { OnOk result (H.entries host.new ≡ H.entries host.old ++ beginning recipes.now pair.now) }
     ensures err { OnErr result (H.entries host.new ≡ H.entries host.old) }
 {
@@ -88,6 +90,7 @@ fn run_recipe<H: Host>(
     requires place { pair.now.recipe < length recipes.now }
     requires resolved { All IsResolved recipes.now }
     requires number { number < length calls.old.items }
+    ensures keeps { KeepsPromises (H.promised host.old) (H.promised host.new) }
     ensures number { length calls.old.items ≤ length calls.new.items }
     ensures run { (done : List Pair) (n m : ℕ) → Holds table.old done → pair.now.recipe ≤ n → pair.now.recipe ≤ m →
         Follows (flat_map (part_questions recipes.now (walk_questions recipes.now m)) (walk same_pair key (priors recipes.now) (suc n) done pair.now)) (H.entries host.old) (H.entries host.new) (halt_of result)
@@ -127,6 +130,7 @@ fn run_block<H: Host>(
 ) -> Result<(), Halt>
     requires place { pair.now.recipe < length recipes.now }
     requires resolved { All IsResolved recipes.now }
+    ensures keeps { KeepsPromises (H.promised host.old) (H.promised host.new) }
     ensures number { length calls.old.items ≤ length calls.new.items }
     ensures run { (m : ℕ) → pair.now.recipe ≤ m → Follows (part_questions recipes.now (walk_questions recipes.now m) (Block pair.now)) (H.entries host.old) (H.entries host.new) (halt_of result) }
     ensures account { (tops : List Pair) (before : List Asked) (done : List Pair) (ps : List Pair) → In (record { pair = pair.now; priors = ps }) before → has same_pair done pair.now ≡ false → AreIn done ps → ps ≡ priors recipes.now pair.now →
@@ -151,6 +155,7 @@ fn run_fresh<H: Host>(
     requires bound { bound ≤ length recipes.now }
     requires below { AllBelow bound tops.now }
     requires resolved { All IsResolved recipes.now }
+    ensures keeps { KeepsPromises (H.promised host.old) (H.promised host.new) }
     ensures number { length calls.old.items ≤ length calls.new.items }
     ensures run { (m : ℕ) → bound ≤ m → Follows (walk_questions recipes.now m tops.now) (H.entries host.old) (H.entries host.new) (halt_of result) }
     ensures account { (t : Table) × (H.entries host.new ≡ H.entries host.old ++ beginnings recipes.now (begun t)) × Fits recipes.now tops.now [] [] t
@@ -181,6 +186,7 @@ fn run_all<H: Host>(
     requires below { AllBelow bound tops.now }
     requires resolved { All IsResolved recipes.now }
     requires number { number < length calls.old.items }
+    ensures keeps { KeepsPromises (H.promised host.old) (H.promised host.new) }
     ensures number { length calls.old.items ≤ length calls.new.items }
     ensures run { (done : List Pair) (n m : ℕ) → Holds table.old done → bound ≤ n → bound ≤ suc m →
         Follows (flat_map (part_questions recipes.now (walk_questions recipes.now m)) (walks key (walk same_pair key (priors recipes.now) n) done tops.now)) (H.entries host.old) (H.entries host.new) (halt_of result)
@@ -204,6 +210,7 @@ pub(crate) fn run_invocations<'src, H: Host>(
 ) -> Result<Report, Error<'src>>
     requires resolved { All IsResolved recipes.now }
     requires held { All (λ (i : Invocation). IsHeld recipes.now i.recipe.now) invocations.now }
+    ensures keeps { KeepsPromises (H.promised host.old) (H.promised host.new) }
     ensures unready { IfErr result (IsReason recipes.now (tops_of recipes.now invocations.now)) }
     ensures ready { IfOk result (λ _. AreReady recipes.now (tops_of recipes.now invocations.now)) }
     ensures run { IsRun (run_questions recipes.now (length recipes.now) (tops_of recipes.now invocations.now)) (H.entries host.old) (H.entries host.new) result }

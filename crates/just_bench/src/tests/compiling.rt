@@ -216,6 +216,10 @@ fn compilation_tells_what_it_read(rt: HostRuntime) -> Result<(), Fail> {
             assert_eq!(rt; compilation.justfile.recipes.len(), 2);
             assert_eq!(rt; compilation.recipes.len(), 2);
             assert_eq!(rt; compilation.asts.len(), 1);
+            let ast = compilation.root_ast();
+            assert_eq!(rt; ast.items.len(), 2);
+            assert!(rt; ast.module_path.components.is_empty());
+            assert_eq!(rt; ast.working_directory.as_str(), "/");
             assert!(rt; compilation.overrides.is_empty());
         }
         Err(error) => assert!(rt; false, "{error}"),

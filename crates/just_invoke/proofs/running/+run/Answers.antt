@@ -207,6 +207,7 @@ run_all-returns-in_err-run_recipe-clause-run g t c = λ done n m h l j.
 pub run_all-loop-pair-preserved : goal.run_all-loop-pair-preserved
 run_all-loop-pair-preserved g t c = record {
   number = omega arith;
+  keeps = search rules;
   run = λ done n m h l j.
       let i : ℕ = c.loop-pair.pair-index in
       let ts : List Pair = c.args.tops.now in
@@ -294,6 +295,7 @@ run_all-returns-clause-run g t c = λ done n m h l j.
 pub run_all-loop-pair-init : goal.run_all-loop-pair-init
 run_all-loop-pair-init g t c = record {
   number = omega arith;
+  keeps = λ entry answer h. h;
   run = λ done n m h l j. (sym (append-nil (g.H.Host.entries c.args.host.now)), holds-same c.args.table.now done _ (sym (append-nil done)) h);
   account = λ named before done h n s. (
     Empty,

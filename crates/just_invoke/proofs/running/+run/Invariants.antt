@@ -1,6 +1,7 @@
 use Rattle.std.proofs.Common.{◌≡◌, ℕ, ◌+◌, ◌*◌, ◌≤◌, ◌++◌, List, None, map, suc, take, length}
 use Rattle.std.specs.Prelude.{flat_map}
 use Rattle.std.specs.List.{All}
+use Rattle.just_parts.specs.Host.{KeepsPromises}
 use Rattle.just_invoke.specs.declared.pair.Pair.{Pair}
 use Rattle.just_invoke.specs.Account.{Asked, Table, own, asks, begun, beginnings, In, AreIn, known, Fits, Complete, prior_count, counts_below, add_at, AllLow, AreDone, Settled}
 use Rattle.just_invoke.specs.Expansion.{part_key}
@@ -24,6 +25,7 @@ decreases-run_recipe g l = 4 * l.pair.now.recipe + 3
 abbrev pub invariant-run_all-loop-pair : goal.invariant-run_all-loop-pair
 invariant-run_all-loop-pair g l = record {
   number : length l.initial.calls.items ≤ length l.calls.items;
+  keeps : KeepsPromises (g.H.Host.promised l.initial.host) (g.H.Host.promised l.host);
   run : (done : List Pair) (n m : ℕ) → Holds l.initial.table done → l.bound ≤ n → l.bound ≤ suc m →
       Follows (flat_map (part_questions l.recipes (walk_questions l.recipes m)) (walks key (walk same_pair key (priors l.recipes) n) done (take l.pair-index l.tops))) (g.H.Host.entries l.initial.host) (g.H.Host.entries l.host) None
       × Holds l.table (done ++ blocks (map (part_key key) (walks key (walk same_pair key (priors l.recipes) n) done (take l.pair-index l.tops))));

@@ -1,0 +1,50 @@
+#!/usr/bin/env python3
+"""Refuses memory to justrun at each place in turn, and looks for a wrong answer.
+
+    python3 benches/refused.py
+
+For N from 1 on, the program runs with its N-th allocation refused, until a run does not ask so often. Each run must answer
+as the whole one does, or want of memory: then what it printed is a beginning of what the whole one prints. Any other
+answer is printed, and makes the status 1. A run takes some ten seconds, most of them to compile.
+"""
+import pathlib
+import subprocess
+import sys
+
+CRATE = pathlib.Path(__file__).resolve().parent.parent / "crates" / "justrun"
+MEMORY = "justrun: Memory: Out of memory"
+CASES = [
+    ("recipes run", "--- /justfile\na: b c\nb: d\nc: d\nd:\n", ["/justfile", "a"]),
+    ("a rule is broken", "--- /justfile\na: b\nb: a\n", ["/justfile", "a"]),
+    ("words are refused", "--- /justfile\np x:\n", ["/justfile", "p"]),
+]
+
+
+def run(bundle, words, options):
+    """What a run prints, and the last line of its own on the error output."""
+    command = ["rt", "try", *options, "--", *words]
+    made = subprocess.run(command, cwd=CRATE, input=bundle, capture_output=True, text=True)
+    told = [line for line in made.stderr.splitlines() if line.startswith("justrun: ")]
+    return made.stdout, told[-1] if told else ""
+
+
+def main():
+    wrong = 0
+    for name, bundle, words in CASES:
+        printed, told = run(bundle, words, [])
+        number = 0
+        while True:
+            number += 1
+            now, said = run(bundle, words, ["--fail-alloc", str(number)])
+            if (now, said) == (printed, told):
+                break
+            if not printed.startswith(now) or not (MEMORY.startswith(said) or told.startswith(said)):
+                wrong += 1
+                print(f"{name}, allocation {number}: {now!r}, {said!r}", flush=True)
+        print(f"{name}: {number - 1} places", flush=True)
+    print(f"{wrong} wrong")
+    return 1 if wrong else 0
+
+
+if __name__ == "__main__":
+    sys.exit(main())
