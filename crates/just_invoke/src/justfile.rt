@@ -77,8 +77,9 @@ impl<'src> Justfile<'src> {
         ensures allowed { IfOk result (λ _. MayRun self.now recipes.now (texts words.now) config.now.one) }
         ensures account { (ps : List Pair) × (t : Table) × HasAccount recipes.now (H.entries host.old) (H.entries host.new) ps t × IfOk result (IsWhole self.now recipes.now (texts words.now) ps t) }
     {
-        let invocations =
-            InvocationParser::parse_invocations(alloc, self, recipes, evaluation, words)?;
+        let invocations = InvocationParser::parse_invocations(
+            alloc, self, recipes, evaluation, words,
+        )?;
         if config.one && invocations.len() > 1 {
             return Err(Error::Run(RunError::ExcessInvocations {
                 invocations: invocations.len(),

@@ -1,5 +1,5 @@
 -- The names of errors, and what they say.
-use Rattle.std.specs.Prelude.{ℕ, ◌+◌, min, false, List, [], ◌∷◌, ◌++◌, codes, decimal}
+use Rattle.std.specs.Prelude.{ℕ, ◌+◌, min, false, List, ◌++◌, codes, decimal}
 use Rattle.just_parts.specs.Modulepath.{joined, text_of}
 use Rattle.just_parts.specs.Name.{texts_of_path}
 use Rattle.just_parts.specs.declared.layers.name.Namepath.{Namepath}

@@ -1,5 +1,4 @@
-use Rattle.std.proofs.Common.{rules, ℕ, List, ◌≡◌, ◌∙◌, ap, refl, ◌++◌, append_assoc, codes}
-
+use Rattle.std.proofs.Common.{ℕ, List, ◌≡◌, ◌∙◌, ap, refl, ◌++◌, append_assoc, codes}
 use Rattle.std.proofs.lemmas.Grind.{put_three}
 use Rattle.just_parts.specs.Messages.{kind_text}
 use Rattle.just_parts.specs.Modulepath.{joined}
