@@ -3,8 +3,8 @@
 
     python3 benches/refused.py
 
-For N from 1 on, the program runs with its N-th allocation refused, until a run does not ask so often. Each run must answer
-as the whole one does, or want of memory: then what it printed is a beginning of what the whole one prints. Any other
+For N from 1 on, the program runs with its N-th allocation refused, until ten runs in a row answer as the whole one does.
+Each run must answer so, or want of memory: then what it printed is a beginning of what the whole one prints. Any other
 answer is printed, and makes the status 1. A run takes some ten seconds, most of them to compile.
 """
 import pathlib
@@ -32,16 +32,18 @@ def main():
     wrong = 0
     for name, bundle, words in CASES:
         printed, told = run(bundle, words, [])
-        number = 0
-        while True:
+        number, refused, whole = 0, 0, 0
+        while whole < 10:
             number += 1
             now, said = run(bundle, words, ["--fail-alloc", str(number)])
             if (now, said) == (printed, told):
-                break
+                whole += 1
+                continue
+            refused, whole = refused + 1, 0
             if not printed.startswith(now) or not (MEMORY.startswith(said) or told.startswith(said)):
                 wrong += 1
                 print(f"{name}, allocation {number}: {now!r}, {said!r}", flush=True)
-        print(f"{name}: {number - 1} places", flush=True)
+        print(f"{name}: memory was refused at {refused} places", flush=True)
     print(f"{wrong} wrong")
     return 1 if wrong else 0
 
