@@ -41,6 +41,8 @@ rising_if false low n high r rs h rising = rising_from (r.number.0 + 1) low (unr
 -- the numbers of the enabled recipes rise
 pub rising_recipes : (enabled : Item → Bool) (items : List Item) (low high : ℕ) → AreRising low (numbers items) high → AreRising low (unresolved_numbers (recipes_of enabled items)) high
 rising_recipes enabled [] low high r = r
+rising_recipes enabled (item.Import relative absolute optional ∷ items) low high r = rising_recipes enabled items low high r
+rising_recipes enabled (item.Module name relative absolute optional ∷ items) low high r = rising_recipes enabled items low high r
 rising_recipes enabled (item.Recipe x ∷ items) low high r =
     rising_if (enabled (bare_item (item.Recipe x))) low 0 high x (recipes_of enabled items) r.0
     (rising_recipes enabled items (x.number.0 + 1) high (rising_rest (x.number.0 + 1) (parameter_numbers x.parameters) (numbers items) high r.1))
@@ -63,6 +65,8 @@ priors_if false r rs p all = all
 
 pub priors_of_recipes : (enabled : Item → Bool) (items : List Item) → All PriorsAreDependencies items → All HasPriors (recipes_of enabled items)
 priors_of_recipes enabled [] all = λ k d h. absurd (omega arith)
+priors_of_recipes enabled (item.Import relative absolute optional ∷ items) all = priors_of_recipes enabled items (all_tail PriorsAreDependencies (item.Import relative absolute optional) items all)
+priors_of_recipes enabled (item.Module name relative absolute optional ∷ items) all = priors_of_recipes enabled items (all_tail PriorsAreDependencies (item.Module name relative absolute optional) items all)
 priors_of_recipes enabled (item.Recipe x ∷ items) all =
     priors_if (enabled (bare_item (item.Recipe x))) x (recipes_of enabled items) (all_head PriorsAreDependencies (item.Recipe x) items all) (priors_of_recipes enabled items (all_tail PriorsAreDependencies (item.Recipe x) items all))
 

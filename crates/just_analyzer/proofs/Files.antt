@@ -68,6 +68,8 @@ outline_if a false r rs qs e same = rw e same
 -- items without their numbers have recipes of the same outlines
 pub outlines_bare : (enabled : Item → Bool) (items : List Item) → outlines_of (recipes_of enabled (map bare_item items)) ≡ outlines_of (recipes_of enabled items)
 outlines_bare enabled [] = refl
+outlines_bare enabled (item.Import relative absolute optional ∷ items) = outlines_bare enabled items
+outlines_bare enabled (item.Module name relative absolute optional ∷ items) = outlines_bare enabled items
 outlines_bare enabled (item.Recipe r ∷ items) =
     let again : bare_item (bare_item (item.Recipe r)) ≡ bare_item (item.Recipe r) = ap (λ (ps : List Parameter). item.Recipe (record (bare_recipe r) { parameters = ps })) (bare_twice r.parameters) in
     outline_if (enabled (bare_item (bare_item (item.Recipe r)))) (enabled (bare_item (item.Recipe r))) r (recipes_of enabled (map bare_item items)) (recipes_of enabled items) (ap enabled again) (outlines_bare enabled items)

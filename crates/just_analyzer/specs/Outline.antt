@@ -29,9 +29,11 @@ outline_of recipe = record {
   most = most_arguments recipe.parameters;
 }
 
--- the recipes of the enabled items, in the order of the text
+-- the recipes of the enabled items, in the order of the text, without those of other files
 abbrev pub recipes_of : (Item → Bool) → List Item → List (Recipe UnresolvedDependency)
 recipes_of enabled [] = []
+recipes_of enabled (item.Import relative absolute optional ∷ items) = recipes_of enabled items
+recipes_of enabled (item.Module name relative absolute optional ∷ items) = recipes_of enabled items
 recipes_of enabled (item.Recipe r ∷ items) = if enabled (bare_item (item.Recipe r)) then r ∷ recipes_of enabled items else recipes_of enabled items
 
 abbrev pub outlines_of : List (Recipe UnresolvedDependency) → List Outline

@@ -15,7 +15,7 @@ pub struct Definitions<'a, 'src> {
 impl<'a, 'src> Definitions<'a, 'src> {
     ghost use Rattle.just_analyzer.specs.Definitions.{recipes_in};
 
-    /// The recipes of the enabled items, in the order of the text.
+    /// The recipes of the enabled items, in the order of the text. Imports and modules are not looked at.
     pub fn from_items<S: Syntax>(
         alloc: Global,
         syntax: &S,
@@ -28,8 +28,10 @@ impl<'a, 'src> Definitions<'a, 'src> {
             if !syntax.is_enabled(item) {
                 continue;
             }
-            let Item::Recipe(recipe) = item;
-            recipes.push(recipe)?;
+            match item {
+                Item::Import { .. } | Item::Module { .. } => continue,
+                Item::Recipe(recipe) => recipes.push(recipe)?,
+            }
         }
         Ok(Definitions { recipes })
     }

@@ -27,5 +27,8 @@ bare_recipe r = record {
   recipe_path = None;
 }
 
+-- an import or a module has no number, and its absolute path is not there
 abbrev pub bare_item : Item → Item
+bare_item (item.Import relative absolute optional) = item.Import relative None optional
+bare_item (item.Module name relative absolute optional) = item.Module name relative None optional
 bare_item (item.Recipe r) = item.Recipe (bare_recipe r)

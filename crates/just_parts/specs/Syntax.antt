@@ -21,7 +21,10 @@ parameter_numbers = map (λ p. p.number.0)
 abbrev pub recipe_numbers : Recipe UnresolvedDependency → List ℕ
 recipe_numbers r = r.number.0 ∷ parameter_numbers r.parameters
 
+-- imports and modules have none
 abbrev pub item_numbers : Item → List ℕ
+item_numbers (item.Import relative absolute optional) = []
+item_numbers (item.Module name relative absolute optional) = []
 item_numbers (item.Recipe r) = recipe_numbers r
 
 -- the numbers that items were given, in the order of the text
@@ -40,7 +43,10 @@ pub record CameBy (source : Source) (r : Recipe UnresolvedDependency) : Type 0 w
   pub module_path : r.module_path ≡ None
   pub recipe_path : r.recipe_path ≡ None
 
+-- the absolute path of an import or a module is not there yet
 abbrev pub ItemCameBy : Source → Item → Type 0
+ItemCameBy source (item.Import relative absolute optional) = absolute ≡ None
+ItemCameBy source (item.Module name relative absolute optional) = absolute ≡ None
 ItemCameBy source (item.Recipe r) = CameBy source r
 
 -- the texts of the names of a module's path; the root has none
@@ -56,6 +62,8 @@ pub record IsFrom (source : Source) (ast : Ast) : Type 0 where
 
 -- no more dependencies run before a recipe than it has
 abbrev pub PriorsAreDependencies : Item → Type 0
+PriorsAreDependencies (item.Import relative absolute optional) = Unit {0}
+PriorsAreDependencies (item.Module name relative absolute optional) = Unit {0}
 PriorsAreDependencies (item.Recipe r) = r.priors ≤ length r.dependencies
 
 -- what a refusal says of the text, and of the numbers that are wanted, those that were given before among them

@@ -12,7 +12,7 @@ pub mod parameter;
 pub mod syntax;
 pub mod token;
 
-pub use ast::{Ast, Item, UnresolvedDependency};
+pub use ast::{Ast, Item, StringLiteral, UnresolvedDependency};
 pub use config::Config;
 pub use error::{
     CompileError, CompileErrorKind, Error, InvocationError, LoadError, RunError, SourceError,

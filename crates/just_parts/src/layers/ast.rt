@@ -1,4 +1,5 @@
-use crate::layers::name::Namepath;
+use crate::layers::name::{Name, Namepath};
+use crate::layers::token::Token;
 use crate::modulepath::Modulepath;
 use crate::recipe::UnresolvedRecipe;
 use just_data::{Exact, Sequence, Text};
@@ -15,9 +16,36 @@ impl<'src> Exact for UnresolvedDependency<'src> {
     ghost exact = { Prim.search rules };
 }
 
-/// A definition of a source text.
+/// A quoted text of a source text: what stands between the quotes, and the whole with its quotes.
+#[derive(Clone, Debug, PartialEq, Eq, Drop)]
+pub struct StringLiteral<'src> {
+    pub cooked: Text,
+    pub token: Token<'src>,
+}
+
+impl<'src> Exact for StringLiteral<'src> {
+    ghost use Rattle.std.proofs.Common.{rules};
+
+    ghost exact = { Prim.search rules };
+}
+
+/// A definition of a source text. A grammar leaves the absolute path of a file out.
 #[derive(Clone, Debug, PartialEq, Eq, Drop)]
 pub enum Item<'src> {
+    /// The items of another file. Where it is optional, the file may be missing.
+    Import {
+        relative: StringLiteral<'src>,
+        absolute: Option<Text>,
+        optional: bool,
+    },
+    /// Another file as a module of its own. Where it is optional, the file may be missing.
+    Module {
+        name: Name<'src>,
+        relative: Option<StringLiteral<'src>>,
+        absolute: Option<Text>,
+        optional: bool,
+    },
+    /// A recipe.
     Recipe(UnresolvedRecipe<'src>),
 }
 

@@ -12,8 +12,8 @@ use std::alloc::Global;
 
 /// The grammar of the source texts.
 pub trait Syntax {
-    /// The items of a text under a relative path, without numbers and without what the source says; none where the
-    /// text does not follow the grammar.
+    /// The items of a text under a relative path, without numbers, absolute paths and what the source says; none where
+    /// the text does not follow the grammar.
     ghost parsed: { Self → List ℕ → List ℕ → Option (List Item) };
 
     /// How many numbers a text under a relative path takes, as far as it follows the grammar.
@@ -23,7 +23,8 @@ pub trait Syntax {
     ghost enabled: { Self → Item → Bool };
 
     /// The items of `text`, the file with the relative path `relative`, which came in as `source` tells. Numbers are
-    /// taken from the numerator, which a refusal may leave further on.
+    /// taken from the numerator for recipes and their parameters, and a refusal may leave it further on. The absolute
+    /// paths of imports and modules are left out.
     fn parse_source<'src>(
         &self,
         alloc: Global,
