@@ -1,9 +1,10 @@
 -- A file that is found, and what it says.
-use Rattle.std.proofs.Common.{◌≡◌, ℕ, ◌+◌, ◌^◌, ◌<◌, ◌≤◌, cond, List, [], ◌∷◌, map, Bool, true, false, Option, Some, None, IfSome, Result, Ok, Err, IfOk, arith, refl, sym, ◌∙◌, ap, subst}
+use Rattle.std.proofs.Common.{◌≡◌, ℕ, ◌+◌, ◌^◌, ◌<◌, ◌≤◌, cond, ◌||◌, List, [], ◌∷◌, map, Bool, true, false, Option, Some, None, IfSome, Result, Ok, Err, IfOk, arith, refl, sym, ◌∙◌, ap, subst}
 use Rattle.std.specs.Prelude.{if◌then◌else◌}
 use Rattle.std.specs.List.{list_any, fold}
 use Rattle.std.specs.Option.{option_copied}
 use Rattle.std.specs.Borrow.{Bor}
+use Rattle.std.proofs.lemmas.Bool.{false≢true}
 use Rattle.std.proofs.lemmas.List.{length-map}
 use Rattle.just_parts.specs.Entries.{find, IsKeyed}
 use Rattle.just_parts.specs.Name.{text_of_name, texts_of_path}
@@ -16,12 +17,13 @@ use Rattle.just_parts.specs.declared.layers.ast.Item.TheVariants as item
 use Rattle.just_parts.specs.declared.recipe.Recipe.{Recipe}
 use Rattle.just_parts.specs.Clean.{file_name_of}
 use Rattle.just_parts.specs.Syntax.{Refuses}
+use Rattle.just_parts.specs.declared.layers.error.CompileErrorKind.TheVariants as kind
 use Rattle.just_parts.specs.declared.layers.error.Error.{Error}
 use Rattle.just_parts.specs.declared.layers.error.Error.TheVariants as error
-use Rattle.just_analyzer.specs.Rules.{Cause, Broken, Keeps, Reports, NamesInRecipes, NamesInFile, no_grammar, no_number, in_recipes, Names, no_file, in_file}
+use Rattle.just_analyzer.specs.Rules.{Cause, Broken, Keeps, Reports, NamesInRecipes, NamesInFile, no_grammar, other_file, no_number, in_recipes, Names, no_file, in_file}
 use Rattle.just_analyzer.specs.declared.sources.SourceFile.{SourceFile}
 use Rattle.just_analyzer.specs.Sources.{Files, text_at}
-use Rattle.just_analyzer.specs.Outline.{outline_of, outlines_of, recipes_of}
+use Rattle.just_analyzer.specs.Outline.{outline_of, outlines_of, recipes_of, leads_elsewhere}
 use Rattle.just_analyzer.proofs.Keys.{keyed_found}
 
 -- a file that is found has the path by which it is found
@@ -74,6 +76,13 @@ outlines_bare enabled (item.Recipe r ∷ items) =
     let again : bare_item (bare_item (item.Recipe r)) ≡ bare_item (item.Recipe r) = ap (λ (ps : List Parameter). item.Recipe (record (bare_recipe r) { parameters = ps })) (bare_twice r.parameters) in
     outline_if (enabled (bare_item (bare_item (item.Recipe r)))) (enabled (bare_item (item.Recipe r))) r (recipes_of enabled (map bare_item items)) (recipes_of enabled items) (ap enabled again) (outlines_bare enabled items)
 
+-- and lead to other files where those do
+pub elsewhere_bare : (enabled : Item → Bool) (items : List Item) → leads_elsewhere enabled (map bare_item items) ≡ leads_elsewhere enabled items
+elsewhere_bare enabled [] = refl
+elsewhere_bare enabled (item.Import relative absolute optional ∷ items) = ap (λ b. enabled (item.Import relative None optional) || b) (elsewhere_bare enabled items)
+elsewhere_bare enabled (item.Module name relative absolute optional ∷ items) = ap (λ b. enabled (item.Module name relative None optional) || b) (elsewhere_bare enabled items)
+elsewhere_bare enabled (item.Recipe r ∷ items) = elsewhere_bare enabled items
+
 -- what the grammar refuses is named
 pub refused_named : (parsed : List ℕ → List ℕ → Option (List Item)) (spends : List ℕ → List ℕ → ℕ) (enabled : Item → Bool) (root text path found : List ℕ) (e : Error) → path ≡ file_name_of root → found ≡ text → Refuses e (parsed path found) (spends path found) → Reports (NamesInFile parsed spends enabled root text) e
 refused_named parsed spends enabled root text path found (error.Load e) p f r = absurd r
@@ -93,11 +102,18 @@ module _ (parsed : List ℕ → List ℕ → Option (List Item)) (spends : List 
   pub in_file_named : (c : Cause) → NamesInRecipes (outlines_of (recipes_of enabled items)) c → NamesInFile parsed spends enabled root text c
   in_file_named c n = in_recipes (map bare_item items) said_here (subst (λ os. NamesInRecipes os c) (sym (outlines_bare enabled items)) n)
 
+  -- so is that it leads to another file
+  pub other_named : leads_elsewhere enabled items ≡ true → NamesInFile parsed spends enabled root text (Broken kind.Syntax)
+  other_named h = other_file (map bare_item items) said_here (elsewhere_bare enabled items ∙ h)
+
   -- and the other way round
-  pub file_kept : spends path found < 2 ^ 64 → Keeps (NamesInRecipes (outlines_of (recipes_of enabled items))) → (c : Cause) → NamesInFile parsed spends enabled root text c → ⊥
-  file_kept fits kept _ (no_grammar none) = let no : Some (map bare_item items) ≡ None = sym said_here ∙ none in cc
-  file_kept fits kept _ (no_number many) = let few : spends (file_name_of root) text < 2 ^ 64 = subst (λ n. n < 2 ^ 64) (ap (spends path) f ∙ ap (λ x. spends x text) p) fits in omega (arith, many, few)
-  file_kept fits kept c (in_recipes others also n) =
+  pub file_kept : spends path found < 2 ^ 64 → leads_elsewhere enabled items ≡ false → Keeps (NamesInRecipes (outlines_of (recipes_of enabled items))) → (c : Cause) → NamesInFile parsed spends enabled root text c → ⊥
+  file_kept fits none_other kept _ (no_grammar none) = let no : Some (map bare_item items) ≡ None = sym said_here ∙ none in cc
+  file_kept fits none_other kept _ (other_file others also h) =
+      let same : others ≡ map bare_item items = let e = sym also ∙ said_here in cc in
+      false≢true (sym none_other ∙ (sym (elsewhere_bare enabled items) ∙ (ap (leads_elsewhere enabled) (sym same) ∙ h)))
+  file_kept fits none_other kept _ (no_number many) = let few : spends (file_name_of root) text < 2 ^ 64 = subst (λ n. n < 2 ^ 64) (ap (spends path) f ∙ ap (λ x. spends x text) p) fits in omega (arith, many, few)
+  file_kept fits none_other kept c (in_recipes others also n) =
       let same : others ≡ map bare_item items = let e = sym also ∙ said_here in cc in
       kept c (subst (λ os. NamesInRecipes os c) (outlines_bare enabled items) (subst (λ xs. NamesInRecipes (outlines_of (recipes_of enabled xs)) c) same n))
 

@@ -1,5 +1,5 @@
 -- The rules of compilation: each relates what is compiled to the errors that report where it is broken.
-use Rattle.std.specs.Prelude.{◌≡◌, ◌≢◌, ℕ, ◌+◌, ◌-◌, ◌^◌, ◌<◌, ◌≤◌, ◌⊎◌, min, Bool, List, [], ◌∷◌, length, get_or, Option, Some, None}
+use Rattle.std.specs.Prelude.{◌≡◌, ◌≢◌, ℕ, ◌+◌, ◌-◌, ◌^◌, ◌<◌, ◌≤◌, ◌⊎◌, min, Bool, true, List, [], ◌∷◌, length, get_or, Option, Some, None}
 use Rattle.std.specs.List.{Contains}
 use Rattle.just_parts.specs.Name.{texts_of_path}
 use Rattle.just_parts.specs.Clean.{file_name_of}
@@ -11,7 +11,7 @@ use Rattle.just_parts.specs.declared.layers.error.CompileErrorKind.{CompileError
 use Rattle.just_parts.specs.declared.layers.error.CompileErrorKind.TheVariants as kind
 use Rattle.just_parts.specs.declared.layers.error.Error.{Error}
 use Rattle.just_parts.specs.declared.layers.error.Error.TheVariants as error
-use Rattle.just_analyzer.specs.Outline.{Outline, outline_at, names_of, outlines_of, recipes_of, DependsOn}
+use Rattle.just_analyzer.specs.Outline.{Outline, outline_at, names_of, outlines_of, recipes_of, leads_elsewhere, DependsOn}
 use Rattle.just_analyzer.specs.Index.{Repeats}
 use Rattle.just_analyzer.specs.Sources.{Files, text_at}
 
@@ -62,9 +62,10 @@ pub data NamesInRecipes (recipes : List Outline) : Cause → Type 0 where
   in_headers : {c : Cause} → Headers recipes c → NamesInRecipes recipes c
   in_dependencies : {c : Cause} → Keeps (Headers recipes) → Dependencies recipes c → NamesInRecipes recipes c
 
--- What the text of the root file breaks, where `parsed` gives the items of a text under its relative path, `spends` the numbers that it takes, and `enabled` tells which items count.
+-- What the text of the root file breaks (an import or a module counts as no grammar, until other files are loaded), where `parsed` gives the items of a text under its relative path, `spends` the numbers that it takes, and `enabled` tells which items count.
 pub data NamesInFile (parsed : List ℕ → List ℕ → Option (List Item)) (spends : List ℕ → List ℕ → ℕ) (enabled : Item → Bool) (root text : List ℕ) : Cause → Type 0 where
   no_grammar : parsed (file_name_of root) text ≡ None → NamesInFile parsed spends enabled root text (Broken kind.Syntax)
+  other_file : (items : List Item) → parsed (file_name_of root) text ≡ Some items → leads_elsewhere enabled items ≡ true → NamesInFile parsed spends enabled root text (Broken kind.Syntax)
   no_number : 2 ^ 64 ≤ spends (file_name_of root) text → NamesInFile parsed spends enabled root text NoNumber
   in_recipes : {c : Cause} (items : List Item) → parsed (file_name_of root) text ≡ Some items → NamesInRecipes (outlines_of (recipes_of enabled items)) c → NamesInFile parsed spends enabled root text c
 

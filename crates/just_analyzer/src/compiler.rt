@@ -1,16 +1,20 @@
-ghost use Rattle.std.specs.Prelude.{◌≡◌, IsSome, IfOk, IfErr};
+ghost use Rattle.std.specs.Prelude.{◌≡◌, true, false, IsSome, IfSome, IfNone, IfOk, IfErr};
 ghost use Rattle.std.specs.HashMap.{get};
 ghost use Rattle.just_parts.specs.Clean.{IsClean};
 ghost use Rattle.just_invoke.specs.Closed.{IsClosed};
 ghost use Rattle.just_analyzer.specs.Asts.{same_key, root_key, IsOnlyAst};
 ghost use Rattle.just_analyzer.specs.Compiled.{IsModuleAt, IsModuleOf};
+ghost use Rattle.just_analyzer.specs.Outline.{leads_elsewhere};
 ghost use Rattle.just_analyzer.specs.Rules.{Names, NamesInFile, Keeps, Reports};
 
 use crate::analyzer::{Analysis, analyze};
 use crate::compilation::Compilation;
 use crate::sources::{SourceFile, Sources};
 use just_data::{Sequence, Text};
-use just_parts::layers::{Ast, Config, Error, Evaluation, LoadError, Numerator, Syntax};
+use just_parts::layers::{
+    Ast, CompileError, CompileErrorKind, Config, Error, Evaluation, Item, LoadError, Numerator,
+    Syntax, Token,
+};
 use just_parts::source::file_name_of;
 use just_parts::{Modulepath, Source};
 use std::alloc::{AllocError, Global};
@@ -49,6 +53,24 @@ impl Compiler {
     }
 }
 
+// Where the first enabled item stands that leads to another file: those are not loaded yet.
+fn other_file<'src, S: Syntax>(syntax: &S, items: &[Item<'src>]) -> Option<Token<'src>>
+    ensures found { IfSome result (λ _. leads_elsewhere (S.enabled syntax.now) items.now ≡ true) }
+    ensures missing { IfNone result (leads_elsewhere (S.enabled syntax.now) items.now ≡ false) }
+{
+    for item in items {
+        if !syntax.is_enabled(item) {
+            continue;
+        }
+        match item {
+            Item::Import { relative, .. } => return Some(relative.token.copied()),
+            Item::Module { name, .. } => return Some(name.token.copied()),
+            Item::Recipe(_) => continue,
+        }
+    }
+    None
+}
+
 // Compiles the root file.
 fn compile_file<'src, S: Syntax>(
     alloc: Global,
@@ -78,6 +100,10 @@ fn compile_file<'src, S: Syntax>(
         Ok(ast) => ast,
         Err(error) => return Err(error),
     };
+    if let Some(token) = other_file(syntax, ast.items.as_slice()) {
+        let kind = CompileErrorKind::Syntax;
+        return Err(Error::Compile(CompileError { token, kind }));
+    }
     let mut loaded = Sequence::new(alloc);
     loaded.push(Text::from_str(alloc, relative)?)?;
     let analysis = analyze(alloc, syntax, &ast, loaded, Text::from_str(alloc, root)?)?;
