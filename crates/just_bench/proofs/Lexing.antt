@@ -1,10 +1,11 @@
 -- Lexing.
 use Rattle.std.proofs.Common.{suc, zero, ◌≡◌, ℕ, ◌+◌, ◌-◌, ◌<◌, ◌≤◌, sym, ◌∙◌, ap, refl, List, [], ◌∷◌, ◌++◌, length, drop, get_or, true, false, arith, append_assoc, add-one, length-drop, Option, Some, None}
 use Rattle.std.proofs.Math.Seq.{drop-cons}
-use Rattle.std.specs.List.{prefix_len}
+use Rattle.std.specs.List.{prefix_len, position}
 use Rattle.std.specs.Option.{option_map}
 use Rattle.std.specs.Str.{IsCharBoundary, IsUtf8}
 use Rattle.std.proofs.lemmas.List.{get_or-drop, get_or-take, drop_all, drop-drop, append-nil}
+use Rattle.std.proofs.lemmas.List.Quantifiers.{position-Some}
 use Rattle.std.proofs.lemmas.List.Sums.{prefix_len_passes, prefix_len-le-length}
 use Rattle.std.proofs.lemmas.Str.{IsCharBoundary-after_ascii}
 use Rattle.just_parts.specs.Token.{Place}
@@ -13,7 +14,7 @@ use Rattle.just_bench.specs.declared.lexer.Kind.{Kind}
 use Rattle.just_bench.specs.declared.lexer.Lexeme.{Lexeme}
 use Rattle.just_parts.specs.Identifier.{is_identifier_start, is_identifier_continue}
 use Rattle.just_bench.specs.Lines.{IsLineOf}
-use Rattle.just_bench.specs.Lexemes.{is_blank, first, place, before, lexemes_from, lexemes, Takes}
+use Rattle.just_bench.specs.Lexemes.{is_blank, is_quote, first, place, before, lexemes_from, lexemes, Takes}
 
 -- a byte of a line as a byte of the text
 pub byte_of_line : (text : List ℕ) (line : Line) (i : ℕ) → IsLineOf text line → i < length line.text → get_or text (line.offset + i) 0 ≡ get_or line.text i 0
@@ -140,3 +141,20 @@ last_byte bytes at size left takes =
 
 pub takes_name_of : (bytes : List ℕ) (b : ℕ) (rest : List ℕ) (n : ℕ) → bytes ≡ b ∷ rest → is_identifier_start b ≡ true → n ≡ prefix_len is_identifier_continue rest → Takes bytes (n + 1)
 takes_name_of bytes b rest n is starts more = rw (is, more) (takes_name b rest starts)
+
+-- what is known of the first quote
+pub quote_found : (bytes : List ℕ) (n : ℕ) → Some n ≡ position is_quote bytes → (n < length bytes) × (get_or bytes n 0 ≡ 39) × ((k : ℕ) → k < n → is_quote (get_or bytes k 0) ≡ false)
+quote_found bytes n is =
+    let found = position-Some is_quote bytes n 0 (sym is) in
+    (found.0, grind (arith, found.1), found.2)
+
+pub takes_quoted : (bytes : List ℕ) (b : ℕ) (rest : List ℕ) (n : ℕ) → bytes ≡ b ∷ rest → b ≡ 39 → Some n ≡ position is_quote rest → Takes bytes (n + 2)
+takes_quoted bytes b rest n is quote found =
+    let at = quote_found rest n found in
+    let last : n + 2 - 1 ≡ suc n = omega arith in
+    rw is (record {
+      some = omega arith;
+      within = omega (arith, at.0);
+      begins = omega (arith, quote);
+      ends = rw last (omega (arith, at.1));
+    })

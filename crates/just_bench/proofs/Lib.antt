@@ -1,3 +1,5 @@
+pub mod Apart
 pub mod Cuts
 pub mod Lexing
 pub mod Parsing
+pub mod Quoting

@@ -1,5 +1,5 @@
 -- One line of the loop over the lines, and numbers.
-use Rattle.std.proofs.Common.{Some, ◌≡◌, ℕ, ◌+◌, ◌^◌, ◌<◌, ◌≤◌, sym, ◌∙◌, ap, refl, subst, List, [], ◌∷◌, ◌++◌, length, map, drop, get_or, arith, add-one, length-append, Result, Ok, Err, IfErr}
+use Rattle.std.proofs.Common.{Some, Option, Bool, ◌≡◌, ℕ, ◌+◌, ◌^◌, ◌<◌, ◌≤◌, sym, ◌∙◌, ap, refl, subst, List, [], ◌∷◌, ◌++◌, length, map, drop, get_or, arith, add-one, length-append, Result, Ok, Err, IfErr}
 use Rattle.std.proofs.Math.Seq.{drop-cons}
 use Rattle.std.specs.List.{All, slice_get}
 use Rattle.std.proofs.lemmas.List.{map-append, append-nil, length-map}
@@ -11,10 +11,11 @@ use Rattle.just_parts.specs.declared.layers.ast.Item.TheVariants as item
 use Rattle.just_parts.specs.declared.layers.parameter.Parameter.{Parameter}
 use Rattle.just_parts.specs.declared.recipe.Recipe.{Recipe}
 use Rattle.just_parts.specs.declared.layers.ast.UnresolvedDependency.{UnresolvedDependency}
+use Rattle.just_parts.specs.declared.layers.name.Name.{Name}
 use Rattle.just_bench.specs.declared.lines.Line.{Line}
 use Rattle.just_bench.specs.declared.grammar.Heading.{Heading}
 use Rattle.just_bench.specs.declared.grammar.Reading.{Reading}
-use Rattle.just_bench.specs.declared.grammar.Reading.TheVariants.{Bad, Ignored, Begins}
+use Rattle.just_bench.specs.declared.grammar.Reading.TheVariants.{Bad, Ignored, Imports, Declares, Begins}
 use Rattle.just_parts.specs.Bare.{bare_item, bare_recipe}
 use Rattle.just_parts.specs.Syntax.{CameBy, ItemCameBy, PriorsAreDependencies, item_numbers, parameter_numbers, recipe_numbers, numbers, AreRising}
 use Rattle.just_parts.specs.Token.{Place}
@@ -25,7 +26,7 @@ use Rattle.just_parts.specs.declared.layers.error.Error.TheVariants as error
 use Rattle.just_bench.specs.Refusal.{IsFirstBadLine, Spent, RefusesLine}
 use Rattle.just_bench.proofs.Cuts.{line_at_number}
 use Rattle.just_bench.specs.Grammar.{reading}
-use Rattle.just_bench.specs.Items.{items_of, recipe, dependency, with_line, with_lines, spends, spends_line, spends_lines}
+use Rattle.just_bench.specs.Items.{items_of, import_of, module_of, recipe, dependency, with_line, with_lines, spends, spends_line, spends_lines}
 
 pub AreRising-lower : (low middle : ℕ) (ms : List ℕ) (high : ℕ) → low ≤ middle → AreRising middle ms high → AreRising low ms high
 AreRising-lower low middle [] high h q = omega (arith, h, q)
@@ -120,6 +121,48 @@ Read-recipe path text source low all n items high line h r items' high' so_far w
       spent = so_far.spent ∙ omega (arith, taken, spends_by_line path text all n line (Begins h) within is read);
       onward = omega (arith, so_far.onward, AreRising-onward high (recipe_numbers r) high' given);
       fits = λ _. fits;
+    })
+
+-- a line that makes one item x, without numbers
+pub record MakesItem (r : Reading) (x : Item) : Type 0 where
+  pub puts : (number : ℕ) (items : List Item) (others : List Item → Result (List Item) ℕ) → with_line r number items others ≡ others (items ++ bare_item x ∷ [])
+  pub spends_none : (others : ℕ) → spends_line r others ≡ others
+  pub without_numbers : item_numbers x ≡ []
+  pub came_by : (source : Source) → ItemCameBy source x
+  pub has_priors : PriorsAreDependencies x
+
+pub import_made : (path : Place) (optional : Bool) → MakesItem (Imports path optional) (import_of path optional)
+import_made path optional = record {
+  puts = λ number items others. refl;
+  spends_none = λ others. refl;
+  without_numbers = refl;
+  came_by = λ source. refl;
+  has_priors = tt;
+}
+
+pub module_made : (name : Name) (path : Option Place) (optional : Bool) → MakesItem (Declares name path optional) (module_of name path optional)
+module_made name path optional = record {
+  puts = λ number items others. refl;
+  spends_none = λ others. refl;
+  without_numbers = refl;
+  came_by = λ source. refl;
+  has_priors = tt;
+}
+
+pub Read-item : (path text : List ℕ) (source : Source) (low : ℕ) (all : List Line) (n : ℕ) (items : List Item) (high : ℕ) (line : Line) (r : Reading) (x : Item) (items' : List Item)
+    → MakesItem r x → Read path text source low all n items high → n < length all → get_or all n line ≡ line → r ≡ reading path text line → items' ≡ items ++ x ∷ []
+    → Read path text source low all (n + 1) items' high
+Read-item path text source low all n items high line r x items' made so_far within is read pushed =
+    let more : map bare_item (items ++ x ∷ []) ≡ map bare_item items ++ bare_item x ∷ [] = map-append bare_item items (x ∷ []) in
+    let all_numbers : numbers (items ++ x ∷ []) ≡ numbers items = flat_map-append item_numbers items (x ∷ []) ∙ ap (λ ns. numbers items ++ (ns ++ [])) made.without_numbers ∙ append-nil (numbers items) in
+    rw pushed (record {
+      whole = so_far.whole ∙ by_line path text (map bare_item items) all n line r within is read ∙ made.puts line.number (map bare_item items) (λ bares. with_lines path text bares (drop (n + 1) all)) ∙ ap (λ bares. with_lines path text bares (drop (n + 1) all)) (sym more);
+      source_of = All-push (ItemCameBy source) items x so_far.source_of (made.came_by source);
+      priors = All-push PriorsAreDependencies items x so_far.priors made.has_priors;
+      rising = rw all_numbers so_far.rising;
+      spent = so_far.spent ∙ ap (λ k. high + k) (spends_by_line path text all n line r within is read ∙ made.spends_none (spends_lines path text (drop (n + 1) all)));
+      onward = so_far.onward;
+      fits = so_far.fits;
     })
 
 pub parameter_push : (low : ℕ) (made : List Parameter) (high : ℕ) (p : Parameter) (made' : List Parameter) (high' : ℕ)

@@ -1,5 +1,8 @@
 -- What a line says, over its lexemes.
-use Rattle.std.specs.Prelude.{ℕ, ◌==◌, Bool, true, false, if◌then◌else◌, List, [], ◌∷◌, Option, Some, None}
+use Rattle.std.specs.Prelude.{ℕ, ◌+◌, ◌==◌, ◌&&◌, Bool, true, false, if◌then◌else◌, List, [], ◌∷◌, codes, Option, Some, None, IfSome}
+use Rattle.std.specs.Option.{option_map}
+use Rattle.std.specs.Str.{bytes_eq}
+use Rattle.just_parts.specs.Token.{Place, lexeme}
 use Rattle.just_parts.specs.declared.layers.name.Name.{Name}
 use Rattle.just_bench.specs.declared.lines.Line.{Line}
 use Rattle.just_bench.specs.declared.lexer.Kind.{Kind}
@@ -7,8 +10,8 @@ use Rattle.just_bench.specs.declared.lexer.Kind.TheVariants as kind
 use Rattle.just_bench.specs.declared.lexer.Lexeme.{Lexeme}
 use Rattle.just_bench.specs.declared.grammar.Heading.{Heading}
 use Rattle.just_bench.specs.declared.grammar.Reading.{Reading}
-use Rattle.just_bench.specs.declared.grammar.Reading.TheVariants.{Bad, Ignored, Begins}
-use Rattle.just_bench.specs.Lexemes.{lexemes, is_blank}
+use Rattle.just_bench.specs.declared.grammar.Reading.TheVariants.{Bad, Ignored, Imports, Declares, Begins}
+use Rattle.just_bench.specs.Lexemes.{lexemes, is_blank, IsQuoted}
 
 -- an identifier
 abbrev pub is_name : Kind → Bool
@@ -24,6 +27,16 @@ is_colon _ = false
 abbrev pub is_and : Kind → Bool
 is_and kind.And = true
 is_and _ = false
+
+-- `?`
+abbrev pub is_question : Kind → Bool
+is_question kind.Question = true
+is_question _ = false
+
+-- a quoted text
+abbrev pub is_quoted : Kind → Bool
+is_quoted kind.Quoted = true
+is_quoted _ = false
 
 -- a lexeme as a name
 abbrev pub name_of : Lexeme → Name
@@ -59,15 +72,74 @@ abbrev pub heading : List Lexeme → Option Heading
 heading [] = None
 heading (l ∷ rest) = if is_name l.kind then after_parameters (name_of l) (names_of rest) (after_names rest) else None
 
+-- the name that is this word
+abbrev pub is_word : List ℕ → Lexeme → Bool
+is_word word l = is_name l.kind && bytes_eq (lexeme l.token) word
+
+-- the second stands right after the first
+abbrev pub touch : Lexeme → Lexeme → Bool
+touch l m = m.token.offset == l.token.offset + l.token.length
+
+-- `?` stands right after the word
+abbrev pub is_optional : Lexeme → List Lexeme → Bool
+is_optional word [] = false
+is_optional word (l ∷ rest) = is_question l.kind && touch word l
+
+-- what follows the word, and the `?` right after it
+abbrev pub after_word : Lexeme → List Lexeme → List Lexeme
+after_word word [] = []
+after_word word (l ∷ rest) = if is_optional word (l ∷ rest) then rest else l ∷ rest
+
+-- a quoted text, and nothing after it
+abbrev pub only_quoted : List Lexeme → Option Place
+only_quoted [] = None
+only_quoted (l ∷ []) = if is_quoted l.kind then Some l.token else None
+only_quoted (l ∷ m ∷ rest) = None
+
+-- import 'P', or import? 'P'
+abbrev pub import_line : List Lexeme → Option Reading
+import_line [] = None
+import_line (l ∷ rest) =
+    if is_word (codes "import") l then option_map (λ path. Imports path (is_optional l rest)) (only_quoted (after_word l rest)) else None
+
+-- after the name of a module stands nothing, or a quoted text
+abbrev pub after_module : Name → Bool → List Lexeme → Option Reading
+after_module name optional [] = Some (Declares name None optional)
+after_module name optional (l ∷ rest) = option_map (λ path. Declares name (Some path) optional) (only_quoted (l ∷ rest))
+
+-- after `mod` stands the name of a module
+abbrev pub after_mod : Bool → List Lexeme → Option Reading
+after_mod optional [] = None
+after_mod optional (l ∷ rest) = if is_name l.kind then after_module (name_of l) optional rest else None
+
+-- mod NAME, or mod NAME 'P', also with mod?
+abbrev pub module_line : List Lexeme → Option Reading
+module_line [] = None
+module_line (l ∷ rest) = if is_word (codes "mod") l then after_mod (is_optional l rest) (after_word l rest) else None
+
 -- a line that is a heading, or is bad
 abbrev pub begun : Option Heading → Reading
 begun None = Bad
 begun (Some h) = Begins h
 
+-- a line that is an import, a module or a heading, which no two are at once, or is bad
+abbrev pub told : Option Reading → Option Reading → Option Heading → Reading
+told (Some imports) declares heading = imports
+told None (Some declares) heading = declares
+told None None heading = begun heading
+
 -- a line that has these lexemes
 abbrev pub sorted : Option (List Lexeme) → Reading
 sorted None = Bad
-sorted (Some ls) = begun (heading ls)
+sorted (Some ls) = told (import_line ls) (module_line ls) (heading ls)
+
+-- the path that a line has is a quoted text
+abbrev pub PathIsQuoted : Reading → Type 0
+PathIsQuoted Bad = Unit {0}
+PathIsQuoted Ignored = Unit {0}
+PathIsQuoted (Imports path optional) = IsQuoted (lexeme path)
+PathIsQuoted (Declares name path optional) = IfSome path (λ p. IsQuoted (lexeme p))
+PathIsQuoted (Begins h) = Unit {0}
 
 -- empty, or begins with `#`
 abbrev pub is_comment : List ℕ → Bool

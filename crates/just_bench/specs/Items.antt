@@ -1,18 +1,20 @@
 -- The items of a text, over its lines.
-use Rattle.std.specs.Prelude.{ℕ, ◌+◌, ◌==◌, Bool, false, List, [], ◌∷◌, ◌++◌, map, length, None, Result, Ok, Err}
-use Rattle.just_parts.specs.Token.{lexeme}
+use Rattle.std.specs.Prelude.{ℕ, ◌+◌, ◌-◌, ◌==◌, Bool, false, List, [], ◌∷◌, ◌++◌, map, length, slice_range, Option, None, Result, Ok, Err}
+use Rattle.std.specs.Option.{option_map}
+use Rattle.just_parts.specs.Token.{Place, lexeme}
 use Rattle.just_parts.specs.Bare.{no_number}
 use Rattle.just_parts.specs.declared.layers.name.Name.{Name}
 use Rattle.just_parts.specs.declared.layers.parameter.Parameter.{Parameter}
 use Rattle.just_parts.specs.declared.layers.parameter.ParameterKind.TheVariants as parameter_kind
 use Rattle.just_parts.specs.declared.layers.ast.UnresolvedDependency.{UnresolvedDependency}
 use Rattle.just_parts.specs.declared.recipe.Recipe.{Recipe}
+use Rattle.just_parts.specs.declared.layers.ast.StringLiteral.{StringLiteral}
 use Rattle.just_parts.specs.declared.layers.ast.Item.{Item}
 use Rattle.just_parts.specs.declared.layers.ast.Item.TheVariants as item
 use Rattle.just_bench.specs.declared.lines.Line.{Line}
 use Rattle.just_bench.specs.declared.grammar.Heading.{Heading}
 use Rattle.just_bench.specs.declared.grammar.Reading.{Reading}
-use Rattle.just_bench.specs.declared.grammar.Reading.TheVariants.{Bad, Ignored, Begins}
+use Rattle.just_bench.specs.declared.grammar.Reading.TheVariants.{Bad, Ignored, Imports, Declares, Begins}
 use Rattle.just_bench.specs.Lines.{lines_of}
 use Rattle.just_bench.specs.Grammar.{reading}
 
@@ -44,10 +46,27 @@ recipe h = record {
   recipe_path = None;
 }
 
+-- the text between the quotes of a quoted text
+abbrev pub between_quotes : List ℕ → List ℕ
+between_quotes text = slice_range text 1 (length text - 1)
+
+-- a quoted text
+abbrev pub literal : Place → StringLiteral
+literal token = record { cooked = between_quotes (lexeme token); token = token }
+
+-- the import of a file, and a module, whose absolute paths are not there yet
+abbrev pub import_of : Place → Bool → Item
+import_of path optional = item.Import (literal path) None optional
+
+abbrev pub module_of : Name → Option Place → Bool → Item
+module_of name path optional = item.Module name (option_map literal path) None optional
+
 -- a line after these items, and then those lines that follow
 abbrev pub with_line : Reading → ℕ → List Item → (List Item → Result (List Item) ℕ) → Result (List Item) ℕ
 with_line Bad number items others = Err number
 with_line Ignored number items others = others items
+with_line (Imports path optional) number items others = others (items ++ import_of path optional ∷ [])
+with_line (Declares name path optional) number items others = others (items ++ module_of name path optional ∷ [])
 with_line (Begins h) number items others = others (items ++ item.Recipe (recipe h) ∷ [])
 
 -- lines after these items
@@ -59,6 +78,8 @@ with_lines path text items (line ∷ rest) = with_line (reading path text line) 
 abbrev pub spends_line : Reading → ℕ → ℕ
 spends_line Bad others = 0
 spends_line Ignored others = others
+spends_line (Imports path optional) others = others
+spends_line (Declares name path optional) others = others
 spends_line (Begins h) others = (1 + length h.parameters) + others
 
 abbrev pub spends_lines : List ℕ → List ℕ → List Line → ℕ

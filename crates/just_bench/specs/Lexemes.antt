@@ -1,7 +1,7 @@
 -- The lexemes of a line.
-use Rattle.std.specs.Prelude.{zero, suc, ℕ, ◌<◌, ◌≤◌, slice_index, ◌+◌, ◌-◌, ◌==◌, Bool, false, ◌||◌, if◌then◌else◌, List, [], ◌∷◌, length, Option, Some, None}
+use Rattle.std.specs.Prelude.{zero, suc, ◌≡◌, ℕ, ◌<◌, ◌≤◌, slice_index, ◌+◌, ◌-◌, ◌==◌, Bool, false, ◌||◌, if◌then◌else◌, List, [], ◌∷◌, ◌++◌, length, Option, Some, None}
 use Rattle.std.specs.Option.{option_map}
-use Rattle.std.specs.List.{prefix_len}
+use Rattle.std.specs.List.{All, prefix_len, position}
 use Rattle.just_parts.specs.Identifier.{is_identifier_start, is_identifier_continue}
 use Rattle.just_parts.specs.Token.{Place}
 use Rattle.just_bench.specs.declared.lines.Line.{Line}
@@ -18,14 +18,30 @@ abbrev pub starts_with_and : List ℕ → Bool
 starts_with_and [] = false
 starts_with_and (b ∷ rest) = b == 38
 
+-- the byte `'`
+abbrev pub is_quote : ℕ → Bool
+is_quote b = b == 39
+
+-- a text between two quotes, without a quote in it
+pub record IsQuoted (text : List ℕ) : Type 0 where
+  pub inside : List ℕ
+  pub whole : text ≡ 39 ∷ inside ++ 39 ∷ []
+  pub clear : All (λ b. is_quote b ≡ false) inside
+
+-- a quoted text, from the bytes after its first quote
+abbrev pub quoted : List ℕ → Option (Kind × ℕ)
+quoted rest = option_map {U = Kind × ℕ} (λ inside. (kind.Quoted, inside + 2)) (position is_quote rest)
+
 -- the kind and length of the lexeme at the front
 abbrev pub first : List ℕ → Option (Kind × ℕ)
 first [] = None
 first (b ∷ rest) =
     if is_identifier_start b then Some (kind.Name, prefix_len is_identifier_continue rest + 1)
     else (if b == 58 then Some (kind.Colon, 1)
+    else (if b == 63 then Some (kind.Question, 1)
+    else (if is_quote b then quoted rest
     else (if b == 38 then (if starts_with_and rest then Some (kind.And, 2) else None)
-    else None))
+    else None))))
 
 -- a lexeme of this size is there, and begins and ends with an ASCII character
 pub record Takes (bytes : List ℕ) (size : ℕ) : Type 0 where

@@ -1,12 +1,12 @@
 //! What a line says, from its lexemes.
-ghost use Rattle.std.specs.Prelude.{◌≡◌, IfOk};
+ghost use Rattle.std.specs.Prelude.{◌≡◌, IfOk, Some};
 ghost use Rattle.just_bench.specs.Lines.{IsLineOf};
 ghost use Rattle.just_bench.specs.Grammar as spec;
 
 use crate::lexer::{Kind, Lexeme, is_blank, lex};
 use crate::lines::Line;
 use just_data::Sequence;
-use just_parts::layers::Name;
+use just_parts::layers::{Name, Token};
 use std::alloc::{AllocError, Global};
 
 /// The line that a recipe begins with: its name, its parameters, and what runs before and after it.
@@ -25,6 +25,17 @@ pub enum Reading<'src> {
     Bad,
     /// Nothing.
     Ignored,
+    /// A file is imported, which may be missing where it is optional. The path is a quoted text.
+    Imports {
+        path: Token<'src>,
+        optional: bool,
+    },
+    /// A file is a module, which may be missing where it is optional. The path is a quoted text.
+    Declares {
+        name: Name<'src>,
+        path: Option<Token<'src>>,
+        optional: bool,
+    },
     /// A recipe begins.
     Begins(Heading<'src>),
 }
@@ -45,6 +56,18 @@ fn is_and(kind: Kind) -> bool
     ensures { result ≡ spec.is_and kind }
 {
     matches!(kind, Kind::And)
+}
+
+fn is_question(kind: Kind) -> bool
+    ensures { result ≡ spec.is_question kind }
+{
+    matches!(kind, Kind::Question)
+}
+
+fn is_quoted(kind: Kind) -> bool
+    ensures { result ≡ spec.is_quoted kind }
+{
+    matches!(kind, Kind::Quoted)
 }
 
 // The names at the front, and what follows them.
@@ -141,6 +164,116 @@ fn after_priors<'src>(
     }))
 }
 
+fn is_word<'src>(lexeme: &Lexeme<'src>, word: &str) -> bool
+    ensures { result ≡ spec.is_word word.now lexeme.now }
+{
+    is_name(lexeme.kind) && lexeme.token.lexeme() == word
+}
+
+// Whether the second stands right after the first.
+fn touch<'src>(first: &Lexeme<'src>, second: &Lexeme<'src>) -> bool
+    ensures { result ≡ spec.touch first.now second.now }
+{
+    match second.token.offset().checked_sub(first.token.offset()) {
+        None => false,
+        Some(distance) => distance == first.token.length(),
+    }
+}
+
+// Whether `?` stands right after a word, and what follows.
+fn after_word<'a, 'src>(
+    word: &Lexeme<'src>,
+    lexemes: &'a [Lexeme<'src>],
+) -> (bool, &'a [Lexeme<'src>])
+    ensures optional { result.0 ≡ spec.is_optional word.now lexemes.now }
+    ensures rest { result.1.now ≡ spec.after_word word.now lexemes.now }
+{
+    match lexemes.split_first() {
+        Some((first, rest)) if is_question(first.kind) && touch(word, first) => (true, rest),
+        _ => (false, lexemes),
+    }
+}
+
+// The quoted text that stands there alone.
+fn only_quoted<'src>(lexemes: &[Lexeme<'src>]) -> Option<Token<'src>>
+    ensures { result ≡ spec.only_quoted lexemes.now }
+{
+    let (first, rest) = lexemes.split_first()?;
+    if is_quoted(first.kind) && rest.is_empty() {
+        Some(first.token.copied())
+    } else {
+        None
+    }
+}
+
+// The import that the lexemes of a line are.
+fn read_import<'src>(lexemes: &[Lexeme<'src>]) -> Option<Reading<'src>>
+    ensures { result ≡ spec.import_line lexemes.now }
+{
+    let (word, rest) = lexemes.split_first()?;
+    if !is_word(word, "import") {
+        return None;
+    }
+    let (optional, rest) = after_word(word, rest);
+    let path = only_quoted(rest)?;
+    Some(Reading::Imports { path, optional })
+}
+
+// The module whose name was read, from what follows it.
+fn after_module<'src>(
+    name: Name<'src>,
+    optional: bool,
+    lexemes: &[Lexeme<'src>],
+) -> Option<Reading<'src>>
+    ensures { result ≡ spec.after_module name.entry optional lexemes.now }
+{
+    let path = if lexemes.is_empty() {
+        None
+    } else {
+        Some(only_quoted(lexemes)?)
+    };
+    Some(Reading::Declares {
+        name,
+        path,
+        optional,
+    })
+}
+
+// The module that the lexemes of a line are.
+fn read_module<'src>(lexemes: &[Lexeme<'src>]) -> Option<Reading<'src>>
+    ensures { result ≡ spec.module_line lexemes.now }
+{
+    let (word, rest) = lexemes.split_first()?;
+    if !is_word(word, "mod") {
+        return None;
+    }
+    let (optional, rest) = after_word(word, rest);
+    let (first, rest) = rest.split_first()?;
+    if !is_name(first.kind) {
+        return None;
+    }
+    let name = Name {
+        token: first.token.copied(),
+    };
+    after_module(name, optional, rest)
+}
+
+// What the lexemes of a line say.
+fn read_lexemes<'src>(alloc: Global, lexemes: &[Lexeme<'src>]) -> Result<Reading<'src>, AllocError>
+    ensures { IfOk result (λ found. found ≡ spec.sorted (Some lexemes.now)) }
+{
+    if let Some(import) = read_import(lexemes) {
+        return Ok(import);
+    }
+    if let Some(module) = read_module(lexemes) {
+        return Ok(module);
+    }
+    match read_heading(alloc, lexemes)? {
+        None => Ok(Reading::Bad),
+        Some(heading) => Ok(Reading::Begins(heading)),
+    }
+}
+
 /// What a line of a text says. The error is want of memory.
 #[tactic(auto, unfolding(crate::specs::Grammar::reading))]
 pub fn read_line<'src>(
@@ -150,7 +283,8 @@ pub fn read_line<'src>(
     line: &Line<'src>,
 ) -> Result<Reading<'src>, AllocError>
     requires { IsLineOf text.now line.now }
-    ensures { IfOk result (λ found. found ≡ spec.reading path.now text.now line.now) }
+    ensures is { IfOk result (λ found. found ≡ spec.reading path.now text.now line.now) }
+    ensures quoted { IfOk result spec.PathIsQuoted }
 {
     let bytes = line.text.as_str().as_bytes();
     let Some((first, _)) = bytes.split_first() else {
@@ -166,8 +300,5 @@ pub fn read_line<'src>(
     let Some(lexemes) = lex(alloc, path, text, line)? else {
         return Ok(Reading::Bad);
     };
-    match read_heading(alloc, lexemes.as_slice())? {
-        None => Ok(Reading::Bad),
-        Some(heading) => Ok(Reading::Begins(heading)),
-    }
+    read_lexemes(alloc, lexemes.as_slice())
 }

@@ -1,6 +1,6 @@
 //! The lexemes of a line, as parts of the whole text.
 ghost use Rattle.std.specs.Prelude.{◌≡◌, ◌≤◌, ◌<◌, ◌+◌, ◌-◌, length, slice_index, IfOk, IfSome};
-ghost use Rattle.std.specs.List.{prefix_len};
+ghost use Rattle.std.specs.List.{prefix_len, position};
 ghost use Rattle.just_parts.specs.Identifier.{is_identifier_start, is_identifier_continue};
 ghost use Rattle.just_bench.specs.Lines.{IsLineOf};
 ghost use Rattle.just_bench.specs.Lexemes as spec;
@@ -19,6 +19,10 @@ pub enum Kind {
     Colon,
     /// `&&`.
     And,
+    /// `?`.
+    Question,
+    /// A text between two `'`, which stand at its ends.
+    Quoted,
 }
 
 /// The smallest part of a line that means something.
@@ -60,6 +64,14 @@ fn name_rest(bytes: &[u8]) -> usize
     bytes.len()
 }
 
+// How many bytes stand before the first quote.
+fn quote_at(bytes: &[u8]) -> Option<usize>
+    ensures is { result ≡ position spec.is_quote bytes.now }
+    ensures within { IfSome result (λ at. at < length bytes.now) }
+{
+    bytes.iter().position(|byte| *byte == b'\'')
+}
+
 // The kind of the lexeme at the front, and its length.
 fn first(bytes: &[u8]) -> Option<(Kind, usize)>
     ensures is { result ≡ spec.first bytes.now }
@@ -75,6 +87,13 @@ fn first(bytes: &[u8]) -> Option<(Kind, usize)>
     }
     if byte == b':' {
         return Some((Kind::Colon, 1));
+    }
+    if byte == b'?' {
+        return Some((Kind::Question, 1));
+    }
+    if byte == b'\'' {
+        let inside = quote_at(rest)?;
+        return Some((Kind::Quoted, inside + 2));
     }
     if byte != b'&' {
         return None;

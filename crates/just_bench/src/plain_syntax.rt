@@ -1,27 +1,29 @@
 //! The small grammar as a syntax layer.
-ghost use Rattle.std.specs.Prelude.{◌≡◌, ◌<◌, ◌≤◌, ◌+◌, ◌^◌, ◌++◌, Ok, length, map, IfOk, IfErr, OnOk, false};
+ghost use Rattle.std.specs.Prelude.{◌≡◌, ◌<◌, ◌≤◌, ◌+◌, ◌^◌, ◌++◌, Ok, length, map, IfOk, IfErr, IfSome, OnOk, false};
 ghost use Rattle.std.specs.List.{All};
 ghost use Rattle.just_parts.specs.Token.{lexeme};
 ghost use Rattle.just_parts.specs.Bare.{bare_item, bare_recipe, bare_parameter};
 ghost use Rattle.just_parts.specs.Syntax.{CameBy, ItemCameBy, PriorsAreDependencies, components_of, parameter_numbers, recipe_numbers, numbers, AreRising};
+ghost use Rattle.just_bench.specs.Lexemes.{IsQuoted};
 ghost use Rattle.just_bench.specs.Refusal.{Spent, RefusesLine};
 ghost use Rattle.just_bench.specs.Items as spec;
 
 use crate::grammar::{Heading, Reading, read_line};
 use crate::lines::{line_token, lines};
-use just_data::Sequence;
+use just_data::{Sequence, Text};
 use just_parts::layers::{
     Ast, CompileError, CompileErrorKind, Error, Item, Name, Namepath, Numerator, Parameter,
-    ParameterKind, Syntax, UnresolvedDependency,
+    ParameterKind, StringLiteral, Syntax, Token, UnresolvedDependency,
 };
 use just_parts::{Modulepath, Recipe, Source, UnresolvedRecipe};
 use std::alloc::{AllocError, Global};
 
-/// A small grammar, line by line, that has nothing but recipes without bodies.
+/// A small grammar, line by line, that has nothing but imports, modules and recipes without bodies.
 ///
-/// A line that is empty or begins with `#` is ignored. Any other line is `NAME P .. : D .. && D ..`, where a name, a
-/// parameter and a dependency is an identifier, each list may be empty and the part from `&&` on may be missing.
-/// Blanks and tabs separate, but begin no line.
+/// A line that is empty or begins with `#` is ignored. `import 'P'` is an import, and `mod NAME` or `mod NAME 'P'` a
+/// module, where NAME is an identifier, P has no `'`, and `?` right after the first word makes it optional. Any other
+/// line is `NAME P .. : D .. && D ..`, where a name, a parameter and a dependency is an identifier, each list may be
+/// empty and the part from `&&` on may be missing. Blanks and tabs separate, but begin no line.
 #[derive(Clone, Copy, Debug, Default, PartialEq, Eq)]
 pub struct PlainSyntax;
 
@@ -157,6 +159,54 @@ fn make_recipe<'src>(
     })
 }
 
+// A quoted text, which keeps the text between its quotes.
+fn make_literal<'src>(alloc: Global, token: Token<'src>) -> Result<StringLiteral<'src>, AllocError>
+    requires { IsQuoted (lexeme token) }
+    ensures { IfOk result (λ made. made ≡ spec.literal token.entry) }
+{
+    let text = token.lexeme();
+    let cooked = Text::from_str(alloc, &text[1..text.len() - 1])?;
+    Ok(StringLiteral { cooked, token })
+}
+
+// The import of the file with this path.
+fn make_import<'src>(
+    alloc: Global,
+    path: Token<'src>,
+    optional: bool,
+) -> Result<Item<'src>, AllocError>
+    requires { IsQuoted (lexeme path) }
+    ensures { IfOk result (λ made. made ≡ spec.import_of path.entry optional) }
+{
+    Ok(Item::Import {
+        relative: make_literal(alloc, path)?,
+        absolute: None,
+        optional,
+    })
+}
+
+// The module of this name, whose file may have a path.
+fn make_module<'src>(
+    alloc: Global,
+    name: Name<'src>,
+    path: Option<Token<'src>>,
+    optional: bool,
+) -> Result<Item<'src>, AllocError>
+    requires { IfSome path (λ p. IsQuoted (lexeme p)) }
+    ensures { IfOk result (λ made. made ≡ spec.module_of name.entry path.entry optional) }
+{
+    let relative = match path {
+        None => None,
+        Some(path) => Some(make_literal(alloc, path)?),
+    };
+    Ok(Item::Module {
+        name,
+        relative,
+        absolute: None,
+        optional,
+    })
+}
+
 // The items of a text, or the first line that does not follow the grammar.
 #[tactic(auto, unfolding(crate::specs::Items::items_of, crate::specs::Items::spends))]
 fn parse<'src>(
@@ -186,6 +236,18 @@ fn parse<'src>(
                 }));
             }
             Reading::Ignored => continue,
+            Reading::Imports { path, optional } => {
+                let import = make_import(alloc, path, optional)?;
+                items.push(import)?;
+            }
+            Reading::Declares {
+                name,
+                path,
+                optional,
+            } => {
+                let module = make_module(alloc, name, path, optional)?;
+                items.push(module)?;
+            }
             Reading::Begins(heading) => {
                 let recipe = make_recipe(alloc, numerator, source, &heading)?;
                 items.push(Item::Recipe(recipe))?;

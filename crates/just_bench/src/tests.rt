@@ -6,6 +6,7 @@ ghost use Rattle.just_invoke.specs.Closed.{IsClosed};
 
 mod compiling;
 mod copies;
+mod files;
 mod paths;
 mod refusals;
 mod running;
@@ -16,7 +17,8 @@ use crate::{PlainEvaluation, PlainSyntax, Recorder, StopWriter};
 use just_analyzer::{Compilation, Compiler, Sources};
 use just_data::Text;
 use just_invoke::Report;
-use just_parts::layers::{Config, Entry, Error, Groups, Host};
+use just_parts::layers::{Ast, Config, Entry, Error, Groups, Host, Numerator, Syntax};
+use just_parts::{Source, is_clean};
 use std::alloc::{AllocError, Global};
 
 // Compiles a text as the one file there is.
@@ -37,6 +39,17 @@ pub fn compile<'src>(alloc: Global, text: &'src str) -> Result<Compilation<'src>
         &sources,
         root,
     )
+}
+
+// What the grammar reads in a text.
+pub fn parse<'src>(alloc: Global, text: &'src str) -> Result<Ast<'src>, Error<'src>> {
+    let path = "/justfile";
+    if !is_clean(path) {
+        return Err(Error::Memory);
+    }
+    let source = Source::root(alloc, path)?;
+    let copy = source.clone()?;
+    PlainSyntax.parse_source(alloc, &mut Numerator::new(), "justfile", &copy, text)
 }
 
 // Runs words, with room for 64 bytes of output.

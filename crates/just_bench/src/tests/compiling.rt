@@ -42,10 +42,7 @@ fn broken_rule_is_told(rt: HostRuntime) -> Result<(), Fail> {
             "r:\nr:\n",
             "Redefinition: Recipe `r` first defined on line 1 is redefined as Recipe",
         ),
-        (
-            "import 'x'\n",
-            "Syntax: The line does not follow the grammar",
-        ),
+        ("import x\n", "Syntax: The line does not follow the grammar"),
         ("x := '1'\n", "Syntax: The line does not follow the grammar"),
         (
             "a: (d '1')\n",

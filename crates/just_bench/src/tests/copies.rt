@@ -1,31 +1,19 @@
 ghost use Rattle.std.specs.Prelude.{◌≡◌, [], OnOk};
 
-use crate::{PlainSyntax, Recorder};
+use super::parse;
+use crate::Recorder;
 use just_data::{Boxed, Sequence, Text};
 use just_invoke::{RecipeKey, Recipes};
-use just_parts::layers::{
-    Ast, Entry, Error, Host, Item, Name, Number, Numerator, Syntax, UnresolvedDependency,
-};
-use just_parts::{Dependency, Modulepath, Recipe, Source, UnresolvedRecipe, is_clean};
+use just_parts::layers::{Ast, Entry, Host, Item, Name, Number, UnresolvedDependency};
+use just_parts::{Dependency, Modulepath, Recipe, UnresolvedRecipe};
 use std::alloc::Global;
 use std::test::Fail;
-
-// What the grammar reads in a text.
-fn parse<'src>(alloc: Global, text: &'src str) -> Result<Ast<'src>, Error<'src>> {
-    let path = "/justfile";
-    if !is_clean(path) {
-        return Err(Error::Memory);
-    }
-    let source = Source::root(alloc, path)?;
-    let copy = source.clone()?;
-    PlainSyntax.parse_source(alloc, &mut Numerator::new(), "justfile", &copy, text)
-}
 
 // The first recipe of what was read.
 fn first_recipe<'a, 'src>(ast: &'a Ast<'src>) -> Option<&'a UnresolvedRecipe<'src>> {
     match ast.items.get(0) {
         Some(Item::Recipe(recipe)) => Some(recipe),
-        None => None,
+        _ => None,
     }
 }
 
@@ -64,6 +52,22 @@ fn what_was_read_is_copied(rt: HostRuntime) -> Result<(), Fail> {
     assert_eq!(rt; recipe.parameters.len(), 2);
     assert_eq!(rt; recipe.dependencies.len(), 2);
     assert_eq!(rt; recipe.priors, 1);
+    Ok(())
+}
+
+#[test]
+fn imports_and_modules_are_copied(rt: HostRuntime) -> Result<(), Fail> {
+    let ast = match parse(rt.alloc(), "import 'a'\nmod? m 'b'\nmod n\n") {
+        Ok(ast) => ast,
+        Err(error) => return Ok(assert!(rt; false, "{error}")),
+    };
+    let other = match parse(rt.alloc(), "import 'a'\nmod m 'b'\nmod n\n") {
+        Ok(ast) => ast,
+        Err(error) => return Ok(assert!(rt; false, "{error}")),
+    };
+    assert!(rt; ast.clone()? == ast);
+    assert!(rt; other != ast);
+    assert_eq!(rt; ast.items.len(), 3);
     Ok(())
 }
 
