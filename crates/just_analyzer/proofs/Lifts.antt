@@ -7,6 +7,11 @@ use Rattle.just_analyzer.specs.Rules.{Cause, NoFile, Broken, NoNumber, Reports}
 
 pub reports_by : (G H : Cause → Type 0) → ((c : Cause) → G c → H c) → (e : Error) → Reports G e → Reports H e
 reports_by G H f (error.Load (load.Load path)) g = f (NoFile path) g
+reports_by G H f (error.Load load.Homedir) g = g
+reports_by G H f (error.Load (load.MissingImportFile path)) g = g
+reports_by G H f (error.Load (load.MissingModuleFile name)) g = g
+reports_by G H f (error.Load (load.AmbiguousModuleFile name found)) g = g
+reports_by G H f (error.Load (load.CircularImport current next)) g = g
 reports_by G H f (error.Compile e) g = f (Broken e.kind) g
 reports_by G H f (error.Invocation e) g = g
 reports_by G H f (error.Run e) g = g

@@ -28,6 +28,11 @@ Keeps group = (c : Cause) → group c → ⊥
 -- an error is named; want of memory aside
 abbrev pub Reports : (Cause → Type 0) → Error → Type 0
 Reports group (error.Load (load.Load path)) = group (NoFile path)
+Reports group (error.Load load.Homedir) = ⊥
+Reports group (error.Load (load.MissingImportFile path)) = ⊥
+Reports group (error.Load (load.MissingModuleFile name)) = ⊥
+Reports group (error.Load (load.AmbiguousModuleFile name found)) = ⊥
+Reports group (error.Load (load.CircularImport current next)) = ⊥
 Reports group (error.Compile e) = group (Broken e.kind)
 Reports group (error.Invocation e) = ⊥
 Reports group (error.Run e) = ⊥

@@ -2,11 +2,13 @@
 #![tactic(auto)]
 
 mod boxed;
+mod chain;
 mod exact;
 mod sequence;
 mod text;
 
 pub use boxed::Boxed;
+pub use chain::Chain;
 pub use exact::Exact;
 pub use sequence::Sequence;
 pub use text::{BorrowedText, Text};

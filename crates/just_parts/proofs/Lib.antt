@@ -1,3 +1,4 @@
+pub mod Joins
 pub mod ModulepathLemmas
 pub mod Shown
 pub mod Slashes

@@ -3,6 +3,7 @@ pub mod Clean
 pub mod Entries
 pub mod Host
 pub mod Identifier
+pub mod Join
 pub mod Lends
 pub mod Messages
 pub mod Modulepath

@@ -20,6 +20,11 @@ use Rattle.just_parts.specs.declared.layers.error.Error.TheVariants as error
 -- the names of the variants
 abbrev pub load_name : LoadError → List ℕ
 load_name (load.Load path) = codes "Load"
+load_name load.Homedir = codes "Homedir"
+load_name (load.MissingImportFile path) = codes "MissingImportFile"
+load_name (load.MissingModuleFile name) = codes "MissingModuleFile"
+load_name (load.AmbiguousModuleFile name found) = codes "AmbiguousModuleFile"
+load_name (load.CircularImport current next) = codes "CircularImport"
 
 abbrev pub kind_name : CompileErrorKind → List ℕ
 kind_name kind.Syntax = codes "Syntax"

@@ -3,6 +3,7 @@
 
 pub mod dependency;
 pub mod identifier;
+pub mod join;
 pub mod layers;
 pub mod modulepath;
 pub mod recipe;
@@ -10,6 +11,7 @@ pub mod source;
 pub mod table;
 
 pub use dependency::Dependency;
+pub use join::clean_join;
 pub use modulepath::Modulepath;
 pub use recipe::{Recipe, UnresolvedRecipe};
 pub use source::{Source, is_clean};

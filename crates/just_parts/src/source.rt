@@ -1,12 +1,15 @@
-ghost use Rattle.std.specs.Prelude.{◌≡◌, ◌↔◌, [], ◌∷◌, None, IsTrue, IfOk};
+ghost use Rattle.std.specs.Prelude.{◌≡◌, ◌↔◌, ◌⊎◌, ◌+◌, [], ◌∷◌, ◌++◌, Some, None, IsTrue, IfOk, IfErr, IsErrOf, MatchResult};
 ghost use Rattle.just_parts.specs.Clean.{IsClean, is_component, folder_of, file_name_of};
+ghost use Rattle.just_parts.specs.Name.{submodule_path};
 
-use crate::layers::name::Namepath;
-use just_data::{Exact, Sequence, Text};
+use crate::layers::error::Error;
+use crate::layers::name::{Name, Namepath};
+use crate::layers::number::Exhausted;
+use just_data::{Chain, Exact, Sequence, Text};
 use std::alloc::{AllocError, Global};
 
 // Whether the text may stand between two slashes of a clean path.
-fn is_component(text: &str) -> bool
+pub(crate) fn is_component(text: &str) -> bool
     ensures { result ≡ is_component text.now }
 {
     !(text.is_empty() || text == "." || text == "..")
@@ -55,11 +58,13 @@ pub fn file_name_of(path: &str) -> &str
     }
 }
 
-/// A file of a compilation, and how it came in: `file_depth` imports and modules lead to it from the root, it is
-/// imported at `import_offsets`, and it belongs to the module `namepath`, none for the root's.
+/// A file of a compilation, and how it came in: `file_depth` imports and modules lead to it from the root, by the files
+/// `file_path`, itself the last. It is imported at `import_offsets`, and it belongs to the module `namepath`, none for
+/// the root's.
 #[derive(Clone, Debug, PartialEq, Eq, Drop)]
 pub struct Source<'src> {
     pub file_depth: u64,
+    pub file_path: Chain,
     pub import_offsets: Sequence<usize>,
     pub namepath: Option<Namepath<'src>>,
     pub path: Text,
@@ -72,11 +77,26 @@ impl<'src> Exact for Source<'src> {
     ghost exact = { Prim.search rules };
 }
 
+// The path of the module `name` of another, or of the root's.
+fn submodule_path<'src>(
+    alloc: Global,
+    parent: &Option<Namepath<'src>>,
+    name: &Name<'src>,
+) -> Result<Namepath<'src>, AllocError>
+    ensures { IfOk result (λ path. path ≡ submodule_path parent.now name.now) }
+{
+    match parent {
+        Some(path) => path.join(name),
+        None => Ok(Namepath::single(alloc, name)),
+    }
+}
+
 impl<'src> Source<'src> {
     /// The root file, which works in its folder.
     pub fn root(alloc: Global, path: &str) -> Result<Source<'src>, AllocError>
         requires { IsClean path.now }
         ensures depth { IfOk result (λ source. source.file_depth ≡ 0) }
+        ensures chain { IfOk result (λ source. source.file_path ≡ path.now ∷ []) }
         ensures offsets { IfOk result (λ source. source.import_offsets ≡ []) }
         ensures module { IfOk result (λ source. source.namepath ≡ None) }
         ensures path { IfOk result (λ source. source.path ≡ path.now) }
@@ -84,10 +104,80 @@ impl<'src> Source<'src> {
     {
         Ok(Source {
             file_depth: 0,
+            file_path: Chain::new().pushed(alloc, Text::from_str(alloc, path)?)?,
             import_offsets: Sequence::new(alloc),
             namepath: None,
             path: Text::from_str(alloc, path)?,
             working_directory: Text::from_str(alloc, folder_of(path))?,
+        })
+    }
+
+    // The depth of a file that this one names.
+    fn next_depth(&self) -> Result<u64, Exhausted>
+        ensures { MatchResult result (λ depth. depth ≡ self.now.file_depth + 1) (λ _. self.now.file_depth ≡ u64.MAX) }
+    {
+        if self.file_depth == u64::MAX {
+            return Err(Exhausted);
+        }
+        Ok(self.file_depth + 1)
+    }
+
+    /// The file that this one imports at an offset. It belongs to this one's module and works where this one does.
+    pub fn import(
+        &self,
+        alloc: Global,
+        path: &str,
+        offset: usize,
+    ) -> Result<Source<'src>, Error<'src>>
+        ensures depth { IfOk result (λ source. source.file_depth ≡ self.now.file_depth + 1) }
+        ensures chain { IfOk result (λ source. source.file_path ≡ self.now.file_path ++ path.now ∷ []) }
+        ensures offsets { IfOk result (λ source. source.import_offsets ≡ self.now.import_offsets ++ offset ∷ []) }
+        ensures module { IfOk result (λ source. source.namepath ≡ self.now.namepath) }
+        ensures path { IfOk result (λ source. source.path ≡ path.now) }
+        ensures folder { IfOk result (λ source. source.working_directory ≡ self.now.working_directory) }
+        ensures exhausted { IsErrOf result Error.Exhausted ↔ (self.now.file_depth ≡ u64.MAX) }
+        ensures error { IfErr result (λ e. (e ≡ Error.Exhausted) ⊎ (e ≡ Error.Memory)) }
+    {
+        let file_depth = self.next_depth()?;
+        let mut import_offsets = self.import_offsets.clone()?;
+        import_offsets.push(offset)?;
+        Ok(Source {
+            file_depth,
+            file_path: self.file_path.pushed(alloc, Text::from_str(alloc, path)?)?,
+            import_offsets,
+            namepath: self.namepath.clone()?,
+            path: Text::from_str(alloc, path)?,
+            working_directory: self.working_directory.clone()?,
+        })
+    }
+
+    /// The file of the module `name` of this one's module. It works in its own folder.
+    pub fn module(
+        &self,
+        alloc: Global,
+        name: &Name<'src>,
+        path: &str,
+    ) -> Result<Source<'src>, Error<'src>>
+        requires { IsClean path.now }
+        ensures depth { IfOk result (λ source. source.file_depth ≡ self.now.file_depth + 1) }
+        ensures chain { IfOk result (λ source. source.file_path ≡ self.now.file_path ++ path.now ∷ []) }
+        ensures offsets { IfOk result (λ source. source.import_offsets ≡ []) }
+        ensures module { IfOk result (λ source. source.namepath ≡ Some (submodule_path self.now.namepath name.now)) }
+        ensures path { IfOk result (λ source. source.path ≡ path.now) }
+        ensures folder { IfOk result (λ source. source.working_directory ≡ folder_of path.now) }
+        ensures exhausted { IsErrOf result Error.Exhausted ↔ (self.now.file_depth ≡ u64.MAX) }
+        ensures error { IfErr result (λ e. (e ≡ Error.Exhausted) ⊎ (e ≡ Error.Memory)) }
+    {
+        let file_depth = self.next_depth()?;
+        let folder = folder_of(path);
+        let import_offsets = Sequence::new(alloc);
+        Ok(Source {
+            file_depth,
+            file_path: self.file_path.pushed(alloc, Text::from_str(alloc, path)?)?,
+            import_offsets,
+            namepath: Some(submodule_path(alloc, &self.namepath, name)?),
+            path: Text::from_str(alloc, path)?,
+            working_directory: Text::from_str(alloc, folder)?,
         })
     }
 }

@@ -108,7 +108,10 @@ fn odd_words_are_unknown_recipes(rt: HostRuntime) -> Result<(), Fail> {
 
 #[test]
 fn one_refuses_two_invocations(rt: HostRuntime) -> Result<(), Fail> {
-    let config = Config { one: true };
+    let config = Config {
+        home: None,
+        one: true,
+    };
     let text = "a: d && d\nd:\n";
     let two = run_text_under(rt.alloc(), &config, text, &["a", "a"])?;
     assert_eq!(rt;

@@ -3,7 +3,7 @@ ghost use Rattle.std.specs.Fmt.{HasWritten, IsPlainFormatter};
 ghost use Rattle.just_parts.specs.Modulepath.{joined};
 ghost use Rattle.just_parts.specs.Messages.{load_name, kind_name, invocation_name, run_name, error_name};
 
-use crate::layers::name::Namepath;
+use crate::layers::name::{Name, Namepath};
 use crate::layers::number::Exhausted;
 use crate::layers::token::Token;
 use just_data::{BorrowedText, Sequence, Text};
@@ -13,19 +13,51 @@ use thiserror::Error;
 
 /// Why the files could not be loaded.
 #[derive(Debug, Drop, Error)]
-pub enum LoadError {
+pub enum LoadError<'src> {
     /// The root is no key of the source map.
     #[error("Could not find source file `{path}`")]
-    Load { path: Text },
+    Load {
+        path: Text,
+    },
+    /// A path begins with `~`, and no home folder is known.
+    #[error("Failed to get homedir")]
+    Homedir,
+    /// An import names no file.
+    #[error("Could not find source file for import")]
+    MissingImportFile {
+        path: Token<'src>,
+    },
+    /// No file is found for a module.
+    #[error("Could not find source file for module `{module}`")]
+    MissingModuleFile {
+        module: Name<'src>,
+    },
+    /// Several files are found for a module.
+    #[error("Found multiple source files for module `{module}`")]
+    AmbiguousModuleFile {
+        module: Name<'src>,
+        found: Sequence<Text>,
+    },
+    /// A file leads back to itself.
+    #[error("Import `{import}` in `{current}` is circular")]
+    CircularImport {
+        current: Text,
+        import: Text,
+    },
 }
 
-impl LoadError {
+impl<'src> LoadError<'src> {
     /// The name of the variant.
     pub fn name(&self) -> &'static str
         ensures { result.now ≡ load_name self.now }
     {
         match self {
             LoadError::Load { .. } => "Load",
+            LoadError::Homedir => "Homedir",
+            LoadError::MissingImportFile { .. } => "MissingImportFile",
+            LoadError::MissingModuleFile { .. } => "MissingModuleFile",
+            LoadError::AmbiguousModuleFile { .. } => "AmbiguousModuleFile",
+            LoadError::CircularImport { .. } => "CircularImport",
         }
     }
 }
@@ -304,7 +336,7 @@ pub enum SourceError {
 #[derive(Debug, Drop, Error)]
 pub enum Error<'src> {
     #[error(transparent)]
-    Load(LoadError),
+    Load(LoadError<'src>),
     #[error(transparent)]
     Compile(CompileError<'src>),
     #[error(transparent)]

@@ -3,7 +3,7 @@ ghost use Rattle.just_parts.specs.Token.{lexeme};
 
 use crate::layers::token::Token;
 use just_data::{Exact, Sequence};
-use std::alloc::AllocError;
+use std::alloc::{AllocError, Global};
 use std::fmt;
 
 /// A name in a source text.
@@ -77,6 +77,30 @@ pub struct Namepath<'src> {
 }
 
 impl<'src> Namepath<'src> {
+    /// The path of one name, which takes no memory.
+    pub fn single(alloc: Global, name: &Name<'src>) -> Namepath<'src>
+        ensures front { result.front ≡ [] }
+        ensures last { result.last ≡ name.now }
+    {
+        Namepath {
+            front: Sequence::new(alloc),
+            last: name.copied(),
+        }
+    }
+
+    /// The path one name on.
+    pub fn join(&self, name: &Name<'src>) -> Result<Namepath<'src>, AllocError>
+        ensures front { IfOk result (λ path. path.front ≡ self.now.front ++ self.now.last ∷ []) }
+        ensures last { IfOk result (λ path. path.last ≡ name.now) }
+    {
+        let mut front = self.front.clone()?;
+        front.push(self.last.copied())?;
+        Ok(Namepath {
+            front,
+            last: name.copied(),
+        })
+    }
+
     /// The last name.
     pub fn last(&self) -> &Name<'src>
         ensures { result.now ≡ self.now.last }

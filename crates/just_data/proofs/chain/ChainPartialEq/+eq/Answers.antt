@@ -1,0 +1,10 @@
+use Rattle.std.proofs.Common.{rules, nat_eq}
+use Rattle.std.specs.Cmp.Lexicographic.{pointwise}
+use Rattle.just_data.proofs.Chained.{pointwise_pushed}
+use Rattle.just_data.proofs.chain.ChainPartialEq.+eq.Goals as goal
+
+pub returns-then-eq : goal.returns-then-eq
+returns-then-eq t c = search (rules, pointwise_pushed)
+
+pub returns-else-eq : goal.returns-else-eq
+returns-else-eq t c = search (rules, pointwise_pushed)
