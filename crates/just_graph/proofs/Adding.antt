@@ -91,7 +91,7 @@ pub row_done : (row : List ℕ) (seen : List Bool) (found : List ℕ) (seen' : L
 row_done row seen found seen' found' s b c = at_contained (λ a. is_seen seen' a ≡ true) row (λ j h. s.row_seen j h h) b c
 
 module _ (g : List (Vec ℕ Global)) (start : List ℕ) (stops : List Bool) where
-  all_unseen : (n a : ℕ) → is_seen (replicate n false) a ≡ false
+  pub all_unseen : (n a : ℕ) → is_seen (replicate n false) a ≡ false
   all_unseen n a = elim (cases_lt a n) [
     | inl l ↦ get_or-replicate n a false false l
     | inr l ↦ get_or_past (replicate n false) a false (omega (arith, length-replicate n false))

@@ -4,3 +4,16 @@ pub mod Steps
 pub mod Frames
 pub mod Ends
 pub mod Adding
+pub mod Members
+pub mod Last
+pub mod Leveling
+pub mod Least
+pub mod Places
+pub mod MarkedLevels
+pub mod Deep
+pub mod Preorder
+pub mod Ranks
+pub mod Told
+pub mod StepRows
+pub mod Walking
+pub mod Deepening

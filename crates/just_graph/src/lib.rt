@@ -11,6 +11,9 @@ ghost use Rattle.just_graph.specs.Search.{mark, Searching};
 ghost use Rattle.just_graph.specs.Found.{Listing, Added};
 ghost use Rattle.just_graph.specs.Path.{nodes, passes};
 
+pub mod levels;
+pub mod unfolding;
+
 use std::alloc::{AllocError, Global};
 
 // Where a node stands in the search: not yet seen, on the path, or with all that it reaches in the order.

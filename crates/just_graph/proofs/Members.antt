@@ -1,0 +1,66 @@
+-- Membership, by recursion on the list.
+use Rattle.std.proofs.Common.{◌≡◌, ℕ, zero, suc, ◌<◌, List, [], ◌∷◌, ◌++◌, map, reverse, length, get_or, ◌⊎◌, inl, inr, refl, sym, ap, subst, arith}
+use Rattle.std.proofs.lemmas.List.Elements.{Contains-append_right}
+use Rattle.std.specs.List.{Contains}
+use Rattle.std.proofs.lemmas.List.{reverse-append}
+
+-- x is an element
+abbrev pub In : {A : Type 0} → A → List A → Type 0
+In x [] = ⊥
+In x (y ∷ ys) = (x ≡ y) ⊎ In x ys
+
+pub contained : {A : Type 0} (x : A) (xs : List A) → In x xs → Contains xs x
+contained x [] h = absurd h
+contained x (y ∷ ys) (inl e) = (0, omega arith, sym e)
+contained x (y ∷ ys) (inr h) = Contains-append_right (y ∷ []) ys x (contained x ys h)
+
+at_place : {A : Type 0} (x : A) (xs : List A) (k : ℕ) → k < length xs → get_or xs k x ≡ x → In x xs
+at_place x [] k l e = absurd (omega arith)
+at_place x (y ∷ ys) zero l e = inl (sym e)
+at_place x (y ∷ ys) (suc k) l e = inr (at_place x ys k (omega arith) e)
+
+pub is_in : {A : Type 0} (x : A) (xs : List A) → Contains xs x → In x xs
+is_in x xs c = at_place x xs c.0 c.1 c.2
+
+pub in_left : {A : Type 0} (x : A) (xs ys : List A) → In x xs → In x (xs ++ ys)
+in_left x [] ys h = absurd h
+in_left x (y ∷ xs) ys (inl e) = inl e
+in_left x (y ∷ xs) ys (inr h) = inr (in_left x xs ys h)
+
+pub in_right : {A : Type 0} (x : A) (xs ys : List A) → In x ys → In x (xs ++ ys)
+in_right x [] ys h = h
+in_right x (y ∷ xs) ys h = inr (in_right x xs ys h)
+
+pub in_cases : {A : Type 0} (x : A) (xs ys : List A) → In x (xs ++ ys) → In x xs ⊎ In x ys
+in_cases x [] ys h = inr h
+in_cases x (y ∷ xs) ys (inl e) = inl (inl e)
+in_cases x (y ∷ xs) ys (inr h) = elim (in_cases x xs ys h) [ inl l ↦ inl (inr l) | inr r ↦ inr r ]
+
+pub in_last : {A : Type 0} (x : A) (xs : List A) → In x (xs ++ (x ∷ []))
+in_last x xs = in_right x xs (x ∷ []) (inl refl)
+
+pub in_map : {A B : Type 0} (f : A → B) (x : A) (xs : List A) → In x xs → In (f x) (map f xs)
+in_map f x [] h = absurd h
+in_map f x (y ∷ xs) (inl e) = inl (ap f e)
+in_map f x (y ∷ xs) (inr h) = inr (in_map f x xs h)
+
+pub from_map : {A B : Type 0} (f : A → B) (y : B) (xs : List A) → In y (map f xs) → (x : A) × In x xs × (y ≡ f x)
+from_map f y [] h = absurd h
+from_map f y (x ∷ xs) (inl e) = (x, inl refl, e)
+from_map f y (x ∷ xs) (inr h) = let r = from_map f y xs h in (r.0, inr r.1, r.2)
+
+reverse_cons : {A : Type 0} (x : A) (xs : List A) → reverse (x ∷ xs) ≡ reverse xs ++ (x ∷ [])
+reverse_cons x xs = reverse-append (x ∷ []) xs
+
+pub in_reverse : {A : Type 0} (x : A) (xs : List A) → In x xs → In x (reverse xs)
+in_reverse x [] h = absurd h
+in_reverse x (y ∷ xs) (inl e) = subst (λ zs. In x zs) (sym (reverse_cons y xs)) (in_right x (reverse xs) (y ∷ []) (inl e))
+in_reverse x (y ∷ xs) (inr h) = subst (λ zs. In x zs) (sym (reverse_cons y xs)) (in_left x (reverse xs) (y ∷ []) (in_reverse x xs h))
+
+pub from_reverse : {A : Type 0} (x : A) (xs : List A) → In x (reverse xs) → In x xs
+from_reverse x [] h = h
+from_reverse x (y ∷ xs) h = elim (in_cases x (reverse xs) (y ∷ []) (subst (λ zs. In x zs) (reverse_cons y xs) h)) [
+  | inl l ↦ inr (from_reverse x xs l)
+  | inr (inl e) ↦ inl e
+  | inr (inr f) ↦ absurd f
+]

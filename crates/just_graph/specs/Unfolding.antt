@@ -1,0 +1,89 @@
+-- The unfolding of a graph: the tree of all trails of steps from the root, with nothing shared, and its first nodes.
+use Rattle.std.specs.Prelude.{◌≡◌, ℕ, zero, suc, ◌≤◌, Option, Some, None, List, [], ◌∷◌, ◌++◌, length, map, reverse}
+use Rattle.std.specs.List.{Contains}
+use Rattle.std.specs.declared.vec.Vec.{Vec}
+use Rattle.std.specs.declared.alloc.Global.{Global}
+use Rattle.just_graph.specs.declared.unfolding.Step.{Step}
+use Rattle.just_graph.specs.Steps.{IsOrder}
+
+-- the steps from node a
+abbrev pub steps : List (Vec Step Global) → ℕ → List Step
+steps [] a = []
+steps (row ∷ rows) zero = row.items
+steps (row ∷ rows) (suc a) = steps rows a
+
+-- a step leads from node a to node b
+abbrev pub HasStep : List (Vec Step Global) → ℕ → ℕ → Type 0
+HasStep rows a b = Contains (map (λ (s : Step). s.target) (steps rows a)) b
+
+-- an order has the root, so that no node that it leads to leads back to itself
+abbrev pub IsOrdered : List (Vec Step Global) → ℕ → Type 0
+IsOrdered rows root = (roots order : List ℕ) × Contains roots root × IsOrder (HasStep rows) (length rows) roots order
+
+-- the path of a group, and a node
+pub record Key : Type 0 where
+  pub path : List ℕ
+  pub node : ℕ
+
+-- a node of the unfolding: its key, the offsets since the last group was entered, and the steps that lead to it
+pub record Node : Type 0 where
+  pub path : List ℕ
+  pub node : ℕ
+  pub offsets : List ℕ
+  pub trail : List Step
+
+abbrev pub key : Node → Key
+key n = record { path = n.path; node = n.node }
+
+abbrev pub root_key : ℕ → Key
+root_key root = record { path = []; node = root }
+
+abbrev pub root_node : ℕ → Node
+root_node root = record { path = []; node = root; offsets = []; trail = [] }
+
+-- a step that enters a name extends the path, and clears the offsets
+abbrev pub path_after : List ℕ → Option ℕ → List ℕ
+path_after path None = path
+path_after path (Some name) = path ++ name ∷ []
+
+abbrev pub offsets_after : List ℕ → ℕ → Option ℕ → List ℕ
+offsets_after offsets offset None = offsets ++ offset ∷ []
+offsets_after offsets offset (Some name) = []
+
+-- where a step from a node leads
+abbrev pub child : Node → Step → Node
+child n s = record { path = path_after n.path s.enters; node = s.target; offsets = offsets_after n.offsets s.offset s.enters; trail = n.trail ++ s ∷ [] }
+
+abbrev pub key_child : Key → Step → Key
+key_child k s = record { path = path_after k.path s.enters; node = s.target }
+
+abbrev pub kids : (ℕ → List Step) → Node → List Node
+kids S n = map (child n) (S n.node)
+
+-- The trees of these nodes are finite, and `pre` has their nodes in preorder, the children of a node from the last step to the first.
+pub data Unfolds (S : ℕ → List Step) : List Node → List Node → Type 0 where
+  nothing : Unfolds S [] []
+  tree : {n : Node} {ns below after : List Node} → Unfolds S (reverse (kids S n)) below → Unfolds S ns after → Unfolds S (n ∷ ns) (n ∷ (below ++ after))
+
+-- some node has the key
+abbrev pub HasKey : List Node → Key → Type 0
+HasKey ns k = (n : Node) × Contains ns n × (key n ≡ k)
+
+-- `all` is `old` and then the first node of each key that `old` doesn't have, in order
+pub data Firsts : List Node → List Node → List Node → Type 0 where
+  none : {old : List Node} → Firsts old [] old
+  again : {old ns all : List Node} {n : Node} → HasKey old (key n) → Firsts old ns all → Firsts old (n ∷ ns) all
+  first : {old ns all : List Node} {n : Node} → (HasKey old (key n) → ⊥) → Firsts (old ++ n ∷ []) ns all → Firsts old (n ∷ ns) all
+
+-- the first node of each key in the preorder of the root's unfolding, which is finite
+abbrev pub AreFirst : (ℕ → List Step) → ℕ → List Node → Type 0
+AreFirst S root ns = (pre : List Node) × Unfolds S (root_node root ∷ []) pre × Firsts [] pre ns
+
+-- that many steps lead from one key to another
+pub data KeySteps (S : ℕ → List Step) : Key → Key → ℕ → Type 0 where
+  stay : {k : Key} → KeySteps S k k 0
+  move : {k l : Key} {d : ℕ} (s : Step) → Contains (S k.node) s → KeySteps S (key_child k s) l d → KeySteps S k l (suc d)
+
+-- that many steps lead from the root's key to the key, and no fewer do
+abbrev pub IsLeastDepth : (ℕ → List Step) → ℕ → Key → ℕ → Type 0
+IsLeastDepth S root k d = KeySteps S (root_key root) k d × ((m : ℕ) → KeySteps S (root_key root) k m → d ≤ m)

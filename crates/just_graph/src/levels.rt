@@ -1,0 +1,121 @@
+//! What a node leads to, by levels: first the start, then what it has edges to, then what these have edges to.
+
+ghost use Rattle.std.specs.Prelude.{◌≡◌, ◌+◌, ◌<◌, ◌↔◌, ◌||◌, ◌∷◌, [], ℕ, List, cond, filter, flat_map, length, not, IfOk, MatchOption};
+ghost use Rattle.std.specs.List.{All, Contains};
+ghost use Rattle.just_graph.specs.Found.{is_seen, unseen};
+ghost use Rattle.just_graph.specs.Graph.{targets, HasEdge, IsGraph};
+ghost use Rattle.just_graph.specs.Levels.{at_last, before, depth_of, has, level, InSteps, IsLeast};
+ghost use Rattle.just_graph.specs.Steps.{IsOnce, Reached};
+
+use crate::row;
+use std::alloc::{AllocError, Global};
+
+// What the nodes of a level have edges to, row after row.
+fn ends(alloc: Global, edges: &[Vec<usize>], nodes: &[usize]) -> Result<Vec<usize>, AllocError>
+    requires { All (λ a. a < length edges.now) nodes.now }
+    ensures { IfOk result (λ found. found.items ≡ flat_map (targets edges.now) nodes.now) }
+{
+    let mut found = Vec::new(alloc);
+    for node in nodes {
+        found.extend_from_slice(row(edges, *node))?;
+    }
+    Ok(found)
+}
+
+// Marks the nodes of a list, and answers those that weren't marked, each once, at its last place.
+fn last_places(
+    alloc: Global,
+    found: &[usize],
+    seen: &mut Vec<bool>,
+) -> Result<Vec<usize>, AllocError>
+    requires { All (λ a. a < length seen.old.items) found.now }
+    ensures places { IfOk result (λ kept. kept.items ≡ at_last (filter (λ a. not (is_seen seen.old.items a)) found.now)) }
+    ensures marks { IfOk result (λ kept. (a : ℕ) → is_seen seen.new.items a ≡ (is_seen seen.old.items a || has a kept.items)) }
+    ensures room { IfOk result (λ _. length seen.new.items ≡ length seen.old.items) }
+    ensures fewer { IfOk result (λ kept. unseen seen.new.items + length kept.items ≡ unseen seen.old.items) }
+{
+    let mut kept = Vec::new(alloc);
+    for place in (0..found.len()).rev() {
+        let node = found[place];
+        if !seen[node] {
+            seen[node] = true;
+            kept.push(node)?;
+        }
+    }
+    kept.reverse();
+    Ok(kept)
+}
+
+/// Lists what `start` leads to by levels: first the start, and after each level what its nodes have edges to and no
+/// level has yet, row after row, each node once, at its last place.
+///
+/// It takes time in the number of nodes and edges, and no recursion.
+pub fn levels(alloc: Global, edges: &[Vec<usize>], start: usize) -> Result<Vec<usize>, AllocError>
+    requires graph { IsGraph edges.now }
+    requires start { start < length edges.now }
+    // The levels, in order, up to the first that is empty.
+    ensures levels { IfOk result (λ found. (n : ℕ) × (found.items ≡ before (targets edges.now) start n) × (level (targets edges.now) start n ≡ [])) }
+    // Each node that the start leads to, once.
+    ensures once { IfOk result (λ found. IsOnce found.items) }
+    ensures reached { IfOk result (λ found. (a : ℕ) → Contains found.items a ↔ Reached (HasEdge edges.now) (start ∷ []) [] a) }
+{
+    let mut seen = Vec::new(alloc);
+    seen.resize(edges.len(), false)?;
+    seen[start] = true;
+    let mut listed = Vec::new(alloc);
+    listed.push(start)?;
+    let mut level = Vec::new(alloc);
+    level.push(start)?;
+    'levels: while !level.is_empty() {
+        let found = ends(alloc, edges, level.as_slice())?;
+        level = last_places(alloc, found.as_slice(), &mut seen)?;
+        listed.extend_from_slice(level.as_slice())?;
+    }
+    Ok(listed)
+}
+
+// Notes the depth of the nodes of a level.
+fn set_depths(nodes: &[usize], depth: usize, depths: &mut Vec<Option<usize>>)
+    requires { All (λ a. a < length depths.old.items) nodes.now }
+    ensures room { length depths.new.items ≡ length depths.old.items }
+    ensures depths { (a : ℕ) → depth_of depths.new.items a ≡ cond (has a nodes.now) (Some depth) (depth_of depths.old.items a) }
+{
+    for node in nodes {
+        depths[*node] = Some(depth);
+    }
+}
+
+/// Tells of each node the least number of steps that lead to it from `start`, or nothing where none do.
+///
+/// It takes time in the number of nodes and edges, and no recursion.
+pub fn depths(
+    alloc: Global,
+    edges: &[Vec<usize>],
+    start: usize,
+) -> Result<Vec<Option<usize>>, AllocError>
+    requires graph { IsGraph edges.now }
+    requires start { start < length edges.now }
+    ensures room { IfOk result (λ depths. length depths.items ≡ length edges.now) }
+    ensures least { IfOk result (λ depths. (a : ℕ) → MatchOption (depth_of depths.items a) ((n : ℕ) → InSteps (targets edges.now) start a n → ⊥) (IsLeast (targets edges.now) start a)) }
+{
+    let mut seen = Vec::new(alloc);
+    seen.resize(edges.len(), false)?;
+    seen[start] = true;
+    let mut depths = Vec::new(alloc);
+    depths.resize(edges.len(), None)?;
+    let mut level = Vec::new(alloc);
+    level.push(start)?;
+    let mut depth = 0;
+    'levels: while !level.is_empty() {
+        set_depths(level.as_slice(), depth, &mut depths);
+        let found = ends(alloc, edges, level.as_slice())?;
+        level = last_places(alloc, found.as_slice(), &mut seen)?;
+        depth += 1;
+    }
+    Ok(depths)
+}
+
+/// A law of the levels: a number stands in level n exactly where n is the least number of steps that lead to it.
+pub fn levels_are_least()
+    ensures { (next : ℕ → List ℕ) (start a n : ℕ) → Contains (level next start n) a ↔ IsLeast next start a n }
+{}
