@@ -10,7 +10,7 @@ use Rattle.just_parts.specs.declared.layers.host.Entry.{Entry}
 use Rattle.just_parts.specs.declared.recipe.Recipe.{Recipe}
 use Rattle.just_invoke.specs.declared.pair.Pair.{Pair}
 use Rattle.just_invoke.specs.Firsts.{has}
-use Rattle.just_invoke.specs.Pairs.{same_pair}
+use Rattle.just_invoke.specs.Pairs.{Task, same_pair}
 use Rattle.just_invoke.specs.Run.{beginning, Holds}
 use Rattle.just_invoke.specs.Account.{Asked, Table, Empty, Asks, Runs, asks, own, begun, In, AreIn, known, pairs_asked, Fits, Complete, prior_count, if_any, counts_below, beginnings, add_at, AllLow, AreDone, Settled}
 use Rattle.just_invoke.proofs.Keeps.{has-append, or_false}
@@ -24,7 +24,7 @@ join (Runs t ps ss b r) u = Runs t ps ss b (join r u)
 pub own-join : (t u : Table) → own (join t u) ≡ own t ++ own u
 own-join Empty u = refl
 own-join (Asks a r) u = own-join r u
-own-join (Runs t ps ss b r) u = ap (λ x. t ∷ x) (own-join r u)
+own-join (Runs t ps ss b r) u = ap (λ x. t.pair ∷ x) (own-join r u)
 
 pub asks-join : (t u : Table) → asks (join t u) ≡ asks t ++ asks u
 asks-join Empty u = refl
@@ -51,14 +51,14 @@ Complete-join plan Empty u h k = k
 Complete-join plan (Asks a r) u h k = Complete-join plan r u h k
 Complete-join plan (Runs t ps ss b r) u h k = (h.0, h.1, h.2, Complete-join plan r u h.3 k)
 
-pub Fits-join : (plan : List (Recipe Dependency)) (tops : List Pair) (t u : Table) (asked : List Asked) (done : List Pair) → Fits plan tops asked done t → Fits plan tops (asked ++ asks t) (done ++ own t) u → Fits plan tops asked done (join t u)
+pub Fits-join : (plan : List (Recipe Dependency)) (tops : List Task) (t u : Table) (asked : List Asked) (done : List Pair) → Fits plan tops asked done t → Fits plan tops (asked ++ asks t) (done ++ own t) u → Fits plan tops asked done (join t u)
 Fits-join plan tops Empty u asked done h k = subst (λ a. Fits plan tops a done u) (append-nil asked) (subst (λ d. Fits plan tops (asked ++ []) d u) (append-nil done) k)
 Fits-join plan tops (Asks a r) u asked done h k = (h.0, h.1, Fits-join plan tops r u (asked ++ a ∷ []) done h.2 (subst (λ x. Fits plan tops x (done ++ own r) u) (sym (append_assoc asked (a ∷ []) (asks r))) k))
-Fits-join plan tops (Runs t ps ss b r) u asked done h k = (h.0, h.1, h.2, h.3, h.4, Fits-join plan tops r u asked (done ++ t ∷ []) h.5 (subst (λ d. Fits plan tops (asked ++ asks r) d u) (sym (append_assoc done (t ∷ []) (own r))) k))
+Fits-join plan tops (Runs t ps ss b r) u asked done h k = (h.0, h.1, h.2, h.3, h.4, Fits-join plan tops r u asked (done ++ t.pair ∷ []) h.5 (subst (λ d. Fits plan tops (asked ++ asks r) d u) (sym (append_assoc done (t.pair ∷ []) (own r))) k))
 
-pub AreIn-more : (done more : List Pair) (ts : List Pair) → AreIn done ts → AreIn (done ++ more) ts
-AreIn-more done more ts h = All-weaker (λ (t : Pair). has same_pair done t ≡ true) (λ (t : Pair). has same_pair (done ++ more) t ≡ true)
-    (λ t k. has-append same_pair done more t ∙ or_left (has same_pair done t) (has same_pair more t) k) ts h
+pub AreIn-more : (done more : List Pair) (ts : List Task) → AreIn done ts → AreIn (done ++ more) ts
+AreIn-more done more ts h = All-weaker (λ (t : Task). has same_pair done t.pair ≡ true) (λ (t : Task). has same_pair (done ++ more) t.pair ≡ true)
+    (λ t k. has-append same_pair done more t.pair ∙ or_left (has same_pair done t.pair) (has same_pair more t.pair) k) ts h
 
 pub AllLow-more : (k n : ℕ) (ps : List Pair) → k ≤ n → AllLow k ps → AllLow n ps
 AllLow-more k n ps l h = All-weaker (λ (p : Pair). p.recipe < k) (λ (p : Pair). p.recipe < n) (λ p q. omega arith) ps h
@@ -80,7 +80,7 @@ still-new done ps p h k = false_from_ne_true (has same_pair (done ++ ps) p) (λ 
 pub has-last : (done : List Pair) (p : Pair) → has same_pair (done ++ p ∷ []) p ≡ true
 has-last done p = has-append same_pair done (p ∷ []) p ∙ or_right (has same_pair done p) (same_pair p p || false) (or_left (same_pair p p) false (pair-exact.itself p))
 
-pub beginnings-append : (rs : List (Recipe Dependency)) (xs ys : List Pair) → beginnings rs (xs ++ ys) ≡ beginnings rs xs ++ beginnings rs ys
+pub beginnings-append : (rs : List (Recipe Dependency)) (xs ys : List Task) → beginnings rs (xs ++ ys) ≡ beginnings rs xs ++ beginnings rs ys
 beginnings-append rs xs ys = flat_map-append (beginning rs) xs ys
 
 -- what is known grows with what was asked
@@ -93,32 +93,32 @@ pub In-right : {A : Type 0} (x : A) (xs ys : List A) → In x ys → In x (xs ++
 In-right x [] ys h = h
 In-right x (z ∷ xs) ys h = inr (In-right x xs ys h)
 
-known-append : (tops : List Pair) (a b : List Asked) → known tops (a ++ b) ≡ known tops a ++ flat_map (λ (a : Asked). a.priors) b
+known-append : (tops : List Task) (a b : List Asked) → known tops (a ++ b) ≡ known tops a ++ flat_map (λ (a : Asked). a.priors) b
 known-append tops a b = ap (λ x. tops ++ x) (flat_map-append (λ (a : Asked). a.priors) a b) ∙ sym (append_assoc tops (flat_map (λ (a : Asked). a.priors) a) (flat_map (λ (a : Asked). a.priors) b))
 
-pub known-more : (tops : List Pair) (a b : List Asked) (t : Pair) → In t (known tops a) → In t (known tops (a ++ b))
+pub known-more : (tops : List Task) (a b : List Asked) (t : Task) → In t (known tops a) → In t (known tops (a ++ b))
 known-more tops a b t h = subst (λ x. In t x) (sym (known-append tops a b)) (In-left t (known tops a) (flat_map (λ (a : Asked). a.priors) b) h)
 
 All-In : {A : Type 0} → (qs xs : List A) → ((q : A) → In q qs → In q xs) → All (λ (q : A). In q xs) qs
 All-In {A} [] xs h = All-nil (λ (q : A). In q xs)
 All-In {A} (q ∷ qs) xs h = All-cons (λ (q : A). In q xs) q qs (h q (inl refl)) (All-In qs xs (λ r i. h r (inr i)))
 
--- the priors of a pair just asked are known
-pub known-priors : (tops : List Pair) (asked : List Asked) (t : Pair) (ps : List Pair) → All (λ (q : Pair). In q (known tops (asked ++ record { pair = t; priors = ps } ∷ []))) ps
-known-priors tops asked t ps = All-In ps (known tops (asked ++ record { pair = t; priors = ps } ∷ [])) (λ q i.
-    subst (λ x. In q x) (sym (known-append tops asked (record { pair = t; priors = ps } ∷ []))) (In-right q (known tops asked) (ps ++ []) (In-left q ps [] i)))
+-- the priors of a task just asked are known
+pub known-priors : (tops : List Task) (asked : List Asked) (t : Task) (ps : List Task) → All (λ (q : Task). In q (known tops (asked ++ record { task = t; priors = ps } ∷ []))) ps
+known-priors tops asked t ps = All-In ps (known tops (asked ++ record { task = t; priors = ps } ∷ [])) (λ q i.
+    subst (λ x. In q x) (sym (known-append tops asked (record { task = t; priors = ps } ∷ []))) (In-right q (known tops asked) (ps ++ []) (In-left q ps [] i)))
 
-pub known-all : (tops : List Pair) → All (λ (q : Pair). In q (known tops [])) tops
+pub known-all : (tops : List Task) → All (λ (q : Task). In q (known tops [])) tops
 known-all tops = All-In tops (known tops []) (λ q i. In-left q tops [] i)
 
 -- those asked and done
 pub AreDone-more : (done more : List Pair) (rest : List Asked) → AreDone done rest → AreDone (done ++ more) rest
 AreDone-more done more [] h = tt
-AreDone-more done more (a ∷ rest) h = (has-append same_pair done more a.pair ∙ or_left (has same_pair done a.pair) (has same_pair more a.pair) h.0, AreDone-more done more rest h.1)
+AreDone-more done more (a ∷ rest) h = (has-append same_pair done more a.task.pair ∙ or_left (has same_pair done a.task.pair) (has same_pair more a.task.pair) h.0, AreDone-more done more rest h.1)
 
 pub AreDone-after : (done more : List Pair) (rest : List Asked) → AreDone more rest → AreDone (done ++ more) rest
 AreDone-after done more [] h = tt
-AreDone-after done more (a ∷ rest) h = (has-append same_pair done more a.pair ∙ or_right (has same_pair done a.pair) (has same_pair more a.pair) h.0, AreDone-after done more rest h.1)
+AreDone-after done more (a ∷ rest) h = (has-append same_pair done more a.task.pair ∙ or_right (has same_pair done a.task.pair) (has same_pair more a.task.pair) h.0, AreDone-after done more rest h.1)
 
 AreDone-append : (done : List Pair) (rest bs : List Asked) → AreDone done rest → AreDone done bs → AreDone done (rest ++ bs)
 AreDone-append done [] bs h k = k
@@ -134,7 +134,7 @@ Settled-append k done (a ∷ rest) bs h i = (h.0, Settled-append k done rest bs 
 
 Settled-more : (k : ℕ) (done more : List Pair) (rest : List Asked) → Settled k rest done → Settled k rest (done ++ more)
 Settled-more k done more [] h = tt
-Settled-more k done more (a ∷ rest) h = ((λ l. has-append same_pair done more a.pair ∙ or_left (has same_pair done a.pair) (has same_pair more a.pair) (h.0 l)), Settled-more k done more rest h.1)
+Settled-more k done more (a ∷ rest) h = ((λ l. has-append same_pair done more a.task.pair ∙ or_left (has same_pair done a.task.pair) (has same_pair more a.task.pair) (h.0 l)), Settled-more k done more rest h.1)
 
 pub Settled-low : (k n : ℕ) (done : List Pair) (rest : List Asked) → k ≤ n → Settled n rest done → Settled k rest done
 Settled-low k n done [] l h = tt
@@ -149,15 +149,15 @@ Settled-then k done now asked t h i e = subst (λ d. Settled k (asked ++ asks t)
     (Settled-append k (done ++ own t) asked (asks t) (Settled-more k done (own t) asked h) (Settled-done k (done ++ own t) (asks t) (AreDone-after done (own t) (asks t) i)))
 
 -- the pair itself, asked, does not count below it
-pub Settled-asked : (done : List Pair) (asked : List Asked) (a : Asked) → Settled (suc a.pair.recipe) asked done → Settled a.pair.recipe (asked ++ a ∷ []) done
-Settled-asked done asked a h = Settled-append a.pair.recipe done asked (a ∷ []) (Settled-low a.pair.recipe (suc a.pair.recipe) done asked (omega arith) h) ((λ l. absurd (omega arith)), tt)
+pub Settled-asked : (done : List Pair) (asked : List Asked) (a : Asked) → Settled (suc a.task.pair.recipe) asked done → Settled a.task.pair.recipe (asked ++ a ∷ []) done
+Settled-asked done asked a h = Settled-append a.task.pair.recipe done asked (a ∷ []) (Settled-low a.task.pair.recipe (suc a.task.pair.recipe) done asked (omega arith) h) ((λ l. absurd (omega arith)), tt)
 
 -- a pair that is not done was not asked
 unasked-not : (p : Pair) (done : List Pair) (rest : List Asked) → Settled (suc p.recipe) rest done → has same_pair done p ≡ false → has same_pair (pairs_asked rest) p ≡ true → ⊥
 unasked-not p done [] h n k = true≢false (sym k)
-unasked-not p done (a ∷ rest) h n k = elim (or_cases (same_pair a.pair p) (has same_pair (pairs_asked rest) p) k) [
-  | inl m ↦ let e : a.pair ≡ p = pair-exact.only a.pair p m in
-      let l : a.pair.recipe ≡ p.recipe = ap (λ (q : Pair). q.recipe) e in
+unasked-not p done (a ∷ rest) h n k = elim (or_cases (same_pair a.task.pair p) (has same_pair (pairs_asked rest) p) k) [
+  | inl m ↦ let e : a.task.pair ≡ p = pair-exact.only a.task.pair p m in
+      let l : a.task.pair.recipe ≡ p.recipe = ap (λ (q : Pair). q.recipe) e in
       true≢false (sym (h.0 (omega arith)) ∙ ap (has same_pair done) e ∙ n)
   | inr m ↦ unasked-not p done rest h.1 n m
 ]
@@ -204,7 +204,7 @@ pub joined-begun : (rs : List (Recipe Dependency)) (t u : Table) (old mid new : 
 joined-begun rs t u old mid new h k = k ∙ ap (λ x. x ++ beginnings rs (begun u)) h ∙ append_assoc old (beginnings rs (begun t)) (beginnings rs (begun u))
     ∙ ap (λ x. old ++ x) (sym (beginnings-append rs (begun t) (begun u)) ∙ ap (beginnings rs) (sym (begun-join t u)))
 
-pub joined-fits : (plan : List (Recipe Dependency)) (tops : List Pair) (t u : Table) (asked : List Asked) (done now : List Pair) → Fits plan tops asked done t → now ≡ done ++ own t → Fits plan tops (asked ++ asks t) now u → Fits plan tops asked done (join t u)
+pub joined-fits : (plan : List (Recipe Dependency)) (tops : List Task) (t u : Table) (asked : List Asked) (done now : List Pair) → Fits plan tops asked done t → now ≡ done ++ own t → Fits plan tops (asked ++ asks t) now u → Fits plan tops asked done (join t u)
 joined-fits plan tops t u asked done now h e k = Fits-join plan tops t u asked done h (subst (λ d. Fits plan tops (asked ++ asks t) d u) e k)
 
 pub joined-low : (t u : Table) (k m n : ℕ) → m ≤ k → n ≤ k → AllLow m (own t) → AllLow n (own u) → AllLow k (own (join t u))
@@ -238,18 +238,18 @@ one-below p = All-cons (λ (q : Pair). q.recipe < suc p.recipe) p [] (omega arit
 pub counts-empty : (ns : List ℕ) → ns ≡ ns ++ if_any [] []
 counts-empty ns = sym (append-nil ns)
 
-pub if_any-none : (ps : List Pair) (ns : List ℕ) → length ps ≡ 0 → if_any ps ns ≡ []
+pub if_any-none : (ts : List Task) (ns : List ℕ) → length ts ≡ 0 → if_any ts ns ≡ []
 if_any-none [] ns h = refl
-if_any-none (p ∷ ps) ns h = absurd (omega arith)
+if_any-none (t ∷ ts) ns h = absurd (omega arith)
 
-pub if_any-some : (ps : List Pair) (ns : List ℕ) → 0 < length ps → if_any ps ns ≡ ns
+pub if_any-some : (ts : List Task) (ns : List ℕ) → 0 < length ts → if_any ts ns ≡ ns
 if_any-some [] ns h = absurd (omega arith)
-if_any-some (p ∷ ps) ns h = refl
+if_any-some (t ∷ ts) ns h = refl
 
-pub opened-counts : (calls pushed new : List ℕ) (n k : ℕ) (below : List ℕ) (ps : List Pair) → 0 < length ps → n ≡ length calls → pushed ≡ calls ++ 0 ∷ [] → new ≡ add_at pushed n k ++ below → new ≡ calls ++ if_any ps (k ∷ below)
-opened-counts calls pushed new n k below ps some e h g =
+pub opened-counts : (calls pushed new : List ℕ) (n k : ℕ) (below : List ℕ) (ts : List Task) → 0 < length ts → n ≡ length calls → pushed ≡ calls ++ 0 ∷ [] → new ≡ add_at pushed n k ++ below → new ≡ calls ++ if_any ts (k ∷ below)
+opened-counts calls pushed new n k below ts some e h g =
     g ∙ ap (λ x. add_at x n k ++ below) h ∙ ap (λ x. add_at (calls ++ 0 ∷ []) x k ++ below) e ∙ ap (λ x. x ++ below) (add-last calls k)
-    ∙ append_assoc calls (k ∷ []) below ∙ ap (λ x. calls ++ x) (sym (if_any-some ps (k ∷ below) some))
+    ∙ append_assoc calls (k ∷ []) below ∙ ap (λ x. calls ++ x) (sym (if_any-some ts (k ∷ below) some))
 
 -- the lists that a table has
 pub holds-none : Holds [] []

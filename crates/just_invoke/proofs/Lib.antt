@@ -15,5 +15,6 @@ pub mod RecipeLemmas
 pub mod SplitLemmas
 pub mod Steps
 pub mod TailLemmas
+pub mod Tasks
 pub mod Unique
 pub mod Whole

@@ -1,5 +1,5 @@
 -- From the words' invocations to the outcome of their run.
-use Rattle.std.proofs.Common.{◌≡◌, ◌≤◌, ℕ, Bool, true, List, [], ◌∷◌, map, length, Result, Ok, Err, IfSome, IfOk, IfErr, refl, ap, subst, sym, inl, inr}
+use Rattle.std.proofs.Common.{◌≡◌, ◌≤◌, ℕ, Bool, true, false, List, [], ◌∷◌, map, length, Result, Ok, Err, IfSome, IfOk, IfErr, refl, ap, subst, sym, inl, inr}
 use Rattle.std.proofs.lemmas.List.{length-map}
 use Rattle.just_parts.specs.declared.dependency.Dependency.{Dependency}
 use Rattle.just_parts.specs.declared.layers.host.Entry.{Entry}
@@ -11,17 +11,20 @@ use Rattle.just_invoke.specs.declared.invocation.Invocation as parsed
 use Rattle.just_invoke.specs.declared.justfile.Justfile.{Justfile}
 use Rattle.just_invoke.specs.declared.running.Report.{Report}
 use Rattle.just_invoke.specs.Cause.{cause_of, IsExpected}
-use Rattle.just_invoke.specs.Pairs.{top_of, tops_of}
+use Rattle.just_invoke.specs.Pairs.{Task, tasks, top_of, pairs_of, tops_of}
 use Rattle.just_invoke.specs.Run.{IsRun}
 use Rattle.just_invoke.specs.Split.{Reading, reading_of, IsSplit, IsFault}
 use Rattle.just_invoke.specs.Unready.{IsUnready, AreReady, IsReason}
-use Rattle.just_invoke.specs.Outcome.{tops, expected_run, IsOutcome, IsRefusal, MayRun, IsWhole}
+use Rattle.just_invoke.specs.Outcome.{pairs_read, tops, expected_run, IsOutcome, IsRefusal, MayRun, IsWhole}
 use Rattle.just_invoke.specs.Account.{Table, own, AreIn, Complete, counts}
 use Rattle.just_invoke.specs.declared.pair.Pair.{Pair}
 
+pub same_read : (recipes : List (Recipe Dependency)) (is : List parsed.Invocation) → pairs_of recipes is ≡ pairs_read recipes (map reading_of is)
+same_read recipes [] = refl
+same_read recipes (i ∷ is) = ap (λ ps. top_of recipes i ∷ ps) (same_read recipes is)
+
 pub tops_read : (recipes : List (Recipe Dependency)) (is : List parsed.Invocation) → tops_of recipes is ≡ tops recipes (map reading_of is)
-tops_read recipes [] = refl
-tops_read recipes (i ∷ is) = ap (λ ps. top_of recipes i ∷ ps) (tops_read recipes is)
+tops_read recipes is = ap (tasks false) (same_read recipes is)
 
 -- words that are refused
 pub outcome_refused : (root : Justfile) (recipes : List (Recipe Dependency)) (words : List (List ℕ)) (old : List Entry) (e : Error) → IfSome (cause_of e) (IsFault root recipes words) → IsExpected e → IsOutcome root recipes words old old (Err e)
@@ -43,13 +46,13 @@ outcome_run root recipes words old new readings (Err Exhausted) s x = (readings,
 outcome_run root recipes words old new readings (Err Memory) s x = inr (readings, s, x)
 
 -- what is known of a success
-pub whole_run : (root : Justfile) (recipes : List (Recipe Dependency)) (words : List (List ℕ)) (readings : List Reading) (ps : List Pair) (t : Table) (r : Result Report Error) → IsSplit root recipes words readings → ps ≡ tops recipes readings
-    → IfOk r (λ report. AreIn (own t) ps × Complete recipes t × (report.calls.items ≡ counts ps t)) → IfOk r (IsWhole root recipes words ps t)
-whole_run root recipes words readings ps t (Err e) s is x = tt
-whole_run root recipes words readings ps t (Ok report) s is x = record { readings = readings; split = s; tops_are = is; all_begun = x.0; complete = x.1; counted = x.2 }
+pub whole_run : (root : Justfile) (recipes : List (Recipe Dependency)) (words : List (List ℕ)) (readings : List Reading) (ts : List Task) (t : Table) (r : Result Report Error) → IsSplit root recipes words readings → ts ≡ tops recipes readings
+    → IfOk r (λ report. AreIn (own t) ts × Complete recipes t × (report.calls.items ≡ counts ts t)) → IfOk r (IsWhole root recipes words ts t)
+whole_run root recipes words readings ts t (Err e) s is x = tt
+whole_run root recipes words readings ts t (Ok report) s is x = record { readings = readings; split = s; tops_are = is; all_begun = x.0; complete = x.1; counted = x.2 }
 
 -- what a run of invocations refuses is a refusal of their words
-pub refused_run : (root : Justfile) (recipes : List (Recipe Dependency)) (words : List (List ℕ)) (one : Bool) (readings : List Reading) (ps : List Pair) (r : Result Report Error) → IsSplit root recipes words readings → ps ≡ tops recipes readings
+pub refused_run : (root : Justfile) (recipes : List (Recipe Dependency)) (words : List (List ℕ)) (one : Bool) (readings : List Reading) (ps : List Pair) (r : Result Report Error) → IsSplit root recipes words readings → ps ≡ pairs_read recipes readings
     → IfErr r (IsReason recipes ps) → IfErr r (IsRefusal root recipes words one)
 refused_run root recipes words one readings ps (Ok report) s is x = tt
 refused_run root recipes words one readings ps (Err (Run (NotYet name))) s is x = (readings, s, subst (λ qs. IsUnready recipes qs name) is x)
@@ -61,7 +64,7 @@ refused_run root recipes words one readings ps (Err Exhausted) s is x = tt
 refused_run root recipes words one readings ps (Err Memory) s is x = tt
 
 -- what runs may run
-pub allowed_run : (root : Justfile) (recipes : List (Recipe Dependency)) (words : List (List ℕ)) (one : Bool) (readings : List Reading) (ps : List Pair) (r : Result Report Error) → IsSplit root recipes words readings → ps ≡ tops recipes readings
+pub allowed_run : (root : Justfile) (recipes : List (Recipe Dependency)) (words : List (List ℕ)) (one : Bool) (readings : List Reading) (ps : List Pair) (r : Result Report Error) → IsSplit root recipes words readings → ps ≡ pairs_read recipes readings
     → (one ≡ true → length readings ≤ 1) → IfOk r (λ _. AreReady recipes ps) → IfOk r (λ _. MayRun root recipes words one)
 allowed_run root recipes words one readings ps (Err e) s is few x = tt
 allowed_run root recipes words one readings ps (Ok report) s is few x = (readings, s, few, subst (AreReady recipes) is x)

@@ -13,7 +13,7 @@ use Rattle.just_parts.specs.declared.layers.parameter.Parameter.{Parameter}
 use Rattle.just_parts.specs.declared.modulepath.Modulepath.{Modulepath}
 use Rattle.just_parts.specs.declared.recipe.Recipe.{Recipe}
 use Rattle.just_invoke.specs.declared.pair.Pair.{Pair}
-use Rattle.just_invoke.specs.Pairs.{place_of, at_place, empty_groups, pair_of, prior_dependencies, subsequent_dependencies, priors, subsequents, AllBelow}
+use Rattle.just_invoke.specs.Pairs.{Task, place_of, at_place, empty_groups, pair_of, prior_dependencies, subsequent_dependencies, AllBelow}
 use Rattle.just_invoke.specs.Run.{begin_at, beginning}
 use Rattle.just_invoke.specs.Recipes.{numbers, needs, IsOrdered, AreOrderedAfter, find_number, IsPlaceOf, IsIndex}
 use Rattle.just_invoke.proofs.RecipeLemmas.{numbers-append, length-numbers, once}
@@ -122,9 +122,9 @@ pair-made rs d k g r e at h =
     let same : g ≡ empty_groups rs (place_of rs d.recipe.0) = h ∙ sym (at-place (λ (r : Recipe Dependency). map (λ (p : Parameter). []) r.parameters) rs k r at) ∙ ap (empty_groups rs) e in
     λ i. record { recipe = e i; groups = same i }
 
--- what a host is told of a pair that begins
-pub begun-at : (rs : List (Recipe Dependency)) (p : Pair) (r : Recipe Dependency) (path : Modulepath) → slice_get rs p.recipe ≡ Some r → r.recipe_path ≡ Some path → Begin path p.groups ∷ [] ≡ beginning rs p
-begun-at rs p r path at e = sym (at-place (λ (r : Recipe Dependency). begin_at p.groups r.recipe_path) rs p.recipe r at ∙ ap (begin_at p.groups) e)
+-- what a host is told of a task that begins
+pub begun-at : (rs : List (Recipe Dependency)) (t : Task) (r : Recipe Dependency) (path : Modulepath) → slice_get rs t.pair.recipe ≡ Some r → r.recipe_path ≡ Some path → Begin path t.pair.groups ∷ [] ≡ beginning rs t
+begun-at rs t r path at e = sym (at-place (λ (r : Recipe Dependency). begin_at t.pair.groups r.recipe_path) rs t.pair.recipe r at ∙ ap (begin_at t.pair.groups) e)
 
 -- one more of a list that is gone through
 pub map-more : {A B : Type 0} (f : A → B) (i : ℕ) (xs : List A) (x : A) (old new : List B) (y : B) → i < length xs → x ≡ get_or xs i x → old ≡ map f (take i xs) → new ≡ old ++ y ∷ [] → y ≡ f x → new ≡ map f (take (i + 1) xs)
@@ -145,11 +145,11 @@ at-before : (part : Recipe Dependency → List Dependency) → ((r : Recipe Depe
 at-before part some rs k None ordered e = subst (All (IsBefore rs k)) (sym (at-none part rs k e)) (All-nil (IsBefore rs k))
 at-before part some rs k (Some r) ordered e = subst (All (IsBefore rs k)) (sym (at-place part rs k r e)) (some r (IsBefore rs k) (needs-before rs k r ordered e))
 
-pub priors-before : (rs : List (Recipe Dependency)) (p : Pair) → IsOrdered rs → AllBelow p.recipe (priors rs p)
+pub priors-before : (rs : List (Recipe Dependency)) (p : Pair) → IsOrdered rs → AllBelow p.recipe (map (pair_of rs) (prior_dependencies rs p.recipe))
 priors-before rs p ordered = dependencies-below rs p.recipe (prior_dependencies rs p.recipe)
     (at-before (λ r. take r.priors r.dependencies) (λ r P h. All-take P r.priors r.dependencies h) rs p.recipe (slice_get rs p.recipe) ordered refl)
 
-pub subsequents-before : (rs : List (Recipe Dependency)) (p : Pair) → IsOrdered rs → AllBelow p.recipe (subsequents rs p)
+pub subsequents-before : (rs : List (Recipe Dependency)) (p : Pair) → IsOrdered rs → AllBelow p.recipe (map (pair_of rs) (subsequent_dependencies rs p.recipe))
 subsequents-before rs p ordered = dependencies-below rs p.recipe (subsequent_dependencies rs p.recipe)
     (at-before (λ r. drop r.priors r.dependencies) (λ r P h. All-drop P r.priors r.dependencies h) rs p.recipe (slice_get rs p.recipe) ordered refl)
 

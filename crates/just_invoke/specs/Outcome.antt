@@ -1,5 +1,5 @@
 -- What a run of command words comes to.
-use Rattle.std.specs.Prelude.{◌≡◌, ◌<◌, ◌≤◌, ◌++◌, ◌⊎◌, ℕ, Bool, true, List, [], map, length, Result, Ok, Err, IfSome}
+use Rattle.std.specs.Prelude.{◌≡◌, ◌<◌, ◌≤◌, ◌++◌, ◌⊎◌, ℕ, Bool, true, false, List, [], map, length, Result, Ok, Err, IfSome}
 use Rattle.just_parts.specs.declared.dependency.Dependency.{Dependency}
 use Rattle.just_parts.specs.declared.layers.host.Entry.{Entry}
 use Rattle.just_parts.specs.declared.layers.error.Error.{Error}
@@ -11,7 +11,7 @@ use Rattle.just_invoke.specs.declared.pair.Pair.{Pair}
 use Rattle.just_invoke.specs.declared.running.Report.{Report}
 use Rattle.just_invoke.specs.Account.{Table, own, begun, beginnings, AreIn, Fits, Complete, counts}
 use Rattle.just_invoke.specs.Cause.{cause_of}
-use Rattle.just_invoke.specs.Pairs.{place_of}
+use Rattle.just_invoke.specs.Pairs.{Task, tasks, place_of}
 use Rattle.just_invoke.specs.Run.{run_questions, IsBroken}
 use Rattle.just_invoke.specs.Split.{Reading, IsSplit, IsFault}
 use Rattle.just_invoke.specs.Unready.{IsUnready, AreReady}
@@ -20,9 +20,13 @@ use Rattle.just_invoke.specs.Unready.{IsUnready, AreReady}
 abbrev pub pair_read : List (Recipe Dependency) → Reading → Pair
 pair_read recipes i = record { recipe = place_of recipes i.recipe.number.0; groups = i.groups }
 
--- the pairs that invocations run
-abbrev pub tops : List (Recipe Dependency) → List Reading → List Pair
-tops recipes readings = map (pair_read recipes) readings
+-- the pairs of invocations
+abbrev pub pairs_read : List (Recipe Dependency) → List Reading → List Pair
+pairs_read recipes readings = map (pair_read recipes) readings
+
+-- the tasks that invocations run: none runs as a dependency
+abbrev pub tops : List (Recipe Dependency) → List Reading → List Task
+tops recipes readings = tasks false (pairs_read recipes readings)
 
 -- what these invocations ask of the host, each shared dependency once
 abbrev pub expected_run : List (Recipe Dependency) → List Reading → List Entry
@@ -42,7 +46,7 @@ IsOutcome root recipes words old new (Err (Compile e)) = ⊥
 -- Why a run of words that are invocations is refused, where one alone is allowed or not: they are several, or lead to a recipe that cannot be run.
 abbrev pub IsRefusal : Justfile → List (Recipe Dependency) → List (List ℕ) → Bool → Error → Type 0
 IsRefusal root recipes words one (Run (ExcessInvocations n)) = (one ≡ true) × (readings : List Reading) × IsSplit root recipes words readings × (n ≡ length readings) × (1 < length readings)
-IsRefusal root recipes words one (Run (NotYet name)) = (readings : List Reading) × IsSplit root recipes words readings × IsUnready recipes (tops recipes readings) name
+IsRefusal root recipes words one (Run (NotYet name)) = (readings : List Reading) × IsSplit root recipes words readings × IsUnready recipes (pairs_read recipes readings) name
 IsRefusal root recipes words one (Load e) = Unit {0}
 IsRefusal root recipes words one (Compile e) = Unit {0}
 IsRefusal root recipes words one (Invocation e) = Unit {0}
@@ -51,18 +55,18 @@ IsRefusal root recipes words one Memory = Unit {0}
 
 -- a run that is not refused: the words are invocations, one where one alone is allowed, and what they lead to can be run
 abbrev pub MayRun : Justfile → List (Recipe Dependency) → List (List ℕ) → Bool → Type 0
-MayRun root recipes words one = (readings : List Reading) × IsSplit root recipes words readings × (one ≡ true → length readings ≤ 1) × AreReady recipes (tops recipes readings)
+MayRun root recipes words one = (readings : List Reading) × IsSplit root recipes words readings × (one ≡ true → length readings ≤ 1) × AreReady recipes (pairs_read recipes readings)
 
 -- The account of a run, for every host: what was begun, in order, is what a tree of once tables has.
-pub record HasAccount (recipes : List (Recipe Dependency)) (old new : List Entry) (ps : List Pair) (t : Table) : Type 0 where
+pub record HasAccount (recipes : List (Recipe Dependency)) (old new : List Entry) (ts : List Task) (t : Table) : Type 0 where
   pub gained : new ≡ old ++ beginnings recipes (begun t)
-  pub fits : Fits recipes ps [] [] t
+  pub fits : Fits recipes ts [] [] t
 
--- where it succeeds, the first table's tops are the invocations' pairs, each was begun, and the report counts the calls
-pub record IsWhole (root : Justfile) (recipes : List (Recipe Dependency)) (words : List (List ℕ)) (ps : List Pair) (t : Table) (report : Report) : Type 0 where
+-- where it succeeds, the first table's tops are the invocations' tasks, each was begun, and the report counts the calls
+pub record IsWhole (root : Justfile) (recipes : List (Recipe Dependency)) (words : List (List ℕ)) (ts : List Task) (t : Table) (report : Report) : Type 0 where
   pub readings : List Reading
   pub split : IsSplit root recipes words readings
-  pub tops_are : ps ≡ tops recipes readings
-  pub all_begun : AreIn (own t) ps
+  pub tops_are : ts ≡ tops recipes readings
+  pub all_begun : AreIn (own t) ts
   pub complete : Complete recipes t
-  pub counted : report.calls.items ≡ counts ps t
+  pub counted : report.calls.items ≡ counts ts t

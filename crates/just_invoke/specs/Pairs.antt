@@ -1,5 +1,5 @@
--- The pairs that recipes name: those that run before a pair, and those that run after it.
-use Rattle.std.specs.Prelude.{ℕ, zero, suc, ◌==◌, ◌&&◌, ◌<◌, Bool, cond, List, [], ◌∷◌, map, take, drop, nat_eq}
+-- The tasks that recipes name: those that run before a task, and those that run after it.
+use Rattle.std.specs.Prelude.{ℕ, zero, suc, ◌==◌, ◌&&◌, ◌<◌, Bool, true, false, cond, List, [], ◌∷◌, map, take, drop, nat_eq}
 use Rattle.std.specs.List.{All}
 use Rattle.std.specs.Cmp.Lexicographic.{pointwise}
 use Rattle.just_parts.specs.declared.dependency.Dependency.{Dependency}
@@ -11,9 +11,22 @@ use Rattle.just_invoke.specs.declared.pair.Pair.{Pair}
 abbrev pub same_pair : Pair → Pair → Bool
 same_pair p q = (p.recipe == q.recipe) && pointwise (pointwise (pointwise nat_eq)) p.groups q.groups
 
--- the pair itself is what a once table holds
-abbrev pub key : Pair → Pair
-key p = p
+-- a pair, and whether it runs as a dependency
+pub record Task : Type 0 where
+  pub pair : Pair
+  pub dependency : Bool
+
+-- the pair alone is what a once table holds
+abbrev pub key : Task → Pair
+key t = t.pair
+
+-- the task of a pair
+abbrev pub task : Bool → Pair → Task
+task dependency p = record { pair = p; dependency = dependency }
+
+-- the tasks of pairs
+abbrev pub tasks : Bool → List Pair → List Task
+tasks dependency ps = map (task dependency) ps
 
 -- the place of the first recipe of a number, and the length of the list where there is none
 abbrev pub place_of : List (Recipe Dependency) → ℕ → ℕ
@@ -46,21 +59,25 @@ prior_dependencies recipes place = at_place (λ r. take r.priors r.dependencies)
 abbrev pub subsequent_dependencies : List (Recipe Dependency) → ℕ → List Dependency
 subsequent_dependencies recipes place = at_place (λ r. drop r.priors r.dependencies) recipes place
 
--- the pairs that run before a pair
-abbrev pub priors : List (Recipe Dependency) → Pair → List Pair
-priors recipes p = map (pair_of recipes) (prior_dependencies recipes p.recipe)
+-- the tasks that run before a task, as dependencies
+abbrev pub priors : List (Recipe Dependency) → Task → List Task
+priors recipes t = tasks true (map (pair_of recipes) (prior_dependencies recipes t.pair.recipe))
 
--- the pairs that run after a pair
-abbrev pub subsequents : List (Recipe Dependency) → Pair → List Pair
-subsequents recipes p = map (pair_of recipes) (subsequent_dependencies recipes p.recipe)
+-- the tasks that run after a task, as dependencies
+abbrev pub subsequents : List (Recipe Dependency) → Task → List Task
+subsequents recipes t = tasks true (map (pair_of recipes) (subsequent_dependencies recipes t.pair.recipe))
 
 -- the pair of an invocation: its groups are the texts of its words
 abbrev pub top_of : List (Recipe Dependency) → Invocation → Pair
 top_of recipes i = record { recipe = place_of recipes i.recipe.now.number.0; groups = map (λ words. map (λ word. word.now) words.items) i.arguments.items }
 
 -- the pairs of invocations
-abbrev pub tops_of : List (Recipe Dependency) → List Invocation → List Pair
-tops_of recipes invocations = map (top_of recipes) invocations
+abbrev pub pairs_of : List (Recipe Dependency) → List Invocation → List Pair
+pairs_of recipes invocations = map (top_of recipes) invocations
+
+-- their tasks: none runs as a dependency
+abbrev pub tops_of : List (Recipe Dependency) → List Invocation → List Task
+tops_of recipes invocations = tasks false (pairs_of recipes invocations)
 
 -- each pair's recipe stands below the place
 abbrev pub AllBelow : ℕ → List Pair → Type 0

@@ -12,7 +12,7 @@ use Rattle.just_invoke.specs.declared.halt.Halt as halt
 use Rattle.just_invoke.specs.declared.halt.Halt.TheVariants as halts
 use Rattle.just_invoke.specs.Expansion.{Part, Ask, Block, same_part, part_key, expansion}
 use Rattle.just_invoke.specs.Firsts.{has, firsts_by}
-use Rattle.just_invoke.specs.Pairs.{same_pair, key, at_place, priors, subsequents}
+use Rattle.just_invoke.specs.Pairs.{Task, same_pair, key, at_place, priors, subsequents}
 use Rattle.just_invoke.specs.Walk.{walk, walks}
 
 -- a recipe begins at its path
@@ -20,38 +20,38 @@ abbrev pub begin_at : List (List (List ℕ)) → Option Modulepath → List Entr
 begin_at groups None = []
 begin_at groups (Some path) = Begin path groups ∷ []
 
--- the beginning of a pair
-abbrev pub beginning : List (Recipe Dependency) → Pair → List Entry
-beginning recipes p = at_place (λ r. begin_at p.groups r.recipe_path) recipes p.recipe
+-- the beginning of a task
+abbrev pub beginning : List (Recipe Dependency) → Task → List Entry
+beginning recipes t = at_place (λ r. begin_at t.pair.groups r.recipe_path) recipes t.pair.recipe
 
--- what is asked before a pair's priors
-abbrev pub ask_questions : List (Recipe Dependency) → Pair → List Entry
-ask_questions recipes p = []
+-- what is asked before a task's priors
+abbrev pub ask_questions : List (Recipe Dependency) → Task → List Entry
+ask_questions recipes t = []
 
 -- what is asked for its body, after its beginning
-abbrev pub body_questions : List (Recipe Dependency) → Pair → List Entry
-body_questions recipes p = []
+abbrev pub body_questions : List (Recipe Dependency) → Task → List Entry
+body_questions recipes t = []
 
 -- what is asked for its subsequents
-abbrev pub subsequent_questions : List (Recipe Dependency) → Pair → List Entry
-subsequent_questions recipes p = []
+abbrev pub subsequent_questions : List (Recipe Dependency) → Task → List Entry
+subsequent_questions recipes t = []
 
 -- the questions before the priors; the block: beginning, body, and the questions for the subsequents and their run
-abbrev pub part_questions : List (Recipe Dependency) → (List Pair → List Entry) → Part Pair → List Entry
-part_questions recipes run (Ask p) = ask_questions recipes p
-part_questions recipes run (Block p) = (beginning recipes p ++ body_questions recipes p) ++ (subsequent_questions recipes p ++ run (subsequents recipes p))
+abbrev pub part_questions : List (Recipe Dependency) → (List Task → List Entry) → Part Task → List Entry
+part_questions recipes run (Ask t) = ask_questions recipes t
+part_questions recipes run (Block t) = (beginning recipes t ++ body_questions recipes t) ++ (subsequent_questions recipes t ++ run (subsequents recipes t))
 
--- the run of a list, for pairs of places below n: of the expansions, one after another, the first questions and the first block of each pair
-abbrev pub run_questions : List (Recipe Dependency) → ℕ → List Pair → List Entry
-run_questions recipes zero ps = []
-run_questions recipes (suc n) ps =
-    flat_map (part_questions recipes (run_questions recipes n)) (firsts_by (same_part same_pair) (part_key key) (flat_map (expansion (priors recipes) (suc n)) ps))
+-- the run of a list, for tasks of places below n: of the expansions, one after another, the first questions and the first block of each pair
+abbrev pub run_questions : List (Recipe Dependency) → ℕ → List Task → List Entry
+run_questions recipes zero ts = []
+run_questions recipes (suc n) ts =
+    flat_map (part_questions recipes (run_questions recipes n)) (firsts_by (same_part same_pair) (part_key key) (flat_map (expansion (priors recipes) (suc n)) ts))
 
 -- the same by the code's walk
-abbrev pub walk_questions : List (Recipe Dependency) → ℕ → List Pair → List Entry
-walk_questions recipes zero ps = []
-walk_questions recipes (suc n) ps =
-    flat_map (part_questions recipes (walk_questions recipes n)) (walks key (walk same_pair key (priors recipes) (suc n)) [] ps)
+abbrev pub walk_questions : List (Recipe Dependency) → ℕ → List Task → List Entry
+walk_questions recipes zero ts = []
+walk_questions recipes (suc n) ts =
+    flat_map (part_questions recipes (walk_questions recipes n)) (walks key (walk same_pair key (priors recipes) (suc n)) [] ts)
 
 -- some beginning of the questions was asked
 abbrev pub IsBroken : List Entry → List Entry → List Entry → Type 0

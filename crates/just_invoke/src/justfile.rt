@@ -50,8 +50,8 @@ impl<'src> Justfile<'src> {
     ghost use Rattle.just_parts.specs.Modulepath.{texts};
     ghost use Rattle.just_invoke.specs.Account.{Table};
     ghost use Rattle.just_invoke.specs.Closed.{IsClosed};
-    ghost use Rattle.just_invoke.specs.declared.pair.Pair.{Pair};
     ghost use Rattle.just_invoke.specs.Outcome.{IsOutcome, IsRefusal, MayRun, HasAccount, IsWhole};
+    ghost use Rattle.just_invoke.specs.Pairs.{Task};
 
     /// Runs what the words mean: each invocation in turn under one once table, where a recipe with equal arguments runs
     /// once, its prior dependencies before it, and its subsequent ones after it under a table of their own. Where the
@@ -75,7 +75,7 @@ impl<'src> Justfile<'src> {
         ensures outcome { IsOutcome self.now recipes.now (texts words.now) (H.entries host.old) (H.entries host.new) result }
         ensures refused { IfErr result (IsRefusal self.now recipes.now (texts words.now) config.now.one) }
         ensures allowed { IfOk result (λ _. MayRun self.now recipes.now (texts words.now) config.now.one) }
-        ensures account { (ps : List Pair) × (t : Table) × HasAccount recipes.now (H.entries host.old) (H.entries host.new) ps t × IfOk result (IsWhole self.now recipes.now (texts words.now) ps t) }
+        ensures account { (ts : List Task) × (t : Table) × HasAccount recipes.now (H.entries host.old) (H.entries host.new) ts t × IfOk result (IsWhole self.now recipes.now (texts words.now) ts t) }
     {
         let invocations = InvocationParser::parse_invocations(
             alloc, self, recipes, evaluation, words,

@@ -5,7 +5,7 @@ ghost use Rattle.just_parts.specs.declared.layers.parameter.Parameter.{Parameter
 ghost use Rattle.just_invoke.specs.declared.invocation.Invocation.{Invocation};
 ghost use Rattle.just_invoke.specs.declared.pair.Pair.{Pair};
 ghost use Rattle.just_invoke.specs.Closed.{IsHeld};
-ghost use Rattle.just_invoke.specs.Pairs.{pair_of, top_of, tops_of};
+ghost use Rattle.just_invoke.specs.Pairs.{pair_of, top_of, pairs_of};
 ghost use Rattle.just_invoke.specs.Recipes.{numbers};
 
 use crate::invocation::Invocation;
@@ -86,7 +86,7 @@ pub fn name_tops(
     invocations: &[Invocation],
 ) -> Result<Vec<Pair>, AllocError>
     requires { All (λ (i : Invocation). IsHeld recipes.now i.recipe.now) invocations.now }
-    ensures named { IfOk result (λ pairs. pairs.items ≡ tops_of recipes.now invocations.now) }
+    ensures named { IfOk result (λ pairs. pairs.items ≡ pairs_of recipes.now invocations.now) }
     ensures below { IfOk result (λ pairs. All (λ (p : Pair). p.recipe < length recipes.now) pairs.items) }
 {
     let mut pairs = Vec::new(alloc);

@@ -1,4 +1,4 @@
-ghost use Rattle.std.specs.Prelude.{◌≡◌, ℕ, suc, ◌+◌, ◌<◌, ◌≤◌, ◌++◌, ◌∷◌, [], List, map, flat_map, length, true, false, IfErr, IfOk, OnOk, OnErr};
+ghost use Rattle.std.specs.Prelude.{◌≡◌, ℕ, suc, ◌+◌, ◌<◌, ◌≤◌, ◌++◌, ◌∷◌, [], Bool, List, map, flat_map, length, true, false, IfErr, IfOk, OnOk, OnErr};
 ghost use Rattle.std.specs.List.{All};
 ghost use Rattle.just_parts.specs.Host.{KeepsPromises};
 ghost use Rattle.just_invoke.specs.declared.invocation.Invocation.{Invocation};
@@ -7,7 +7,7 @@ ghost use Rattle.just_invoke.specs.Account.{Asked, Table, own, asks, begun, begi
 ghost use Rattle.just_invoke.specs.Closed.{IsHeld, IsResolved};
 ghost use Rattle.just_invoke.specs.Expansion.{Block, part_key};
 ghost use Rattle.just_invoke.specs.Firsts.{has};
-ghost use Rattle.just_invoke.specs.Pairs.{same_pair, key, priors, subsequents, tops_of, AllBelow};
+ghost use Rattle.just_invoke.specs.Pairs.{Task, same_pair, key, task, tasks, pair_of, prior_dependencies, subsequent_dependencies, priors, pairs_of, tops_of, AllBelow};
 ghost use Rattle.just_invoke.specs.Run.{ask_questions, beginning, part_questions, run_questions, walk_questions, halt_of, Follows, IsRun, Holds};
 ghost use Rattle.just_invoke.specs.Unready.{AreReady, IsReason};
 ghost use Rattle.just_invoke.specs.Walk.{walk, walks, blocks};
@@ -47,7 +47,7 @@ fn count_call(calls: &mut Vec<u64>, number: usize) -> Result<(), Halt>
 fn ask(alloc: Global, recipes: &Recipes, pair: &Pair) -> Result<Vec<Pair>, Halt>
     requires place { pair.now.recipe < length recipes.now }
     requires resolved { All IsResolved recipes.now }
-    ensures named { IfOk result (λ ps. ps.items ≡ priors recipes.now pair.now) }
+    ensures named { IfOk result (λ ps. ps.items ≡ map (pair_of recipes.now) (prior_dependencies recipes.now pair.now.recipe)) }
     ensures below { IfOk result (λ ps. AllBelow pair.now.recipe ps.items) }
 {
     Ok(name_all(alloc, recipes, recipes.priors(pair.recipe))?)
@@ -57,7 +57,7 @@ fn ask(alloc: Global, recipes: &Recipes, pair: &Pair) -> Result<Vec<Pair>, Halt>
 fn ask_subsequents(alloc: Global, recipes: &Recipes, pair: &Pair) -> Result<Vec<Pair>, Halt>
     requires place { pair.now.recipe < length recipes.now }
     requires resolved { All IsResolved recipes.now }
-    ensures named { IfOk result (λ ps. ps.items ≡ subsequents recipes.now pair.now) }
+    ensures named { IfOk result (λ ps. ps.items ≡ map (pair_of recipes.now) (subsequent_dependencies recipes.now pair.now.recipe)) }
     ensures below { IfOk result (λ ps. AllBelow pair.now.recipe ps.items) }
 {
     Ok(name_all(alloc, recipes, recipes.subsequents(pair.recipe))?)
@@ -68,7 +68,7 @@ fn execute<H: Host>(recipes: &Recipes, host: &mut H, pair: &Pair) -> Result<(), 
     requires place { pair.now.recipe < length recipes.now }
     requires resolved { All IsResolved recipes.now }
     ensures keeps { KeepsPromises (H.promised host.old) (H.promised host.new) }
-    ensures ok { OnOk result (H.entries host.new ≡ H.entries host.old ++ beginning recipes.now pair.now) }
+    ensures ok { OnOk result ((flag : Bool) → H.entries host.new ≡ H.entries host.old ++ beginning recipes.now (task flag pair.now)) }
     ensures err { OnErr result (H.entries host.new ≡ H.entries host.old) }
 {
     let recipe = recipes.at(pair.recipe);
@@ -92,10 +92,10 @@ fn run_recipe<H: Host>(
     requires number { number < length calls.old.items }
     ensures keeps { KeepsPromises (H.promised host.old) (H.promised host.new) }
     ensures number { length calls.old.items ≤ length calls.new.items }
-    ensures run { (done : List Pair) (n m : ℕ) → Holds table.old done → pair.now.recipe ≤ n → pair.now.recipe ≤ m →
-        Follows (flat_map (part_questions recipes.now (walk_questions recipes.now m)) (walk same_pair key (priors recipes.now) (suc n) done pair.now)) (H.entries host.old) (H.entries host.new) (halt_of result)
-        × IfOk result (λ _. Holds table.new (done ++ blocks (map (part_key key) (walk same_pair key (priors recipes.now) (suc n) done pair.now)))) }
-    ensures account { (tops : List Pair) (before : List Asked) (done : List Pair) → Holds table.old done → In pair.now (known tops before) → Settled (suc pair.now.recipe) before done →
+    ensures run { (flag : Bool) (done : List Pair) (n m : ℕ) → Holds table.old done → pair.now.recipe ≤ n → pair.now.recipe ≤ m →
+        Follows (flat_map (part_questions recipes.now (walk_questions recipes.now m)) (walk same_pair key (priors recipes.now) (suc n) done (task flag pair.now))) (H.entries host.old) (H.entries host.new) (halt_of result)
+        × IfOk result (λ _. Holds table.new (done ++ blocks (map (part_key key) (walk same_pair key (priors recipes.now) (suc n) done (task flag pair.now))))) }
+    ensures account { (flag : Bool) (tops : List Task) (before : List Asked) (done : List Pair) → Holds table.old done → In (task flag pair.now) (known tops before) → Settled (suc pair.now.recipe) before done →
         (t : Table) × (H.entries host.new ≡ H.entries host.old ++ beginnings recipes.now (begun t)) × Fits recipes.now tops before done t × AllLow (suc pair.now.recipe) (own t)
         × IfOk result (λ _. Holds table.new (done ++ own t) × (has same_pair (done ++ own t) pair.now ≡ true) × AreDone (own t) (asks t) × Complete recipes.now t × (calls.new.items ≡ add_at calls.old.items number (1 + prior_count t) ++ counts_below t)) }
 {
@@ -132,8 +132,8 @@ fn run_block<H: Host>(
     requires resolved { All IsResolved recipes.now }
     ensures keeps { KeepsPromises (H.promised host.old) (H.promised host.new) }
     ensures number { length calls.old.items ≤ length calls.new.items }
-    ensures run { (m : ℕ) → pair.now.recipe ≤ m → Follows (part_questions recipes.now (walk_questions recipes.now m) (Block pair.now)) (H.entries host.old) (H.entries host.new) (halt_of result) }
-    ensures account { (tops : List Pair) (before : List Asked) (done : List Pair) (ps : List Pair) → In (record { pair = pair.now; priors = ps }) before → has same_pair done pair.now ≡ false → AreIn done ps → ps ≡ priors recipes.now pair.now →
+    ensures run { (flag : Bool) (m : ℕ) → pair.now.recipe ≤ m → Follows (part_questions recipes.now (walk_questions recipes.now m) (Block (task flag pair.now))) (H.entries host.old) (H.entries host.new) (halt_of result) }
+    ensures account { (flag : Bool) (tops : List Task) (before : List Asked) (done : List Pair) (ps : List Task) → In (record { task = task flag pair.now; priors = ps }) before → has same_pair done pair.now ≡ false → AreIn done ps → ps ≡ priors recipes.now (task flag pair.now) →
         (t : Table) × (H.entries host.new ≡ H.entries host.old ++ beginnings recipes.now (begun t)) × Fits recipes.now tops before done t × AllLow (suc pair.now.recipe) (own t)
         × IfOk result (λ _. (own t ≡ pair.now ∷ []) × (asks t ≡ []) × Complete recipes.now t × (prior_count t ≡ length ps) × (calls.new.items ≡ calls.old.items ++ counts_below t)) }
 {
@@ -157,9 +157,9 @@ fn run_fresh<H: Host>(
     requires resolved { All IsResolved recipes.now }
     ensures keeps { KeepsPromises (H.promised host.old) (H.promised host.new) }
     ensures number { length calls.old.items ≤ length calls.new.items }
-    ensures run { (m : ℕ) → bound ≤ m → Follows (walk_questions recipes.now m tops.now) (H.entries host.old) (H.entries host.new) (halt_of result) }
-    ensures account { (t : Table) × (H.entries host.new ≡ H.entries host.old ++ beginnings recipes.now (begun t)) × Fits recipes.now tops.now [] [] t
-        × IfOk result (λ _. AreIn (own t) tops.now × Complete recipes.now t × (calls.new.items ≡ calls.old.items ++ counts tops.now t)) }
+    ensures run { (flag : Bool) (m : ℕ) → bound ≤ m → Follows (walk_questions recipes.now m (tasks flag tops.now)) (H.entries host.old) (H.entries host.new) (halt_of result) }
+    ensures account { (flag : Bool) → (t : Table) × (H.entries host.new ≡ H.entries host.old ++ beginnings recipes.now (begun t)) × Fits recipes.now (tasks flag tops.now) [] [] t
+        × IfOk result (λ _. AreIn (own t) (tasks flag tops.now) × Complete recipes.now t × (calls.new.items ≡ calls.old.items ++ counts (tasks flag tops.now) t)) }
 {
     if tops.is_empty() {
         return Ok(());
@@ -188,12 +188,12 @@ fn run_all<H: Host>(
     requires number { number < length calls.old.items }
     ensures keeps { KeepsPromises (H.promised host.old) (H.promised host.new) }
     ensures number { length calls.old.items ≤ length calls.new.items }
-    ensures run { (done : List Pair) (n m : ℕ) → Holds table.old done → bound ≤ n → bound ≤ suc m →
-        Follows (flat_map (part_questions recipes.now (walk_questions recipes.now m)) (walks key (walk same_pair key (priors recipes.now) n) done tops.now)) (H.entries host.old) (H.entries host.new) (halt_of result)
-        × IfOk result (λ _. Holds table.new (done ++ blocks (map (part_key key) (walks key (walk same_pair key (priors recipes.now) n) done tops.now)))) }
-    ensures account { (named : List Pair) (before : List Asked) (done : List Pair) → Holds table.old done → All (λ (q : Pair). In q (known named before)) tops.now → Settled bound before done →
+    ensures run { (flag : Bool) (done : List Pair) (n m : ℕ) → Holds table.old done → bound ≤ n → bound ≤ suc m →
+        Follows (flat_map (part_questions recipes.now (walk_questions recipes.now m)) (walks key (walk same_pair key (priors recipes.now) n) done (tasks flag tops.now))) (H.entries host.old) (H.entries host.new) (halt_of result)
+        × IfOk result (λ _. Holds table.new (done ++ blocks (map (part_key key) (walks key (walk same_pair key (priors recipes.now) n) done (tasks flag tops.now))))) }
+    ensures account { (flag : Bool) (named : List Task) (before : List Asked) (done : List Pair) → Holds table.old done → All (λ (q : Task). In q (known named before)) (tasks flag tops.now) → Settled bound before done →
         (t : Table) × (H.entries host.new ≡ H.entries host.old ++ beginnings recipes.now (begun t)) × Fits recipes.now named before done t × AllLow bound (own t)
-        × IfOk result (λ _. Holds table.new (done ++ own t) × AreIn (done ++ own t) tops.now × AreDone (own t) (asks t) × Complete recipes.now t × (calls.new.items ≡ add_at calls.old.items number (length tops.now + prior_count t) ++ counts_below t)) }
+        × IfOk result (λ _. Holds table.new (done ++ own t) × AreIn (done ++ own t) (tasks flag tops.now) × AreDone (own t) (asks t) × Complete recipes.now t × (calls.new.items ≡ add_at calls.old.items number (length (tasks flag tops.now) + prior_count t) ++ counts_below t)) }
 {
     for pair in tops {
         run_recipe(alloc, recipes, host, calls, number, table, pair)?;
@@ -211,8 +211,8 @@ pub(crate) fn run_invocations<'src, H: Host>(
     requires resolved { All IsResolved recipes.now }
     requires held { All (λ (i : Invocation). IsHeld recipes.now i.recipe.now) invocations.now }
     ensures keeps { KeepsPromises (H.promised host.old) (H.promised host.new) }
-    ensures unready { IfErr result (IsReason recipes.now (tops_of recipes.now invocations.now)) }
-    ensures ready { IfOk result (λ _. AreReady recipes.now (tops_of recipes.now invocations.now)) }
+    ensures unready { IfErr result (IsReason recipes.now (pairs_of recipes.now invocations.now)) }
+    ensures ready { IfOk result (λ _. AreReady recipes.now (pairs_of recipes.now invocations.now)) }
     ensures run { IsRun (run_questions recipes.now (length recipes.now) (tops_of recipes.now invocations.now)) (H.entries host.old) (H.entries host.new) result }
     ensures account { (t : Table) × (H.entries host.new ≡ H.entries host.old ++ beginnings recipes.now (begun t)) × Fits recipes.now (tops_of recipes.now invocations.now) [] [] t
         × IfOk result (λ report. AreIn (own t) (tops_of recipes.now invocations.now) × Complete recipes.now t × (report.calls.items ≡ counts (tops_of recipes.now invocations.now) t)) }
