@@ -6,6 +6,7 @@ pub mod Held
 pub mod Indexing
 pub mod Keys
 pub mod Lifts
+pub mod ModuleFiles
 pub mod Outlines
 pub mod Refuted
 pub mod Resolving

@@ -3,6 +3,7 @@ pub mod Asts
 pub mod Compiled
 pub mod Definitions
 pub mod Index
+pub mod ModuleFile
 pub mod Outline
 pub mod Resolved
 pub mod Rows

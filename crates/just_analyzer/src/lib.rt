@@ -6,6 +6,7 @@ pub mod compilation;
 pub mod compiler;
 mod definitions;
 mod headers;
+mod module_file;
 mod names;
 mod recipe_resolver;
 pub mod sources;

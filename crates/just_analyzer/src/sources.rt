@@ -1,13 +1,16 @@
-ghost use Rattle.std.specs.Prelude.{◌≡◌, ◌↔◌, [], IfSome, IsErrOf, OnOk, OnErr};
+ghost use Rattle.std.specs.Prelude.{◌≡◌, ◌↔◌, [], IfSome, IfOk, IsErrOf, OnOk, OnErr};
 ghost use Rattle.std.specs.Option.{option_map, option_copied};
 ghost use Rattle.just_parts.specs.Clean.{IsClean};
 ghost use Rattle.just_parts.specs.Entries.{find, put};
+ghost use Rattle.just_parts.specs.Modulepath.{texts};
+ghost use Rattle.just_analyzer.specs.ModuleFile.{files_in};
 ghost use Rattle.just_analyzer.specs.Sources.{text_at};
 
+use crate::module_file::{after, is_module_name, slashed};
 use just_data::BorrowedText;
 use just_parts::layers::SourceError;
 use just_parts::{Keyed, Table, is_clean};
-use std::alloc::Global;
+use std::alloc::{AllocError, Global};
 use std::marker::Model;
 
 /// A file of a source map.
@@ -88,5 +91,25 @@ impl<'src> Sources<'src> {
         ensures path { IfSome result (λ file. file.now.path ≡ path.now) }
     {
         self.files.get(path)
+    }
+
+    // The paths of a folder's files that can be a module's, in byte order.
+    pub(crate) fn module_files_in(
+        &self,
+        alloc: Global,
+        folder: &str,
+    ) -> Result<Vec<&'src str>, AllocError>
+        ensures { IfOk result (λ paths. texts paths.items ≡ files_in self.now folder.now) }
+    {
+        let mut paths = Vec::new(alloc);
+        let prefix = slashed(alloc, folder)?;
+        for path in self.files.keys() {
+            if let Some(name) = after(path, prefix.as_str()) {
+                if is_module_name(name) {
+                    paths.push(*path)?;
+                }
+            }
+        }
+        Ok(paths)
     }
 }

@@ -7,6 +7,7 @@ ghost use Rattle.just_invoke.specs.Closed.{IsClosed};
 mod compiling;
 mod copies;
 mod files;
+mod module_files;
 mod paths;
 mod refusals;
 mod running;

@@ -1,12 +1,12 @@
 -- What a change of a map says of the entries that a table shows.
 use Rattle.std.proofs.lemmas.Slice.Eq.{bytes_eq-Decides}
-use Rattle.std.proofs.Common.{rules, bytes_eq, ◌∙◌, ◌≡◌, ℕ, sym, ap, refl, suc, List, [], ◌∷◌, length, map, Bool, true, false, true≢false, cond, Option, None, Some, is_some}
+use Rattle.std.proofs.Common.{rules, bytes_eq, ◌∙◌, ◌≡◌, ℕ, sym, ap, refl, suc, List, [], ◌∷◌, length, map, Bool, true, false, true≢false, cond, ◌&&◌, Option, None, Some, is_some}
 use Rattle.std.specs.Borrow.{Bor}
 use Rattle.std.specs.declared.cmp.Ordering.{Ordering}
 use Rattle.std.specs.declared.cmp.Ordering.TheVariants.{Less, Equal, Greater}
-use Rattle.std.specs.Ordering.{nat_cmp, match_ordering, is_eq}
+use Rattle.std.specs.Ordering.{nat_cmp, match_ordering, is_eq, is_le}
 use Rattle.std.specs.Cmp.Lexicographic.{slice_cmp}
-use Rattle.std.specs.List.{AllByRecursion}
+use Rattle.std.specs.List.{AllByRecursion, filter}
 use Rattle.std.specs.List.Sorted.{IsStrictlySortedBy}
 use Rattle.std.specs.Map.{lookup, remove_entry, set_value, keys_of, values_of}
 use Rattle.std.specs.BTreeMap.{insert_entry}
@@ -14,7 +14,7 @@ use Rattle.std.specs.Map.Calls.{RetainsPairs}
 use Rattle.std.proofs.lemmas.Map.Lookups.{exact_bytes}
 use Rattle.std.proofs.lemmas.Map.Text.{is_eq-slice_cmp}
 use Rattle.std.proofs.lemmas.List.Elements.{All-nil, All-cons, All-head, All-tail}
-use Rattle.just_parts.specs.Entries.{shown, find, put, without, write, IsSorted, IsKeyed, UpdatesEach}
+use Rattle.just_parts.specs.Entries.{shown, find, from_key, put, without, write, IsSorted, IsKeyed, UpdatesEach}
 
 -- what a `&str` key shows
 abbrev pub text_now : Bor (List ℕ) → List ℕ
@@ -53,6 +53,15 @@ module _ {K V : Type 0} (text : K → List ℕ) where
   pub write_shown : (k : List ℕ) (w : V) (es : List (K × V)) → write k w (shown text es) ≡ shown text (set_value (at text k) es w)
   write_shown k w [] = refl
   write_shown k w (e ∷ es) = rw (← is_eq-slice_cmp k (text e.0), write_shown k w es) (sym (cond_shown (at text k e.0) ((e.0, w) ∷ es) (e ∷ set_value (at text k) es w)))
+
+  pub from_shown : (k : K) (es : List (K × V)) → shown text (filter (λ e. is_le (by text k e.0) && true) es) ≡ from_key (text k) (shown text es)
+  from_shown k [] = refl
+  from_shown k (e ∷ es) = go (is_le (by text k e.0)) (from_shown k es)
+    where
+      go : (b : Bool) → shown text (filter (λ q. is_le (by text k q.0) && true) es) ≡ from_key (text k) (shown text es)
+          → shown text (cond (b && true) (e ∷ filter (λ q. is_le (by text k q.0) && true) es) (filter (λ q. is_le (by text k q.0) && true) es)) ≡ cond b ((text e.0, e.1) ∷ from_key (text k) (shown text es)) (from_key (text k) (shown text es))
+      go true ih = ap (λ rest. (text e.0, e.1) ∷ rest) ih
+      go false ih = ih
 
   below_shown : (x : K) (es : List (K × V)) → AllByRecursion (λ y. by text x y ≡ Less) (keys_of es) → AllByRecursion (λ y. slice_cmp nat_cmp (text x) y ≡ Less) (keys_of (shown text es))
   below_shown x [] h = h

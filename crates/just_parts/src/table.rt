@@ -5,13 +5,13 @@ ghost use Rattle.std.specs.Ordering.{nat_cmp};
 ghost use Rattle.std.specs.Map.{keys_of, values_of};
 ghost use Rattle.std.specs.Map.Iter.{GivesInOrder, ShowsInOrder, ShowsValuesInOrder, deref, deref_pair};
 ghost use Rattle.std.specs.Option.{option_copied};
-ghost use Rattle.just_parts.specs.Entries.{shown, find, put, put_all, without, write, IsSorted, IsKeyed, UpdatesEach};
+ghost use Rattle.just_parts.specs.Entries.{shown, find, from_key, put, put_all, without, write, IsSorted, IsKeyed, UpdatesEach};
 ghost use Rattle.std.specs.Fn.{CalledAtMut};
 
 use std::alloc::{AllocError, AllocFailed, Global};
 use std::cmp::Ord;
 use std::collections::BTreeMap;
-use std::collections::btree_map::{IntoIter, IntoValues, Iter, Keys, Values};
+use std::collections::btree_map::{IntoIter, IntoValues, Iter, Keys, Range, Values};
 use std::iter::{FromIterator, IntoIterator};
 use std::marker::Model;
 use std::ops::Index;
@@ -169,6 +169,16 @@ impl<'key, V> TableOf<&'key str, V> {
         ensures sorted { IsSorted self.now }
     {
         self.map.iter()
+    }
+
+    /// The entries from a key on, in the byte order of the keys.
+    pub fn range_from(&self, key: &'key str) -> Range<'_, &'key str, V>
+        ensures rest { shown (λ k. k.now) result ≡ from_key key.now self.now }
+        ensures runs { ShowsInOrder (deref_pair {K = Bor (List ℕ)} {X = V}) }
+        ensures fits { length result < 2 ^ 63 }
+        ensures sorted { IsSorted self.now }
+    {
+        self.map.range(key..)
     }
 }
 

@@ -95,10 +95,9 @@ fn line_names_a_file(rt: HostRuntime) -> Result<(), Fail> {
 }
 
 #[test]
-fn line_that_is_no_import_or_module_is_a_fault(rt: HostRuntime) -> Result<(), Fail> {
+fn line_that_is_no_import_is_a_fault(rt: HostRuntime) -> Result<(), Fail> {
     let cases = [
         "import",
-        "import?",
         "import x",
         "import 'x' y",
         "import 'x' 'y'",
@@ -106,28 +105,30 @@ fn line_that_is_no_import_or_module_is_a_fault(rt: HostRuntime) -> Result<(), Fa
         "import '",
         "import 'x''",
         "import \"x\"",
-        "import ?'x'",
-        "import ? 'x'",
-        "import?? 'x'",
-        "import 'x'?",
-        "import? x",
         "import 'x':",
         "import: 'x'",
         "import 'x'\r",
         " import 'x'",
-        "\tmod a",
         "imports 'x'",
         "Import 'x'",
+    ];
+    for text in cases {
+        let error = fault(rt.alloc(), text).ok_or("accepted")?;
+        assert_eq!(rt; error.token.line(), 0, "of {text:?}");
+        assert_eq!(rt; error.token.length(), text.len(), "of {text:?}");
+    }
+    Ok(())
+}
+
+#[test]
+fn line_that_is_no_module_is_a_fault(rt: HostRuntime) -> Result<(), Fail> {
+    let cases = [
+        "\tmod a",
         "mod",
-        "mod?",
         "mod 'x'",
-        "mod? 'x'",
         "mod a b",
         "mod a 'x' b",
         "mod a 'x' 'y'",
-        "mod a? 'x'",
-        "mod ? a",
-        "mod ?a",
         "mod a::b",
         "mod 1",
         "'x'",
@@ -138,7 +139,30 @@ fn line_that_is_no_import_or_module_is_a_fault(rt: HostRuntime) -> Result<(), Fa
     for text in cases {
         let error = fault(rt.alloc(), text).ok_or("accepted")?;
         assert_eq!(rt; error.token.line(), 0, "of {text:?}");
-        assert_eq!(rt; error.token.lexeme(), text);
+        assert_eq!(rt; error.token.length(), text.len(), "of {text:?}");
+    }
+    Ok(())
+}
+
+#[test]
+fn question_mark_elsewhere_is_a_fault(rt: HostRuntime) -> Result<(), Fail> {
+    let cases = [
+        "import?",
+        "import ?'x'",
+        "import ? 'x'",
+        "import?? 'x'",
+        "import 'x'?",
+        "import? x",
+        "mod?",
+        "mod? 'x'",
+        "mod a? 'x'",
+        "mod ? a",
+        "mod ?a",
+    ];
+    for text in cases {
+        let error = fault(rt.alloc(), text).ok_or("accepted")?;
+        assert_eq!(rt; error.token.line(), 0, "of {text:?}");
+        assert_eq!(rt; error.token.length(), text.len(), "of {text:?}");
     }
     Ok(())
 }
