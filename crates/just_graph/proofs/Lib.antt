@@ -17,3 +17,6 @@ pub mod Told
 pub mod StepRows
 pub mod Walking
 pub mod Deepening
+pub mod Index
+pub mod Links
+pub mod Noting

@@ -12,12 +12,12 @@ use Rattle.just_graph.specs.declared.unfolding.Step.{Step}
 use Rattle.just_graph.specs.declared.unfolding.Unfolded.{Unfolded}
 use Rattle.just_graph.specs.declared.unfolding.Frame.{Frame}
 use Rattle.just_graph.specs.Unfolding.{Key, Node, key, child, kids, HasKey}
-use Rattle.just_graph.specs.Unfolded.{Tells, AllTold, HashKey, is_key, frames_from, unfolded_key}
+use Rattle.just_graph.specs.Unfolded.{Tells, AllTold, HashKey, is_key, plain, frames_from, unfolded_key}
 use Rattle.just_graph.proofs.Members.{In, contained, is_in, in_map, from_map}
 use Rattle.just_graph.proofs.Last.{bool_cases}
 use Rattle.just_graph.proofs.Deep.{has_cases}
 
-get_push_cases : {A : Type 0} (xs : List A) (x : A) (k : ℕ) (y : A) → slice_get (xs ++ x ∷ []) k ≡ Some y → ((slice_get xs k ≡ Some y) × (k < length xs)) ⊎ ((k ≡ length xs) × (y ≡ x))
+pub get_push_cases : {A : Type 0} (xs : List A) (x : A) (k : ℕ) (y : A) → slice_get (xs ++ x ∷ []) k ≡ Some y → ((slice_get xs k ≡ Some y) × (k < length xs)) ⊎ ((k ≡ length xs) × (y ≡ x))
 get_push_cases [] x zero y e = inr (refl, cc)
 get_push_cases [] x (suc k) y e = absurd (cc)
 get_push_cases (z ∷ xs) x zero y e = inl (e, omega arith)
@@ -52,10 +52,6 @@ told_push S us ns u n s new = record {
     ]
   ];
 }
-
--- the key that a hashed one stands for
-abbrev pub plain : HashKey → Key
-plain h = record { path = h.0.items; node = h.1 }
 
 is_key_decides : (k : Key) (h : HashKey) → Decides (is_key k h) (k ≡ plain h)
 is_key_decides k h = Decides-like (is_key k h)
@@ -134,7 +130,7 @@ told_key S ns u n t = let a : unfolded_key u ≡ record { path = n.path; node = 
 got : {A : Type 0} (xs : List A) (x : A) → In x xs → (k : ℕ) × (slice_get xs k ≡ Some x) × (k < length xs)
 got xs x i = let c = contained x xs i in (c.0, slice_get-get_or xs c.0 x c.1 ∙ ap Some c.2, c.1)
 
-at_least : {A : Type 0} (xs : List A) (k : ℕ) → k < length xs → (x : A) × (slice_get xs k ≡ Some x)
+pub at_least : {A : Type 0} (xs : List A) (k : ℕ) → k < length xs → (x : A) × (slice_get xs k ≡ Some x)
 at_least xs k l = elim (slice_get_cases xs k).1 [ inl c ↦ (c.0, c.2) | inr c ↦ absurd (let h : length xs ≤ k = c.0 in omega arith) ]
 
 -- the elements have the keys of the nodes

@@ -12,12 +12,12 @@ use Rattle.just_graph.specs.declared.unfolding.Unfolded.{Unfolded}
 use Rattle.just_graph.specs.declared.unfolding.Frame.{Frame}
 use Rattle.just_graph.specs.Steps.{Reached, from_start, from_member}
 use Rattle.just_graph.specs.Unfolding.{steps, HasStep, IsOrdered, Key, Node, key, child, kids, HasKey, root_node, root_key, path_after, offsets_after}
-use Rattle.just_graph.specs.Unfolded.{Tells, AllTold, HashKey, is_key, frames_from, unfolded_key, CameFrom}
+use Rattle.just_graph.specs.Unfolded.{Tells, AllTold, HashKey, is_key, frames_from, plain, unfolded_key, CameFrom}
 use Rattle.just_graph.proofs.Members.{In, contained, is_in, in_left, in_right, in_cases, in_last, from_map, in_map}
 use Rattle.std.proofs.lemmas.List.Elements.{All-contains}
 use Rattle.just_graph.proofs.Deep.{Walk, Ends, done, skip, take as take_node, split, nothing_taken, Goes}
 use Rattle.just_graph.proofs.Ranks.{size, size_pos, goes_to, order_short, size_opened, listed_ends, listed_reached}
-use Rattle.just_graph.proofs.Told.{get_last, told_none, told_push, plain, IsPlace, Known, known_push, StandsFor, Stands, empty, stands_append, stands_grow, stands_nil, stands_pop, stands_row}
+use Rattle.just_graph.proofs.Told.{get_last, told_none, told_push, IsPlace, Known, known_push, StandsFor, Stands, empty, stands_append, stands_grow, stands_nil, stands_pop, stands_row}
 
 -- Whatever a walk from here takes in the end, the walk from the root takes.
 abbrev pub GoesOn : (ℕ → List Step) → ℕ → List Node → List Node → Type 0

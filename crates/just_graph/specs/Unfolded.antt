@@ -1,5 +1,8 @@
 -- What the elements of an unfolding tell, and what its search has.
-use Rattle.std.specs.Prelude.{◌≡◌, ℕ, ◌+◌, ◌==◌, ◌&&◌, Bool, Option, Some, None, List, [], ◌∷◌, ◌++◌, take, length, slice_get, nat_eq}
+use Rattle.std.specs.Prelude.{◌≡◌, ℕ, ◌+◌, ◌==◌, ◌&&◌, Bool, Option, Some, None, List, [], ◌∷◌, ◌++◌, take, length, slice_get, nat_eq, MatchOption}
+use Rattle.std.specs.Option.{unwrap_or}
+use Rattle.std.specs.List.{Contains}
+use Rattle.just_graph.specs.Levels.{depth_of}
 use Rattle.std.specs.Cmp.Lexicographic.{pointwise}
 use Rattle.std.specs.declared.vec.Vec.{Vec}
 use Rattle.std.specs.declared.alloc.Global.{Global}
@@ -7,7 +10,7 @@ use Rattle.just_graph.specs.declared.unfolding.Step.{Step}
 use Rattle.just_graph.specs.declared.unfolding.Origin.{Origin}
 use Rattle.just_graph.specs.declared.unfolding.Unfolded.{Unfolded}
 use Rattle.just_graph.specs.declared.unfolding.Frame.{Frame}
-use Rattle.just_graph.specs.Unfolding.{Key, Node, child, AreFirst}
+use Rattle.just_graph.specs.Unfolding.{Key, Node, child, path_after, AreFirst}
 
 abbrev pub unfolded_key : Unfolded → Key
 unfolded_key u = record { path = u.path.items; node = u.node }
@@ -47,3 +50,29 @@ is_key k h = pointwise nat_eq k.path h.0.items && nat_eq k.node h.1
 
 abbrev pub same_key : HashKey → HashKey → Bool
 same_key g h = pointwise nat_eq g.0.items h.0.items && nat_eq g.1 h.1
+
+-- the key that a hashed one stands for
+abbrev pub plain : HashKey → Key
+plain h = record { path = h.0.items; node = h.1 }
+
+-- no key stands at two places
+abbrev pub AreApart : List Key → Type 0
+AreApart ks = (i j : ℕ) (k : Key) → slice_get ks i ≡ Some k → slice_get ks j ≡ Some k → i ≡ j
+
+-- the places of the keys of a list, and no others
+abbrev pub IsIndex : List Key → (HashKey → Option ℕ) → Type 0
+IsIndex ks places = (h : HashKey) → MatchOption (places h) (Contains ks (plain h) → ⊥) (λ i. slice_get ks i ≡ Some (plain h))
+
+-- a step from a group leads to the key
+abbrev pub IsAfter : List ℕ → Step → HashKey → Type 0
+IsAfter path s h = (h.0.items ≡ path_after path s.enters) × (h.1 ≡ s.target)
+
+-- the links are the places of the keys that the steps of a row lead to from a group
+pub record AreLinked (row : List Step) (path : List ℕ) (places : HashKey → Option ℕ) (links : List ℕ) : Type 0 where
+  pub sound : (q : ℕ) → Contains links q → (s : Step) × (h : HashKey) × Contains row s × IsAfter path s h × (places h ≡ Some q)
+  pub complete : (s : Step) → Contains row s → (h : HashKey) × IsAfter path s h × ((q : ℕ) → places h ≡ Some q → Contains links q)
+
+-- the elements have these depths, and are the same otherwise
+pub record AreNoted (depths : List (Option ℕ)) (old new : List Unfolded) : Type 0 where
+  pub count : length new ≡ length old
+  pub each : (k : ℕ) (u : Unfolded) → slice_get old k ≡ Some u → slice_get new k ≡ Some (record u { depth = unwrap_or (depth_of depths k) 0 })

@@ -3,14 +3,17 @@
 //! A step stays in its node's group or enters the group of a name, so a node can stand in many groups. Its key is the
 //! path of its group and its place in the graph.
 
-ghost use Rattle.std.specs.Prelude.{◌≡◌, ◌++◌, ◌+◌, ◌<◌, ◌↔◌, ◌&&◌, ◌∷◌, [], ℕ, List, cond, length, map, IfOk, OnOk, IsSome};
+ghost use Rattle.std.specs.Prelude.{◌≡◌, ◌++◌, ◌+◌, ◌<◌, ◌↔◌, ◌&&◌, ◌∷◌, [], ℕ, List, cond, length, map, slice_get, IfOk, OnOk};
 ghost use Rattle.std.specs.List.{All, Contains};
 ghost use Rattle.std.specs.HashMap.{get};
 ghost use Rattle.std.specs.declared.vec.Vec.{Vec};
 ghost use Rattle.std.specs.declared.alloc.Global.{Global};
-ghost use Rattle.just_graph.specs.Unfolding.{steps, IsOrdered, Key, KeySteps, root_key, path_after, offsets_after};
-ghost use Rattle.just_graph.specs.Unfolded.{frames_from, HashKey, is_key, same_key, unfolded_key, IsUnfolded};
+ghost use Rattle.just_graph.specs.Unfolding.{steps, IsOrdered, Key, KeySteps, root_key, path_after, offsets_after, IsLeastDepth};
+ghost use Rattle.just_graph.specs.Building.{EachRow};
+ghost use Rattle.just_graph.specs.Unfolded.{frames_from, HashKey, is_key, same_key, unfolded_key, AreApart, AreLinked, AreNoted, IsIndex, IsUnfolded};
+ghost use Rattle.just_graph.specs.declared.unfolding.Unfolded.{Unfolded};
 
+use crate::levels::depths;
 use std::alloc::{AllocError, Global};
 use std::collections::HashMap;
 
@@ -41,6 +44,8 @@ pub struct Unfolded {
     pub offsets: Vec<usize>,
     /// Nothing for the root.
     pub origin: Option<Origin>,
+    /// The least number of steps that lead to its key.
+    pub depth: usize,
 }
 
 // A step that is still to be taken.
@@ -116,21 +121,16 @@ fn take(
     Ok(())
 }
 
-/// Lists the first node of each key in the unfolding's preorder, in which the steps of a node go from the last to the
-/// first.
-///
-/// It takes time in the number of steps from the nodes that it lists, and no recursion.
-pub fn unfold(
+// The first node of each key in the unfolding's preorder, with no depths yet, and the places of the keys.
+fn walk(
     alloc: Global,
     rows: &[Vec<Step>],
     root: usize,
-) -> Result<Vec<Unfolded>, AllocError>
-    // What `order` answers for the graph: there is no circle.
+) -> Result<(Vec<Unfolded>, HashMap<(Vec<usize>, usize), usize>), AllocError>
     requires { IsOrdered rows.now root }
-    // The first node of each key, and where it came from.
-    ensures first { IfOk result (λ nodes. IsUnfolded (steps rows.now) root nodes.items) }
-    // The keys that steps lead to, and no others.
-    ensures keys { IfOk result (λ nodes. (k : Key) → Contains (map unfolded_key nodes.items) k ↔ ((n : ℕ) × KeySteps (steps rows.now) (root_key root) k n)) }
+    ensures first { IfOk result (λ walked. IsUnfolded (steps rows.now) root walked.0.items) }
+    ensures keys { IfOk result (λ walked. (k : Key) → Contains (map unfolded_key walked.0.items) k ↔ ((n : ℕ) × KeySteps (steps rows.now) (root_key root) k n)) }
+    ensures index { IfOk result (λ walked. IsIndex (map unfolded_key walked.0.items) (get same_key walked.1)) }
 {
     let mut taken = Vec::new(alloc);
     let mut places = HashMap::new(alloc);
@@ -140,6 +140,7 @@ pub fn unfold(
         path: Vec::new(alloc),
         offsets: Vec::new(alloc),
         origin: None,
+        depth: 0,
     };
     take(rows, first, &mut taken, &mut places, &mut stack)?;
     while let Some(frame) = stack.pop() {
@@ -153,10 +154,85 @@ pub fn unfold(
             path: key.0,
             offsets: offsets_after(alloc, &parent.offsets, frame.step)?,
             origin: Some(frame.origin),
+            depth: 0,
         };
         take(rows, unfolded, &mut taken, &mut places, &mut stack)?;
     }
-    Ok(taken)
+    Ok((taken, places))
+}
+
+// The places of the keys that the steps of a row lead to from a group.
+fn row_links(
+    alloc: Global,
+    row: &[Step],
+    path: &Vec<usize>,
+    places: &HashMap<(Vec<usize>, usize), usize>,
+) -> Result<Vec<usize>, AllocError>
+    ensures { IfOk result (λ links. AreLinked row.now path.now.items (get same_key places.now) links.items) }
+{
+    let mut links = Vec::new(alloc);
+    for step in row {
+        let key = (path_after(path, *step)?, step.target);
+        let Some(place) = places.get(&key) else {
+            continue;
+        };
+        links.push(*place)?;
+    }
+    Ok(links)
+}
+
+// The steps between the nodes of an unfolding, by their places.
+fn links(
+    alloc: Global,
+    rows: &[Vec<Step>],
+    nodes: &[Unfolded],
+    places: &HashMap<(Vec<usize>, usize), usize>,
+) -> Result<Vec<Vec<usize>>, AllocError>
+    requires { (k : ℕ) (u : Unfolded) → slice_get nodes.now k ≡ Some u → u.node < length rows.now }
+    ensures { IfOk result (λ links. EachRow (λ k row. (u : Unfolded) → slice_get nodes.now k ≡ Some u → AreLinked (steps rows.now u.node) u.path.items (get same_key places.now) row) (length nodes.now) links.items) }
+{
+    let mut links = Vec::new(alloc);
+    for unfolded in nodes {
+        let row = rows[unfolded.node].as_slice();
+        links.push(row_links(alloc, row, &unfolded.path, places)?)?;
+    }
+    Ok(links)
+}
+
+// Notes the depths of the nodes.
+fn note_depths(nodes: &mut Vec<Unfolded>, depths: &Vec<Option<usize>>)
+    requires { length depths.now.items ≡ length nodes.old.items }
+    ensures { AreNoted depths.now.items nodes.old.items nodes.new.items }
+{
+    for place in 0..nodes.len() {
+        nodes[place].depth = depths[place].unwrap_or(0);
+    }
+}
+
+/// Lists the first node of each key in the unfolding's preorder, in which the steps of a node go from the last to the
+/// first.
+///
+/// It takes time in the number of steps from the nodes that it lists, and no recursion.
+pub fn unfold(
+    alloc: Global,
+    rows: &[Vec<Step>],
+    root: usize,
+) -> Result<Vec<Unfolded>, AllocError>
+    // What `order` answers for the graph: there is no circle.
+    requires { IsOrdered rows.now root }
+    // The first node of each key, and where it came from.
+    ensures first { IfOk result (λ nodes. IsUnfolded (steps rows.now) root nodes.items) }
+    // The keys that steps lead to, and no others, each once.
+    ensures keys { IfOk result (λ nodes. (k : Key) → Contains (map unfolded_key nodes.items) k ↔ ((n : ℕ) × KeySteps (steps rows.now) (root_key root) k n)) }
+    ensures once { IfOk result (λ nodes. AreApart (map unfolded_key nodes.items)) }
+    // Each depth is the least of the key's.
+    ensures depths { IfOk result (λ nodes. (k : ℕ) (u : Unfolded) → slice_get nodes.items k ≡ Some u → IsLeastDepth (steps rows.now) root (unfolded_key u) u.depth) }
+{
+    let (mut nodes, places) = walk(alloc, rows, root)?;
+    let links = links(alloc, rows, nodes.as_slice(), &places)?;
+    let depths = depths(alloc, links.as_slice(), 0)?;
+    note_depths(&mut nodes, &depths);
+    Ok(nodes)
 }
 
 #[cfg(test)]
@@ -202,10 +278,11 @@ mod tests {
             listed.push(unfolded.node)?;
             listed.push(unfolded.path.len())?;
             listed.push(unfolded.offsets.len())?;
+            listed.push(unfolded.depth)?;
         }
         assert_eq!(rt;
             listed.as_slice(),
-            [0, 0, 0, 3, 1, 0, 2, 0, 1, 3, 0, 2, 1, 0, 1].as_slice()
+            [0, 0, 0, 0, 3, 1, 0, 1, 2, 0, 1, 1, 3, 0, 2, 2, 1, 0, 1, 1].as_slice()
         );
         Ok(())
     }

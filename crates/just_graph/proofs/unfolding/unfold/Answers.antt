@@ -1,74 +1,62 @@
-use Rattle.std.proofs.Common.{◌≡◌, ◌∙◌, ◌↔◌, ◌<◌, ℕ, Option, Some, None, List, [], ◌∷◌, length, refl, sym, ap, subst, arith, rules}
+use Rattle.std.proofs.Common.{◌≡◌, ◌∙◌, ◌++◌, ◌∷◌, [], ℕ, ◌<◌, ◌↔◌, Some, None, map, length, refl, sym, ap, subst}
+use Rattle.std.specs.Prelude.{slice_get, MatchOption}
+use Rattle.std.specs.List.{Contains}
 use Rattle.std.specs.HashMap.{get}
 use Rattle.just_graph.specs.declared.unfolding.Unfolded.{Unfolded}
-use Rattle.just_graph.specs.Unfolding.{steps, Node, key, HasKey}
-use Rattle.just_graph.specs.Unfolded.{HashKey, same_key}
-use Rattle.just_graph.proofs.Preorder.{walk_first, walk_keys}
-use Rattle.just_graph.proofs.Told.{plain, known_some, known_none, told_keys}
-use Rattle.just_graph.proofs.Walking.{Walking, Popped, popped, popped_target, popped_reached, parent_inside, key_is, child_told, walking_start, walking_skip, walking_take, left_skip, left_take, walked, root_ends, root_inside, node_inside, node_opened}
+use Rattle.just_graph.specs.Graph.{IsGraph, targets}
+use Rattle.just_graph.specs.Unfolding.{steps, Key, KeySteps, root_key, IsLeastDepth}
+use Rattle.just_graph.specs.Unfolded.{same_key, unfolded_key, AreApart, AreNoted}
+use Rattle.just_graph.specs.Levels.{depth_of, InSteps, IsLeast}
+use Rattle.just_graph.proofs.Index.{keys_apart, root_key_first, unfolded_inside, map_get, got_in}
+use Rattle.just_graph.proofs.Links.{EachLinked, links_graph, links_some, least_depth}
+use Rattle.just_graph.proofs.Noting.{was, noted, noted_told, noted_keys}
 use Rattle.just_graph.proofs.unfolding.unfold.Goals as goal
 
-pub take-requires : goal.take-requires
-take-requires c = root_inside c.args.rows.now c.args.root c.requires
+pub links-requires : goal.links-requires
+links-requires c = λ k u e. unfolded_inside c.args.rows.now c.args.root c.in_ok-nodes.nodes.items c.requires c.in_ok-nodes.ensures.keys k u (subst (λ us. slice_get us k ≡ Some u) c.as_slice.ensures.value e)
 
-pub loop-frame-init : goal.loop-frame-init
-loop-frame-init c = walking_start c.args.rows.now c.args.root c.new-taken.result.items c.take.new.taken.items (get same_key c.new-places.result) (get same_key c.take.new.places) c.new-stack.result.items c.take.new.stack.items
-    (record { node = c.args.root; path = c.new.result; offsets = c.new-2.result; origin = None })
-    c.new-taken.ensures.items (λ h. search rules) c.new-stack.ensures.items
-    (record { path = c.new.ensures.items; node = refl; offsets = c.new-2.ensures.items; origin = refl })
-    c.in_ok-take.ensures.taken c.in_ok-take.ensures.places c.in_ok-take.ensures.stack
+pub depths-requires-clause-graph : goal.depths-requires-clause-graph
+depths-requires-clause-graph c =
+    let us = c.in_ok-nodes.nodes.items in let places = get same_key c.in_ok-nodes.places in
+    let linked : EachLinked (steps c.args.rows.now) us places c.in_ok-links.links.items = subst (λ us. EachLinked (steps c.args.rows.now) us places c.in_ok-links.links.items) c.as_slice.ensures.value c.in_ok-links.ensures in
+    subst IsGraph (sym c.as_slice-2.ensures.value) (links_graph (steps c.args.rows.now) c.args.root us places c.in_ok-links.links.items c.in_ok-nodes.ensures.index linked)
 
-pub index-parent-requires : goal.index-parent-requires
-index-parent-requires c =
-    let p = popped c.args.rows.now c.args.root c.loop-frame.taken.items (get same_key c.loop-frame.places) c.loop-frame.stack.items c.pop.new.self.items c.in-Some.frame c.loop-frame.invariant c.in-Some.ensures.items in
-    let inside : c.in-Some.frame.origin.parent < length c.loop-frame.taken.items = parent_inside c.args.rows.now c.args.root c.loop-frame.taken.items (get same_key c.loop-frame.places) c.pop.new.self.items c.in-Some.frame p in
-    omega arith
-
-pub loop-frame-smaller-then-contains_key : goal.loop-frame-smaller-then-contains_key
-loop-frame-smaller-then-contains_key c = left_skip c.args.rows.now c.loop-frame.stack.items c.pop.new.self.items c.in-Some.frame c.in-Some.ensures.items
-
-pub loop-frame-preserved-then-contains_key : goal.loop-frame-preserved-then-contains_key
-loop-frame-preserved-then-contains_key c =
-    let us = c.loop-frame.taken.items in let places = get same_key c.loop-frame.places in
-    let p = popped c.args.rows.now c.args.root us places c.loop-frame.stack.items c.pop.new.self.items c.in-Some.frame c.loop-frame.invariant c.in-Some.ensures.items in
-    let h : HashKey = (c.in_ok-path_after.field-0, c.in-Some.frame.step.target) in
-    let is : plain h ≡ key p.node = key_is c.args.rows.now c.args.root us places c.pop.new.self.items c.in-Some.frame p c.index-parent.result.now h c.index-parent.ensures c.in_ok-path_after.ensures refl in
-    walking_skip c.args.rows.now c.args.root us places c.pop.new.self.items c.in-Some.frame p
-    (subst (HasKey p.nodes) is (known_some p.nodes h (places h) (p.known h) c.if-contains_key.ensures))
-
-pub take-requires-in-Some : goal.take-requires-in-Some
-take-requires-in-Some c =
-    let p = popped c.args.rows.now c.args.root c.loop-frame.taken.items (get same_key c.loop-frame.places) c.loop-frame.stack.items c.pop.new.self.items c.in-Some.frame c.loop-frame.invariant c.in-Some.ensures.items in
-    node_inside c.args.rows.now c.args.root c.requires c.in-Some.frame.step.target (popped_reached c.args.rows.now c.args.root c.loop-frame.taken.items (get same_key c.loop-frame.places) c.pop.new.self.items c.in-Some.frame p)
-
-pub loop-frame-smaller : goal.loop-frame-smaller
-loop-frame-smaller c =
-    let p = popped c.args.rows.now c.args.root c.loop-frame.taken.items (get same_key c.loop-frame.places) c.loop-frame.stack.items c.pop.new.self.items c.in-Some.frame c.loop-frame.invariant c.in-Some.ensures.items in
-    left_take c.args.rows.now c.loop-frame.stack.items c.pop.new.self.items c.take-in-Some.new.stack.items c.in-Some.frame (length c.loop-frame.taken.items) c.in-Some.frame.step.target c.in-Some.ensures.items refl c.in_ok-take-2.ensures.stack
-    (node_opened c.args.rows.now c.args.root c.requires c.in-Some.frame.step.target (popped_reached c.args.rows.now c.args.root c.loop-frame.taken.items (get same_key c.loop-frame.places) c.pop.new.self.items c.in-Some.frame p))
-
-pub loop-frame-preserved : goal.loop-frame-preserved
-loop-frame-preserved c =
-    let us = c.loop-frame.taken.items in let places = get same_key c.loop-frame.places in let f = c.in-Some.frame in let v = c.index-parent.result.now in
-    let p = popped c.args.rows.now c.args.root us places c.loop-frame.stack.items c.pop.new.self.items f c.loop-frame.invariant c.in-Some.ensures.items in
-    let h : HashKey = (c.in_ok-path_after.field-0, f.step.target) in
-    let is : plain h ≡ key p.node = key_is c.args.rows.now c.args.root us places c.pop.new.self.items f p v h c.index-parent.ensures c.in_ok-path_after.ensures refl in
-    let u : Unfolded = record { node = f.step.target; path = c.in_ok-path_after.field-0; offsets = c.in_ok-offsets_after.field-0; origin = Some f.origin } in
-    walking_take c.args.rows.now c.args.root us places c.pop.new.self.items f p c.take-in-Some.new.taken.items (get same_key c.take-in-Some.new.places) c.take-in-Some.new.stack.items u
-    (λ has. known_none p.nodes h (places h) (p.known h) c.if-contains_key.ensures (subst (HasKey p.nodes) (sym is) has))
-    (child_told c.args.rows.now c.args.root us places c.pop.new.self.items f p v u c.index-parent.ensures c.in_ok-path_after.ensures refl c.in_ok-offsets_after.ensures refl)
-    c.in_ok-take-2.ensures.taken c.in_ok-take-2.ensures.places c.in_ok-take-2.ensures.stack
+pub depths-requires-clause-start : goal.depths-requires-clause-start
+depths-requires-clause-start c =
+    let us = c.in_ok-nodes.nodes.items in let places = get same_key c.in_ok-nodes.places in
+    let f = c.in_ok-nodes.ensures.first in
+    let linked : EachLinked (steps c.args.rows.now) us places c.in_ok-links.links.items = subst (λ us. EachLinked (steps c.args.rows.now) us places c.in_ok-links.links.items) c.as_slice.ensures.value c.in_ok-links.ensures in
+    let some : 0 < length c.in_ok-links.links.items = links_some (steps c.args.rows.now) c.args.root us places c.in_ok-links.links.items c.in_ok-nodes.ensures.index linked
+    (root_key_first (steps c.args.rows.now) c.args.root us f.0 f.1 f.2) in
+    subst (λ ls. 0 < length ls) (sym c.as_slice-2.ensures.value) some
 
 pub returns-clause-first : goal.returns-clause-first
 returns-clause-first c =
-    let w = c.loop-frame.invariant in
-    let none : length c.loop-frame.stack.items ≡ 0 = omega (arith, c.in_default.ensures.cases) in
-    (w.nodes, walk_first (steps c.args.rows.now) c.args.root (root_ends c.args.rows.now c.args.root c.requires) (walked c.args.rows.now c.args.root c.loop-frame.taken.items (get same_key c.loop-frame.places) c.loop-frame.stack.items none w), w.told)
+    let f = c.in_ok-nodes.ensures.first in
+    (f.0, f.1, noted_told c.in_ok-depths.depths.items c.in_ok-nodes.nodes.items c.note_depths.new.nodes.items c.note_depths.ensures (steps c.args.rows.now) f.0 f.2)
 
 pub returns-clause-keys : goal.returns-clause-keys
-returns-clause-keys c = λ k.
-    let w = c.loop-frame.invariant in
-    let none : length c.loop-frame.stack.items ≡ 0 = omega (arith, c.in_default.ensures.cases) in
-    let has = told_keys (steps c.args.rows.now) c.loop-frame.taken.items w.nodes w.told k in
-    let ways = walk_keys (steps c.args.rows.now) c.args.root (root_ends c.args.rows.now c.args.root c.requires) (walked c.args.rows.now c.args.root c.loop-frame.taken.items (get same_key c.loop-frame.places) c.loop-frame.stack.items none w) k in
-    (λ h. ways.0 (has.0 h), λ h. has.1 (ways.1 h))
+returns-clause-keys c =
+    subst (λ ks. (k : Key) → Contains ks k ↔ ((n : ℕ) × KeySteps (steps c.args.rows.now) (root_key c.args.root) k n)) (sym (noted_keys c.in_ok-depths.depths.items c.in_ok-nodes.nodes.items c.note_depths.new.nodes.items c.note_depths.ensures)) c.in_ok-nodes.ensures.keys
+
+pub returns-clause-once : goal.returns-clause-once
+returns-clause-once c =
+    let f = c.in_ok-nodes.ensures.first in
+    subst AreApart (sym (noted_keys c.in_ok-depths.depths.items c.in_ok-nodes.nodes.items c.note_depths.new.nodes.items c.note_depths.ensures))
+    (keys_apart (steps c.args.rows.now) c.args.root c.in_ok-nodes.nodes.items f.0 f.1 f.2)
+
+pub returns-clause-depths : goal.returns-clause-depths
+returns-clause-depths c = λ k v e.
+    let S = steps c.args.rows.now in
+    let us = c.in_ok-nodes.nodes.items in let places = get same_key c.in_ok-nodes.places in
+    let f = c.in_ok-nodes.ensures.first in
+    let keys = c.in_ok-nodes.ensures.keys in
+    let linked : EachLinked S us places c.in_ok-links.links.items = subst (λ us. EachLinked S us places c.in_ok-links.links.items) c.as_slice.ensures.value c.in_ok-links.ensures in
+    let u = was c.in_ok-depths.depths.items us c.note_depths.new.nodes.items c.note_depths.ensures k v e in
+    let at : slice_get (map unfolded_key us) k ≡ Some (unfolded_key u.0) = map_get unfolded_key us k u.0 u.1 in
+    let way = (keys (unfolded_key u.0)).0 (got_in (map unfolded_key us) k (unfolded_key u.0) at) in
+    let least : MatchOption (depth_of c.in_ok-depths.depths.items k) ((m : ℕ) → InSteps (targets c.in_ok-links.links.items) 0 k m → ⊥) (IsLeast (targets c.in_ok-links.links.items) 0 k) =
+    subst (λ ls. MatchOption (depth_of c.in_ok-depths.depths.items k) ((m : ℕ) → InSteps (targets ls) 0 k m → ⊥) (IsLeast (targets ls) 0 k)) c.as_slice-2.ensures.value (c.in_ok-depths.ensures.least k) in
+    subst (λ (x : Unfolded). IsLeastDepth S c.args.root (unfolded_key x) x.depth) (sym u.2)
+    (least_depth S c.args.root us places c.in_ok-links.links.items c.in_ok-nodes.ensures.index linked (root_key_first S c.args.root us f.0 f.1 f.2) (λ l n w. (keys l).1 (n, w)) (keys_apart S c.args.root us f.0 f.1 f.2)
+    (depth_of c.in_ok-depths.depths.items k) k (unfolded_key u.0) way.0 at way.1 least)

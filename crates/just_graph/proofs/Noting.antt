@@ -1,0 +1,75 @@
+-- The loop that notes the depths.
+use Rattle.std.proofs.Common.{◌≡◌, ◌≢◌, ℕ, suc, ◌+◌, ◌<◌, ◌≤◌, ◌∙◌, Option, Some, None, List, length, take, set, map, get_or, inl, inr, refl, sym, ap, subst, arith}
+use Rattle.std.specs.Prelude.{slice_get}
+use Rattle.std.specs.Option.{unwrap_or}
+use Rattle.std.proofs.lemmas.List.{length-set, length-map, get_or-set_same, get_or-set_other}
+use Rattle.std.proofs.lemmas.Bool.{cases_lt, cases_eq}
+use Rattle.std.proofs.lemmas.Option.{slice_get_within, slice_get-get_or, get_or_from_slice_get}
+use Rattle.just_graph.specs.declared.unfolding.Step.{Step}
+use Rattle.just_graph.specs.declared.unfolding.Unfolded.{Unfolded}
+use Rattle.just_graph.specs.Levels.{depth_of}
+use Rattle.just_graph.specs.Unfolding.{Node}
+use Rattle.just_graph.specs.Unfolded.{Tells, AllTold, AreNoted, unfolded_key}
+use Rattle.just_graph.proofs.Told.{at_least}
+use Rattle.just_graph.proofs.Index.{some_same, same_lists, map_get, get_map}
+
+abbrev pub noted : List (Option ℕ) → ℕ → Unfolded → Unfolded
+noted depths k u = record u { depth = unwrap_or (depth_of depths k) 0 }
+
+pub record Noting (depths : List (Option ℕ)) (old now : List Unfolded) (place : ℕ) : Type 0 where
+  pub count : length now ≡ length old
+  pub front : (k : ℕ) (u : Unfolded) → k < place → slice_get old k ≡ Some u → slice_get now k ≡ Some (noted depths k u)
+  pub rest : (k : ℕ) (u : Unfolded) → place ≤ k → slice_get old k ≡ Some u → slice_get now k ≡ Some u
+
+pub noting_none : (depths : List (Option ℕ)) (old : List Unfolded) → Noting depths old old 0
+noting_none depths old = record { count = refl; front = λ k u l. absurd (omega arith); rest = λ k u l e. e }
+
+get_set_other : {A : Type 0} (xs : List A) (i k : ℕ) (y x : A) → k ≢ i → slice_get xs k ≡ Some x → slice_get (set xs i y) k ≡ Some x
+get_set_other xs i k y x ne e =
+    let l : k < length (set xs i y) = omega (arith, length-set xs i y, slice_get_within xs k x e) in
+    slice_get-get_or (set xs i y) k x l ∙ ap Some (get_or-set_other xs i k y x ne ∙ get_or_from_slice_get xs k x x e)
+
+get_set_same : {A : Type 0} (xs : List A) (i : ℕ) (y : A) → i < length xs → slice_get (set xs i y) i ≡ Some y
+get_set_same xs i y l =
+    let m : i < length (set xs i y) = omega (arith, length-set xs i y) in
+    slice_get-get_or (set xs i y) i y m ∙ ap Some (get_or-set_same xs i y y l)
+
+pub noting_step : (depths : List (Option ℕ)) (old now : List Unfolded) (place : ℕ) (was new : Unfolded) → Noting depths old now place → place < length now → slice_get now place ≡ Some was → new ≡ noted depths place was → Noting depths old (set now place new) (place + 1)
+noting_step depths old now place was new s l at is = record {
+  count = length-set now place new ∙ s.count;
+  front = λ k u lk e. elim (cases_eq k place) [
+    | inl same ↦
+        let here : was ≡ u = some_same (sym at ∙ s.rest place u (omega arith) (subst (λ x. slice_get old x ≡ Some u) same e)) in
+        subst (λ x. slice_get (set now place new) x ≡ Some (noted depths x u)) (sym same) (get_set_same now place new l ∙ ap Some (is ∙ ap (noted depths place) here))
+    | inr ne ↦ get_set_other now place k new (noted depths k u) ne (s.front k u (let apart : k ≢ place = ne in let below : k < place + 1 = lk in omega arith) e)
+  ];
+  rest = λ k u lk e. get_set_other now place k new u (λ same. absurd (omega (arith, lk, same))) (s.rest k u (omega (arith, lk)) e);
+}
+
+pub noting_over : (depths : List (Option ℕ)) (old now : List Unfolded) (place : ℕ) → length old ≤ place → Noting depths old now place → AreNoted depths old now
+noting_over depths old now place l s = record {
+  count = s.count;
+  each = λ k u e. s.front k u (omega (arith, slice_get_within old k u e)) e;
+}
+
+-- the elements tell the same nodes
+module _ (depths : List (Option ℕ)) (old new : List Unfolded) (s : AreNoted depths old new) where
+  pub was : (k : ℕ) (v : Unfolded) → slice_get new k ≡ Some v → (u : Unfolded) × (slice_get old k ≡ Some u) × (v ≡ noted depths k u)
+  was k v e =
+      let u = at_least old k (omega (arith, s.count, slice_get_within new k v e)) in
+      (u.0, u.1, some_same (sym e ∙ s.each k u.0 u.1))
+
+  pub noted_told : (S : ℕ → List Step) (ns : List Node) → AllTold S old ns → AllTold S new ns
+  noted_told S ns t = record {
+    count = s.count ∙ t.count;
+    tells = λ k v n ev en.
+        let u = was k v ev in
+        let is = t.tells k u.0 n u.1 en in
+        subst (λ x. Tells S (take k ns) x n) (sym u.2) (record { path = is.path; node = is.node; offsets = is.offsets; origin = is.origin });
+  }
+
+  pub noted_keys : map unfolded_key new ≡ map unfolded_key old
+  noted_keys = same_lists (map unfolded_key new) (map unfolded_key old) (omega (arith, s.count, length-map new unfolded_key, length-map old unfolded_key)) (λ k x y ex ey.
+      let v = get_map unfolded_key new k x ex in let u = get_map unfolded_key old k y ey in
+      let w = was k v.0 v.1 in
+      v.2 ∙ ap unfolded_key (w.2 ∙ ap (noted depths k) (some_same (sym w.1 ∙ u.1))) ∙ sym u.2)
