@@ -79,6 +79,8 @@ fn syntax_is_told_at_its_line(rt: HostRuntime) -> Result<(), Fail> {
         ("a:\n  x\n", 1),
         ("a:\n\n# x\n:\n", 3),
         ("a:\nb:\nc", 2),
+        ("a:\nimport 'x'\n", 1),
+        ("mod m\n", 0),
     ];
     for (text, want) in cases {
         let error = broken_rule(rt.alloc(), text).ok_or("accepted")?;
