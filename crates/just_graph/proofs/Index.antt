@@ -1,5 +1,5 @@
 -- The keys of the first nodes, by their places.
-use Rattle.std.proofs.Common.{◌≡◌, ℕ, zero, suc, ◌+◌, ◌<◌, ◌≤◌, ◌∙◌, Option, Some, None, List, [], ◌∷◌, ◌++◌, map, length, ◌⊎◌, inl, inr, refl, sym, ap, subst, arith, ◌↔◌}
+use Rattle.std.proofs.Common.{◌≡◌, ℕ, zero, suc, ◌<◌, ◌∙◌, Option, Some, None, List, [], ◌∷◌, ◌++◌, map, length, inl, inr, refl, sym, ap, subst, arith, ◌↔◌}
 use Rattle.std.specs.Prelude.{slice_get, MatchOption}
 use Rattle.std.specs.List.{Contains}
 use Rattle.std.proofs.lemmas.List.{length-map}
@@ -10,11 +10,11 @@ use Rattle.just_graph.specs.declared.unfolding.Step.{Step}
 use Rattle.just_graph.specs.declared.unfolding.Unfolded.{Unfolded}
 use Rattle.just_graph.specs.Steps.{Reached, from_start, from_member}
 use Rattle.just_graph.specs.Unfolding.{steps, HasStep, IsOrdered, Key, Node, key, root_key, root_node, HasKey, Unfolds, tree, Firsts, none, again, first, AreFirst, KeySteps, stay, move}
-use Rattle.just_graph.specs.Unfolded.{Tells, AllTold, HashKey, plain, unfolded_key, AreApart, IsIndex}
+use Rattle.just_graph.specs.Unfolded.{AllTold, HashKey, plain, unfolded_key, AreApart, IsIndex}
 use Rattle.just_graph.proofs.Members.{contained, is_in}
-use Rattle.just_graph.proofs.Deep.{nothing_taken}
+use Rattle.just_graph.proofs.Walks.{nothing_taken}
 use Rattle.just_graph.proofs.Ranks.{goes_to}
-use Rattle.just_graph.proofs.Told.{get_push_cases, get_old, place_in, IsPlace, Known, told_key, at_least}
+use Rattle.just_graph.proofs.Told.{get_push_cases, get_old, place_in, IsPlace, Known, told_key}
 use Rattle.just_graph.proofs.Walking.{node_inside}
 
 pub get_map : {A B : Type 0} (f : A → B) (xs : List A) (k : ℕ) (y : B) → slice_get (map f xs) k ≡ Some y → (x : A) × (slice_get xs k ≡ Some x) × (y ≡ f x)

@@ -10,13 +10,14 @@ pub mod Leveling
 pub mod Least
 pub mod Places
 pub mod MarkedLevels
-pub mod Deep
+pub mod Walks
 pub mod Preorder
 pub mod Ranks
 pub mod Told
 pub mod StepRows
 pub mod Walking
-pub mod Deepening
+pub mod Depths
 pub mod Index
 pub mod Links
 pub mod Noting
+pub mod Trails

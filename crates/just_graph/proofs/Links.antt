@@ -1,23 +1,23 @@
 -- The steps between the keys of an unfolding, and the least depths that they give.
-use Rattle.std.proofs.Common.{◌≡◌, ◌≢◌, ℕ, zero, suc, ◌+◌, ◌<◌, ◌≤◌, ◌∙◌, Option, Some, None, List, [], ◌∷◌, ◌++◌, map, length, take, set, get_or, ◌⊎◌, inl, inr, refl, sym, ap, subst, arith, ◌↔◌}
+use Rattle.std.proofs.Common.{◌≡◌, ℕ, suc, ◌+◌, ◌<◌, ◌∙◌, Option, Some, None, List, [], ◌∷◌, ◌++◌, map, length, inl, inr, refl, sym, ap, subst, arith}
 use Rattle.std.specs.Prelude.{slice_get, MatchOption}
 use Rattle.std.specs.Option.{unwrap_or}
 use Rattle.std.specs.List.{Contains}
-use Rattle.std.proofs.lemmas.List.{length-map, length-set, get_or-set_same, get_or-set_other}
+use Rattle.std.proofs.lemmas.List.{length-map}
 use Rattle.std.proofs.lemmas.List.Elements.{Contains-append_left, Contains-push, Contains-push_cases}
 use Rattle.std.proofs.lemmas.Bool.{cases_lt}
-use Rattle.std.proofs.lemmas.Option.{slice_get_within, slice_get-get_or, get_or_from_slice_get}
+use Rattle.std.proofs.lemmas.Option.{slice_get_within}
 use Rattle.std.specs.declared.vec.Vec.{Vec}
 use Rattle.std.specs.declared.alloc.Global.{Global}
 use Rattle.just_graph.specs.declared.unfolding.Step.{Step}
 use Rattle.just_graph.specs.declared.unfolding.Unfolded.{Unfolded}
 use Rattle.just_graph.specs.Building.{EachRow, targets_past}
 use Rattle.just_graph.specs.Graph.{targets, IsGraph}
-use Rattle.just_graph.specs.Levels.{InSteps, none, further, IsLeast, depth_of}
+use Rattle.just_graph.specs.Levels.{InSteps, none, further, IsLeast}
 use Rattle.just_graph.specs.Unfolding.{Key, root_key, key_child, path_after, KeySteps, stay, move, IsLeastDepth}
 use Rattle.just_graph.specs.Unfolded.{HashKey, plain, unfolded_key, AreApart, IsIndex, IsAfter, AreLinked}
 use Rattle.just_graph.proofs.Told.{at_least}
-use Rattle.just_graph.proofs.Index.{map_get, get_map, got_in, some_same, none_some}
+use Rattle.just_graph.proofs.Index.{map_get, get_map, some_same, none_some}
 
 no_member : {A : Type 0} (x : A) → Contains [] x → ⊥
 no_member x c = let l = c.1 in absurd (omega arith)
@@ -61,7 +61,7 @@ after_key k s h a =
     one ∙ ap (λ n. record { path = path_after k.path s.enters; node = n }) a.1
 
 module _ (S : ℕ → List Step) (root : ℕ) (us : List Unfolded) (places : HashKey → Option ℕ) (links : List (Vec ℕ Global))
-  (index : IsIndex (map unfolded_key us) places) (linked : EachLinked S us places links) where
+    (index : IsIndex (map unfolded_key us) places) (linked : EachLinked S us places links) where
   keys : List Key
   keys = map unfolded_key us
 

@@ -1,9 +1,9 @@
 -- The loop that notes the depths.
-use Rattle.std.proofs.Common.{◌≡◌, ◌≢◌, ℕ, suc, ◌+◌, ◌<◌, ◌≤◌, ◌∙◌, Option, Some, None, List, length, take, set, map, get_or, inl, inr, refl, sym, ap, subst, arith}
+use Rattle.std.proofs.Common.{◌≡◌, ◌≢◌, ℕ, ◌+◌, ◌<◌, ◌≤◌, ◌∙◌, Option, Some, List, length, take, set, map, inl, inr, refl, sym, ap, subst, arith}
 use Rattle.std.specs.Prelude.{slice_get}
 use Rattle.std.specs.Option.{unwrap_or}
 use Rattle.std.proofs.lemmas.List.{length-set, length-map, get_or-set_same, get_or-set_other}
-use Rattle.std.proofs.lemmas.Bool.{cases_lt, cases_eq}
+use Rattle.std.proofs.lemmas.Bool.{cases_eq}
 use Rattle.std.proofs.lemmas.Option.{slice_get_within, slice_get-get_or, get_or_from_slice_get}
 use Rattle.just_graph.specs.declared.unfolding.Step.{Step}
 use Rattle.just_graph.specs.declared.unfolding.Unfolded.{Unfolded}
@@ -11,7 +11,7 @@ use Rattle.just_graph.specs.Levels.{depth_of}
 use Rattle.just_graph.specs.Unfolding.{Node}
 use Rattle.just_graph.specs.Unfolded.{Tells, AllTold, AreNoted, unfolded_key}
 use Rattle.just_graph.proofs.Told.{at_least}
-use Rattle.just_graph.proofs.Index.{some_same, same_lists, map_get, get_map}
+use Rattle.just_graph.proofs.Index.{some_same, same_lists, get_map}
 
 abbrev pub noted : List (Option ℕ) → ℕ → Unfolded → Unfolded
 noted depths k u = record u { depth = unwrap_or (depth_of depths k) 0 }

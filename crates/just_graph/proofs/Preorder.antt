@@ -1,10 +1,9 @@
 -- What a walk takes is the first node of each key, in the preorder of the unfolding.
-use Rattle.std.proofs.Common.{◌≡◌, ℕ, zero, suc, ◌∙◌, List, [], ◌∷◌, ◌++◌, map, reverse, ◌⊎◌, inl, inr, refl, sym, ap, subst, ◌↔◌}
-use Rattle.std.specs.List.{Contains}
+use Rattle.std.proofs.Common.{◌≡◌, ℕ, suc, List, [], ◌∷◌, ◌++◌, reverse, ◌⊎◌, inl, inr, refl, sym, ap, subst, ◌↔◌}
 use Rattle.just_graph.specs.declared.unfolding.Step.{Step}
-use Rattle.just_graph.specs.Unfolding.{Key, Node, key, root_key, child, key_child, kids, Unfolds, nothing, tree, HasKey, Firsts, none, again, first, root_node, AreFirst, KeySteps, stay, move}
+use Rattle.just_graph.specs.Unfolding.{Key, Node, key, root_key, kids, Unfolds, nothing, tree, HasKey, Firsts, none, again, first, root_node, AreFirst, KeySteps, stay, move}
 use Rattle.just_graph.proofs.Members.{In, contained, is_in, in_cases}
-use Rattle.just_graph.proofs.Deep.{Walk, done, skip, take, Goes, Ends, ends, KeyWay, stop, go, Good, Hangs, Keeps, Left, Done, ChildOf, child_of, child_in, child_hangs, has_left, good_below, news_below, still_good, seen_done, nothing_taken, deep, whole, root_hangs}
+use Rattle.just_graph.proofs.Walks.{Walk, done, skip, take, Ends, ends, KeyWay, stop, go, Good, Hangs, Keeps, Left, Done, child_of, child_hangs, has_left, good_below, news_below, still_good, seen_done, nothing_taken, deep, whole, root_hangs}
 
 -- nodes of which each has a finite tree below it unfold
 build : (S : ℕ → List Step) (ns : List Node) → ((c : Node) → In c ns → (b : List Node) × Unfolds S (reverse (kids S c)) b) → (pre : List Node) × Unfolds S ns pre

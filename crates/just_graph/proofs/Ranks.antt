@@ -1,18 +1,15 @@
 -- Where an order lists each node after what steps lead to, finitely many steps follow one another.
-use Rattle.std.proofs.Common.{◌≡◌, ◌≢◌, ℕ, zero, suc, ◌+◌, ◌<◌, ◌≤◌, ◌∙◌, List, [], ◌∷◌, ◌++◌, map, length, take, slice_index, ◌⊎◌, inl, inr, refl, sym, ap, subst, arith}
+use Rattle.std.proofs.Common.{◌≡◌, ℕ, zero, suc, ◌<◌, ◌≤◌, ◌∙◌, List, [], ◌∷◌, map, length, slice_index, ◌⊎◌, inl, inr, refl, sym, ap, subst, arith}
 use Rattle.std.specs.List.{Contains, All, sum_by}
 use Rattle.std.proofs.lemmas.List.{get_or_default}
 use Rattle.std.proofs.lemmas.List.Elements.{Contains-get_or, All-contains}
 use Rattle.std.proofs.lemmas.List.Sums.{sum_by-cons}
-use Rattle.std.specs.declared.vec.Vec.{Vec}
-use Rattle.std.specs.declared.alloc.Global.{Global}
 use Rattle.just_graph.specs.declared.unfolding.Step.{Step}
-use Rattle.just_graph.specs.Steps.{IsOnce, IsOrder, ListsStepsFirst, Reached, from_start, from_member}
-use Rattle.just_graph.specs.Unfolding.{steps, HasStep}
+use Rattle.just_graph.specs.Steps.{IsOnce, ListsStepsFirst, Reached, from_start, from_member}
 use Rattle.just_graph.proofs.Ends.{in_take}
 use Rattle.just_graph.proofs.Members.{In, contained, is_in, in_map, from_map}
 use Rattle.just_graph.proofs.Leveling.{Once}
-use Rattle.just_graph.proofs.Deep.{Goes, Ends, ends}
+use Rattle.just_graph.proofs.Walks.{Goes, Ends, ends}
 
 -- a list without one of its elements
 without : (x : ℕ) (ps : List ℕ) → In x ps → (qs : List ℕ) × (length ps ≡ suc (length qs)) × ((y : ℕ) → In y ps → (y ≡ x → ⊥) → In y qs)

@@ -1,5 +1,5 @@
 -- The search over its stack: what it keeps, and why it ends.
-use Rattle.std.proofs.Common.{◌≡◌, ℕ, zero, suc, ◌+◌, ◌<◌, ◌≤◌, ◌∙◌, Bool, true, false, cond, Option, Some, None, List, [], ◌∷◌, ◌++◌, map, reverse, length, take, get_or, ◌⊎◌, inl, inr, refl, sym, ap, subst, arith, append_assoc, ◌↔◌}
+use Rattle.std.proofs.Common.{◌≡◌, ℕ, suc, ◌+◌, ◌<◌, ◌∙◌, cond, Option, Some, None, List, [], ◌∷◌, ◌++◌, reverse, length, get_or, inl, inr, refl, sym, ap, subst, arith}
 use Rattle.std.specs.Prelude.{slice_get}
 use Rattle.std.specs.List.{Contains, sum_by}
 use Rattle.std.proofs.lemmas.List.{reverse-append, nil_from_length}
@@ -11,11 +11,11 @@ use Rattle.just_graph.specs.declared.unfolding.Step.{Step}
 use Rattle.just_graph.specs.declared.unfolding.Unfolded.{Unfolded}
 use Rattle.just_graph.specs.declared.unfolding.Frame.{Frame}
 use Rattle.just_graph.specs.Steps.{Reached, from_start, from_member}
-use Rattle.just_graph.specs.Unfolding.{steps, HasStep, IsOrdered, Key, Node, key, child, kids, HasKey, root_node, root_key, path_after, offsets_after}
+use Rattle.just_graph.specs.Unfolding.{steps, HasStep, IsOrdered, Node, key, child, kids, HasKey, root_node, path_after, offsets_after}
 use Rattle.just_graph.specs.Unfolded.{Tells, AllTold, HashKey, is_key, frames_from, plain, unfolded_key, CameFrom}
-use Rattle.just_graph.proofs.Members.{In, contained, is_in, in_left, in_right, in_cases, in_last, from_map, in_map}
+use Rattle.just_graph.proofs.Members.{In, contained, in_left, in_cases, in_last, from_map}
 use Rattle.std.proofs.lemmas.List.Elements.{All-contains}
-use Rattle.just_graph.proofs.Deep.{Walk, Ends, done, skip, take as take_node, split, nothing_taken, Goes}
+use Rattle.just_graph.proofs.Walks.{Walk, Ends, done, skip, take as take_node, split, nothing_taken}
 use Rattle.just_graph.proofs.Ranks.{size, size_pos, goes_to, order_short, size_opened, listed_ends, listed_reached}
 use Rattle.just_graph.proofs.Told.{get_last, told_none, told_push, IsPlace, Known, known_push, StandsFor, Stands, empty, stands_append, stands_grow, stands_nil, stands_pop, stands_row}
 
@@ -50,8 +50,8 @@ pub record Popped (rows : List (Vec Step Global)) (root : ℕ) (us : List Unfold
 
 -- one more node is taken, and its steps are put on the stack
 module _ (rows : List (Vec Step Global)) (us us' : List Unfolded) (places places' : HashKey → Option ℕ) (st st' : List Frame) (ns ps : List Node) (u : Unfolded) (n : Node)
-  (told : AllTold (steps rows) us ns) (known : Known ns places) (stands : Stands (steps rows) ns st ps) (tells : Tells (steps rows) ns u n)
-  (is_us : us' ≡ us ++ u ∷ []) (is_places : (h : HashKey) → places' h ≡ cond (is_key (unfolded_key u) h) (Some (length us)) (places h)) (is_st : st' ≡ st ++ frames_from (length us) 0 (steps rows u.node)) where
+    (told : AllTold (steps rows) us ns) (known : Known ns places) (stands : Stands (steps rows) ns st ps) (tells : Tells (steps rows) ns u n)
+    (is_us : us' ≡ us ++ u ∷ []) (is_places : (h : HashKey) → places' h ≡ cond (is_key (unfolded_key u) h) (Some (length us)) (places h)) (is_st : st' ≡ st ++ frames_from (length us) 0 (steps rows u.node)) where
   same_key : unfolded_key u ≡ key n
   same_key = let a : unfolded_key u ≡ record { path = n.path; node = u.node } = ap (λ p. record { path = p; node = u.node }) tells.path in a ∙ ap (λ m. record { path = n.path; node = m }) tells.node
 

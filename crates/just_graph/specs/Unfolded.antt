@@ -1,5 +1,5 @@
 -- What the elements of an unfolding tell, and what its search has.
-use Rattle.std.specs.Prelude.{◌≡◌, ℕ, ◌+◌, ◌==◌, ◌&&◌, Bool, Option, Some, None, List, [], ◌∷◌, ◌++◌, take, length, slice_get, nat_eq, MatchOption}
+use Rattle.std.specs.Prelude.{◌≡◌, ℕ, ◌+◌, ◌&&◌, Bool, Option, Some, None, List, [], ◌∷◌, take, length, slice_get, nat_eq, MatchOption}
 use Rattle.std.specs.Option.{unwrap_or}
 use Rattle.std.specs.List.{Contains}
 use Rattle.just_graph.specs.Levels.{depth_of}

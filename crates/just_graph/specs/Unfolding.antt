@@ -5,6 +5,7 @@ use Rattle.std.specs.declared.vec.Vec.{Vec}
 use Rattle.std.specs.declared.alloc.Global.{Global}
 use Rattle.just_graph.specs.declared.unfolding.Step.{Step}
 use Rattle.just_graph.specs.Steps.{IsOrder}
+use Rattle.just_graph.specs.Building.{EachRow}
 
 -- the steps from node a
 abbrev pub steps : List (Vec Step Global) → ℕ → List Step
@@ -15,6 +16,10 @@ steps (row ∷ rows) (suc a) = steps rows a
 -- a step leads from node a to node b
 abbrev pub HasStep : List (Vec Step Global) → ℕ → ℕ → Type 0
 HasStep rows a b = Contains (map (λ (s : Step). s.target) (steps rows a)) b
+
+-- the edges of the nodes are the targets of their steps
+abbrev pub AreEdges : List (Vec Step Global) → List (Vec ℕ Global) → Type 0
+AreEdges rows edges = EachRow (λ a row. row ≡ map (λ (s : Step). s.target) (steps rows a)) (length rows) edges
 
 -- an order has the root, so that no node that it leads to leads back to itself
 abbrev pub IsOrdered : List (Vec Step Global) → ℕ → Type 0

@@ -8,9 +8,12 @@ ghost use Rattle.std.specs.List.{All, Contains};
 ghost use Rattle.std.specs.HashMap.{get};
 ghost use Rattle.std.specs.declared.vec.Vec.{Vec};
 ghost use Rattle.std.specs.declared.alloc.Global.{Global};
-ghost use Rattle.just_graph.specs.Unfolding.{steps, IsOrdered, Key, KeySteps, root_key, path_after, offsets_after, IsLeastDepth};
+ghost use Rattle.just_graph.specs.Unfolding.{steps, AreEdges, AreFirst, IsOrdered, Key, KeySteps, Node, Unfolds, key, root_key, root_node, path_after, offsets_after, IsLeastDepth};
+ghost use Rattle.just_graph.specs.Graph.{HasEdge};
+ghost use Rattle.just_graph.specs.Steps.{IsOrder};
 ghost use Rattle.just_graph.specs.Building.{EachRow};
 ghost use Rattle.just_graph.specs.Unfolded.{frames_from, HashKey, is_key, same_key, unfolded_key, AreApart, AreLinked, AreNoted, IsIndex, IsUnfolded};
+ghost use Rattle.just_graph.specs.declared.unfolding.Step.{Step};
 ghost use Rattle.just_graph.specs.declared.unfolding.Unfolded.{Unfolded};
 
 use crate::levels::depths;
@@ -21,7 +24,7 @@ use std::collections::HashMap;
 #[derive(Clone, Copy, Debug, PartialEq, Eq)]
 pub struct Step {
     pub target: usize,
-    /// What is told of a step that stays.
+    /// What is told of a step that stays in the group.
     pub offset: usize,
     /// The number of the name whose group is entered.
     pub enters: Option<usize>,
@@ -67,11 +70,7 @@ fn path_after(path: &Vec<usize>, step: Step) -> Result<Vec<usize>, AllocError>
 }
 
 // The offsets since the last group was entered, after a step.
-fn offsets_after(
-    alloc: Global,
-    offsets: &Vec<usize>,
-    step: Step,
-) -> Result<Vec<usize>, AllocError>
+fn offsets_after(alloc: Global, offsets: &Vec<usize>, step: Step) -> Result<Vec<usize>, AllocError>
     ensures { IfOk result (λ more. more.items ≡ offsets_after offsets.now.items step.offset step.enters) }
 {
     match step.enters {
@@ -209,15 +208,38 @@ fn note_depths(nodes: &mut Vec<Unfolded>, depths: &Vec<Option<usize>>)
     }
 }
 
+// The targets of a row of steps.
+fn row_targets(alloc: Global, row: &[Step]) -> Result<Vec<usize>, AllocError>
+    ensures { IfOk result (λ targets. targets.items ≡ map (λ (s : Step). s.target) row.now) }
+{
+    let mut targets = Vec::new(alloc);
+    for step in row {
+        targets.push(step.target)?;
+    }
+    Ok(targets)
+}
+
+/// The targets of the steps, as `order` takes them.
+pub fn edges(alloc: Global, rows: &[Vec<Step>]) -> Result<Vec<Vec<usize>>, AllocError>
+    ensures { IfOk result (λ edges. AreEdges rows.now edges.items) }
+{
+    let mut edges = Vec::new(alloc);
+    for row in rows {
+        edges.push(row_targets(alloc, row.as_slice())?)?;
+    }
+    Ok(edges)
+}
+
+/// A law of orders: what `order` answers for the edges of a graph of steps shows that its roots are ordered.
+pub fn orders_are_ordered()
+    ensures { (rows : List (Vec Step Global)) (edges : List (Vec ℕ Global)) (root : ℕ) (roots order : List ℕ) → AreEdges rows edges → IsOrder (HasEdge edges) (length edges) roots order → Contains roots root → IsOrdered rows root }
+{}
+
 /// Lists the first node of each key in the unfolding's preorder, in which the steps of a node go from the last to the
 /// first.
 ///
-/// It takes time in the number of steps from the nodes that it lists, and no recursion.
-pub fn unfold(
-    alloc: Global,
-    rows: &[Vec<Step>],
-    root: usize,
-) -> Result<Vec<Unfolded>, AllocError>
+/// It takes time in the number of steps from the nodes that it lists, each by the length of its path, and no recursion.
+pub fn unfold(alloc: Global, rows: &[Vec<Step>], root: usize) -> Result<Vec<Unfolded>, AllocError>
     // What `order` answers for the graph: there is no circle.
     requires { IsOrdered rows.now root }
     // The first node of each key, and where it came from.
@@ -235,69 +257,10 @@ pub fn unfold(
     Ok(nodes)
 }
 
-#[cfg(test)]
-mod tests {
-    use super::*;
-    use crate::levels::levels;
-    use std::test::Fail;
-
-    fn stays(target: usize, offset: usize) -> Step {
-        Step {
-            target,
-            offset,
-            enters: None,
-        }
-    }
-
-    fn enters(target: usize, name: usize) -> Step {
-        Step {
-            target,
-            offset: 0,
-            enters: Some(name),
-        }
-    }
-
-    fn graph(alloc: Global) -> Result<Vec<Vec<Step>>, AllocError> {
-        let mut rows = Vec::new(alloc);
-        let first = [stays(1, 10), stays(2, 20), enters(3, 7)];
-        rows.push(first.as_slice().to_vec(alloc)?)?;
-        let second = [stays(2, 30), enters(3, 7)];
-        rows.push(second.as_slice().to_vec(alloc)?)?;
-        let third = [stays(3, 40)];
-        rows.push(third.as_slice().to_vec(alloc)?)?;
-        rows.push(Vec::new(alloc))?;
-        Ok(rows)
-    }
-
-    #[test]
-    fn first_nodes(rt: HostRuntime) -> Result<(), Fail> {
-        let rows = graph(rt.alloc())?;
-        let nodes = unfold(rt.alloc(), rows.as_slice(), 0)?;
-        let mut listed = Vec::new(rt.alloc());
-        for unfolded in &nodes {
-            listed.push(unfolded.node)?;
-            listed.push(unfolded.path.len())?;
-            listed.push(unfolded.offsets.len())?;
-            listed.push(unfolded.depth)?;
-        }
-        assert_eq!(rt;
-            listed.as_slice(),
-            [0, 0, 0, 0, 3, 1, 0, 1, 2, 0, 1, 1, 3, 0, 2, 2, 1, 0, 1, 1].as_slice()
-        );
-        Ok(())
-    }
-
-    #[test]
-    fn nodes_by_level(rt: HostRuntime) -> Result<(), Fail> {
-        let mut edges = Vec::new(rt.alloc());
-        edges.push([1, 2, 3].as_slice().to_vec(rt.alloc())?)?;
-        edges.push([4].as_slice().to_vec(rt.alloc())?)?;
-        edges.push([5, 3].as_slice().to_vec(rt.alloc())?)?;
-        edges.push([4, 0].as_slice().to_vec(rt.alloc())?)?;
-        edges.push(Vec::new(rt.alloc()))?;
-        edges.push(Vec::new(rt.alloc()))?;
-        let listed = levels(rt.alloc(), edges.as_slice(), 0)?;
-        assert_eq!(rt; listed.as_slice(), [0, 1, 2, 3, 5, 4].as_slice());
-        Ok(())
-    }
-}
+/// A law of unfoldings: there is one, it has one list of first nodes, and of its nodes one of a key and of so many
+/// steps is there exactly where so many steps lead to the key.
+pub fn unfoldings_are_trails()
+    ensures one { (S : ℕ → List Step) (root : ℕ) (ns ms : List Node) → AreFirst S root ns → AreFirst S root ms → ns ≡ ms }
+    ensures trails { (S : ℕ → List Step) (root : ℕ) (pre : List Node) → Unfolds S (root_node root ∷ []) pre → (k : Key) (d : ℕ) →
+        ((x : Node) × Contains pre x × (key x ≡ k) × (length x.trail ≡ d)) ↔ KeySteps S (root_key root) k d }
+{}

@@ -4,10 +4,8 @@ use Rattle.std.proofs.lemmas.Grind.{common_steps}
 use Rattle.std.proofs.lemmas.Bool.{eqb-true, false≢true}
 use Rattle.std.proofs.lemmas.Bool.Decides.{eqb_tells}
 use Rattle.std.proofs.lemmas.List.{nil_from_length}
-use Rattle.just_graph.specs.Graph.{targets}
-use Rattle.just_graph.specs.Levels.{before}
 use Rattle.just_graph.proofs.MarkedLevels.{level_inside, ends_inside}
-use Rattle.just_graph.proofs.Deepening.{deepening_start, deepening_step, deepening_over}
+use Rattle.just_graph.proofs.Depths.{deepening_start, deepening_step, deepening_over}
 use Rattle.just_graph.proofs.levels.depths.Goals as goal
 
 pub levels-init : goal.levels-init

@@ -1,6 +1,6 @@
 use Rattle.std.proofs.Common.{◌+◌, length}
 use Rattle.just_graph.specs.Found.{unseen}
-use Rattle.just_graph.proofs.Deepening.{Deepening}
+use Rattle.just_graph.proofs.Depths.{Deepening}
 use Rattle.just_graph.proofs.levels.depths.Given as goal
 
 abbrev pub invariant-levels : goal.invariant-levels

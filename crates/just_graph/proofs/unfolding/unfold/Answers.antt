@@ -1,15 +1,15 @@
-use Rattle.std.proofs.Common.{◌≡◌, ◌∙◌, ◌++◌, ◌∷◌, [], ℕ, ◌<◌, ◌↔◌, Some, None, map, length, refl, sym, ap, subst}
+use Rattle.std.proofs.Common.{◌≡◌, ℕ, ◌<◌, ◌↔◌, Some, map, length, sym, subst}
 use Rattle.std.specs.Prelude.{slice_get, MatchOption}
 use Rattle.std.specs.List.{Contains}
 use Rattle.std.specs.HashMap.{get}
 use Rattle.just_graph.specs.declared.unfolding.Unfolded.{Unfolded}
 use Rattle.just_graph.specs.Graph.{IsGraph, targets}
 use Rattle.just_graph.specs.Unfolding.{steps, Key, KeySteps, root_key, IsLeastDepth}
-use Rattle.just_graph.specs.Unfolded.{same_key, unfolded_key, AreApart, AreNoted}
+use Rattle.just_graph.specs.Unfolded.{same_key, unfolded_key, AreApart}
 use Rattle.just_graph.specs.Levels.{depth_of, InSteps, IsLeast}
 use Rattle.just_graph.proofs.Index.{keys_apart, root_key_first, unfolded_inside, map_get, got_in}
 use Rattle.just_graph.proofs.Links.{EachLinked, links_graph, links_some, least_depth}
-use Rattle.just_graph.proofs.Noting.{was, noted, noted_told, noted_keys}
+use Rattle.just_graph.proofs.Noting.{was, noted_told, noted_keys}
 use Rattle.just_graph.proofs.unfolding.unfold.Goals as goal
 
 pub links-requires : goal.links-requires

@@ -1,11 +1,11 @@
-use Rattle.std.proofs.Common.{◌≡◌, ◌∙◌, ◌↔◌, ◌<◌, ℕ, Option, Some, None, List, [], ◌∷◌, length, refl, sym, ap, subst, arith, rules}
+use Rattle.std.proofs.Common.{◌≡◌, ◌<◌, Some, None, length, refl, sym, subst, arith, rules}
 use Rattle.std.specs.HashMap.{get}
 use Rattle.just_graph.specs.declared.unfolding.Unfolded.{Unfolded}
-use Rattle.just_graph.specs.Unfolding.{steps, Node, key, HasKey}
+use Rattle.just_graph.specs.Unfolding.{steps, key, HasKey}
 use Rattle.just_graph.specs.Unfolded.{HashKey, plain, same_key}
 use Rattle.just_graph.proofs.Preorder.{walk_first, walk_keys}
 use Rattle.just_graph.proofs.Told.{known_some, known_none, told_keys}
-use Rattle.just_graph.proofs.Walking.{Walking, Popped, popped, popped_target, popped_reached, parent_inside, key_is, child_told, walking_start, walking_skip, walking_take, left_skip, left_take, walked, root_ends, root_inside, node_inside, node_opened}
+use Rattle.just_graph.proofs.Walking.{popped, popped_reached, parent_inside, key_is, child_told, walking_start, walking_skip, walking_take, left_skip, left_take, walked, root_ends, root_inside, node_inside, node_opened}
 use Rattle.just_graph.proofs.Index.{index_of}
 use Rattle.just_graph.proofs.unfolding.walk.Goals as goal
 

@@ -1,11 +1,10 @@
 -- The loop over the levels that notes the depth of each node.
-use Rattle.std.proofs.Common.{◌≡◌, ◌≢◌, cond, true, false, Bool, ℕ, suc, zero, ◌+◌, ◌*◌, ◌-◌, ◌<◌, ◌≤◌, ◌∙◌, ◌||◌, Option, Some, None, List, [], ◌∷◌, ◌++◌, length, take, get_or, set, replicate, slice_index, ◌⊎◌, inl, inr, refl, sym, ap, subst, arith}
+use Rattle.std.proofs.Common.{◌≡◌, ◌≢◌, cond, true, false, Bool, ℕ, suc, ◌+◌, ◌-◌, ◌<◌, ◌∙◌, ◌||◌, Option, Some, None, List, [], ◌∷◌, ◌++◌, length, take, set, replicate, slice_index, inl, inr, refl, sym, ap, subst, arith}
 use Rattle.std.specs.Prelude.{flat_map, MatchOption}
-use Rattle.std.specs.List.{sum_by}
-use Rattle.std.proofs.lemmas.List.{length-replicate, length-set, take_more, get_or-replicate, get_or_past, get_or-set_same, get_or-set_other}
+use Rattle.std.proofs.lemmas.List.{length-replicate, take_more, get_or-replicate, get_or_past, get_or-set_same, get_or-set_other}
 use Rattle.std.proofs.lemmas.List.Sums.{sum_by-set}
 use Rattle.std.proofs.lemmas.List.Folds.{sum_by-replicate}
-use Rattle.std.proofs.lemmas.Bool.{cases_eq, cases_lt, false≢true}
+use Rattle.std.proofs.lemmas.Bool.{cases_eq, cases_lt}
 use Rattle.std.specs.declared.vec.Vec.{Vec}
 use Rattle.std.specs.declared.alloc.Global.{Global}
 use Rattle.just_graph.specs.Graph.{targets}
