@@ -16,7 +16,7 @@ fn first_name<'src>(alloc: Global, text: &'src str) -> Result<Option<Name<'src>>
     let ast = PlainSyntax.parse_source(alloc, &mut Numerator::new(), "justfile", &source, text)?;
     match ast.items.get(0) {
         Some(Item::Recipe(recipe)) => Ok(Some(recipe.name.copied())),
-        None => Ok(None),
+        _ => Ok(None),
     }
 }
 
