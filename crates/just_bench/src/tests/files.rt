@@ -197,8 +197,8 @@ fn heading_may_have_any_name(rt: HostRuntime) -> Result<(), Fail> {
 }
 
 #[test]
-fn recipes_beside_imports_and_modules_run(rt: HostRuntime) -> Result<(), Fail> {
-    let text = "import 'none'\nmod? m\nimport:\nmod x: import\n";
+fn recipes_named_import_and_mod_run(rt: HostRuntime) -> Result<(), Fail> {
+    let text = "import:\nmod x: import\n";
     let outcome = run_text(rt.alloc(), text, &["mod", "1"])?;
     assert_eq!(rt; outcome.fault.as_str(), "");
     assert_eq!(rt; outcome.executed.as_str(), "import, mod [1]");
