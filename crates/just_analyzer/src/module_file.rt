@@ -90,11 +90,7 @@ fn find_by_name<'src>(
 }
 
 // The paths, each from a folder where it lies below it.
-fn relative_paths(
-    alloc: Global,
-    folder: &str,
-    paths: &[&str],
-) -> Result<Sequence<Text>, AllocError>
+fn relative_paths(alloc: Global, folder: &str, paths: &[&str]) -> Result<Sequence<Text>, AllocError>
     ensures { IfOk result (λ shown. shown ≡ map (relative folder.now) (texts paths.now)) }
 {
     let prefix = slashed(alloc, folder)?;
