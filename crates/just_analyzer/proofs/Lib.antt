@@ -2,12 +2,14 @@ pub mod Analyses
 pub mod Circles
 pub mod Edges
 pub mod Files
+pub mod Folders
 pub mod Held
 pub mod Indexing
 pub mod Keys
 pub mod Lifts
 pub mod ModuleFiles
 pub mod Outlines
+pub mod Passed
 pub mod Refuted
 pub mod Resolving
 pub mod Targets

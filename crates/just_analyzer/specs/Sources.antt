@@ -1,6 +1,8 @@
 -- A source map, from clean paths to texts.
-use Rattle.std.specs.Prelude.{ℕ, List, Option}
+use Rattle.std.specs.Prelude.{ℕ, List, [], ◌∷◌, ◌++◌, Option, IsTrue, is_some}
+use Rattle.std.specs.List.{AllByRecursion, before_last}
 use Rattle.std.specs.Option.{option_map}
+use Rattle.just_parts.specs.Clean.{is_slash}
 use Rattle.just_parts.specs.Entries.{find, IsKeyed}
 use Rattle.just_analyzer.specs.declared.sources.SourceFile.{SourceFile}
 
@@ -15,3 +17,15 @@ text_at files path = option_map (λ (f : SourceFile). f.text) (find path files)
 -- each file stands under its own path
 abbrev pub AreSources : Files → Type 0
 AreSources files = IsKeyed (λ (f : SourceFile). f.path) files
+
+-- the folder of a path, with a slash at its end
+abbrev pub folder_prefix : List ℕ → List ℕ
+folder_prefix path = before_last is_slash path ++ 47 ∷ []
+
+-- each folder stands under itself
+abbrev pub AreFolders : List (List ℕ × List ℕ) → Type 0
+AreFolders folders = IsKeyed (λ f. f) folders
+
+-- the folder of each file is held
+abbrev pub HoldsFolders : List (List ℕ × List ℕ) → Files → Type 0
+HoldsFolders folders files = AllByRecursion (λ e. IsTrue (is_some (find (folder_prefix e.0) folders))) files

@@ -4,7 +4,7 @@ ghost use Rattle.just_parts.specs.Clean.{IsClean};
 ghost use Rattle.just_parts.specs.Entries.{find, put};
 ghost use Rattle.just_parts.specs.Modulepath.{texts};
 ghost use Rattle.just_analyzer.specs.ModuleFile.{files_in};
-ghost use Rattle.just_analyzer.specs.Sources.{text_at};
+ghost use Rattle.just_analyzer.specs.Sources.{folder_prefix, text_at};
 
 use crate::module_file::{after, is_module_name, slashed};
 use just_data::BorrowedText;
@@ -28,20 +28,33 @@ impl<'src> Keyed<'src> for SourceFile<'src> {
     }
 }
 
+// The folder of a clean path, with a slash at its end.
+fn folder_prefix<'src>(path: &'src str) -> &'src str
+    requires { IsClean path.now }
+    ensures { result.now ≡ folder_prefix path.now }
+{
+    match path.rsplit_once('/') {
+        Some((_, name)) => path.strip_suffix(name).unwrap_or(path),
+        None => path,
+    }
+}
+
 /// A map from clean paths to texts.
 #[derive(Drop)]
 pub struct Sources<'src> {
     files: Table<'src, SourceFile<'src>>,
+    // Where the files of a folder begin, each with a slash at its end.
+    folders: Table<'src, BorrowedText<'src>>,
 }
 
 impl<'src> Model for Sources<'src> {
-    ghost use Rattle.just_analyzer.specs.Sources.{Files, AreSources};
+    ghost use Rattle.just_analyzer.specs.Sources.{Files, AreSources, AreFolders, HoldsFolders};
 
     ghost Value = { Files };
 
     ghost view = { λ sources. sources.files };
 
-    ghost invariant = { λ sources. AreSources sources.files };
+    ghost invariant = { λ sources. AreSources sources.files × AreFolders sources.folders × HoldsFolders sources.folders sources.files };
 }
 
 impl<'src> Sources<'src> {
@@ -51,6 +64,7 @@ impl<'src> Sources<'src> {
     {
         Sources {
             files: Table::new(alloc),
+            folders: Table::new(alloc),
         }
     }
 
@@ -69,6 +83,10 @@ impl<'src> Sources<'src> {
             path: BorrowedText::new(path),
             text: BorrowedText::new(text),
         };
+        let folder = BorrowedText::new(folder_prefix(path));
+        if self.folders.insert(folder).is_err() {
+            return Err(SourceError::Memory);
+        }
         match self.files.insert(file) {
             Ok(_) => Ok(()),
             Err(_) => Err(SourceError::Memory),
@@ -103,11 +121,15 @@ impl<'src> Sources<'src> {
     {
         let mut paths = Vec::new(alloc);
         let prefix = slashed(alloc, folder)?;
-        for path in self.files.keys() {
-            if let Some(name) = after(path, prefix.as_str()) {
-                if is_module_name(name) {
-                    paths.push(*path)?;
-                }
+        let Some(start) = self.folders.get(prefix.as_str()) else {
+            return Ok(paths);
+        };
+        for (path, _) in self.files.range_from(start.as_str()) {
+            let Some(name) = after(path, prefix.as_str()) else {
+                return Ok(paths);
+            };
+            if is_module_name(name) {
+                paths.push(*path)?;
             }
         }
         Ok(paths)

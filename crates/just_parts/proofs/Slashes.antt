@@ -84,7 +84,7 @@ module _ {X : Type 0} (p : X → Bool) where
       let none : prefix_len p (y ∷ reverse xs) ≡ 0 = cond-false (p y) _ 0 stop in
       ap (prefix_len p) turned ∙ prefix_len-append (reverse ys) _ (All-reverse (λ x. p x ≡ true) ys h) ∙ omega (arith, length-reverse ys)
 
-before_slash : (front name : List ℕ) → LacksSlash name → before_last is_slash (front ++ 47 ∷ name) ≡ front
+pub before_slash : (front name : List ℕ) → LacksSlash name → before_last is_slash (front ++ 47 ∷ name) ≡ front
 before_slash front name h =
     take_at front (47 ∷ name) _ (omega (arith, suffix_len_at (λ b. not (is_slash b)) front 47 name refl (all_others name h), length-append front (47 ∷ name)))
 

@@ -8,6 +8,7 @@ ghost use Rattle.std.specs.Option.{option_copied};
 ghost use Rattle.just_parts.specs.Entries.{shown, find, from_key, put, put_all, without, write, IsSorted, IsKeyed, UpdatesEach};
 ghost use Rattle.std.specs.Fn.{CalledAtMut};
 
+use just_data::BorrowedText;
 use std::alloc::{AllocError, AllocFailed, Global};
 use std::cmp::Ord;
 use std::collections::BTreeMap;
@@ -22,6 +23,14 @@ pub trait Keyed<'key> {
 
     fn key(&self) -> &'key str
         ensures { result.now ≡ key_of self.now };
+}
+
+impl<'key> Keyed<'key> for BorrowedText<'key> {
+    ghost key_of = { λ text. text };
+
+    fn key(&self) -> &'key str {
+        self.as_str()
+    }
 }
 
 /// A key that is ordered by its text.
