@@ -1,12 +1,13 @@
 -- There is one unfolding, and its nodes are the trails of steps.
-use Rattle.std.proofs.Common.{◌≡◌, ℕ, suc, zero, ◌+◌, ◌≤◌, ◌∙◌, List, [], ◌∷◌, ◌++◌, map, reverse, length, ◌⊎◌, inl, inr, refl, sym, ap, subst, arith, ◌↔◌}
+use Rattle.std.proofs.Common.{◌≡◌, ◌<◌, ℕ, suc, zero, ◌+◌, ◌≤◌, ◌∙◌, List, [], ◌∷◌, ◌++◌, map, reverse, length, ◌⊎◌, inl, inr, refl, sym, ap, subst, arith, ◌↔◌}
 use Rattle.std.specs.List.{Contains}
 use Rattle.std.proofs.lemmas.Bool.{cases_lt}
 use Rattle.std.proofs.lemmas.List.{length_push}
 use Rattle.std.specs.declared.vec.Vec.{Vec}
 use Rattle.std.specs.declared.alloc.Global.{Global}
 use Rattle.just_graph.specs.declared.unfolding.Step.{Step}
-use Rattle.just_graph.specs.Graph.{HasEdge}
+use Rattle.just_graph.specs.Graph.{HasEdge, IsGraph}
+use Rattle.just_graph.specs.Building.{targets_past}
 use Rattle.just_graph.specs.Steps.{IsOrder, order_by}
 use Rattle.just_graph.specs.Unfolding.{steps, HasStep, AreEdges, IsOrdered, Key, Node, key, root_key, child, key_child, kids, Unfolds, nothing, tree, HasKey, Firsts, none, again, first, AreFirst, KeySteps, stay, move, root_node}
 use Rattle.just_graph.proofs.Members.{In, contained, is_in, in_left, in_right, in_cases}
@@ -101,3 +102,9 @@ ordered_by_edges rows edges root roots order are o c =
           absurd (is_in b [] none_there)
     ] in
     (roots, order, c, subst (λ n. IsOrder (HasStep rows) n roots order) are.count (order_by edge (length edges) roots order o))
+
+pub edges_inside : (rows : List (Vec Step Global)) (edges : List (Vec ℕ Global)) → AreEdges rows edges → ((a b : ℕ) → HasStep rows a b → b < length rows) → IsGraph edges
+edges_inside rows edges are inside a b h = elim (cases_lt a (length rows)) [
+  | inl l ↦ (let below : b < length rows = inside a b (subst (λ row. Contains row b) (are.rows a l) h) in omega (arith, are.count))
+  | inr l ↦ absurd (is_in b [] (subst (λ row. Contains row b) (targets_past edges a (omega (arith, are.count))) h))
+]

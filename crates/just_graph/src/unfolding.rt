@@ -8,8 +8,8 @@ ghost use Rattle.std.specs.List.{All, Contains};
 ghost use Rattle.std.specs.HashMap.{get};
 ghost use Rattle.std.specs.declared.vec.Vec.{Vec};
 ghost use Rattle.std.specs.declared.alloc.Global.{Global};
-ghost use Rattle.just_graph.specs.Unfolding.{steps, AreEdges, AreFirst, IsOrdered, Key, KeySteps, Node, Unfolds, key, root_key, root_node, path_after, offsets_after, IsLeastDepth};
-ghost use Rattle.just_graph.specs.Graph.{HasEdge};
+ghost use Rattle.just_graph.specs.Unfolding.{steps, AreEdges, HasStep, AreFirst, IsOrdered, Key, KeySteps, Node, Unfolds, key, root_key, root_node, path_after, offsets_after, IsLeastDepth};
+ghost use Rattle.just_graph.specs.Graph.{HasEdge, IsGraph};
 ghost use Rattle.just_graph.specs.Steps.{IsOrder};
 ghost use Rattle.just_graph.specs.Building.{EachRow};
 ghost use Rattle.just_graph.specs.Unfolded.{frames_from, HashKey, is_key, same_key, unfolded_key, AreApart, AreLinked, AreNoted, IsIndex, IsUnfolded};
@@ -230,9 +230,11 @@ pub fn edges(alloc: Global, rows: &[Vec<Step>]) -> Result<Vec<Vec<usize>>, Alloc
     Ok(edges)
 }
 
-/// A law of orders: what `order` answers for the edges of a graph of steps shows that its roots are ordered.
-pub fn orders_are_ordered()
-    ensures { (rows : List (Vec Step Global)) (edges : List (Vec ℕ Global)) (root : ℕ) (roots order : List ℕ) → AreEdges rows edges → IsOrder (HasEdge edges) (length edges) roots order → Contains roots root → IsOrdered rows root }
+/// A law of edges: they are a graph where each step leads to a node, and what `order` answers for them shows that its
+/// roots are ordered.
+pub fn edges_are_steps()
+    ensures inside { (rows : List (Vec Step Global)) (edges : List (Vec ℕ Global)) → AreEdges rows edges → ((a b : ℕ) → HasStep rows a b → b < length rows) → IsGraph edges }
+    ensures ordered { (rows : List (Vec Step Global)) (edges : List (Vec ℕ Global)) (root : ℕ) (roots order : List ℕ) → AreEdges rows edges → IsOrder (HasEdge edges) (length edges) roots order → Contains roots root → IsOrdered rows root }
 {}
 
 /// Lists the first node of each key in the unfolding's preorder, in which the steps of a node go from the last to the
@@ -264,3 +266,52 @@ pub fn unfoldings_are_trails()
     ensures trails { (S : ℕ → List Step) (root : ℕ) (pre : List Node) → Unfolds S (root_node root ∷ []) pre → (k : Key) (d : ℕ) →
         ((x : Node) × Contains pre x × (key x ≡ k) × (length x.trail ≡ d)) ↔ KeySteps S (root_key root) k d }
 {}
+
+#[cfg(test)]
+mod tests {
+    use super::*;
+    use crate::order;
+    use std::test::Fail;
+
+    // Node 0 leads to node 1 in its own group, and in that of the name 7.
+    fn graph(alloc: Global) -> Result<Vec<Vec<Step>>, AllocError>
+        ensures count { IfOk result (λ rows. length rows.items ≡ 2) }
+        ensures inside { IfOk result (λ rows. (a b : ℕ) → HasStep rows.items a b → b < 2) }
+    {
+        let mut first = Vec::new(alloc);
+        first.push(Step {
+            target: 1,
+            offset: 10,
+            enters: None,
+        })?;
+        first.push(Step {
+            target: 1,
+            offset: 0,
+            enters: Some(7),
+        })?;
+        let mut rows = Vec::new(alloc);
+        rows.push(first)?;
+        rows.push(Vec::new(alloc))?;
+        Ok(rows)
+    }
+
+    #[test]
+    fn a_node_in_two_groups(rt: HostRuntime) -> Result<(), Fail> {
+        let rows = graph(rt.alloc())?;
+        let edges = edges(rt.alloc(), rows.as_slice())?;
+        let mut listed = Vec::new(rt.alloc());
+        if let Ok(_) = order(rt.alloc(), edges.as_slice(), [0].as_slice())? {
+            for unfolded in &unfold(rt.alloc(), rows.as_slice(), 0)? {
+                listed.push(unfolded.node)?;
+                listed.push(unfolded.path.len())?;
+                listed.push(unfolded.offsets.len())?;
+                listed.push(unfolded.depth)?;
+            }
+        }
+        assert_eq!(rt;
+            listed.as_slice(),
+            [0, 0, 0, 0, 1, 1, 0, 1, 1, 0, 1, 1].as_slice()
+        );
+        Ok(())
+    }
+}
