@@ -110,7 +110,7 @@ fn choose<'src>(
     found: &[&str],
 ) -> Result<Option<Text>, Error<'src>>
     ensures found { IfOk result (λ file. option_to_list file ≡ texts found.now) }
-    ensures error { IfErr result (λ e. (e ≡ Error.Memory) ⊎ ((1 < length found.now) × (e ≡ Error.Load (LoadError.AmbiguousModuleFile module.now (map (relative parent.now) (texts found.now)))))) }
+    ensures error { IfErr result (λ e. (e ≡ Error.Memory) ⊎ ((1 < length found.now) × (e ≡ Error.Load (LoadError.AmbiguousModuleFile «module».now (map (relative parent.now) (texts found.now)))))) }
 {
     match found {
         [] => Ok(None),
@@ -132,9 +132,9 @@ impl Compiler {
         module: &Name<'src>,
         path: Option<&str>,
     ) -> Result<Option<Text>, Error<'src>>
-        ensures found { IfOk result (λ file. option_to_list file ≡ candidates sources.now parent.now (lexeme module.now.token) (option_map (λ p. p.now) path.entry)) }
-        ensures error { let found = candidates sources.now parent.now (lexeme module.now.token) (option_map (λ p. p.now) path.entry) in
-            IfErr result (λ e. (e ≡ Error.Memory) ⊎ ((1 < length found) × (e ≡ Error.Load (LoadError.AmbiguousModuleFile module.now (map (relative parent.now) found))))) }
+        ensures found { IfOk result (λ file. option_to_list file ≡ candidates sources.now parent.now (lexeme «module».now.token) (option_map (λ p. p.now) path.entry)) }
+        ensures error { let found = candidates sources.now parent.now (lexeme «module».now.token) (option_map (λ p. p.now) path.entry) in
+            IfErr result (λ e. (e ≡ Error.Memory) ⊎ ((1 < length found) × (e ≡ Error.Load (LoadError.AmbiguousModuleFile «module».now (map (relative parent.now) found))))) }
     {
         let found = match path {
             Some(path) => find_at_path(alloc, sources, parent, path)?,
