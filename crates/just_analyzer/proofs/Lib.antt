@@ -7,9 +7,16 @@ pub mod Held
 pub mod Indexing
 pub mod Keys
 pub mod Lifts
+pub mod Linking
 pub mod ModuleFiles
+pub mod Numberings
 pub mod Outlines
 pub mod Passed
+pub mod Paths
 pub mod Refuted
 pub mod Resolving
+pub mod Scanning
+pub mod Scans
 pub mod Targets
+pub mod There
+pub mod WholeScans

@@ -3,9 +3,13 @@ pub mod Asts
 pub mod Compiled
 pub mod Definitions
 pub mod Index
+pub mod Links
 pub mod ModuleFile
+pub mod Numbering
 pub mod Outline
+pub mod Reached
 pub mod Resolved
 pub mod Rows
 pub mod Rules
+pub mod Scanned
 pub mod Sources

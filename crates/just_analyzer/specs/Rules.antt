@@ -3,6 +3,8 @@ use Rattle.std.specs.Prelude.{◌≡◌, ◌≢◌, ℕ, ◌+◌, ◌-◌, ◌^�
 use Rattle.std.specs.List.{Contains}
 use Rattle.just_parts.specs.Name.{texts_of_path}
 use Rattle.just_parts.specs.Clean.{file_name_of}
+use Rattle.just_parts.specs.Token.{Place}
+use Rattle.just_parts.specs.declared.layers.name.Name.{Name}
 use Rattle.just_parts.specs.declared.layers.ast.Item.{Item}
 use Rattle.just_parts.specs.declared.layers.name.Namepath.{Namepath}
 use Rattle.just_parts.specs.declared.layers.error.Definition.TheVariants as definition
@@ -18,6 +20,11 @@ use Rattle.just_analyzer.specs.Sources.{Files, text_at}
 -- What reports a broken rule: an error without its token. That there are not as many numbers as wanted counts as one.
 pub data Cause : Type 0 where
   NoFile : List ℕ → Cause
+  NoHome : Cause
+  NoImport : Place → Cause
+  NoModule : Name → Cause
+  SeveralFiles : Name → List (List ℕ) → Cause
+  LeadsBack : List ℕ → List ℕ → Cause
   Broken : CompileErrorKind → Cause
   NoNumber : Cause
 
@@ -28,11 +35,11 @@ Keeps group = (c : Cause) → group c → ⊥
 -- an error is named; want of memory aside
 abbrev pub Reports : (Cause → Type 0) → Error → Type 0
 Reports group (error.Load (load.Load path)) = group (NoFile path)
-Reports group (error.Load load.Homedir) = ⊥
-Reports group (error.Load (load.MissingImportFile path)) = ⊥
-Reports group (error.Load (load.MissingModuleFile name)) = ⊥
-Reports group (error.Load (load.AmbiguousModuleFile name found)) = ⊥
-Reports group (error.Load (load.CircularImport current next)) = ⊥
+Reports group (error.Load load.Homedir) = group NoHome
+Reports group (error.Load (load.MissingImportFile path)) = group (NoImport path)
+Reports group (error.Load (load.MissingModuleFile name)) = group (NoModule name)
+Reports group (error.Load (load.AmbiguousModuleFile name found)) = group (SeveralFiles name found)
+Reports group (error.Load (load.CircularImport current next)) = group (LeadsBack current next)
 Reports group (error.Compile e) = group (Broken e.kind)
 Reports group (error.Invocation e) = ⊥
 Reports group (error.Run e) = ⊥

@@ -1,8 +1,9 @@
 -- A source map, from clean paths to texts.
 use Rattle.std.specs.Prelude.{ℕ, List, [], ◌∷◌, ◌++◌, Option, IsTrue, is_some}
-use Rattle.std.specs.List.{AllByRecursion, before_last}
+use Rattle.std.specs.List.{All, AllByRecursion, before_last}
+use Rattle.std.specs.Map.{keys_of}
 use Rattle.std.specs.Option.{option_map}
-use Rattle.just_parts.specs.Clean.{is_slash}
+use Rattle.just_parts.specs.Clean.{IsClean, is_slash}
 use Rattle.just_parts.specs.Entries.{find, IsKeyed}
 use Rattle.just_analyzer.specs.declared.sources.SourceFile.{SourceFile}
 
@@ -14,9 +15,10 @@ Files = List (List ℕ × SourceFile)
 abbrev pub text_at : Files → List ℕ → Option (List ℕ)
 text_at files path = option_map (λ (f : SourceFile). f.text) (find path files)
 
--- each file stands under its own path
-abbrev pub AreSources : Files → Type 0
-AreSources files = IsKeyed (λ (f : SourceFile). f.path) files
+-- each file stands under its own path, which is clean
+pub record AreSources (files : Files) : Type 0 where
+  pub keyed : IsKeyed (λ (f : SourceFile). f.path) files
+  pub clean : All IsClean (keys_of files)
 
 -- the folder of a path, with a slash at its end
 abbrev pub folder_prefix : List ℕ → List ℕ

@@ -5,10 +5,14 @@ mod analyzer;
 pub mod compilation;
 pub mod compiler;
 mod definitions;
+mod found;
 mod headers;
+mod links;
 mod module_file;
 mod names;
 mod recipe_resolver;
+pub mod scan;
+pub mod scanned;
 pub mod sources;
 mod unresolved_recipe;
 

@@ -20,6 +20,18 @@ pub struct SourceFile<'src> {
     pub text: BorrowedText<'src>,
 }
 
+impl<'src> SourceFile<'src> {
+    // The same file again, which takes no memory.
+    pub(crate) fn copied(&self) -> SourceFile<'src>
+        ensures { result ≡ self.now }
+    {
+        SourceFile {
+            path: self.path.copied(),
+            text: self.text.copied(),
+        }
+    }
+}
+
 impl<'src> Keyed<'src> for SourceFile<'src> {
     ghost key_of = { λ file. file.path };
 
@@ -107,6 +119,7 @@ impl<'src> Sources<'src> {
     pub(crate) fn file(&self, path: &str) -> Option<&SourceFile<'src>>
         ensures found { option_copied result ≡ find path.now self.now }
         ensures path { IfSome result (λ file. file.now.path ≡ path.now) }
+        ensures clean { IfSome result (λ _. IsClean path.now) }
     {
         self.files.get(path)
     }

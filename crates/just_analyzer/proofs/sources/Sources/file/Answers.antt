@@ -1,5 +1,10 @@
+use Rattle.just_parts.specs.Clean.{IsClean}
 use Rattle.just_analyzer.proofs.Files.{some_keyed}
+use Rattle.just_analyzer.proofs.Paths.{some_holds}
 use Rattle.just_analyzer.proofs.sources.Sources.file.Goals as goal
 
 pub returns-clause-path : goal.returns-clause-path
-returns-clause-path c = some_keyed c.get.result c.self.inside.files c.args.path.now c.self.invariant.0 c.get.ensures
+returns-clause-path c = some_keyed c.get.result c.self.inside.files c.args.path.now c.self.invariant.0.keyed c.get.ensures
+
+pub returns-clause-clean : goal.returns-clause-clean
+returns-clause-clean c = some_holds IsClean c.get.result c.self.inside.files c.args.path.now c.self.invariant.0.clean c.get.ensures
