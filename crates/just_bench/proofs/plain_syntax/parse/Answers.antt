@@ -50,5 +50,5 @@ returns-in_err-recipe-in-Begins-clause-refused c =
     let h = c.in-Begins.heading in
     let read : Begins h ≡ reading c.args.relative.now c.args.text.now line = grind (arith, common_steps) in
     let wants = Read-wants c.args.relative.now c.args.text.now c.args.source.now c.args.numerator.now.next c.as_slice-line-items.result.now c.loop-line.line-index c.loop-line.items c.loop-line.numerator.next line h
-        c.loop-line.invariant (omega arith) (sym c.line-item.is) read in
+    c.loop-line.invariant (omega arith) (sym c.line-item.is) read in
     spent_on_line c.args.relative.now c.args.text.now _ _ wants c.from_residual-in_err-recipe-in-Begins.result (search rules)
