@@ -2,6 +2,7 @@
 use Rattle.std.proofs.Common.{◌≡◌, ℕ, zero, suc, ◌<◌, ◌≤◌, List, [], ◌∷◌, ◌++◌, map, length, Option, None, Some, IsSome, ◌⊎◌, refl, sym, ap, subst, ◌∙◌, arith, inl, inr, length-append}
 use Rattle.std.specs.List.{Contains, slice_get}
 use Rattle.std.specs.Map.{keys_of}
+use Rattle.std.specs.Option.{option_map}
 use Rattle.std.specs.declared.vec.Vec.{Vec}
 use Rattle.std.specs.declared.alloc.Global.{Global}
 use Rattle.std.proofs.lemmas.List.{length-map, length_push}
@@ -20,7 +21,7 @@ use Rattle.just_parts.specs.declared.layers.ast.Item.TheVariants as item
 use Rattle.just_parts.specs.declared.layers.name.Name.{Name}
 use Rattle.just_analyzer.specs.Links.{Link, Nowhere, To, Fault}
 use Rattle.just_analyzer.specs.Numbering.{AreFound, AreOnce, paths_of, texts_of}
-use Rattle.just_analyzer.specs.Reached.{World, Reached, root, next, items_of, link, LeadsTo, NamesAt, NamesInScan}
+use Rattle.just_analyzer.specs.Reached.{World, Reached, from_root, from_file, items_of, link, LeadsTo, NamesAt, NamesInScan}
 use Rattle.just_analyzer.specs.Rules.{Cause}
 use Rattle.just_analyzer.specs.Scanned.{IsPlaceOf, ArePlacesOf, IsStepTo, IsStepOf, AreSteps, IsScanned, AreScanned, IsScan, paths_in, Grows, Extends}
 use Rattle.just_analyzer.specs.Sources.{Files}
@@ -46,7 +47,12 @@ only_one path paths place (inl e) at = absurd (none_some (ap (λ ps. slice_get p
 only_one path paths place (inr e) at = e
 
 alone : (w : World) (path : List ℕ) → Contains (w.root ∷ []) path → Reached w path
-alone w path c = elim (is_in path (w.root ∷ []) c) [ inl e ↦ subst (Reached w) (sym e) root | inr h ↦ absurd h ]
+alone w path c = elim (is_in path (w.root ∷ []) c) [ inl e ↦ subst (Reached w) (sym e) from_root | inr h ↦ absurd h ]
+
+-- what has a text is there
+pub text_file : (o : Option SourceFile) → IsSome (option_map (λ (f : SourceFile). f.text) o) → IsSome o
+text_file None h = h
+text_file (Some f) h = refl
 
 -- the root is found
 pub start : (w : World) (old paths names : List (List ℕ)) (place : ℕ) (files : List ScannedFile) (rows : List (Vec Step Global)) → old ≡ [] → (paths ≡ old) ⊎ (paths ≡ old ++ w.root ∷ []) → slice_get paths place ≡ Some w.root
@@ -90,7 +96,7 @@ scan_one w paths names paths' names' files files' rows rows' f s row so at path 
       first = stays 0 w.root so.first;
       reached = λ p c. elim (Contains-append_cases paths grows.0 p (subst (λ ps. Contains ps p) grows.1 c)) [
         | inl old ↦ so.reached p old
-        | inr new ↦ next here (grows.2 p new)
+        | inr new ↦ from_file here (grows.2 p new)
       ];
       count = omega (arith, so.count, ap length is_files, ap length is_rows, length_push files s, length_push rows row);
       within =
@@ -116,7 +122,7 @@ scan_one w paths names paths' names' files files' rows rows' f s row so at path 
       ];
     }
 
--- what a place has is found, and a path that a link leads to has a place
+-- what a link leads to is found
 place_of_link : (paths : List (List ℕ)) (ls : List Link) (ts : List (Option ℕ)) (k : ℕ) (path : List ℕ) → ArePlacesOf paths ls ts → slice_get ls k ≡ Some (To path) → Contains paths path
 place_of_link paths [] ts k path ps e = absurd (none_some e)
 place_of_link paths (l ∷ ls) [] k path ps e = absurd ps
@@ -195,8 +201,8 @@ module _ (w : World) (paths names : List (List ℕ)) (files : List ScannedFile) 
       place_of_link paths (map (link w (folder_of file.path)) is.items) file.targets.items at.0 q is.targets to
 
   all_reached : (p : List ℕ) → Reached w p → Contains paths p
-  all_reached _ root = got paths 0 w.root so.first
-  all_reached _ (next {f} {g} r l) = closed f g (all_reached f r) l
+  all_reached _ from_root = got paths 0 w.root so.first
+  all_reached _ (from_file {f} {g} r l) = closed f g (all_reached f r) l
 
   pub none_in_scan : (c : Cause) → NamesInScan w c → ⊥
   none_in_scan c n =

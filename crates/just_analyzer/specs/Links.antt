@@ -23,6 +23,7 @@ pub data Link : Type 0 where
   To : Text → Link
   Fault : Cause → Link
 
+-- a text after its leading slashes
 abbrev pub without_slashes : Text → Text
 without_slashes [] = []
 without_slashes (b ∷ bs) = if b == 47 then without_slashes bs else b ∷ bs
@@ -32,6 +33,7 @@ abbrev pub from_home : Option Text → Text → Option Text
 from_home None rest = None
 from_home (Some home) rest = Some (home ++ 47 ∷ without_slashes rest)
 
+-- a text, or what it has after `~/` from the home folder
 abbrev pub or_same : Option Text → Text → Option Text → Option Text
 or_same home text None = Some text
 or_same home text (Some rest) = from_home home rest
@@ -45,7 +47,7 @@ abbrev pub given : Option Text → Option StringLiteral → Option (Option Text)
 given home None = Some None
 given home (Some literal) = option_map Some (expanded home literal.cooked)
 
--- what is left of an optional item, or the fault
+-- an optional item leads nowhere, another is at fault
 abbrev pub unless : Bool → Cause → Link
 unless optional cause = if optional then Nowhere else Fault cause
 

@@ -19,6 +19,7 @@ AreOnce texts = (i j : ℕ) (text : List ℕ) → slice_get texts i ≡ Some tex
 abbrev pub IsNumbering : List (List ℕ) → (List ℕ → Option ℕ) → Type 0
 IsNumbering texts numbers = (text : List ℕ) (i : ℕ) → (slice_get texts i ≡ Some text) ↔ (numbers text ≡ Some i)
 
+-- the paths of files, and the texts of names
 abbrev pub paths_of : List SourceFile → List (List ℕ)
 paths_of files = map (λ (f : SourceFile). f.path) files
 

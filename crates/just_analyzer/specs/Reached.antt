@@ -46,8 +46,8 @@ pub record LeadsTo (w : World) (f g : Text) : Type 0 where
 
 -- the root, and what reached files lead to
 pub data Reached (w : World) : Text → Type 0 where
-  root : Reached w w.root
-  next : {f g : Text} → Reached w f → LeadsTo w f g → Reached w g
+  from_root : Reached w w.root
+  from_file : {f g : Text} → Reached w f → LeadsTo w f g → Reached w g
 
 -- The text of a file does not follow the grammar or takes more numbers than there are, or an item is at fault.
 pub data NamesAt (w : World) (path : Text) : Cause → Type 0 where

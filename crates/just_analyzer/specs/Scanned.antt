@@ -27,6 +27,7 @@ IsPlaceOf paths (To path) None = ⊥
 IsPlaceOf paths (To path) (Some place) = slice_get paths place ≡ Some path
 IsPlaceOf paths (Fault cause) place = ⊥
 
+-- the same of each link, with the place beside it
 abbrev pub ArePlacesOf : List Text → List Link → List (Option ℕ) → Type 0
 ArePlacesOf paths [] [] = Unit {0}
 ArePlacesOf paths [] (target ∷ targets) = ⊥
@@ -44,6 +45,7 @@ abbrev pub IsStepOf : List Text → Item → Option ℕ → List Step → Type 0
 IsStepOf names i None steps = steps ≡ []
 IsStepOf names i (Some place) steps = IsStepTo names place i steps
 
+-- the steps of items to the places beside them, in order
 abbrev pub AreSteps : List Text → List Item → List (Option ℕ) → List Step → Type 0
 AreSteps names [] [] row = row ≡ []
 AreSteps names [] (target ∷ targets) row = ⊥
@@ -59,6 +61,7 @@ pub record IsScanned (w : World) (paths names : List Text) (file : ScannedFile) 
   pub targets : ArePlacesOf paths (map (link w (folder_of file.path)) items) file.targets.items
   pub steps : AreSteps names items file.targets.items row
 
+-- the paths of scanned files
 abbrev pub paths_in : List ScannedFile → List Text
 paths_in files = map (λ (f : ScannedFile). f.path) files
 
@@ -76,9 +79,10 @@ pub record IsScan (w : World) (scan : Scan) : Type 0 where
   pub within : (a b : ℕ) → HasStep scan.rows.items a b → b < length scan.rows.items
   pub names : AreOnce (texts_of scan.names.items)
 
--- paths or names, with more behind them that have a property
+-- a list with more behind it that has a property
 abbrev pub Grows : (Text → Type 0) → List Text → List Text → Type 0
 Grows P old new = (more : List Text) × (new ≡ old ++ more) × ((text : Text) → Contains more text → P text)
 
+-- a list with more behind it
 abbrev pub Extends : List Text → List Text → Type 0
 Extends old new = (more : List Text) × (new ≡ old ++ more)

@@ -12,6 +12,7 @@ ghost use Rattle.just_analyzer.specs.ModuleFile.{relative};
 ghost use Rattle.just_analyzer.specs.Numbering.{AreFound, AreNumbered, IsFile, paths_of, texts_of};
 ghost use Rattle.just_analyzer.specs.Reached.{World, LeadsTo, NamesAt, NamesInScan};
 ghost use Rattle.just_analyzer.specs.Rules.{Keeps, Reports};
+ghost use Rattle.just_analyzer.specs.Sources.{text_at};
 ghost use Rattle.just_analyzer.specs.Scanned.{IsPlaceOf, ArePlacesOf, IsStepOf, AreSteps, IsScanned, IsScan, Grows, Extends};
 
 use crate::found::{Found, Names};
@@ -217,7 +218,7 @@ pub fn scan<'src, S: Syntax>(
     root: &str,
 ) -> Result<Scan<'src>, Error<'src>>
     requires clean { IsClean root.now }
-    requires there { IsSome (find root.now sources.now) }
+    requires there { IsSome (text_at sources.now root.now) }
     ensures scan { let w : World = record { files = sources.now; home = config.now.home; parsed = S.parsed syntax.now; spends = S.spends syntax.now; enabled = S.enabled syntax.now; root = root.now } in IfOk result (IsScan w) }
     ensures kept { let w : World = record { files = sources.now; home = config.now.home; parsed = S.parsed syntax.now; spends = S.spends syntax.now; enabled = S.enabled syntax.now; root = root.now } in IfOk result (λ _. Keeps (NamesInScan w)) }
     ensures named { let w : World = record { files = sources.now; home = config.now.home; parsed = S.parsed syntax.now; spends = S.spends syntax.now; enabled = S.enabled syntax.now; root = root.now } in IfErr result (Reports (NamesInScan w)) }
@@ -229,11 +230,11 @@ pub fn scan<'src, S: Syntax>(
     found.place(sources, root)?;
     while files.len() < found.files.len() {
         let file = found.files[files.len()].copied();
-        let scanned = scan_file(
+        let (scanned, row) = scan_file(
             alloc, config, syntax, sources, root, &file, &mut found, &mut names,
         )?;
-        files.push(scanned.0)?;
-        rows.push(scanned.1)?;
+        files.push(scanned)?;
+        rows.push(row)?;
     }
     Ok(Scan {
         files,

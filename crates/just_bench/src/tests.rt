@@ -11,6 +11,7 @@ mod module_files;
 mod paths;
 mod refusals;
 mod running;
+mod scanning;
 mod tables;
 mod words;
 

@@ -5,16 +5,20 @@ use Rattle.std.specs.Str.{bytes_eq}
 use Rattle.std.proofs.lemmas.Grind.{common_steps}
 use Rattle.std.proofs.lemmas.List.{length-map, length_push}
 use Rattle.std.proofs.lemmas.Option.{slice_get_read}
+use Rattle.just_parts.specs.Entries.{find}
 use Rattle.just_analyzer.specs.Numbering.{paths_of, texts_of}
 use Rattle.just_analyzer.specs.Reached.{World, NamesAt, NamesInScan}
 use Rattle.just_analyzer.specs.declared.sources.SourceFile.{SourceFile}
 use Rattle.just_analyzer.proofs.Lifts.{lifted}
 use Rattle.just_analyzer.proofs.Numberings.{got, map_get, once}
-use Rattle.just_analyzer.proofs.WholeScans.{start, scan_one, found_few, is_scan, none_in_scan}
+use Rattle.just_analyzer.proofs.WholeScans.{start, text_file, scan_one, found_few, is_scan, none_in_scan}
 use Rattle.just_analyzer.proofs.scan.scan.Goals as goal
 
 pub place-requires-clause-found : goal.place-requires-clause-found
 place-requires-clause-found g c = c.new-found.ensures.found c.args.sources.now
+
+pub place-requires-clause-there : goal.place-requires-clause-there
+place-requires-clause-there g c = text_file (find c.args.root.now c.args.sources.now) c.requires.there
 
 pub loop-alloc-init : goal.loop-alloc-init
 loop-alloc-init g c =
@@ -52,7 +56,7 @@ pub loop-alloc-smaller : goal.loop-alloc-smaller
 loop-alloc-smaller g c =
     let inside : length c.loop-alloc.files.items < length c.loop-alloc.found.files.items = grind (arith, common_steps) in
     let few = found_few c.args.sources.now c.loop-alloc.found c.loop-alloc.invariant.found (once (paths_of c.loop-alloc.found.files.items) (get bytes_eq c.loop-alloc.found.places) c.loop-alloc.invariant.found.numbering) in
-    omega (arith, inside, few, ap length c.in_ok-push.ensures.items, length_push c.loop-alloc.files.items c.in_ok-scanned.scanned.0)
+    omega (arith, inside, few, ap length c.in_ok-push.ensures.items, length_push c.loop-alloc.files.items c.in_ok-scanned.scanned)
 
 pub loop-alloc-preserved : goal.loop-alloc-preserved
 loop-alloc-preserved g c =
@@ -67,7 +71,7 @@ loop-alloc-preserved g c =
       found = c.in_ok-scanned.ensures.found;
       numbered = c.in_ok-scanned.ensures.numbered;
       so_far = scan_one w (paths_of c.loop-alloc.found.files.items) (texts_of c.loop-alloc.names.names.items) (paths_of c.scan_file.new.found.files.items) (texts_of c.scan_file.new.names.names.items)
-          c.loop-alloc.files.items c.push.new.self.items c.loop-alloc.rows.items c.push-in-loop-alloc.new.self.items c.copied-file.result c.in_ok-scanned.scanned.0 c.in_ok-scanned.scanned.1 c.loop-alloc.invariant.so_far path
+          c.loop-alloc.files.items c.push.new.self.items c.loop-alloc.rows.items c.push-in-loop-alloc.new.self.items c.copied-file.result c.in_ok-scanned.scanned c.in_ok-scanned.row c.loop-alloc.invariant.so_far path
           c.in_ok-scanned.ensures.path c.in_ok-scanned.ensures.scanned c.in_ok-scanned.ensures.kept c.in_ok-scanned.ensures.grows c.in_ok-scanned.ensures.extends c.in_ok-push.ensures.items c.in_ok-push-2.ensures.items;
     }
 
