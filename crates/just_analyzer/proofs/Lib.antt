@@ -1,6 +1,6 @@
 pub mod Analyses
-pub mod Circles
 pub mod Edges
+pub mod FileCircles
 pub mod Files
 pub mod Folders
 pub mod Held
@@ -13,6 +13,7 @@ pub mod Numberings
 pub mod Outlines
 pub mod Passed
 pub mod Paths
+pub mod RecipeCircles
 pub mod Refuted
 pub mod Resolving
 pub mod Scanning

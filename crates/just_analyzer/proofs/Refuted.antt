@@ -13,7 +13,7 @@ use Rattle.just_analyzer.specs.Rows.{IsRow, IsOrderOf}
 use Rattle.just_analyzer.specs.Rules.{Cause, Dependencies, unknown_dependency, circular, argument_count}
 use Rattle.just_analyzer.proofs.Outlines.{one_place}
 use Rattle.just_analyzer.proofs.Edges.{target_of, edges}
-use Rattle.just_analyzer.proofs.Circles.{circle_leads}
+use Rattle.just_analyzer.proofs.RecipeCircles.{circle_leads}
 
 module _ (os : List Outline) (different : AreDifferent (names_of os)) (g : List (Vec ℕ Global)) (rows : EachRow (IsRow os) (length os) g) (roots order : List ℕ) (all_roots : (i : ℕ) → i < length os → slice_index roots i ≡ i) (many : length roots ≡ length os) (o : IsOrder (HasEdge g) (length g) roots order) where
   by_depends : IsOrder (Depends os) (length g) roots order

@@ -156,7 +156,7 @@ step_target : (names : List (List ℕ)) (i : Item) (t : Option ℕ) (steps : Lis
 step_target names i None steps s is h = absurd (subst (In s) is h)
 step_target names i (Some place) steps s is h = ap Some (step_to_target names place i steps s is h)
 
-steps_target : (names : List (List ℕ)) (is : List Item) (ts : List (Option ℕ)) (row : List Step) (s : Step) → AreSteps names is ts row → In s row → In (Some s.target) ts
+pub steps_target : (names : List (List ℕ)) (is : List Item) (ts : List (Option ℕ)) (row : List Step) (s : Step) → AreSteps names is ts row → In s row → In (Some s.target) ts
 steps_target names [] [] row s are h = subst (In s) are h
 steps_target names [] (t ∷ ts) row s are h = absurd are
 steps_target names (i ∷ is) [] row s are h = absurd are
@@ -165,13 +165,13 @@ steps_target names (i ∷ is) (t ∷ ts) row s are h = elim (in_cases s are.0 ar
   | inr b ↦ inr (steps_target names is ts are.1 s are.3 b)
 ]
 
-row_at : (rows : List (Vec Step Global)) (a : ℕ) (s : Step) → In s (steps rows a) → (row : Vec Step Global) × (slice_get rows a ≡ Some row) × In s row.items
+pub row_at : (rows : List (Vec Step Global)) (a : ℕ) (s : Step) → In s (steps rows a) → (row : Vec Step Global) × (slice_get rows a ≡ Some row) × In s row.items
 row_at [] a s h = absurd h
 row_at (row ∷ rows) zero s h = (row, refl, h)
 row_at (row ∷ rows) (suc a) s h = row_at rows a s h
 
 -- an element that is inside
-read_at : {A : Type 0} (xs : List A) (k : ℕ) → k < length xs → (x : A) × (slice_get xs k ≡ Some x)
+pub read_at : {A : Type 0} (xs : List A) (k : ℕ) → k < length xs → (x : A) × (slice_get xs k ≡ Some x)
 read_at [] k h = absurd (omega arith)
 read_at (x ∷ xs) zero h = (x, refl)
 read_at (x ∷ xs) (suc k) h = read_at xs k (omega arith)

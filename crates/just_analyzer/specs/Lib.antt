@@ -2,6 +2,7 @@ pub mod Analysis
 pub mod Asts
 pub mod Compiled
 pub mod Definitions
+pub mod FileCircles
 pub mod Index
 pub mod Links
 pub mod ModuleFile

@@ -2,6 +2,7 @@
 #![tactic(auto)]
 
 mod analyzer;
+pub mod circles;
 pub mod compilation;
 pub mod compiler;
 mod definitions;

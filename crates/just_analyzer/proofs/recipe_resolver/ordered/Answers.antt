@@ -10,7 +10,7 @@ use Rattle.just_analyzer.specs.Rows.{IsRow}
 use Rattle.just_analyzer.specs.Rules.{circular}
 use Rattle.just_analyzer.proofs.Outlines.{length-outlines}
 use Rattle.just_analyzer.proofs.Edges.{edges, is_graph}
-use Rattle.just_analyzer.proofs.Circles.{circle_below, circle_of, closing_read}
+use Rattle.just_analyzer.proofs.RecipeCircles.{circle_below, circle_of, closing_read}
 use Rattle.just_analyzer.proofs.Refuted.{is_order_of, dependencies_kept}
 use Rattle.just_analyzer.proofs.recipe_resolver.ordered.Goals as goal
 
