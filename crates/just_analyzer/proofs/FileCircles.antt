@@ -19,7 +19,7 @@ use Rattle.just_parts.specs.declared.layers.ast.Item.TheVariants as item
 use Rattle.just_analyzer.specs.FileCircles.{HasRows, LeadsOn, by_edge, by_edges, ChainTo, at_root, and_next, NamesCircle, leads_back}
 use Rattle.just_analyzer.specs.Links.{Link, Nowhere, To, Fault}
 use Rattle.just_analyzer.specs.Numbering.{texts_of}
-use Rattle.just_analyzer.specs.Reached.{World, Reached, root, next, items_of, link, LeadsTo}
+use Rattle.just_analyzer.specs.Reached.{World, Reached, from_root, from_file, items_of, link, LeadsTo}
 use Rattle.just_analyzer.specs.Rules.{LeadsBack}
 use Rattle.just_analyzer.specs.Scanned.{IsPlaceOf, ArePlacesOf, IsStepTo, AreSteps, IsScan, paths_in}
 use Rattle.just_analyzer.specs.declared.scanned.Scan.{Scan}
@@ -83,8 +83,8 @@ in_steps (r ∷ rows) (suc a) row s e h = in_steps rows a row s e h
 
 -- a file that is reached ends a chain
 chain_to : (w : World) (f : List ℕ) → Reached w f → (files : List (List ℕ)) × ChainTo w files f × Contains files f
-chain_to w _ root = (w.root ∷ [], at_root, contained w.root (w.root ∷ []) (inl refl))
-chain_to w _ (next {f} {g} r l) =
+chain_to w _ from_root = (w.root ∷ [], at_root, contained w.root (w.root ∷ []) (inl refl))
+chain_to w _ (from_file {f} {g} r l) =
     let c = chain_to w f r in
     (c.0 ++ g ∷ [], and_next c.1 l, contained g (c.0 ++ g ∷ []) (in_last g c.0))
 
@@ -179,8 +179,8 @@ module _ (w : World) (scan : Scan) (is : IsScan w scan) where
   module _ (ordered : IsOrdered rows 0) where
     -- a file that is reached is in the order
     place_in_order : (p : List ℕ) → Reached w p → (a : ℕ) × (slice_get paths a ≡ Some p) × Contains ordered.1 a
-    place_in_order _ root = (0, is.root, root_in_order rows ordered)
-    place_in_order _ (next {f} {g} r l) =
+    place_in_order _ from_root = (0, is.root, root_in_order rows ordered)
+    place_in_order _ (from_file {f} {g} r l) =
         let p = place_in_order f r in
         let s = step_of_edge p.0 f g p.1 l in
         (s.0, s.1, step_in_order rows ordered p.0 s.0 p.2 s.2)
@@ -206,7 +206,7 @@ module _ (w : World) (scan : Scan) (is : IsScan w scan) where
         let r = chain_along k first before.0 (omega arith) at before.1 in
         let step : HasStep rows (slice_index ns k) (slice_index ns (suc k)) = subst (λ n. HasStep rows (slice_index ns k) (slice_index ns n)) (omega arith) (c.walk k (omega arith)) in
         let l : LeadsTo w before.0 p = edge_of_step (slice_index ns k) (slice_index ns (suc k)) before.0 p before.1 to step in
-        (r.0 ++ p ∷ [], and_next r.1 l, contained first (r.0 ++ p ∷ []) (in_left first r.0 (p ∷ []) (is_in first r.0 r.2)), next r.3 l)
+        (r.0 ++ p ∷ [], and_next r.1 l, contained first (r.0 ++ p ∷ []) (in_left first r.0 (p ∷ []) (is_in first r.0 r.2)), from_file r.3 l)
 
     -- the files at the last two places of the circle
     pub names_circle : (n a b : ℕ) (current last : List ℕ) → n ≡ length ns → a ≡ get_or ns (n - 1 - 1) a → b ≡ get_or ns (n - 1) b → slice_get paths a ≡ Some current → slice_get paths b ≡ Some last → NamesCircle w (LeadsBack current last)
