@@ -51,6 +51,39 @@ def files(count):
     return bundle("a:") + "".join(f"--- /f{n}\nx\n" for n in range(count)), ["a"]
 
 
+def listed(root, rest):
+    """A bundle of the root's lines and the files of a table."""
+    return bundle(*root) + "".join(f"--- {path}\n{text}\n" for path, text in rest)
+
+
+def import_chain(count):
+    """Each file imports the next, and the last has a recipe."""
+    rest = [(f"/f{n}", f"import 'f{n + 1}'") for n in range(count - 1)] + [(f"/f{count - 1}", "a:")]
+    return listed(["import 'f0'"], rest), ["a"]
+
+
+def imported_by_many(count):
+    """Many files import one."""
+    rest = [(f"/f{n}", "import 'x'") for n in range(count)] + [("/x", "a:")]
+    return listed([f"import 'f{n}'" for n in range(count)], rest), ["a"]
+
+
+def modules(count):
+    """Many modules, each with a file of its own."""
+    return listed([f"mod m{n}" for n in range(count)] + ["a:"], [(f"/m{n}.just", "a: b\nb:") for n in range(count)]), ["a"]
+
+
+def module_names(count):
+    """Many modules of one file."""
+    return listed([f"mod m{n} 'x'" for n in range(count)] + ["a:"], [("/x", "a: b\nb:")]), ["a"]
+
+
+def module_chain(count):
+    """Modules inside each other."""
+    rest = [(f"/f{n}", f"mod m 'f{n + 1}'") for n in range(count - 1)] + [(f"/f{count - 1}", "a:")]
+    return listed(["mod m 'f0'", "a:"], rest), ["a"]
+
+
 def words(count):
     """One recipe with a parameter, named many times with different arguments."""
     return bundle("p x:"), [part for n in range(count) for part in ("p", str(n))]
@@ -63,6 +96,12 @@ INPUTS = {
     "40 diamonds on top of each other": diamonds(40),
     "100,000 lines": lines(100_000),
     "2,000 files": files(2_000),
+    "2,000 files that import each other in a chain": import_chain(2_000),
+    "one file that 2,000 import": imported_by_many(2_000),
+    "2,000 modules": modules(2_000),
+    "2,000 modules of one file": module_names(2_000),
+    "200 modules inside each other": module_chain(200),
+    "2,000 modules inside each other": module_chain(2_000),
     "10,000 invocations": words(10_000),
 }
 

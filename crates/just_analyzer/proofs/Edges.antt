@@ -1,22 +1,17 @@
 -- The graph's edges are the steps between recipes.
-use Rattle.std.proofs.Common.{◌≡◌, ℕ, zero, suc, ◌<◌, ◌≤◌, List, [], ◌∷◌, length, take, get_or, slice_index, refl, sym, ◌∙◌, subst, arith, inl, inr, ◌↔◌}
+use Rattle.std.proofs.Common.{◌≡◌, ℕ, ◌<◌, List, [], ◌∷◌, length, get_or, slice_index, sym, ◌∙◌, subst, arith, inl, inr, ◌↔◌}
 use Rattle.std.proofs.lemmas.Bool.{cases_lt}
-use Rattle.std.proofs.lemmas.List.{get_or_default, length-take-le, get_or-take}
+use Rattle.std.proofs.lemmas.List.{get_or_default}
 use Rattle.std.proofs.lemmas.List.Elements.{Contains-get_or}
 use Rattle.std.specs.List.{Contains}
 use Rattle.std.specs.declared.vec.Vec.{Vec}
 use Rattle.std.specs.declared.alloc.Global.{Global}
-use Rattle.just_graph.specs.Graph.{targets, HasEdge, IsGraph}
+use Rattle.just_graph.specs.Graph.{HasEdge, IsGraph}
 use Rattle.just_graph.specs.Building.{EachRow, targets_past}
 use Rattle.just_analyzer.specs.Index.{AreDifferent}
 use Rattle.just_analyzer.specs.Outline.{Outline, outline_at, names_of, Depends}
 use Rattle.just_analyzer.specs.Rows.{IsTarget, IsRow}
 use Rattle.just_analyzer.proofs.Outlines.{one_place}
-
-pub in_take : (xs : List ℕ) (k x : ℕ) → k ≤ length xs → Contains (take k xs) x → (j : ℕ) × (j < k) × (slice_index xs j ≡ x)
-in_take xs k x h c =
-    let l : c.0 < k = omega (arith, c.1, length-take-le k xs h) in
-    (c.0, l, get_or_default xs c.0 0 x (omega arith) ∙ (sym (get_or-take k xs c.0 x l) ∙ c.2))
 
 module _ (os : List Outline) (different : AreDifferent (names_of os)) where
   -- the target of a path that a recipe depends on
@@ -55,8 +50,3 @@ module _ (os : List Outline) (different : AreDifferent (names_of os)) where
 
     pub is_graph : IsGraph g
     is_graph a b e = let s : Depends os a b = (edges a b).0 e in omega (arith, s.there, rows.count)
-
-pub targets_at : (g : List (Vec ℕ Global)) (a : ℕ) (d : Vec ℕ Global) → a < length g → targets g a ≡ (get_or g a d).items
-targets_at [] a d h = absurd (omega arith)
-targets_at (row ∷ rows) zero d h = refl
-targets_at (row ∷ rows) (suc a) d h = targets_at rows a d (omega arith)

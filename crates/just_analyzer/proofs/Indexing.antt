@@ -1,21 +1,14 @@
 -- One more name in an index.
-use Rattle.std.proofs.Common.{◌≡◌, ◌≢◌, ℕ, ◌+◌, ◌<◌, Bool, true, false, List, [], length, get_or, Option, Some, None, refl, sym, ◌∙◌, ap, subst, arith, inl, inr, ◌⊎◌}
-use Rattle.std.proofs.lemmas.Bool.{cases_lt, false≢true, false_from_ne_true}
+use Rattle.std.proofs.Common.{◌≡◌, ◌≢◌, ℕ, ◌+◌, ◌<◌, false, List, [], length, get_or, Option, Some, None, sym, ◌∙◌, ap, subst, arith, inl, inr}
+use Rattle.std.proofs.lemmas.Bool.{cases_lt, false_from_ne_true}
 use Rattle.std.proofs.lemmas.List.{get_or_default}
 use Rattle.std.proofs.lemmas.Slice.Eq.{bytes_eq-Decides}
 use Rattle.std.proofs.lemmas.Map.Text.{is_eq-slice_cmp}
-use Rattle.std.specs.Bool.{Decides}
 use Rattle.std.specs.Str.{bytes_eq}
 use Rattle.std.specs.Ordering.{nat_cmp, is_eq}
 use Rattle.std.specs.Cmp.Lexicographic.{slice_cmp}
+use Rattle.just_loader.proofs.Lists.{same_or_not}
 use Rattle.just_analyzer.specs.Index.{name_at, Repeats, IsLast}
-
-decided : (b : Bool) (P : Type 0) → Decides b P → P ⊎ (P → ⊥)
-decided true P d = inl (d.0 refl)
-decided false P d = inr (λ p. false≢true (d.1 p))
-
-pub same_or_not : (a b : List ℕ) → (a ≡ b) ⊎ (a ≢ b)
-same_or_not a b = decided (bytes_eq a b) (a ≡ b) (bytes_eq-Decides a b)
 
 pub texts_apart : (a b : List ℕ) → a ≢ b → is_eq (slice_cmp nat_cmp a b) ≡ false
 texts_apart a b ne = is_eq-slice_cmp a b ∙ false_from_ne_true (bytes_eq a b) (λ t. ne ((bytes_eq-Decides a b).0 t))

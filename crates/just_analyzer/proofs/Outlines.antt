@@ -11,7 +11,8 @@ use Rattle.just_parts.specs.declared.layers.error.CompileErrorKind.TheVariants a
 use Rattle.just_parts.specs.declared.layers.error.Definition.TheVariants as definition
 use Rattle.just_analyzer.specs.Outline.{Outline, outline_of, outlines_of, outline_at, no_outline, names_of, lent}
 use Rattle.just_analyzer.specs.Index.{name_at, Repeats, AreDifferent}
-use Rattle.just_analyzer.specs.Rules.{Cause, Broken, Headers, duplicate_parameter, redefinition}
+use Rattle.just_loader.specs.Causes.{Cause, Broken}
+use Rattle.just_analyzer.specs.Rules.{RecipeHeaders, duplicate_parameter, redefinition}
 
 pub outline_read : (rs : List (Recipe UnresolvedDependency)) (i : ℕ) (r : Recipe UnresolvedDependency) → slice_get rs i ≡ Some r → outline_of r ≡ outline_at (outlines_of rs) i
 outline_read [] i r e = cc
@@ -32,18 +33,18 @@ names_more os names more i x o so h at is e =
     ∙ (sym (map-append (λ (q : Outline). q.name) (take i os) (outline_at os i ∷ [])) ∙ ap names_of (sym (take_more os i no_outline h)))))
 
 -- a recipe with two parameters of one name
-pub has_duplicate : (os : List Outline) (i p q : ℕ) (o : Outline) (ps : List (List ℕ)) (recipe parameter : List ℕ) → i < length os → o ≡ outline_at os i → recipe ≡ o.name → ps ≡ o.parameters → Repeats ps p q → parameter ≡ name_at ps q → Headers os (Broken (kind.DuplicateParameter recipe parameter))
+pub has_duplicate : (os : List Outline) (i p q : ℕ) (o : Outline) (ps : List (List ℕ)) (recipe parameter : List ℕ) → i < length os → o ≡ outline_at os i → recipe ≡ o.name → ps ≡ o.parameters → Repeats ps p q → parameter ≡ name_at ps q → RecipeHeaders os (Broken (kind.DuplicateParameter recipe parameter))
 has_duplicate os i p q o ps recipe parameter h at name list repeats is =
     let all : ps ≡ (outline_at os i).parameters = list ∙ ap (λ (x : Outline). x.parameters) at in
     duplicate_parameter i p q h (sym (name ∙ ap (λ (x : Outline). x.name) at)) (subst (λ ns. Repeats ns p q) all repeats) (sym (is ∙ ap (λ ns. name_at ns q) all))
 
 -- two recipes of one name
-pub is_redefined : (os : List Outline) (i j : ℕ) (first second : Outline) (k : CompileErrorKind) → Repeats (names_of os) i j → first ≡ outline_at os i → second ≡ outline_at os j → k ≡ kind.Redefinition definition.Recipe definition.Recipe second.name (min first.line second.line) → Headers os (Broken k)
+pub is_redefined : (os : List Outline) (i j : ℕ) (first second : Outline) (k : CompileErrorKind) → Repeats (names_of os) i j → first ≡ outline_at os i → second ≡ outline_at os j → k ≡ kind.Redefinition definition.Recipe definition.Recipe second.name (min first.line second.line) → RecipeHeaders os (Broken k)
 is_redefined os i j first second k repeats a b is =
-    subst (λ x. Headers os (Broken x)) (sym is) (redefinition i j repeats (ap (λ (x : Outline). x.name) (sym b)) (ap (λ (x : Outline). min x.line (outline_at os j).line) (sym a) ∙ ap (λ (x : Outline). min first.line x.line) (sym b)))
+    subst (λ x. RecipeHeaders os (Broken x)) (sym is) (redefinition i j repeats (ap (λ (x : Outline). x.name) (sym b)) (ap (λ (x : Outline). min x.line (outline_at os j).line) (sym a) ∙ ap (λ (x : Outline). min first.line x.line) (sym b)))
 
 -- no rule on headers is broken
-pub headers_kept : (os : List Outline) → ((k : ℕ) → k < length os → AreDifferent (outline_at os k).parameters) → AreDifferent (names_of os) → {c : Cause} → Headers os c → ⊥
+pub headers_kept : (os : List Outline) → ((k : ℕ) → k < length os → AreDifferent (outline_at os k).parameters) → AreDifferent (names_of os) → {c : Cause} → RecipeHeaders os c → ⊥
 headers_kept os ps ns (duplicate_parameter i p q h e r x) = ps i h p q r.apart r.within r.same
 headers_kept os ps ns (redefinition i j r e f) = ns i j r.apart r.within r.same
 

@@ -18,7 +18,8 @@ use Rattle.just_analyzer.specs.Index.{AreDifferent}
 use Rattle.just_analyzer.specs.Outline.{outlines_of, names_of, Depends}
 use Rattle.just_analyzer.specs.Rows.{IsRow, IsOrderOf}
 use Rattle.just_analyzer.specs.Resolved.{unresolved_numbers, number_at, HasPriors, linked, Resolves, IsMadeOf, AreMadeOf, Resolving, AreResolved}
-use Rattle.just_analyzer.proofs.Edges.{in_take, row_steps}
+use Rattle.just_loader.proofs.Lists.{in_take}
+use Rattle.just_analyzer.proofs.Edges.{row_steps}
 
 -- the number of a recipe that is read
 pub number_read : (rs : List (Recipe UnresolvedDependency)) (place : ℕ) (r : Recipe UnresolvedDependency) → slice_get rs place ≡ Some r → number_at rs place ≡ r.number.0

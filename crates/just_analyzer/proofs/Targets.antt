@@ -10,7 +10,8 @@ use Rattle.just_parts.specs.declared.recipe.Recipe.{Recipe}
 use Rattle.just_analyzer.specs.Index.{name_at, IsLast, IsIndex, place_in}
 use Rattle.just_analyzer.specs.Outline.{Outline, outline_of, outline_at, names_of}
 use Rattle.just_analyzer.specs.Rows.{IsTarget}
-use Rattle.just_analyzer.specs.Rules.{Broken, Dependencies, unknown_dependency, argument_count}
+use Rattle.just_loader.specs.Causes.{Broken}
+use Rattle.just_analyzer.specs.Rules.{Dependencies, unknown_dependency, argument_count}
 use Rattle.just_analyzer.proofs.Outlines.{name_of_outline}
 
 last_some : (names : List (List ℕ)) (n j : ℕ) (name : List ℕ) (o : Option ℕ) → IsLast names n name o → o ≡ Some j → (j < n) × (name_at names j ≡ name)

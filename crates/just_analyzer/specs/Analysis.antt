@@ -4,22 +4,14 @@ use Rattle.std.specs.List.{AllByRecursion}
 use Rattle.std.specs.Option.{option_map}
 use Rattle.just_parts.specs.Entries.{find}
 use Rattle.just_parts.specs.Name.{text_of_name}
-use Rattle.just_parts.specs.Syntax.{AreRising, numbers}
 use Rattle.just_parts.specs.declared.layers.ast.Ast.{Ast}
-use Rattle.just_parts.specs.declared.layers.ast.Item.{Item}
 use Rattle.just_parts.specs.declared.layers.number.Number.{Number}
-use Rattle.just_invoke.specs.declared.justfile.Justfile.{Justfile}
+use Rattle.just_invoke.specs.declared.justfile.Justfile.{Justfile, out-Justfile}
 use Rattle.just_parts.specs.declared.layers.ast.UnresolvedDependency.{UnresolvedDependency}
 use Rattle.just_parts.specs.declared.recipe.Recipe.{Recipe}
 use Rattle.just_invoke.specs.declared.justfile.RecipeKey.{RecipeKey}
 use Rattle.just_analyzer.specs.Outline.{outlines_of, outline_at}
 use Rattle.just_analyzer.specs.Resolved.{number_at}
-
--- the numbers of items rise
-pub record NumbersRise (items : List Item) : Type 0 where
-  pub low : ℕ
-  pub high : ℕ
-  pub rising : AreRising low (numbers items) high
 
 -- a key has the number and the name of one of the first n recipes
 abbrev pub IsKeyOf : List (Recipe UnresolvedDependency) → ℕ → RecipeKey → Type 0
@@ -43,12 +35,12 @@ abbrev pub IsDefaultOf : List (Recipe UnresolvedDependency) → Option Number �
 IsDefaultOf recipes None = recipes ≡ []
 IsDefaultOf recipes (Some number) = (place : ℕ) × IsDefault recipes place × (number_at recipes place ≡ number.0)
 
--- A module has the keys and the default of these recipes, the paths that it was given, and what its file says.
-pub record IsOf (recipes : List (Recipe UnresolvedDependency)) (ast : Ast) (loaded : List (List ℕ)) (source : List ℕ) (justfile : Justfile) : Type 0 where
-  pub keys : AreKeysOf recipes (length recipes) justfile.recipes
-  pub held : HasKeysOf recipes (length recipes) justfile.recipes
-  pub default : IsDefaultOf recipes justfile.default
-  pub loaded_is : justfile.loaded ≡ loaded
-  pub source_is : justfile.source ≡ source
-  pub module_path : justfile.module_path ≡ ast.module_path
-  pub working_directory : justfile.working_directory ≡ ast.working_directory
+-- A module has the keys of these recipes, the default of those of its own file, the paths that it was given, and what its own file says.
+pub record IsOf (recipes own : List (Recipe UnresolvedDependency)) (ast : Ast) (loaded : List (List ℕ)) (source : List ℕ) (justfile : Justfile) : Type 0 where
+  pub keys : AreKeysOf recipes (length recipes) (out-Justfile justfile).recipes
+  pub held : HasKeysOf recipes (length recipes) (out-Justfile justfile).recipes
+  pub default : IsDefaultOf own (out-Justfile justfile).default
+  pub loaded_is : (out-Justfile justfile).loaded ≡ loaded
+  pub source_is : (out-Justfile justfile).source ≡ source
+  pub module_path : (out-Justfile justfile).module_path ≡ ast.module_path
+  pub working_directory : (out-Justfile justfile).working_directory ≡ ast.working_directory

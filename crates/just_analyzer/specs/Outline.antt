@@ -1,5 +1,5 @@
 -- What the rules read of a module's recipes.
-use Rattle.std.specs.Prelude.{◌≡◌, ℕ, ◌<◌, Bool, false, ◌||◌, List, [], ◌∷◌, map, length, get_or, if◌then◌else◌}
+use Rattle.std.specs.Prelude.{◌≡◌, ℕ, ◌<◌, Bool, List, [], ◌∷◌, map, length, get_or, if◌then◌else◌}
 use Rattle.std.specs.List.{Contains}
 use Rattle.std.specs.Borrow.{Bor}
 use Rattle.just_parts.specs.Name.{text_of_name, texts_of_path}
@@ -35,13 +35,6 @@ recipes_of enabled [] = []
 recipes_of enabled (item.Import relative absolute optional ∷ items) = recipes_of enabled items
 recipes_of enabled (item.Module name relative absolute optional ∷ items) = recipes_of enabled items
 recipes_of enabled (item.Recipe r ∷ items) = if enabled (bare_item (item.Recipe r)) then r ∷ recipes_of enabled items else recipes_of enabled items
-
--- whether an enabled item leads to another file
-abbrev pub leads_elsewhere : (Item → Bool) → List Item → Bool
-leads_elsewhere enabled [] = false
-leads_elsewhere enabled (item.Import relative absolute optional ∷ items) = enabled (bare_item (item.Import relative absolute optional)) || leads_elsewhere enabled items
-leads_elsewhere enabled (item.Module name relative absolute optional ∷ items) = enabled (bare_item (item.Module name relative absolute optional)) || leads_elsewhere enabled items
-leads_elsewhere enabled (item.Recipe r ∷ items) = leads_elsewhere enabled items
 
 abbrev pub outlines_of : List (Recipe UnresolvedDependency) → List Outline
 outlines_of = map outline_of

@@ -1,57 +1,31 @@
 -- The rules of compilation: each relates what is compiled to the errors that report where it is broken.
-use Rattle.std.specs.Prelude.{◌≡◌, ◌≢◌, ℕ, ◌+◌, ◌-◌, ◌^◌, ◌<◌, ◌≤◌, ◌⊎◌, min, Bool, true, List, [], ◌∷◌, length, get_or, Option, Some, None}
+use Rattle.std.specs.Prelude.{◌≡◌, ◌≢◌, ℕ, ◌+◌, ◌-◌, ◌<◌, ◌⊎◌, min, List, [], ◌∷◌, length, get_or}
 use Rattle.std.specs.List.{Contains}
 use Rattle.just_parts.specs.Name.{texts_of_path}
-use Rattle.just_parts.specs.Clean.{file_name_of}
-use Rattle.just_parts.specs.Token.{Place}
-use Rattle.just_parts.specs.declared.layers.name.Name.{Name}
-use Rattle.just_parts.specs.declared.layers.ast.Item.{Item}
 use Rattle.just_parts.specs.declared.layers.name.Namepath.{Namepath}
 use Rattle.just_parts.specs.declared.layers.error.Definition.TheVariants as definition
-use Rattle.just_parts.specs.declared.layers.error.LoadError.TheVariants as load
-use Rattle.just_parts.specs.declared.layers.error.CompileErrorKind.{CompileErrorKind}
 use Rattle.just_parts.specs.declared.layers.error.CompileErrorKind.TheVariants as kind
-use Rattle.just_parts.specs.declared.layers.error.Error.{Error}
-use Rattle.just_parts.specs.declared.layers.error.Error.TheVariants as error
-use Rattle.just_analyzer.specs.Outline.{Outline, outline_at, names_of, outlines_of, recipes_of, leads_elsewhere, DependsOn}
+use Rattle.just_loader.specs.Causes.{Cause, Broken, Keeps}
+use Rattle.just_loader.specs.FileCircles.{LeadsOn}
+use Rattle.just_loader.specs.Keys.{NamesInFiles}
+use Rattle.just_loader.specs.Reached.{World}
+use Rattle.just_analyzer.specs.Contents.{Contents, contents, heading_at, names_of_headings, IsOwn}
 use Rattle.just_analyzer.specs.Index.{Repeats}
-use Rattle.just_analyzer.specs.Sources.{Files, text_at}
-
--- What reports a broken rule: an error without its token. That there are not as many numbers as wanted counts as one.
-pub data Cause : Type 0 where
-  NoFile : List ℕ → Cause
-  NoHome : Cause
-  NoImport : Place → Cause
-  NoModule : Name → Cause
-  SeveralFiles : Name → List (List ℕ) → Cause
-  LeadsBack : List ℕ → List ℕ → Cause
-  Broken : CompileErrorKind → Cause
-  NoNumber : Cause
-
--- a group of rules is kept where no cause is named
-abbrev pub Keeps : (Cause → Type 0) → Type 0
-Keeps group = (c : Cause) → group c → ⊥
-
--- an error is named; want of memory aside
-abbrev pub Reports : (Cause → Type 0) → Error → Type 0
-Reports group (error.Load (load.Load path)) = group (NoFile path)
-Reports group (error.Load load.Homedir) = group NoHome
-Reports group (error.Load (load.MissingImportFile path)) = group (NoImport path)
-Reports group (error.Load (load.MissingModuleFile name)) = group (NoModule name)
-Reports group (error.Load (load.AmbiguousModuleFile name found)) = group (SeveralFiles name found)
-Reports group (error.Load (load.CircularImport current next)) = group (LeadsBack current next)
-Reports group (error.Compile e) = group (Broken e.kind)
-Reports group (error.Invocation e) = ⊥
-Reports group (error.Run e) = ⊥
-Reports group error.Exhausted = group NoNumber
-Reports group error.Memory = Unit {0}
+use Rattle.just_analyzer.specs.JoinOrder.{IsJoinOrder}
+use Rattle.just_analyzer.specs.Outline.{Outline, outline_at, names_of, DependsOn}
 
 -- A recipe has a parameter's name twice, or two recipes have one name: those two that follow each other under that name.
-pub data Headers (recipes : List Outline) : Cause → Type 0 where
+pub data RecipeHeaders (recipes : List Outline) : Cause → Type 0 where
   duplicate_parameter : {recipe parameter : List ℕ} (i p q : ℕ) → i < length recipes → (outline_at recipes i).name ≡ recipe → Repeats (outline_at recipes i).parameters p q
-      → get_or (outline_at recipes i).parameters q [] ≡ parameter → Headers recipes (Broken (kind.DuplicateParameter recipe parameter))
+      → get_or (outline_at recipes i).parameters q [] ≡ parameter → RecipeHeaders recipes (Broken (kind.DuplicateParameter recipe parameter))
   redefinition : {name : List ℕ} {first : ℕ} (i j : ℕ) → Repeats (names_of recipes) i j → (outline_at recipes j).name ≡ name
-      → min (outline_at recipes i).line (outline_at recipes j).line ≡ first → Headers recipes (Broken (kind.Redefinition definition.Recipe definition.Recipe name first))
+      → min (outline_at recipes i).line (outline_at recipes j).line ≡ first → RecipeHeaders recipes (Broken (kind.Redefinition definition.Recipe definition.Recipe name first))
+
+-- What is broken in the headers of a module: those of its recipes, or two modules that it declares have one name.
+pub data Headers (m : Contents) : Cause → Type 0 where
+  of_recipes : {c : Cause} → RecipeHeaders m.recipes c → Headers m c
+  module_redefinition : {name : List ℕ} {first : ℕ} (i j : ℕ) → Repeats (names_of_headings m.modules) i j → (heading_at m.modules j).name ≡ name
+      → min (heading_at m.modules i).line (heading_at m.modules j).line ≡ first → Headers m (Broken (kind.Redefinition definition.Module definition.Module name first))
 
 -- A circle of names: it begins and ends with one name, each recipe depends on the next, and `recipe` is the last that does.
 pub record IsCircleOf (recipes : List Outline) (recipe : List ℕ) (circle : List (List ℕ)) : Type 0 where
@@ -69,19 +43,18 @@ pub data Dependencies (recipes : List Outline) : Cause → Type 0 where
       → texts_of_path dependency ≡ (outline_at recipes j).name ∷ [] → found ≡ 0 → (outline_at recipes j).least ≡ least → (outline_at recipes j).most ≡ most → (found < least) ⊎ (most < found)
       → Dependencies recipes (Broken (kind.DependencyArgumentCountMismatch dependency found least most))
 
--- What a module's recipes break: a rule of a group is read where the groups before it are kept.
-pub data NamesInRecipes (recipes : List Outline) : Cause → Type 0 where
-  in_headers : {c : Cause} → Headers recipes c → NamesInRecipes recipes c
-  in_dependencies : {c : Cause} → Keeps (Headers recipes) → Dependencies recipes c → NamesInRecipes recipes c
+-- all groups of a module are kept
+pub record KeepsModule (m : Contents) : Type 0 where
+  pub headers : Keeps (Headers m)
+  pub dependencies : Keeps (Dependencies m.recipes)
 
--- What the text of the root file breaks (an import or a module counts as no grammar, until other files are loaded), where `parsed` gives the items of a text under its relative path, `spends` the numbers that it takes, and `enabled` tells which items count.
-pub data NamesInFile (parsed : List ℕ → List ℕ → Option (List Item)) (spends : List ℕ → List ℕ → ℕ) (enabled : Item → Bool) (root text : List ℕ) : Cause → Type 0 where
-  no_grammar : parsed (file_name_of root) text ≡ None → NamesInFile parsed spends enabled root text (Broken kind.Syntax)
-  other_file : (items : List Item) → parsed (file_name_of root) text ≡ Some items → leads_elsewhere enabled items ≡ true → NamesInFile parsed spends enabled root text (Broken kind.Syntax)
-  no_number : 2 ^ 64 ≤ spends (file_name_of root) text → NamesInFile parsed spends enabled root text NoNumber
-  in_recipes : {c : Cause} (items : List Item) → parsed (file_name_of root) text ≡ Some items → NamesInRecipes (outlines_of (recipes_of enabled items)) c → NamesInFile parsed spends enabled root text c
+-- so they are in each module below the one whose own file this is: in those to whose own files edges lead from it
+abbrev pub KeepsBelow : World → List ℕ → Type 0
+KeepsBelow w own = (below : List ℕ) (files : List (List ℕ)) → LeadsOn w own below → IsOwn w below → IsJoinOrder w below files → KeepsModule (contents w files)
 
--- What a source map breaks from a root.
-pub data Names (parsed : List ℕ → List ℕ → Option (List Item)) (spends : List ℕ → List ℕ → ℕ) (enabled : Item → Bool) (files : Files) (root : List ℕ) : Cause → Type 0 where
-  no_file : {path : List ℕ} → text_at files root ≡ None → root ≡ path → Names parsed spends enabled files root (NoFile path)
-  in_file : {c : Cause} (text : List ℕ) → text_at files root ≡ Some text → NamesInFile parsed spends enabled root text c → Names parsed spends enabled files root c
+-- What a compilation breaks: a rule of files; where these are kept, one of the headers of a module; and where these and all groups of the modules below it are kept, one of its dependencies.
+pub data Names (w : World) : Cause → Type 0 where
+  in_files : {c : Cause} → NamesInFiles w c → Names w c
+  in_headers : {c : Cause} (own : List ℕ) (files : List (List ℕ)) → Keeps (NamesInFiles w) → IsOwn w own → IsJoinOrder w own files → Headers (contents w files) c → Names w c
+  in_dependencies : {c : Cause} (own : List ℕ) (files : List (List ℕ)) → Keeps (NamesInFiles w) → IsOwn w own → KeepsBelow w own → IsJoinOrder w own files → Keeps (Headers (contents w files))
+      → Dependencies (contents w files).recipes c → Names w c

@@ -1,29 +1,16 @@
-ghost use Rattle.std.specs.Prelude.{◌≡◌, ◌<◌, ◌≤◌, ℕ, [], false, IsTrue, IfOk, IfErr, IfSome, IfNone, length};
-ghost use Rattle.std.specs.List.{All};
-ghost use Rattle.just_parts.specs.Syntax.{PriorsAreDependencies};
-ghost use Rattle.just_invoke.specs.Closed.{IsClosed};
-ghost use Rattle.just_analyzer.specs.Analysis.{NumbersRise, AreKeysOf, HasKeysOf, IsDefault, IsDefaultOf, IsOf};
+ghost use Rattle.std.specs.Prelude.{◌≡◌, ◌<◌, ◌≤◌, ℕ, [], false, IsTrue, IfOk, IfSome, IfNone, length};
+ghost use Rattle.just_invoke.specs.declared.justfile.Justfile.{out-Justfile};
+ghost use Rattle.just_analyzer.specs.Analysis.{AreKeysOf, HasKeysOf, IsDefault, IsOf};
 ghost use Rattle.just_analyzer.specs.Definitions.{recipes_in, outlines_in};
 ghost use Rattle.just_analyzer.specs.Index.{AreDifferent};
-ghost use Rattle.just_analyzer.specs.Outline.{outlines_of, names_of, recipes_of};
-ghost use Rattle.just_analyzer.specs.Resolved.{AreResolved};
-ghost use Rattle.just_analyzer.specs.Rules.{NamesInRecipes, Keeps, Reports};
+ghost use Rattle.just_analyzer.specs.Outline.{names_of};
 
 use crate::definitions::{Definitions, recipe_at};
-use crate::headers::check_headers;
-use crate::recipe_resolver::resolve_recipes;
-use just_data::{Sequence, Text};
-use just_invoke::{Justfile, RecipeKey, Recipes};
-use just_parts::layers::{Ast, Error, Number, Syntax};
+use just_data::{Sequence, Shared, Text};
+use just_invoke::{Justfile, RecipeKey};
+use just_parts::layers::{Ast, Name};
 use just_parts::{Table, UnresolvedRecipe};
 use std::alloc::{AllocError, Global};
-
-/// A compiled module, and the recipes that it names.
-#[derive(Drop)]
-pub struct Analysis<'src> {
-    pub justfile: Justfile<'src>,
-    pub recipes: Recipes<'src>,
-}
 
 // The keys of the recipes, under their names.
 fn recipe_keys<'a, 'src>(
@@ -75,57 +62,47 @@ fn default_place<'a, 'src>(definitions: &Definitions<'a, 'src>) -> Option<usize>
     Some(best)
 }
 
-// The module, but for its recipes.
-fn make_justfile<'a, 'src>(
+/// What a module has besides its recipes: the shared list of loaded files, its name, and the modules that it declares.
+#[derive(Drop)]
+pub struct Surroundings<'src> {
+    pub loaded: Shared<Sequence<Text>>,
+    pub name: Option<Name<'src>>,
+    pub modules: Sequence<Justfile<'src>>,
+    /// The path of its own file.
+    pub source: Text,
+}
+
+/// The justfile of a module with these recipes, of which its own file says `own`.
+pub fn make_justfile<'a, 'src>(
     alloc: Global,
     definitions: &Definitions<'a, 'src>,
+    own: &Definitions<'a, 'src>,
     ast: &Ast<'src>,
-    loaded: Sequence<Text>,
-    source: Text,
+    surroundings: Surroundings<'src>,
 ) -> Result<Justfile<'src>, AllocError>
     requires { AreDifferent (names_of (outlines_in definitions.now)) }
-    ensures keys { IfOk result (λ j. AreKeysOf (recipes_in definitions.now) (length definitions.now.recipes.items) j.recipes) }
-    ensures held { IfOk result (λ j. HasKeysOf (recipes_in definitions.now) (length definitions.now.recipes.items) j.recipes) }
-    ensures default { IfOk result (λ j. IsDefaultOf (recipes_in definitions.now) j.default) }
-    ensures loaded { IfOk result (λ j. j.loaded ≡ loaded) }
-    ensures source { IfOk result (λ j. j.source ≡ source) }
-    ensures module_path { IfOk result (λ j. j.module_path ≡ ast.now.module_path) }
-    ensures working_directory { IfOk result (λ j. j.working_directory ≡ ast.now.working_directory) }
+    ensures fields { IfOk result (λ j. IsOf (recipes_in definitions.now) (recipes_in own.now) ast.now surroundings.entry.loaded surroundings.entry.source j) }
+    ensures name { IfOk result (λ j. (out-Justfile j).name ≡ surroundings.entry.name) }
+    ensures modules { IfOk result (λ j. (out-Justfile j).modules ≡ surroundings.entry.modules) }
 {
-    let default = match default_place(definitions) {
-        Some(place) => Some(recipe_at(definitions, place).number),
+    let default = match default_place(own) {
+        Some(place) => Some(recipe_at(own, place).number),
         None => None,
     };
+    let Surroundings {
+        loaded,
+        name,
+        modules,
+        source,
+    } = surroundings;
     Ok(Justfile {
         default,
         loaded,
         module_path: ast.module_path.clone()?,
+        modules,
+        name,
         recipes: recipe_keys(alloc, definitions)?,
         source,
         working_directory: ast.working_directory.clone()?,
     })
-}
-
-/// Compiles what a root file says. `loaded` lists the relative paths of the files, and `source` is the file's own path.
-/// An error names a rule on recipes that is broken.
-pub fn analyze<'src, S: Syntax>(
-    alloc: Global,
-    syntax: &S,
-    ast: &Ast<'src>,
-    loaded: Sequence<Text>,
-    source: Text,
-) -> Result<Analysis<'src>, Error<'src>>
-    requires numbers { NumbersRise ast.now.items }
-    requires priors { All PriorsAreDependencies ast.now.items }
-    ensures kept { IfOk result (λ _. Keeps (NamesInRecipes (outlines_of (recipes_of (S.enabled syntax.now) ast.now.items)))) }
-    ensures closed { IfOk result (λ a. IsClosed a.justfile a.recipes) }
-    ensures resolved { IfOk result (λ a. AreResolved (recipes_of (S.enabled syntax.now) ast.now.items) ast.now.module_path a.recipes) }
-    ensures fields { IfOk result (λ a. IsOf (recipes_of (S.enabled syntax.now) ast.now.items) ast.now loaded source a.justfile) }
-    ensures named { IfErr result (Reports (NamesInRecipes (outlines_of (recipes_of (S.enabled syntax.now) ast.now.items)))) }
-{
-    let definitions = Definitions::from_items(alloc, syntax, ast.items.as_slice())?;
-    let index = check_headers(alloc, &definitions)?;
-    let recipes = resolve_recipes(alloc, &definitions, &index, &ast.module_path)?;
-    let justfile = make_justfile(alloc, &definitions, ast, loaded, source)?;
-    Ok(Analysis { justfile, recipes })
 }

@@ -1,33 +1,48 @@
-ghost use Rattle.std.specs.Prelude.{◌≡◌, true, false, IsSome, IfSome, IfNone, IfOk, IfErr};
+ghost use Rattle.std.specs.Prelude.{◌≡◌, ◌<◌, ◌⊎◌, Some, length, map, option_map, option_to_list, IsSome, IfOk, IfErr};
 ghost use Rattle.std.specs.HashMap.{get};
 ghost use Rattle.just_parts.specs.Clean.{IsClean};
-ghost use Rattle.just_invoke.specs.Closed.{IsClosed};
-ghost use Rattle.just_analyzer.specs.Asts.{same_key, root_key, IsOnlyAst};
-ghost use Rattle.just_analyzer.specs.Compiled.{IsModuleAt, IsModuleOf};
-ghost use Rattle.just_analyzer.specs.Outline.{leads_elsewhere};
-ghost use Rattle.just_analyzer.specs.Rules.{Names, NamesInFile, Keeps, Reports};
+ghost use Rattle.just_parts.specs.Token.{lexeme};
+ghost use Rattle.just_invoke.specs.Closed.{IsClosed, AreClosed};
+ghost use Rattle.just_loader.specs.Asts.{same_key, root_key};
+ghost use Rattle.just_loader.specs.Causes.{Keeps, Reports};
+ghost use Rattle.just_loader.specs.ModuleFile.{relative, candidates};
+ghost use Rattle.just_loader.specs.Reached.{World};
+ghost use Rattle.just_analyzer.specs.Compiled.{IsCompilation};
+ghost use Rattle.just_analyzer.specs.Rules.{Names};
 
-use crate::analyzer::{Analysis, analyze};
 use crate::compilation::Compilation;
-use crate::sources::{SourceFile, Sources};
-use just_data::{Sequence, Text};
-use just_parts::layers::{
-    Ast, CompileError, CompileErrorKind, Config, Error, Evaluation, Item, LoadError, Numerator,
-    Syntax, Token,
-};
-use just_parts::source::file_name_of;
-use just_parts::{Modulepath, Source};
-use std::alloc::{AllocError, Global};
+use crate::modules::compile_modules;
+use crate::plans::plan_modules;
+use just_data::Text;
+use just_loader::{Loaded, Sources, load};
+use just_parts::layers::{Config, Error, Evaluation, LoadError, Name, Syntax};
+use std::alloc::Global;
 use std::collections::HashMap;
 
 /// Compiles source maps.
 pub struct Compiler;
 
 impl Compiler {
-    /// Compiles the file at `root`, or names a rule that is broken. Where it succeeds no rule is broken, and each recipe
-    /// that the compilation names is held, after those that it depends on.
+    /// The file of a module that a file in the folder `parent` declares, by its name or at a path, or none. Where there
+    /// are several candidates all are named, from `parent` where they lie below it.
+    pub fn find_module_file<'src>(
+        alloc: Global,
+        sources: &Sources<'src>,
+        parent: &str,
+        module: &Name<'src>,
+        path: Option<&str>,
+    ) -> Result<Option<Text>, Error<'src>>
+        ensures found { IfOk result (λ file. option_to_list file ≡ candidates sources.now parent.now (lexeme «module».now.token) (option_map (λ p. p.now) path.entry)) }
+        ensures error { let found = candidates sources.now parent.now (lexeme «module».now.token) (option_map (λ p. p.now) path.entry) in
+            IfErr result (λ e. (e ≡ Error.Memory) ⊎ ((1 < length found) × (e ≡ Error.Load (LoadError.AmbiguousModuleFile «module».now (map (relative parent.now) found))))) }
+    {
+        just_loader::find_module_file(alloc, sources, parent, module, path)
+    }
+
+    /// Compiles the file at `root` and those that it reaches, or names a rule that is broken. Where it succeeds no rule
+    /// is broken, and each recipe that the compilation names is held, after those that it depends on.
     ///
-    /// The configuration and the evaluation are asked nothing yet.
+    /// The evaluation is asked nothing yet.
     pub fn compile<'src, S: Syntax, E: Evaluation>(
         alloc: Global,
         config: &Config,
@@ -37,100 +52,25 @@ impl Compiler {
         root: &str,
     ) -> Result<Compilation<'src>, Error<'src>>
         requires { IsClean root.now }
-        ensures kept { IfOk result (λ _. Keeps (Names (S.parsed syntax.now) (S.spends syntax.now) (S.enabled syntax.now) sources.now root.now)) }
+        ensures kept { let w : World = record { files = sources.now; home = config.now.home; parsed = S.parsed syntax.now; spends = S.spends syntax.now; enabled = S.enabled syntax.now; root = root.now } in IfOk result (λ _. Keeps (Names w)) }
+        ensures compiled { let w : World = record { files = sources.now; home = config.now.home; parsed = S.parsed syntax.now; spends = S.spends syntax.now; enabled = S.enabled syntax.now; root = root.now } in IfOk result (IsCompilation w) }
         ensures closed { IfOk result (λ c. IsClosed c.justfile c.recipes) }
-        ensures of_text { IfOk result (λ c. IsModuleAt (S.parsed syntax.now) (S.enabled syntax.now) sources.now root.now (get same_key c.asts) c.justfile c.recipes) }
+        ensures all_closed { IfOk result (λ c. AreClosed c.recipes c.justfile) }
         ensures root { IfOk result (λ c. c.root ≡ root.now) }
         ensures root_ast { IfOk result (λ c. IsSome (get same_key c.asts (root_key c.root))) }
-        ensures named { IfErr result (Reports (Names (S.parsed syntax.now) (S.spends syntax.now) (S.enabled syntax.now) sources.now root.now)) }
+        ensures named { let w : World = record { files = sources.now; home = config.now.home; parsed = S.parsed syntax.now; spends = S.spends syntax.now; enabled = S.enabled syntax.now; root = root.now } in IfErr result (Reports (Names w)) }
     {
-        let Some(file) = sources.file(root) else {
-            return Err(Error::Load(LoadError::Load {
-                path: Text::from_str(alloc, root)?,
-            }));
-        };
-        compile_file(alloc, syntax, file, root)
+        let path = Text::from_str(alloc, root)?;
+        let loaded = load(alloc, config, syntax, sources, root)?;
+        let plans = plan_modules(alloc, syntax, &loaded)?;
+        let (justfile, recipes) = compile_modules(alloc, syntax, &loaded, &plans)?;
+        let Loaded { asts, .. } = loaded;
+        Ok(Compilation {
+            asts,
+            justfile,
+            recipes,
+            overrides: HashMap::new(alloc),
+            root: path,
+        })
     }
-}
-
-// Where the first enabled item stands that leads to another file: those are not loaded yet.
-fn other_file<'src, S: Syntax>(syntax: &S, items: &[Item<'src>]) -> Option<Token<'src>>
-    ensures found { IfSome result (λ _. leads_elsewhere (S.enabled syntax.now) items.now ≡ true) }
-    ensures missing { IfNone result (leads_elsewhere (S.enabled syntax.now) items.now ≡ false) }
-{
-    for item in items {
-        if !syntax.is_enabled(item) {
-            continue;
-        }
-        match item {
-            Item::Import { relative, .. } => return Some(relative.token.copied()),
-            Item::Module { name, .. } => return Some(name.token.copied()),
-            Item::Recipe(_) => continue,
-        }
-    }
-    None
-}
-
-// Compiles the root file.
-fn compile_file<'src, S: Syntax>(
-    alloc: Global,
-    syntax: &S,
-    file: &SourceFile<'src>,
-    root: &str,
-) -> Result<Compilation<'src>, Error<'src>>
-    requires clean { IsClean root.now }
-    requires path { file.now.path ≡ root.now }
-    ensures kept { IfOk result (λ _. Keeps (NamesInFile (S.parsed syntax.now) (S.spends syntax.now) (S.enabled syntax.now) root.now file.now.text)) }
-    ensures closed { IfOk result (λ c. IsClosed c.justfile c.recipes) }
-    ensures of_text { IfOk result (λ c. IsModuleOf (S.parsed syntax.now) (S.enabled syntax.now) root.now file.now.text (get same_key c.asts) c.justfile c.recipes) }
-    ensures root { IfOk result (λ c. c.root ≡ root.now) }
-    ensures root_ast { IfOk result (λ c. IsSome (get same_key c.asts (root_key c.root))) }
-    ensures named { IfErr result (Reports (NamesInFile (S.parsed syntax.now) (S.spends syntax.now) (S.enabled syntax.now) root.now file.now.text)) }
-{
-    let relative = file_name_of(file.path.as_str());
-    let source = Source::root(alloc, root)?;
-    let mut numerator = Numerator::new();
-    let ast = match syntax.parse_source(
-        alloc,
-        &mut numerator,
-        relative,
-        &source,
-        file.text.as_str(),
-    ) {
-        Ok(ast) => ast,
-        Err(error) => return Err(error),
-    };
-    if let Some(token) = other_file(syntax, ast.items.as_slice()) {
-        let kind = CompileErrorKind::Syntax;
-        return Err(Error::Compile(CompileError { token, kind }));
-    }
-    let mut loaded = Sequence::new(alloc);
-    loaded.push(Text::from_str(alloc, relative)?)?;
-    let analysis = analyze(alloc, syntax, &ast, loaded, Text::from_str(alloc, root)?)?;
-    let compilation = assemble(alloc, analysis, ast, root)?;
-    Ok(compilation)
-}
-
-// The compilation of an analysis.
-fn assemble<'src>(
-    alloc: Global,
-    analysis: Analysis<'src>,
-    ast: Ast<'src>,
-    root: &str,
-) -> Result<Compilation<'src>, AllocError>
-    ensures asts { IfOk result (λ c. IsOnlyAst (get same_key c.asts) root.now ast.entry) }
-    ensures justfile { IfOk result (λ c. c.justfile ≡ analysis.entry.justfile) }
-    ensures recipes { IfOk result (λ c. c.recipes ≡ analysis.entry.recipes) }
-    ensures root { IfOk result (λ c. c.root ≡ root.now) }
-    ensures root_ast { IfOk result (λ c. IsSome (get same_key c.asts (root_key c.root))) }
-{
-    let mut asts = HashMap::new(alloc);
-    asts.insert((Modulepath::root(alloc), Text::from_str(alloc, root)?), ast)?;
-    Ok(Compilation {
-        asts,
-        justfile: analysis.justfile,
-        recipes: analysis.recipes,
-        overrides: HashMap::new(alloc),
-        root: Text::from_str(alloc, root)?,
-    })
 }

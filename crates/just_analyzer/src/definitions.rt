@@ -13,27 +13,32 @@ pub struct Definitions<'a, 'src> {
 }
 
 impl<'a, 'src> Definitions<'a, 'src> {
+    ghost use Rattle.std.specs.Prelude.{◌++◌, [], OnOk};
     ghost use Rattle.just_analyzer.specs.Definitions.{recipes_in};
 
-    /// The recipes of the enabled items, in the order of the text. Imports and modules are not looked at.
-    pub fn from_items<S: Syntax>(
-        alloc: Global,
-        syntax: &S,
-        items: &'a [Item<'src>],
-    ) -> Result<Definitions<'a, 'src>, AllocError>
-        ensures { IfOk result (λ m. recipes_in m ≡ recipes_of (S.enabled syntax.now) items.now) }
+    /// No recipes.
+    pub fn new(alloc: Global) -> Definitions<'a, 'src>
+        ensures { recipes_in result ≡ [] }
     {
-        let mut recipes = Vec::new(alloc);
+        Definitions {
+            recipes: Vec::new(alloc),
+        }
+    }
+
+    /// Adds the recipes of the enabled items, in the order of the text. Imports and modules are not looked at.
+    pub fn add<S: Syntax>(&mut self, syntax: &S, items: &'a [Item<'src>]) -> Result<(), AllocError>
+        ensures { OnOk result (recipes_in self.new ≡ recipes_in self.old ++ recipes_of (S.enabled syntax.now) items.now) }
+    {
         for item in items {
             if !syntax.is_enabled(item) {
                 continue;
             }
             match item {
                 Item::Import { .. } | Item::Module { .. } => continue,
-                Item::Recipe(recipe) => recipes.push(recipe)?,
+                Item::Recipe(recipe) => self.recipes.push(recipe)?,
             }
         }
-        Ok(Definitions { recipes })
+        Ok(())
     }
 }
 

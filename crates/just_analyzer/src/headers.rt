@@ -9,14 +9,16 @@ ghost use Rattle.just_parts.specs.declared.layers.error.Definition.TheVariants a
 ghost use Rattle.just_analyzer.specs.Index.{AreDifferent, IsIndex};
 ghost use Rattle.just_analyzer.specs.Outline.{outline_at, names_of};
 ghost use Rattle.just_analyzer.specs.Definitions.{outlines_in};
-ghost use Rattle.just_analyzer.specs.Rules.{Headers, Keeps, Reports};
+ghost use Rattle.just_loader.specs.Causes.{Keeps, Reports};
+ghost use Rattle.just_analyzer.specs.Places.{of_names};
+ghost use Rattle.just_analyzer.specs.Rules.{Headers, RecipeHeaders};
 
 use crate::definitions::{Definitions, recipe_at};
 use crate::names::index_names;
 use just_data::BorrowedText;
 use just_parts::UnresolvedRecipe;
 use just_parts::layers::error::Definition;
-use just_parts::layers::{CompileError, CompileErrorKind, Error, Parameter};
+use just_parts::layers::{CompileError, CompileErrorKind, Error, Name, Parameter};
 use std::alloc::{AllocError, Global};
 use std::collections::BTreeMap;
 
@@ -54,7 +56,7 @@ fn check_parameters<'a, 'src>(
 ) -> Result<(), Error<'src>>
     requires { place < length definitions.now.recipes.items }
     ensures kept { OnOk result (AreDifferent (outline_at (outlines_in definitions.now) place).parameters) }
-    ensures named { IfErr result (Reports (Headers (outlines_in definitions.now))) }
+    ensures named { IfErr result (Reports (RecipeHeaders (outlines_in definitions.now))) }
 {
     let recipe = recipe_at(definitions, place);
     let parameters = recipe.parameters.as_slice();
@@ -77,7 +79,7 @@ fn check_all_parameters<'a, 'src>(
     definitions: &Definitions<'a, 'src>,
 ) -> Result<(), Error<'src>>
     ensures kept { OnOk result ((k : ℕ) → k < length definitions.now.recipes.items → AreDifferent (outline_at (outlines_in definitions.now) k).parameters) }
-    ensures named { IfErr result (Reports (Headers (outlines_in definitions.now))) }
+    ensures named { IfErr result (Reports (RecipeHeaders (outlines_in definitions.now))) }
 {
     for place in 0..definitions.recipes.len() {
         check_parameters(alloc, definitions, place)?;
@@ -113,10 +115,10 @@ pub fn check_headers<'a, 'src>(
     alloc: Global,
     definitions: &Definitions<'a, 'src>,
 ) -> Result<BTreeMap<BorrowedText<'src>, usize>, Error<'src>>
-    ensures kept { IfOk result (λ _. Keeps (Headers (outlines_in definitions.now))) }
+    ensures kept { IfOk result (λ _. Keeps (RecipeHeaders (outlines_in definitions.now))) }
     ensures different { IfOk result (λ _. AreDifferent (names_of (outlines_in definitions.now))) }
     ensures index { IfOk result (λ index. IsIndex (names_of (outlines_in definitions.now)) (get (slice_cmp nat_cmp) index)) }
-    ensures named { IfErr result (Reports (Headers (outlines_in definitions.now))) }
+    ensures named { IfErr result (Reports (RecipeHeaders (outlines_in definitions.now))) }
 {
     check_all_parameters(alloc, definitions)?;
     let names = recipe_names(alloc, definitions)?;
@@ -125,6 +127,55 @@ pub fn check_headers<'a, 'src>(
         Err((first, second)) => Err(Error::Compile(redefinition(
             recipe_at(definitions, first),
             recipe_at(definitions, second),
+        ))),
+    }
+}
+
+// The texts of names.
+fn texts_of<'src>(
+    alloc: Global,
+    names: &[Name<'src>],
+) -> Result<Vec<BorrowedText<'src>>, AllocError>
+    ensures { IfOk result (λ texts. texts.items ≡ map text_of_name names.now) }
+{
+    let mut texts = Vec::new(alloc);
+    for name in names {
+        texts.push(BorrowedText::new(name.lexeme()))?;
+    }
+    Ok(texts)
+}
+
+// The error of two modules of one name: the one on the smaller line is the first.
+fn module_redefinition<'src>(first: &Name<'src>, second: &Name<'src>) -> CompileError<'src>
+    ensures { result.kind ≡ kind.Redefinition definition.Module definition.Module (text_of_name second.now) (min first.now.token.line second.now.token.line) }
+{
+    let later = if second.line() < first.line() {
+        first
+    } else {
+        second
+    };
+    CompileError {
+        token: later.token.copied(),
+        kind: CompileErrorKind::Redefinition {
+            first_type: Definition::Module,
+            second_type: Definition::Module,
+            name: BorrowedText::new(second.lexeme()),
+            first: first.line().min(second.line()),
+        },
+    }
+}
+
+/// Checks that the names of a module's modules are different.
+pub fn check_modules<'src>(alloc: Global, names: &[Name<'src>]) -> Result<(), Error<'src>>
+    ensures kept { OnOk result (AreDifferent (map text_of_name names.now)) }
+    ensures named { IfErr result (Reports (Headers (of_names names.now))) }
+{
+    let texts = texts_of(alloc, names)?;
+    match index_names(alloc, texts.as_slice())? {
+        Ok(_) => Ok(()),
+        Err((first, second)) => Err(Error::Compile(module_redefinition(
+            &names[first],
+            &names[second],
         ))),
     }
 }

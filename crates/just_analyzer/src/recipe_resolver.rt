@@ -12,7 +12,8 @@ ghost use Rattle.just_analyzer.specs.Outline.{outline_at, names_of};
 ghost use Rattle.just_analyzer.specs.Definitions.{recipes_in, outlines_in};
 ghost use Rattle.just_analyzer.specs.Resolved.{unresolved_numbers, HasPriors, Resolving, AreResolved};
 ghost use Rattle.just_analyzer.specs.Rows.{IsTarget, IsRow, IsOrderOf};
-ghost use Rattle.just_analyzer.specs.Rules.{Dependencies, Keeps, Reports};
+ghost use Rattle.just_loader.specs.Causes.{Keeps, Reports};
+ghost use Rattle.just_analyzer.specs.Rules.{Dependencies};
 
 use crate::definitions::{Definitions, recipe_at};
 use crate::unresolved_recipe::resolve;
@@ -170,7 +171,7 @@ fn ordered<'a, 'src>(
 }
 
 // The row of a place.
-#[tactic(auto, using(crate::proofs::Edges::targets_at))]
+#[tactic(auto, using(just_loader::proofs::Lists::targets_at))]
 fn row_at(rows: &[Vec<usize>], place: usize) -> &[usize]
     requires { place < length rows.now }
     ensures { result.now ≡ targets rows.now place }
@@ -178,8 +179,8 @@ fn row_at(rows: &[Vec<usize>], place: usize) -> &[usize]
     rows[place].as_slice()
 }
 
-// The recipes in an order, each resolved.
-fn resolve_in_order<'a, 'src>(
+/// The recipes of the module at `module_path` in an order, each resolved.
+pub fn resolve_in_order<'a, 'src>(
     alloc: Global,
     definitions: &Definitions<'a, 'src>,
     rows: &[Vec<usize>],
@@ -203,30 +204,21 @@ fn resolve_in_order<'a, 'src>(
     Ok(recipes)
 }
 
-/// Resolves the recipes of the module at `module_path`: each stands after those that it depends on. An error names a
-/// dependency that is no recipe or lacks arguments, or recipes that depend on themselves.
-pub fn resolve_recipes<'a, 'src>(
+/// The rows of recipes, and an order of their places, each after those that it depends on. An error names a dependency
+/// that is no recipe or lacks arguments, or recipes that depend on themselves.
+pub fn order_recipes<'a, 'src>(
     alloc: Global,
     definitions: &Definitions<'a, 'src>,
     index: &BTreeMap<BorrowedText<'src>, usize>,
-    module_path: &Modulepath,
-) -> Result<Recipes<'src>, Error<'src>>
+) -> Result<(Vec<Vec<usize>>, Vec<usize>), Error<'src>>
     requires different { AreDifferent (names_of (outlines_in definitions.now)) }
     requires index { IsIndex (names_of (outlines_in definitions.now)) (get (slice_cmp nat_cmp) index.now) }
-    requires once { IsOnce (unresolved_numbers (recipes_in definitions.now)) }
-    requires priors { All HasPriors (recipes_in definitions.now) }
     ensures kept { IfOk result (λ _. Keeps (Dependencies (outlines_in definitions.now))) }
-    ensures resolved { IfOk result (λ recipes. AreResolved (recipes_in definitions.now) module_path.now recipes) }
+    ensures rows { IfOk result (λ made. EachRow (IsRow (outlines_in definitions.now)) (length definitions.now.recipes.items) made.0.items) }
+    ensures ordered { IfOk result (λ made. IsOrderOf (outlines_in definitions.now) made.1.items) }
     ensures named { IfErr result (Reports (Dependencies (outlines_in definitions.now))) }
 {
     let rows = rows(alloc, definitions, index)?;
     let order = ordered(alloc, definitions, rows.as_slice())?;
-    let recipes = resolve_in_order(
-        alloc,
-        definitions,
-        rows.as_slice(),
-        order.as_slice(),
-        module_path,
-    )?;
-    Ok(recipes)
+    Ok((rows, order))
 }

@@ -1,17 +1,17 @@
 //! Worked examples: what texts compile to, what words mean, and what a run calls.
 ghost use Rattle.std.specs.Prelude.{IfOk, IsSome};
 ghost use Rattle.std.specs.HashMap.{get};
-ghost use Rattle.just_analyzer.specs.Asts.{same_key, root_key};
+ghost use Rattle.just_loader.specs.Asts.{same_key, root_key};
 ghost use Rattle.just_invoke.specs.Closed.{IsClosed};
 
 mod compiling;
 mod copies;
 mod files;
+mod loading;
 mod module_files;
 mod paths;
 mod refusals;
 mod running;
-mod scanning;
 mod tables;
 mod words;
 

@@ -1,14 +1,16 @@
-//! Wrappers that contracts see as plain data: texts, sequences and boxes are equal where their contents are.
+//! Wrappers that contracts see as plain data: texts, sequences, boxes and shared values are equal where their contents are.
 #![tactic(auto)]
 
 mod boxed;
 mod chain;
 mod exact;
 mod sequence;
+mod shared;
 mod text;
 
 pub use boxed::Boxed;
 pub use chain::Chain;
 pub use exact::Exact;
 pub use sequence::Sequence;
+pub use shared::Shared;
 pub use text::{BorrowedText, Text};

@@ -1,5 +1,5 @@
 -- The loop over the levels that notes the depth of each node.
-use Rattle.std.proofs.Common.{◌≡◌, ◌≢◌, cond, true, false, Bool, ℕ, suc, ◌+◌, ◌-◌, ◌<◌, ◌∙◌, ◌||◌, Option, Some, None, List, [], ◌∷◌, ◌++◌, length, take, set, replicate, slice_index, inl, inr, refl, sym, ap, subst, arith}
+use Rattle.std.proofs.Common.{◌≡◌, ◌≢◌, cond, true, false, Bool, ℕ, suc, ◌+◌, ◌-◌, ◌<◌, ◌≤◌, ◌∙◌, ◌||◌, Option, Some, None, List, [], ◌∷◌, ◌++◌, length, take, set, replicate, slice_index, inl, inr, refl, sym, ap, subst, arith}
 use Rattle.std.specs.Prelude.{flat_map, MatchOption}
 use Rattle.std.proofs.lemmas.List.{length-replicate, take_more, get_or-replicate, get_or_past, get_or-set_same, get_or-set_other}
 use Rattle.std.proofs.lemmas.List.Sums.{sum_by-set}
@@ -48,6 +48,7 @@ pub record Deepening (g : List (Vec ℕ Global)) (start : ℕ) (seen : List Bool
   pub known : (a d : ℕ) → depth_of depths a ≡ Some d → (d < depth) × In a (level (targets g) start d)
   pub told : (a d : ℕ) → d < depth → In a (level (targets g) start d) → depth_of depths a ≡ Some d
   pub few : 0 < length now → unseen seen + depth < length g
+  pub within : depth ≤ length g
 
 none_noted : (n a : ℕ) → depth_of (replicate n None) a ≡ None
 none_noted n a = elim (cases_lt a n) [
@@ -69,6 +70,7 @@ deepening_start g start seen0 seen depths now e0 e inside none ne =
       known = λ a d h. absurd (some_none (sym (none_noted (length g) a) ∙ sym (ap (λ ds. depth_of ds a) none) ∙ h));
       told = λ a d l. absurd (omega arith);
       few = λ pos. omega (arith, ap unseen e, ap unseen e0, sum_by-set (λ b. cond b 0 1) seen0 start true false in_seen, weight, sum_by-replicate (λ b. cond b 0 1) (length g) false);
+      within = omega arith;
     }
   where
     some_none : {d : ℕ} → None ≡ Some d → ⊥
@@ -105,7 +107,12 @@ deepening_step g start seen seen' depths depths' now depth xs vs ys zs next s po
         ]
       ];
       few = λ more. omega (arith, s.few pos, fewer);
+      within = omega (arith, s.few pos);
     })
+
+-- each depth is below the number of nodes
+pub deepening_below : (g : List (Vec ℕ Global)) (start : ℕ) (seen : List Bool) (depths : List (Option ℕ)) (now : List ℕ) (depth : ℕ) → Deepening g start seen depths now depth → (a d : ℕ) → depth_of depths a ≡ Some d → d < length g
+deepening_below g start seen depths now depth s a d e = let l : d < depth = (s.known a d e).0 in omega (arith, l, s.within)
 
 pub deepening_over : (g : List (Vec ℕ Global)) (start : ℕ) (seen : List Bool) (depths : List (Option ℕ)) (now : List ℕ) (depth : ℕ) → Deepening g start seen depths now depth → now ≡ [] → (a : ℕ) → MatchOption (depth_of depths a) ((n : ℕ) → InSteps (targets g) start a n → ⊥) (IsLeast (targets g) start a)
 deepening_over g start seen depths now depth s none a = by (depth_of depths a) refl

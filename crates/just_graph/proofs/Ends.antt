@@ -1,12 +1,12 @@
 -- What a search that is over says of its order.
-use Rattle.std.proofs.Common.{◌≡◌, ℕ, ◌<◌, ◌≤◌, List, [], length, take, replicate, slice_index, refl, sym, ◌∙◌, subst, arith, inl, inr}
-use Rattle.std.proofs.lemmas.List.{length-take-le, get_or-take, get_or_past, get_or_default, get_or-replicate, length-replicate}
+use Rattle.std.proofs.Common.{◌≡◌, ℕ, ◌<◌, List, [], length, replicate, slice_index, refl, sym, ◌∙◌, arith, inl, inr}
+use Rattle.std.proofs.lemmas.List.{get_or_past, get_or_default, get_or-replicate, length-replicate}
 use Rattle.std.proofs.lemmas.List.Elements.{All-from_get_or}
 use Rattle.std.proofs.lemmas.Bool.{cases_lt}
 use Rattle.std.specs.List.{Contains}
 use Rattle.std.specs.declared.vec.Vec.{Vec}
 use Rattle.std.specs.declared.alloc.Global.{Global}
-use Rattle.just_graph.specs.Steps.{IsOnce, ListsStepsFirst, IsOrder, Leads, by_step, by_steps}
+use Rattle.just_graph.specs.Steps.{IsOnce, ListsStepsFirst, IsOrder, Leads, in_take, leads_before}
 use Rattle.just_graph.specs.Graph.{HasEdge}
 use Rattle.just_graph.specs.Search.{mark, Searching}
 use Rattle.just_graph.specs.declared.Mark.{Mark}
@@ -35,29 +35,11 @@ begun g = record {
   order_after = λ k b h. absurd (omega arith);
 }
 
--- the places of a front
-pub in_take : (xs : List ℕ) (k x : ℕ) → k ≤ length xs → Contains (take k xs) x → (j : ℕ) × (j < k) × (slice_index xs j ≡ x)
-in_take xs k x h c =
-    let l : c.0 < k = omega (arith, c.1, length-take-le k xs h) in
-    (c.0, l, get_or_default xs c.0 0 x (omega arith) ∙ (sym (get_or-take k xs c.0 x l) ∙ c.2))
-
-pub to_take : (xs : List ℕ) (j k x : ℕ) → k ≤ length xs → j < k → slice_index xs j ≡ x → Contains (take k xs) x
-to_take xs j k x h l e =
-    (j, omega (arith, length-take-le k xs h), get_or-take k xs j x l ∙ (get_or_default xs j x 0 (omega arith) ∙ e))
-
 module _ (R : ℕ → ℕ → Type 0) (o : List ℕ) (after : ListsStepsFirst R o) where
-  -- whatever a listed node leads to is listed before it
-  pub reaches_back : {a b : ℕ} → Leads R a b → (k : ℕ) → k < length o → slice_index o k ≡ a → Contains (take k o) b
-  reaches_back {a} {b} (by_step e) k h is = after k b h (subst (λ x. R x b) (sym is) e)
-  reaches_back {a} {b = c} (by_steps {b = b} e r) k h is =
-      let back : (j : ℕ) × (j < k) × (slice_index o j ≡ b) = in_take o k b (omega arith) (after k b h (subst (λ x. R x b) (sym is) e)) in
-      let further : (i : ℕ) × (i < back.0) × (slice_index o i ≡ c) = in_take o back.0 c (omega (arith, back.1)) (reaches_back r back.0 (omega (arith, back.1)) back.2) in
-      to_take o further.0 k c (omega arith) (omega (arith, back.1, further.1)) further.2
-
   pub no_way_back : IsOnce o → (a : ℕ) → Contains o a → Leads R a a → ⊥
   no_way_back once a c r =
       let at : slice_index o c.0 ≡ a = get_or_default o c.0 0 a c.1 ∙ c.2 in
-      let back : (j : ℕ) × (j < c.0) × (slice_index o j ≡ a) = in_take o c.0 a (omega (arith, c.1)) (reaches_back r c.0 c.1 at) in
+      let back : (j : ℕ) × (j < c.0) × (slice_index o j ≡ a) = in_take o c.0 a (omega (arith, c.1)) (leads_before o after r c.0 c.1 at) in
       once back.0 c.0 back.1 c.1 (back.2 ∙ sym at)
 
 pub is_order : (g : List (Vec ℕ Global)) (m : List Mark) (roots o : List ℕ) → Searching g m [] [] o → ((k : ℕ) → k < length roots → mark m (slice_index roots k) ≡ Done) → IsOrder (HasEdge g) (length g) roots o

@@ -1,6 +1,8 @@
 -- A number stands in level n exactly where n is the least number of steps that lead to it.
-use Rattle.std.proofs.Common.{◌≡◌, ℕ, suc, zero, ◌+◌, ◌<◌, ◌≤◌, List, [], ◌++◌, ◌⊎◌, inl, inr, refl, sym, ap, subst, arith}
+use Rattle.std.proofs.Common.{◌≡◌, ℕ, suc, zero, ◌+◌, ◌-◌, ◌<◌, ◌≤◌, ◌∙◌, List, [], ◌++◌, ◌⊎◌, inl, inr, refl, sym, ap, subst, arith}
 use Rattle.std.specs.Prelude.{flat_map}
+use Rattle.std.proofs.lemmas.Bool.{cases_lt}
+use Rattle.std.proofs.lemmas.List.{append-nil}
 use Rattle.just_graph.proofs.Members.{In, contained, is_in}
 use Rattle.just_graph.specs.Levels.{unlisted_targets, level, before, InSteps, none, further, IsLeast}
 use Rattle.just_graph.proofs.Members.{in_left, in_right, in_cases}
@@ -119,3 +121,18 @@ module _ (next : ℕ → List ℕ) (f : ℕ) where
       let here : level next f (suc (k + n)) ≡ [] = ap (λ now. at_last (unlisted_targets next (before next f (k + n) ++ level next f (k + n)) now)) (level_past n k e) in
       let same : suc (k + n) ≡ suc k + n = omega arith in
       subst (λ m. level next f m ≡ []) same here
+
+  before_past : (n k : ℕ) → level next f n ≡ [] → before next f (k + n) ≡ before next f n
+  unfolding before
+  before_past n zero e = (let same : zero + n ≡ n = omega arith in ap (before next f) same)
+  before_past n (suc k) e =
+      let here : before next f (suc (k + n)) ≡ before next f n = ap (λ now. before next f (k + n) ++ now) (level_past n k e) ∙ append-nil (before next f (k + n)) ∙ before_past n k e in
+      let same : suc k + n ≡ suc (k + n) = omega arith in
+      ap (before next f) same ∙ here
+
+  -- the levels up to an empty one are one list
+  pub one_end : (n m : ℕ) → level next f n ≡ [] → level next f m ≡ [] → before next f n ≡ before next f m
+  one_end n m e d = elim (cases_lt n m) [
+    | inl l ↦ (let same : m ≡ (m - n) + n = omega (arith, l) in sym (ap (before next f) same ∙ before_past n (m - n) e))
+    | inr l ↦ (let same : n ≡ (n - m) + m = omega (arith, l) in ap (before next f) same ∙ before_past m (n - m) d)
+  ]

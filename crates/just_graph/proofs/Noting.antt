@@ -1,5 +1,5 @@
 -- The loop that notes the depths.
-use Rattle.std.proofs.Common.{◌≡◌, ◌≢◌, ℕ, ◌+◌, ◌<◌, ◌≤◌, ◌∙◌, Option, Some, List, length, take, set, map, inl, inr, refl, sym, ap, subst, arith}
+use Rattle.std.proofs.Common.{◌≡◌, ◌≢◌, ℕ, ◌+◌, ◌<◌, ◌≤◌, ◌∙◌, Option, Some, None, List, length, take, set, map, inl, inr, refl, sym, ap, subst, arith}
 use Rattle.std.specs.Prelude.{slice_get}
 use Rattle.std.specs.Option.{unwrap_or}
 use Rattle.std.proofs.lemmas.List.{length-set, length-map, get_or-set_same, get_or-set_other}
@@ -73,3 +73,16 @@ module _ (depths : List (Option ℕ)) (old new : List Unfolded) (s : AreNoted de
       let v = get_map unfolded_key new k x ex in let u = get_map unfolded_key old k y ey in
       let w = was k v.0 v.1 in
       v.2 ∙ ap unfolded_key (w.2 ∙ ap (noted depths k) (some_same (sym w.1 ∙ u.1))) ∙ sym u.2)
+
+  -- where each depth is below the number of elements, so is what is noted
+  pub shallow : ((a d : ℕ) → depth_of depths a ≡ Some d → d < length old) → (k : ℕ) (v : Unfolded) → slice_get new k ≡ Some v → v.depth < length new
+  shallow below k v e =
+      let u = was k v e in
+      let some : 0 < length old = omega (arith, slice_get_within old k u.0 u.1) in
+      let l : unwrap_or (depth_of depths k) 0 < length old = or_none (depth_of depths k) (below k) some in
+      let is : v.depth ≡ unwrap_or (depth_of depths k) 0 = ap (λ (x : Unfolded). x.depth) u.2 in
+      omega (arith, s.count, l, is)
+    where
+      or_none : (o : Option ℕ) → ((d : ℕ) → o ≡ Some d → d < length old) → 0 < length old → unwrap_or o 0 < length old
+      or_none None h some = some
+      or_none (Some d) h some = h d refl

@@ -5,8 +5,7 @@ use Rattle.std.proofs.lemmas.List.{get_or_default}
 use Rattle.std.proofs.lemmas.List.Elements.{Contains-get_or, All-contains}
 use Rattle.std.proofs.lemmas.List.Sums.{sum_by-cons}
 use Rattle.just_graph.specs.declared.unfolding.Step.{Step}
-use Rattle.just_graph.specs.Steps.{IsOnce, ListsStepsFirst, Reached, from_start, from_member}
-use Rattle.just_graph.proofs.Ends.{in_take}
+use Rattle.just_graph.specs.Steps.{IsOnce, ListsStepsFirst, Reached, from_start, from_member, in_take}
 use Rattle.just_graph.proofs.Members.{In, contained, is_in, in_map, from_map}
 use Rattle.just_graph.proofs.Leveling.{Once}
 use Rattle.just_graph.proofs.Walks.{Goes, Ends, ends}

@@ -10,7 +10,7 @@ use Rattle.just_graph.specs.Graph.{HasEdge, IsGraph}
 use Rattle.just_graph.specs.Building.{targets_past}
 use Rattle.just_graph.specs.Steps.{IsOrder, order_by}
 use Rattle.just_graph.specs.Unfolding.{steps, HasStep, AreEdges, IsOrdered, Key, Node, key, root_key, child, key_child, kids, Unfolds, nothing, tree, HasKey, Firsts, none, again, first, AreFirst, KeySteps, stay, move, root_node}
-use Rattle.just_graph.proofs.Members.{In, contained, is_in, in_left, in_right, in_cases}
+use Rattle.just_graph.proofs.Members.{In, contained, is_in, in_left, in_right, in_cases, in_reverse, from_reverse}
 use Rattle.just_graph.proofs.Walks.{child_of, child_in}
 
 below_cons : (S : ℕ → List Step) {n : Node} {ns q : List Node} → Unfolds S (n ∷ ns) q → (below after : List Node) × Unfolds S (reverse (kids S n)) below × Unfolds S ns after × (q ≡ n ∷ (below ++ after))
@@ -93,18 +93,28 @@ steps_past [] a h = refl
 steps_past (r ∷ rows) zero h = absurd (omega arith)
 steps_past (r ∷ rows) (suc a) h = steps_past rows a (omega arith)
 
-pub ordered_by_edges : (rows : List (Vec Step Global)) (edges : List (Vec ℕ Global)) (root : ℕ) (roots order : List ℕ) → AreEdges rows edges → IsOrder (HasEdge edges) (length edges) roots order → Contains roots root → IsOrdered rows root
-ordered_by_edges rows edges root roots order are o c =
+pub to_reverse : (x : ℕ) (xs : List ℕ) → Contains xs x → Contains (reverse xs) x
+to_reverse x xs h = contained x (reverse xs) (in_reverse x xs (is_in x xs h))
+
+pub of_reverse : (x : ℕ) (xs : List ℕ) → Contains (reverse xs) x → Contains xs x
+of_reverse x xs h = contained x xs (from_reverse x xs (is_in x (reverse xs) h))
+
+-- an order by edges is one by steps
+pub steps_order : (rows : List (Vec Step Global)) (edges : List (Vec ℕ Global)) (roots order : List ℕ) → AreEdges rows edges → IsOrder (HasEdge edges) (length edges) roots order → IsOrder (HasStep rows) (length rows) roots order
+steps_order rows edges roots order are o =
     let edge : (a b : ℕ) → HasStep rows a b → HasEdge edges a b = λ a b h. elim (cases_lt a (length rows)) [
-      | inl l ↦ subst (λ row. Contains row b) (sym (are.rows a l)) h
+      | inl l ↦ subst (λ row. Contains row b) (sym (are.rows a l)) (to_reverse b (map (λ (s : Step). s.target) (steps rows a)) h)
       | inr l ↦
           let none_there : Contains (map (λ (s : Step). s.target) []) b = subst (λ row. Contains (map (λ (s : Step). s.target) row) b) (steps_past rows a l) h in
           absurd (is_in b [] none_there)
     ] in
-    (roots, order, c, subst (λ n. IsOrder (HasStep rows) n roots order) are.count (order_by edge (length edges) roots order o))
+    subst (λ n. IsOrder (HasStep rows) n roots order) are.count (order_by edge (length edges) roots order o)
+
+pub ordered_by_edges : (rows : List (Vec Step Global)) (edges : List (Vec ℕ Global)) (root : ℕ) (roots order : List ℕ) → AreEdges rows edges → IsOrder (HasEdge edges) (length edges) roots order → Contains roots root → IsOrdered rows root
+ordered_by_edges rows edges root roots order are o c = (roots, order, c, steps_order rows edges roots order are o)
 
 pub edges_inside : (rows : List (Vec Step Global)) (edges : List (Vec ℕ Global)) → AreEdges rows edges → ((a b : ℕ) → HasStep rows a b → b < length rows) → IsGraph edges
 edges_inside rows edges are inside a b h = elim (cases_lt a (length rows)) [
-  | inl l ↦ (let below : b < length rows = inside a b (subst (λ row. Contains row b) (are.rows a l) h) in omega (arith, are.count))
+  | inl l ↦ (let below : b < length rows = inside a b (of_reverse b (map (λ (s : Step). s.target) (steps rows a)) (subst (λ row. Contains row b) (are.rows a l) h)) in omega (arith, are.count))
   | inr l ↦ absurd (is_in b [] (subst (λ row. Contains row b) (targets_past edges a (omega (arith, are.count))) h))
 ]

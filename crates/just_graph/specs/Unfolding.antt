@@ -17,9 +17,9 @@ steps (row ∷ rows) (suc a) = steps rows a
 abbrev pub HasStep : List (Vec Step Global) → ℕ → ℕ → Type 0
 HasStep rows a b = Contains (map (λ (s : Step). s.target) (steps rows a)) b
 
--- the edges of the nodes are the targets of their steps
+-- the edges of the nodes are the targets of their steps, from the last step to the first
 abbrev pub AreEdges : List (Vec Step Global) → List (Vec ℕ Global) → Type 0
-AreEdges rows edges = EachRow (λ a row. row ≡ map (λ (s : Step). s.target) (steps rows a)) (length rows) edges
+AreEdges rows edges = EachRow (λ a row. row ≡ reverse (map (λ (s : Step). s.target) (steps rows a))) (length rows) edges
 
 -- an order has the root, so that no node that it leads to leads back to itself
 abbrev pub IsOrdered : List (Vec Step Global) → ℕ → Type 0

@@ -97,6 +97,8 @@ pub fn depths(
     requires start { start < length edges.now }
     ensures room { IfOk result (λ depths. length depths.items ≡ length edges.now) }
     ensures least { IfOk result (λ depths. (a : ℕ) → MatchOption (depth_of depths.items a) ((n : ℕ) → InSteps (targets edges.now) start a n → ⊥) (IsLeast (targets edges.now) start a)) }
+    // Each depth is below the number of nodes.
+    ensures below { IfOk result (λ depths. (a d : ℕ) → depth_of depths.items a ≡ Some d → d < length edges.now) }
 {
     let mut seen = Vec::new(alloc);
     seen.resize(edges.len(), false)?;
@@ -118,4 +120,9 @@ pub fn depths(
 /// A law of the levels: a number stands in level n exactly where n is the least number of steps that lead to it.
 pub fn levels_are_least()
     ensures { (next : ℕ → List ℕ) (start a n : ℕ) → Contains (level next start n) a ↔ IsLeast next start a n }
+{}
+
+/// A law of the levels: an empty level has only empty ones after it, so the levels up to an empty one are one list.
+pub fn levels_end()
+    ensures { (next : ℕ → List ℕ) (start n m : ℕ) → level next start n ≡ [] → level next start m ≡ [] → before next start n ≡ before next start m }
 {}

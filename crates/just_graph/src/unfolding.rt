@@ -3,7 +3,7 @@
 //! A step stays in its node's group or enters the group of a name, so a node can stand in many groups. Its key is the
 //! path of its group and its place in the graph.
 
-ghost use Rattle.std.specs.Prelude.{◌≡◌, ◌++◌, ◌+◌, ◌<◌, ◌↔◌, ◌&&◌, ◌∷◌, [], ℕ, List, cond, length, map, slice_get, IfOk, OnOk};
+ghost use Rattle.std.specs.Prelude.{◌≡◌, ◌++◌, ◌+◌, ◌<◌, ◌↔◌, ◌&&◌, ◌∷◌, [], ℕ, List, cond, length, map, reverse, slice_get, IfOk, OnOk};
 ghost use Rattle.std.specs.List.{All, Contains};
 ghost use Rattle.std.specs.HashMap.{get};
 ghost use Rattle.std.specs.declared.vec.Vec.{Vec};
@@ -208,18 +208,19 @@ fn note_depths(nodes: &mut Vec<Unfolded>, depths: &Vec<Option<usize>>)
     }
 }
 
-// The targets of a row of steps.
+// The targets of a row of steps, from the last to the first.
 fn row_targets(alloc: Global, row: &[Step]) -> Result<Vec<usize>, AllocError>
-    ensures { IfOk result (λ targets. targets.items ≡ map (λ (s : Step). s.target) row.now) }
+    ensures { IfOk result (λ targets. targets.items ≡ reverse (map (λ (s : Step). s.target) row.now)) }
 {
     let mut targets = Vec::new(alloc);
     for step in row {
         targets.push(step.target)?;
     }
+    targets.reverse();
     Ok(targets)
 }
 
-/// The targets of the steps, as `order` takes them.
+/// The targets of the steps of each node from the last to the first, as the unfolding takes them.
 pub fn edges(alloc: Global, rows: &[Vec<Step>]) -> Result<Vec<Vec<usize>>, AllocError>
     ensures { IfOk result (λ edges. AreEdges rows.now edges.items) }
 {
@@ -251,6 +252,8 @@ pub fn unfold(alloc: Global, rows: &[Vec<Step>], root: usize) -> Result<Vec<Unfo
     ensures once { IfOk result (λ nodes. AreApart (map unfolded_key nodes.items)) }
     // Each depth is the least of the key's.
     ensures depths { IfOk result (λ nodes. (k : ℕ) (u : Unfolded) → slice_get nodes.items k ≡ Some u → IsLeastDepth (steps rows.now) root (unfolded_key u) u.depth) }
+    // Each depth is below the number of nodes, so it can be counted.
+    ensures shallow { IfOk result (λ nodes. (k : ℕ) (u : Unfolded) → slice_get nodes.items k ≡ Some u → u.depth < length nodes.items) }
 {
     let (mut nodes, places) = walk(alloc, rows, root)?;
     let links = links(alloc, rows, nodes.as_slice(), &places)?;

@@ -11,7 +11,7 @@ use Rattle.just_parts.specs.declared.layers.parameter.Parameter.{Parameter}
 use Rattle.just_parts.specs.declared.dependency.Dependency.{Dependency}
 use Rattle.just_parts.specs.declared.recipe.Recipe.{Recipe}
 use Rattle.just_parts.proofs.ModulepathLemmas.{LacksColon, path_one, path_cons, only_one, only_cons}
-use Rattle.just_invoke.specs.declared.justfile.Justfile.{Justfile}
+use Rattle.just_invoke.specs.declared.justfile.Justfile.{Justfile, out-Justfile}
 use Rattle.just_invoke.specs.declared.justfile.RecipeKey.{RecipeKey}
 use Rattle.just_invoke.specs.Closed.{recipe_named, default_recipe}
 use Rattle.just_invoke.specs.Cause.{Cause, unknown_recipe, unknown_submodule, expected_submodule, no_recipes, no_default, default_requires, count_mismatch}
@@ -153,7 +153,7 @@ none_follow (n ∷ ns) e = absurd (false≢true (sym e))
 -- the names of a path lead to a recipe, or mislead
 leads_or : (root : Justfile) (recipes : Held) (names : Words) →
     ((r : Recipe Dependency) × Leads root recipes names [] r) ⊎ ((cause : Cause) × Misleads root recipes true names cause)
-leads_or root recipes [] = elim (default_or root.recipes (default_recipe root recipes)) [
+leads_or root recipes [] = elim (default_or (out-Justfile root).recipes (default_recipe root recipes)) [
   | inl p ↦ inl (p.0, (refl, (p.1, p.2)))
   | inr q ↦ inr q
 ]
@@ -190,7 +190,7 @@ HeadOr root recipes words =
     ⊎ ((cause : Cause) × NoHead root recipes words cause)
 
 heads : (root : Justfile) (recipes : Held) (words : Words) → HeadOr root recipes words
-heads root recipes [] = elim (default_or root.recipes (default_recipe root recipes)) [
+heads root recipes [] = elim (default_or (out-Justfile root).recipes (default_recipe root recipes)) [
   | inl p ↦ inl ([], [], p.0, refl, (refl, (p.1, p.2)))
   | inr q ↦ inr q
 ]

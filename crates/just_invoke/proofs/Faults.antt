@@ -7,7 +7,7 @@ use Rattle.just_parts.specs.Modulepath.{Text}
 use Rattle.just_parts.specs.Parameter.{least_arguments, most_arguments}
 use Rattle.just_parts.specs.declared.dependency.Dependency.{Dependency}
 use Rattle.just_parts.specs.declared.recipe.Recipe.{Recipe}
-use Rattle.just_invoke.specs.declared.justfile.Justfile.{Justfile}
+use Rattle.just_invoke.specs.declared.justfile.Justfile.{Justfile, out-Justfile}
 use Rattle.just_invoke.specs.declared.justfile.RecipeKey.{RecipeKey}
 use Rattle.just_invoke.specs.Closed.{recipe_named, default_recipe}
 use Rattle.just_invoke.specs.Cause.{Cause, count_mismatch}
@@ -29,7 +29,7 @@ bad_name_once one false path None c d p q = p ∙ sym q
 
 misleads_once : (root : Justfile) (recipes : Held) (one : Bool) (ns : Words) (c d : Cause) →
     Misleads root recipes one ns c → Misleads root recipes one ns d → c ≡ d
-misleads_once root recipes one [] c d p q = no_default_once root.recipes (default_recipe root recipes) c d p q
+misleads_once root recipes one [] c d p q = no_default_once (out-Justfile root).recipes (default_recipe root recipes) c d p q
 misleads_once root recipes one (n ∷ ns) c d p q = bad_name_once one (goes_on one ns) (n ∷ []) (recipe_named root recipes n) c d p q
 
 -- where a recipe ends the names, no name is bad
@@ -46,7 +46,7 @@ not_on false (x ∷ a) h = refl
 no_leads : (root : Justfile) (recipes : Held) (one : Bool) (xs a : Words) (r : Recipe Dependency) (c : Cause) → (one ≡ true → a ≡ []) →
     Leads root recipes xs a r → Misleads root recipes one (xs ++ a) c → ⊥
 no_leads root recipes one [] a r c h p q =
-    (subst (λ o. NoDefault root.recipes o c) p.1.0 (subst (λ t. Misleads root recipes one t c) p.0 q)).0 p.1.1
+    (subst (λ o. NoDefault (out-Justfile root).recipes o c) p.1.0 (subst (λ t. Misleads root recipes one t c) p.0 q)).0 p.1.1
 no_leads root recipes one (n ∷ ns) a r c h p q =
     let ends : goes_on one (ns ++ a) ≡ false = ap (λ t. goes_on one (t ++ a)) p.0 ∙ not_on one a h in
     good_name one (goes_on one (ns ++ a)) (n ∷ []) r c ends

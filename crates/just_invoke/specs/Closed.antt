@@ -1,11 +1,11 @@
--- A module whose recipes are among those that are held.
+-- Modules whose recipes are among those that are held.
 use Rattle.std.specs.Prelude.{◌≡◌, ◌≤◌, ℕ, List, length, Option, Some, None, IsSome}
-use Rattle.std.specs.List.{All}
+use Rattle.std.specs.List.{All, Contains}
 use Rattle.just_parts.specs.Entries.{find}
 use Rattle.just_parts.specs.declared.layers.number.Number.{Number}
 use Rattle.just_parts.specs.declared.dependency.Dependency.{Dependency}
 use Rattle.just_parts.specs.declared.recipe.Recipe.{Recipe}
-use Rattle.just_invoke.specs.declared.justfile.Justfile.{Justfile}
+use Rattle.just_invoke.specs.declared.justfile.Justfile.{Justfile, out-Justfile}
 use Rattle.just_invoke.specs.declared.justfile.RecipeKey.{RecipeKey}
 use Rattle.just_invoke.specs.Recipes.{find_number}
 
@@ -19,7 +19,7 @@ recipe_of_key recipes None = None
 recipe_of_key recipes (Some key) = find_number recipes key.number.0
 
 abbrev pub recipe_named : Justfile → List (Recipe Dependency) → List ℕ → Option (Recipe Dependency)
-recipe_named justfile recipes name = recipe_of_key recipes (find name justfile.recipes)
+recipe_named justfile recipes name = recipe_of_key recipes (find name (out-Justfile justfile).recipes)
 
 abbrev pub recipe_of_number : List (Recipe Dependency) → Option Number → Option (Recipe Dependency)
 recipe_of_number recipes None = None
@@ -27,7 +27,7 @@ recipe_of_number recipes (Some number) = find_number recipes number.0
 
 -- the recipe that is run without words
 abbrev pub default_recipe : Justfile → List (Recipe Dependency) → Option (Recipe Dependency)
-default_recipe justfile recipes = recipe_of_number recipes justfile.default
+default_recipe justfile recipes = recipe_of_number recipes (out-Justfile justfile).default
 
 -- A recipe as it is resolved: it has its path, and no more dependencies run before it than it has.
 pub record IsResolved (recipe : Recipe Dependency) : Type 0 where
@@ -36,6 +36,19 @@ pub record IsResolved (recipe : Recipe Dependency) : Type 0 where
 
 -- Each name of the module, and its default, is that of a recipe that is held, and the held recipes are resolved.
 pub record IsClosed (justfile : Justfile) (recipes : List (Recipe Dependency)) : Type 0 where
-  pub named : (name : List ℕ) → IsSome (find name justfile.recipes) → IsSome (recipe_named justfile recipes name)
-  pub default : IsSome justfile.default → IsSome (default_recipe justfile recipes)
+  pub named : (name : List ℕ) → IsSome (find name (out-Justfile justfile).recipes) → IsSome (recipe_named justfile recipes name)
+  pub default : IsSome (out-Justfile justfile).default → IsSome (default_recipe justfile recipes)
   pub resolved : All IsResolved recipes
+
+-- The module and all modules below it are closed.
+pub data AreClosed (recipes : List (Recipe Dependency)) : Justfile → Type 0 where
+  all_closed : {justfile : Justfile} → IsClosed justfile recipes → ((inner : Justfile) → Contains (out-Justfile justfile).modules inner → AreClosed recipes inner) → AreClosed recipes justfile
+
+-- the module itself
+pub is_closed : {recipes : List (Recipe Dependency)} {justfile : Justfile} → AreClosed recipes justfile → IsClosed justfile recipes
+is_closed (all_closed closed below) = closed
+
+-- each of its modules, with those below that
+pub inner_closed : {recipes : List (Recipe Dependency)} {justfile : Justfile} → AreClosed recipes justfile →
+    (inner : Justfile) → Contains (out-Justfile justfile).modules inner → AreClosed recipes inner
+inner_closed (all_closed closed below) = below

@@ -7,7 +7,7 @@ use Rattle.just_parts.specs.Parameter.{least_arguments}
 use Rattle.just_parts.specs.Modulepath.{Text, IsWordPath, IsArgumentPath, text_of}
 use Rattle.just_parts.specs.declared.dependency.Dependency.{Dependency}
 use Rattle.just_parts.specs.declared.recipe.Recipe.{Recipe}
-use Rattle.just_invoke.specs.declared.justfile.Justfile.{Justfile}
+use Rattle.just_invoke.specs.declared.justfile.Justfile.{Justfile, out-Justfile}
 use Rattle.just_invoke.specs.declared.justfile.RecipeKey.{RecipeKey}
 use Rattle.just_invoke.specs.Closed.{recipe_named, default_recipe}
 use Rattle.just_invoke.specs.Cause.{Cause, unknown_recipe, unknown_submodule, expected_submodule, no_recipes, no_default, default_requires}
@@ -79,7 +79,7 @@ BadName one false path None cause = cause ≡ unknown_recipe (text_of path (not 
 
 -- why the names lead to no recipe; `one` says that they are one word
 abbrev pub Misleads : Justfile → Held → Bool → Words → Cause → Type 0
-Misleads root recipes one [] cause = NoDefault root.recipes (default_recipe root recipes) cause
+Misleads root recipes one [] cause = NoDefault (out-Justfile root).recipes (default_recipe root recipes) cause
 Misleads root recipes one (n ∷ ns) cause = BadName one (goes_on one ns) (n ∷ []) (recipe_named root recipes n) cause
 
 -- why the word is no path to a recipe

@@ -4,6 +4,7 @@ pub mod Closed
 pub mod Expansion
 pub mod Firsts
 pub mod Head
+pub mod Module
 pub mod Outcome
 pub mod Pairs
 pub mod Recipes

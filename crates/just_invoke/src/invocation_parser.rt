@@ -7,6 +7,7 @@ ghost use Rattle.just_parts.specs.declared.layers.error.Error.TheVariants as err
 ghost use Rattle.just_parts.specs.declared.layers.error.InvocationError.TheVariants as fault;
 ghost use Rattle.just_invoke.specs.Cause.{cause_of, count_mismatch, IsExpected};
 ghost use Rattle.just_invoke.specs.Closed.{recipe_named, default_recipe, IsHeld, IsClosed};
+ghost use Rattle.just_invoke.specs.declared.justfile.Justfile.{out-Justfile};
 ghost use Rattle.just_invoke.specs.Head.{Words, name_of, has_colon, is_empty, goes_on, TakesDefault, NoDefault, BadName, Leads, Misleads, IsPathWord, PathLeads, NoPath, IsHead, NoHead};
 ghost use Rattle.just_invoke.specs.Tail.{shown, first_variadic, IsTail, is_missing, any_missing};
 ghost use Rattle.just_invoke.specs.Split.{reading_of, Invokes, Chain, IsSplit, Stops, IsFault};
@@ -94,7 +95,7 @@ fn take_default<'run, 'src>(
 ) -> Result<&'run Recipe<'src>, Error<'src>>
     ensures ok { IfOk result (λ r. TakesDefault root.now recipes.now r.now) }
     ensures held { IfOk result (λ r. IsHeld recipes.now r.now) }
-    ensures err { IfErr result (λ e. IfSome (cause_of e) (NoDefault root.now.recipes (default_recipe root.now recipes.now))) }
+    ensures err { IfErr result (λ e. IfSome (cause_of e) (NoDefault (out-Justfile root.now).recipes (default_recipe root.now recipes.now))) }
     ensures expected { IfErr result (λ e. IsExpected e) }
 {
     match default_recipe(root, recipes) {

@@ -1,7 +1,7 @@
 use crate::invocation_parser::InvocationParser;
 use crate::recipes::Recipes;
 use crate::running::{Report, run_invocations};
-use just_data::{Exact, Sequence, Text};
+use just_data::{Exact, Sequence, Shared, Text};
 use just_parts::layers::{Config, Error, Evaluation, Host, Name, Number, Output, RunError, Syntax};
 use just_parts::{Keyed, Modulepath, Table};
 use std::alloc::Global;
@@ -36,12 +36,49 @@ pub struct Justfile<'src> {
     /// The recipe that is run without words.
     pub default: Option<Number>,
     /// The relative paths of the files, each once, in the order of loading.
-    pub loaded: Sequence<Text>,
+    pub loaded: Shared<Sequence<Text>>,
     pub module_path: Modulepath,
+    /// The modules of this one, in byte order of their names.
+    pub modules: Sequence<Justfile<'src>>,
+    /// The name of the module; none of the root's.
+    pub name: Option<Name<'src>>,
     pub recipes: Table<'src, RecipeKey<'src>>,
     /// The path of the module's own file.
     pub source: Text,
     pub working_directory: Text,
+}
+
+impl<'src> Keyed<'src> for Justfile<'src> {
+    ghost use Rattle.just_invoke.specs.Module.{module_name};
+
+    ghost key_of = { module_name };
+
+    fn key(&self) -> &'src str {
+        self.name()
+    }
+}
+
+impl<'src> Justfile<'src> {
+    ghost use Rattle.std.specs.Prelude.{◌≡◌, is_some};
+    ghost use Rattle.just_invoke.specs.declared.justfile.Justfile.{out-Justfile};
+    ghost use Rattle.just_invoke.specs.Module.{module_name};
+
+    /// The name of the module; empty for the root's.
+    pub fn name(&self) -> &'src str
+        ensures { result.now ≡ module_name self.now }
+    {
+        match &self.name {
+            Some(name) => name.lexeme(),
+            None => "",
+        }
+    }
+
+    /// Whether the module has a name, as all but the root's have.
+    pub fn is_submodule(&self) -> bool
+        ensures { result ≡ is_some (out-Justfile self.now).name }
+    {
+        self.name.is_some()
+    }
 }
 
 impl<'src> Justfile<'src> {

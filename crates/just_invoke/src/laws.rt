@@ -1,11 +1,19 @@
 ghost use Rattle.std.specs.Prelude.{◌≡◌, ◌≢◌, Option, ◌<◌, ◌⊎◌, List, [], length};
+ghost use Rattle.std.specs.List.{Contains};
 ghost use Rattle.just_parts.specs.Host.{Answer, KeepsPromises};
 ghost use Rattle.just_parts.specs.declared.layers.host.Entry.{Entry};
 ghost use Rattle.just_invoke.specs.Cause.{Cause};
+ghost use Rattle.just_invoke.specs.Closed.{IsClosed, AreClosed};
 ghost use Rattle.just_invoke.specs.Head.{Words, Held};
 ghost use Rattle.just_invoke.specs.Split.{Reading, Invokes, IsSplit, IsFault};
 ghost use Rattle.just_invoke.specs.Steady.{IsSteady};
-ghost use Rattle.just_invoke.specs.declared.justfile.Justfile.{Justfile};
+ghost use Rattle.just_invoke.specs.declared.justfile.Justfile.{Justfile, out-Justfile};
+
+/// Where a module and those below it are closed, the module itself is, and so is each of its modules with those below it.
+pub fn closes_its_modules()
+    ensures itself { (recipes : Held) (root : Justfile) → AreClosed recipes root → IsClosed root recipes }
+    ensures modules { (recipes : Held) (root inner : Justfile) → AreClosed recipes root → Contains (out-Justfile root).modules inner → AreClosed recipes inner }
+{}
 
 /// Words are invocations in at most one way.
 pub fn one_split()

@@ -57,6 +57,7 @@ error_name error.Exhausted = codes "Exhausted"
 error_name error.Memory = codes "Memory"
 
 abbrev pub definition_text : Definition → List ℕ
+definition_text definition.Module = codes "Module"
 definition_text definition.Recipe = codes "Recipe"
 
 -- a line or a column, counted from 1

@@ -65,6 +65,7 @@ impl<'src> LoadError<'src> {
 /// What a name is defined as.
 #[derive(Clone, Copy, Debug, PartialEq, Eq)]
 pub enum Definition {
+    Module,
     Recipe,
 }
 
@@ -76,6 +77,7 @@ impl fmt::Display for Definition {
 
     fn fmt<W: fmt::Write>(&self, f: &mut fmt::Formatter<W>) -> fmt::Result {
         match self {
+            Definition::Module => f.write_str("Module"),
             Definition::Recipe => f.write_str("Recipe"),
         }
     }

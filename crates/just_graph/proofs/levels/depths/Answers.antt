@@ -5,7 +5,7 @@ use Rattle.std.proofs.lemmas.Bool.{eqb-true, false≢true}
 use Rattle.std.proofs.lemmas.Bool.Decides.{eqb_tells}
 use Rattle.std.proofs.lemmas.List.{nil_from_length}
 use Rattle.just_graph.proofs.MarkedLevels.{level_inside, ends_inside}
-use Rattle.just_graph.proofs.Depths.{deepening_start, deepening_step, deepening_over}
+use Rattle.just_graph.proofs.Depths.{deepening_start, deepening_step, deepening_over, deepening_below}
 use Rattle.just_graph.proofs.levels.depths.Goals as goal
 
 pub levels-init : goal.levels-init
@@ -41,3 +41,6 @@ pub returns-clause-least : goal.returns-clause-least
 returns-clause-least c =
     let is0 : vec_len c.levels.level ≡ 0 = eqb-true (vec_len c.levels.level) 0 (sym c.levels-test.ensures) in
     deepening_over c.args.edges.now c.args.start c.levels.seen.items c.levels.depths.items c.levels.level.items c.levels.depth c.levels.invariant (nil_from_length c.levels.level.items (omega arith))
+
+pub returns-clause-below : goal.returns-clause-below
+returns-clause-below c = deepening_below c.args.edges.now c.args.start c.levels.seen.items c.levels.depths.items c.levels.level.items c.levels.depth c.levels.invariant

@@ -1,4 +1,4 @@
-use Rattle.std.proofs.Common.{◌≡◌, ℕ, ◌<◌, ◌↔◌, Some, map, length, sym, subst}
+use Rattle.std.proofs.Common.{◌≡◌, ℕ, ◌<◌, ◌↔◌, ◌∙◌, Some, map, length, sym, ap, subst}
 use Rattle.std.specs.Prelude.{slice_get, MatchOption}
 use Rattle.std.specs.List.{Contains}
 use Rattle.std.specs.HashMap.{get}
@@ -9,7 +9,7 @@ use Rattle.just_graph.specs.Unfolded.{same_key, unfolded_key, AreApart}
 use Rattle.just_graph.specs.Levels.{depth_of, InSteps, IsLeast}
 use Rattle.just_graph.proofs.Index.{keys_apart, root_key_first, unfolded_inside, map_get, got_in}
 use Rattle.just_graph.proofs.Links.{EachLinked, links_graph, links_some, least_depth}
-use Rattle.just_graph.proofs.Noting.{was, noted_told, noted_keys}
+use Rattle.just_graph.proofs.Noting.{was, noted_told, noted_keys, shallow}
 use Rattle.just_graph.proofs.unfolding.unfold.Goals as goal
 
 pub links-requires : goal.links-requires
@@ -60,3 +60,10 @@ returns-clause-depths c = λ k v e.
     subst (λ (x : Unfolded). IsLeastDepth S c.args.root (unfolded_key x) x.depth) (sym u.2)
     (least_depth S c.args.root us places c.in_ok-links.links.items c.in_ok-nodes.ensures.index linked (root_key_first S c.args.root us f.0 f.1 f.2) (λ l n w. (keys l).1 (n, w)) (keys_apart S c.args.root us f.0 f.1 f.2)
     (depth_of c.in_ok-depths.depths.items k) k (unfolded_key u.0) way.0 at way.1 least)
+
+pub returns-clause-shallow : goal.returns-clause-shallow
+returns-clause-shallow c =
+    let us = c.in_ok-nodes.nodes.items in let places = get same_key c.in_ok-nodes.places in
+    let linked : EachLinked (steps c.args.rows.now) us places c.in_ok-links.links.items = subst (λ us. EachLinked (steps c.args.rows.now) us places c.in_ok-links.links.items) c.as_slice.ensures.value c.in_ok-links.ensures in
+    let count : length c.as_slice-2.result.now ≡ length us = ap length c.as_slice-2.ensures.value ∙ linked.count in
+    shallow c.in_ok-depths.depths.items us c.note_depths.new.nodes.items c.note_depths.ensures (λ a d e. subst (λ n. d < n) count (c.in_ok-depths.ensures.below a d e))

@@ -1,27 +1,40 @@
-use Rattle.std.proofs.Common.{◌≡◌, Some, None, ap, sym}
-use Rattle.std.specs.Option.{option_map}
-use Rattle.just_analyzer.specs.declared.sources.SourceFile.{SourceFile}
-use Rattle.just_analyzer.specs.Sources.{text_at}
-use Rattle.just_analyzer.specs.Rules.{Names, NamesInFile, no_file, in_file, Keeps}
-use Rattle.just_analyzer.proofs.Lifts.{lifted}
-use Rattle.just_analyzer.proofs.Files.{map_kept, ok_more}
+use Rattle.std.proofs.Common.{IsSome, refl, sym, subst, rules}
+use Rattle.std.specs.HashMap.{get}
+use Rattle.just_invoke.specs.Closed.{is_closed}
+use Rattle.just_loader.specs.Asts.{same_key, root_key}
+use Rattle.just_loader.specs.Keys.{NamesInFiles}
+use Rattle.just_loader.specs.Reached.{World}
+use Rattle.just_loader.proofs.FileCircles.{has_rows}
+use Rattle.just_loader.proofs.Lifts.{lifted}
+use Rattle.just_analyzer.specs.Rules.{Names, in_files}
+use Rattle.just_analyzer.proofs.Compilations.{root_there}
 use Rattle.just_analyzer.proofs.compiler.Compiler.compile.Goals as goal
 
-pub returns-in_default-clause-named : goal.returns-in_default-clause-named
-returns-in_default-clause-named g c =
-    let none : text_at c.args.sources.now c.args.root.now ≡ None = ap (option_map (λ (f : SourceFile). f.text)) (sym c.in_default.ensures.found) in
-    no_file none (sym c.in_ok-from_str.ensures)
+pub plan_modules-requires-clause-rows : goal.plan_modules-requires-clause-rows
+plan_modules-requires-clause-rows g c = has_rows _ c.in_ok-loaded.loaded.scan c.in_ok-loaded.ensures.loaded.scan
 
-pub returns-clause-kept : goal.returns-clause-kept
-returns-clause-kept g c =
-    let there : text_at c.args.sources.now c.args.root.now ≡ Some c.in-Some.file.now.text = ap (option_map (λ (f : SourceFile). f.text)) (sym c.in-Some.ensures.found) in
-    ok_more (Keeps (NamesInFile (g.S.Syntax.parsed c.args.syntax.now) (g.S.Syntax.spends c.args.syntax.now) (g.S.Syntax.enabled c.args.syntax.now) c.args.root.now c.in-Some.file.now.text))
-    (Keeps (Names (g.S.Syntax.parsed c.args.syntax.now) (g.S.Syntax.spends c.args.syntax.now) (g.S.Syntax.enabled c.args.syntax.now) c.args.sources.now c.args.root.now))
-    (map_kept (g.S.Syntax.parsed c.args.syntax.now) (g.S.Syntax.spends c.args.syntax.now) (g.S.Syntax.enabled c.args.syntax.now) c.args.sources.now c.args.root.now c.in-Some.file.now.text there) c.compile_file.result c.compile_file.ensures.kept
+pub plan_modules-requires-clause-order : goal.plan_modules-requires-clause-order
+plan_modules-requires-clause-order g c = c.in_ok-loaded.ensures.loaded.order
 
-pub returns-clause-named : goal.returns-clause-named
-returns-clause-named g c =
-    let there : text_at c.args.sources.now c.args.root.now ≡ Some c.in-Some.file.now.text = ap (option_map (λ (f : SourceFile). f.text)) (sym c.in-Some.ensures.found) in
-    lifted (NamesInFile (g.S.Syntax.parsed c.args.syntax.now) (g.S.Syntax.spends c.args.syntax.now) (g.S.Syntax.enabled c.args.syntax.now) c.args.root.now c.in-Some.file.now.text)
-    (Names (g.S.Syntax.parsed c.args.syntax.now) (g.S.Syntax.spends c.args.syntax.now) (g.S.Syntax.enabled c.args.syntax.now) c.args.sources.now c.args.root.now)
-    (λ k n. in_file c.in-Some.file.now.text there n) c.compile_file.result c.compile_file.ensures.named
+pub returns-in_err-loaded-clause-named : goal.returns-in_err-loaded-clause-named
+returns-in_err-loaded-clause-named g c =
+    let w : World = record { files = c.args.sources.now; home = c.args.config.now.home; parsed = g.S.Syntax.parsed c.args.syntax.now; spends = g.S.Syntax.spends c.args.syntax.now; enabled = g.S.Syntax.enabled c.args.syntax.now; root = c.args.root.now } in
+    lifted (NamesInFiles w) (Names w) (λ _ n. in_files n) c.from_residual-in_err-loaded.result (search rules)
+
+pub returns-clause-closed : goal.returns-clause-closed
+returns-clause-closed g c = is_closed c.in_ok-justfile.ensures.closed
+
+pub returns-clause-root_ast : goal.returns-clause-root_ast
+returns-clause-root_ast g c =
+    let w : World = record { files = c.args.sources.now; home = c.args.config.now.home; parsed = g.S.Syntax.parsed c.args.syntax.now; spends = g.S.Syntax.spends c.args.syntax.now; enabled = g.S.Syntax.enabled c.args.syntax.now; root = c.args.root.now } in
+    subst (λ r. IsSome (get same_key c.in_ok-loaded.loaded.asts (root_key r))) (sym c.in_ok-path.ensures) (root_there w c.in_ok-loaded.loaded c.in_ok-loaded.ensures.loaded)
+
+pub returns-clause-compiled : goal.returns-clause-compiled
+returns-clause-compiled g c =
+    let w : World = record { files = c.args.sources.now; home = c.args.config.now.home; parsed = g.S.Syntax.parsed c.args.syntax.now; spends = g.S.Syntax.spends c.args.syntax.now; enabled = g.S.Syntax.enabled c.args.syntax.now; root = c.args.root.now } in
+    record {
+      loaded = c.in_ok-loaded.loaded;
+      is_loaded = c.in_ok-loaded.ensures.loaded;
+      asts = refl;
+      compiled = c.in_ok-justfile.ensures.compiled w refl;
+    }

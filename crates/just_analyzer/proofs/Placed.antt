@@ -1,0 +1,273 @@
+-- What stands at the places of a scan is what the texts say.
+use Rattle.std.proofs.Common.{◌≡◌, ℕ, zero, suc, ◌<◌, List, [], ◌∷◌, ◌++◌, ◌+◌, map, take, length, get_or, slice_index, Option, None, Some, Bool, true, false, inl, inr, refl, sym, ap, subst, ◌∙◌, arith}
+use Rattle.std.specs.Prelude.{filter, flat_map, if◌then◌else◌}
+use Rattle.std.specs.List.{slice_get}
+use Rattle.std.specs.Option.{option_map, unwrap_or}
+use Rattle.std.specs.declared.vec.Vec.{Vec}
+use Rattle.std.specs.declared.alloc.Global.{Global}
+use Rattle.std.proofs.lemmas.List.{append_assoc, append-nil, map-append, take_more}
+use Rattle.std.proofs.lemmas.Option.{get_or_from_slice_get}
+use Rattle.just_graph.specs.Unfolding.{steps}
+use Rattle.just_graph.specs.declared.unfolding.Step.{Step}
+use Rattle.just_graph.proofs.Members.{In}
+use Rattle.just_parts.specs.Bare.{bare_item}
+use Rattle.just_parts.specs.Clean.{folder_of}
+use Rattle.just_parts.specs.Name.{text_of_name}
+use Rattle.just_parts.specs.declared.layers.ast.Item.{Item}
+use Rattle.just_parts.specs.declared.layers.ast.Item.TheVariants as item
+use Rattle.just_parts.specs.declared.layers.ast.UnresolvedDependency.{UnresolvedDependency}
+use Rattle.just_parts.specs.declared.recipe.Recipe.{Recipe}
+use Rattle.just_loader.specs.Keys.{Submodule, declared, end_of, imported, imports_of, items_at, modules_of}
+use Rattle.just_loader.specs.Links.{Link, Nowhere, To, Fault}
+use Rattle.just_loader.specs.Loaded.{file_at}
+use Rattle.just_loader.specs.Numbering.{texts_of}
+use Rattle.just_loader.specs.Reached.{World, link}
+use Rattle.just_loader.specs.Scanned.{IsPlaceOf, ArePlacesOf, IsStepOf, AreSteps, IsScan, IsScanned, paths_in}
+use Rattle.just_loader.specs.declared.scanned.Scan.{Scan}
+use Rattle.just_loader.specs.declared.scanned.ScannedFile.{ScannedFile}
+use Rattle.just_loader.proofs.Numberings.{map_get, some_same}
+use Rattle.just_loader.proofs.WholeScans.{read_at}
+use Rattle.just_analyzer.specs.Contents.{contents}
+use Rattle.just_analyzer.specs.Outline.{outlines_of, recipes_of}
+use Rattle.just_analyzer.specs.Places.{imports_in, name_if, named_in, names_at, recipes_at, heading_named}
+use Rattle.just_analyzer.specs.Planned.{enters, imports_at, entries_at}
+use Rattle.just_analyzer.proofs.Files.{outlines_bare}
+
+abbrev Text : Type 0
+Text = List ℕ
+
+-- lists of lists
+pub filter_append : {A : Type 0} (p : A → Bool) (xs ys : List A) → filter p (xs ++ ys) ≡ filter p xs ++ filter p ys
+filter_append p [] ys = refl
+filter_append p (x ∷ xs) ys = one (p x) (filter_append p xs ys)
+  where
+    one : (b : Bool) → filter p (xs ++ ys) ≡ filter p xs ++ filter p ys → (if b then x ∷ filter p (xs ++ ys) else filter p (xs ++ ys)) ≡ (if b then x ∷ filter p xs else filter p xs) ++ filter p ys
+    one true e = ap (λ zs. x ∷ zs) e
+    one false e = e
+
+pub map_flat : {A B C : Type 0} (g : B → C) (f : A → List B) (xs : List A) → map g (flat_map f xs) ≡ flat_map (λ x. map g (f x)) xs
+map_flat g f [] = refl
+map_flat g f (x ∷ xs) = map-append g (f x) (flat_map f xs) ∙ ap (λ ys. map g (f x) ++ ys) (map_flat g f xs)
+
+pub flat_map_map : {A B C : Type 0} (f : B → List C) (g : A → B) (xs : List A) → flat_map f (map g xs) ≡ flat_map (λ x. f (g x)) xs
+flat_map_map f g [] = refl
+flat_map_map f g (x ∷ xs) = ap (λ ys. f (g x) ++ ys) (flat_map_map f g xs)
+
+pub map_map : {A B C : Type 0} (g : B → C) (f : A → B) (xs : List A) → map g (map f xs) ≡ map (λ x. g (f x)) xs
+map_map g f [] = refl
+map_map g f (x ∷ xs) = ap (λ ys. g (f x) ∷ ys) (map_map g f xs)
+
+pub flat_same : {A B : Type 0} (f g : A → List B) (xs : List A) → ((x : A) → In x xs → f x ≡ g x) → flat_map f xs ≡ flat_map g xs
+flat_same f g [] h = refl
+flat_same f g (x ∷ xs) h = λ i. h x (inl refl) i ++ flat_same f g xs (λ y k. h y (inr k)) i
+
+pub flat_append : {A B : Type 0} (f : A → List B) (xs ys : List A) → flat_map f (xs ++ ys) ≡ flat_map f xs ++ flat_map f ys
+flat_append f [] ys = refl
+flat_append f (x ∷ xs) ys = ap (λ zs. f x ++ zs) (flat_append f xs ys) ∙ sym (append_assoc (f x) (flat_map f xs) (flat_map f ys))
+
+-- the text of the name that a step enters, and the path of its target
+abbrev pub entry_at : List Text → List Text → Step → Text × Text
+entry_at names paths s = (unwrap_or (option_map (λ n. get_or names n []) s.enters) [], get_or paths s.target [])
+
+abbrev pub entry_of : Submodule → Text × Text
+entry_of m = (text_of_name m.name, m.path)
+
+-- where links lead
+no_end : (paths : List Text) (l : Link) → IsPlaceOf paths l None → end_of l ≡ []
+no_end paths Nowhere h = refl
+no_end paths (To p) h = absurd h
+no_end paths (Fault c) h = refl
+
+one_end : (paths : List Text) (l : Link) (place : ℕ) → IsPlaceOf paths l (Some place) → end_of l ≡ get_or paths place [] ∷ []
+one_end paths Nowhere place h = absurd h
+one_end paths (To p) place h = ap (λ x. x ∷ []) (sym (get_or_from_slice_get paths place p [] h))
+one_end paths (Fault c) place h = absurd h
+
+module _ (w : World) (folder : Text) (names paths : List Text) where
+  abbrev path : ℕ → Text
+  path place = get_or paths place []
+
+  import_one : (i : Item) (t : Option ℕ) (row : List Step) → IsPlaceOf paths (link w folder i) t → IsStepOf names i t row → map path (imports_in row) ≡ imported w folder i
+  import_one (item.Import literal absolute optional) None row p s = ap (λ r. map path (imports_in r)) s ∙ sym (no_end paths (link w folder (item.Import literal absolute optional)) p)
+  import_one (item.Import literal absolute optional) (Some place) row p s = ap (λ r. map path (imports_in r)) s ∙ sym (one_end paths (link w folder (item.Import literal absolute optional)) place p)
+  import_one (item.Module name literal absolute optional) None row p s = ap (λ r. map path (imports_in r)) s
+  import_one (item.Module name literal absolute optional) (Some place) row p s = ap (λ r. map path (imports_in r)) s.2
+  import_one (item.Recipe r) None row p s = ap (λ r. map path (imports_in r)) s
+  import_one (item.Recipe r) (Some place) row p s = ap (λ r. map path (imports_in r)) s
+
+  entry_one : (i : Item) (t : Option ℕ) (row : List Step) → IsPlaceOf paths (link w folder i) t → IsStepOf names i t row → map (entry_at names paths) (filter enters row) ≡ map entry_of (declared w folder i)
+  entry_one (item.Import literal absolute optional) None row p s = ap (λ r. map (entry_at names paths) (filter enters r)) s
+  entry_one (item.Import literal absolute optional) (Some place) row p s = ap (λ r. map (entry_at names paths) (filter enters r)) s
+  entry_one (item.Module name literal absolute optional) None row p s =
+      let is = no_end paths (link w folder (item.Module name literal absolute optional)) p in
+      ap (λ r. map (entry_at names paths) (filter enters r)) s ∙ ap (λ ends. map entry_of (map (λ path. record { name = name; path = path }) ends)) (sym is)
+  entry_one (item.Module name literal absolute optional) (Some place) row p s =
+      let is = one_end paths (link w folder (item.Module name literal absolute optional)) place p in
+      ap (λ r. map (entry_at names paths) (filter enters r)) s.2 ∙ ap (λ t. (t, path place) ∷ []) (get_or_from_slice_get names s.0 (text_of_name name) [] s.1)
+      ∙ ap (λ ends. map entry_of (map (λ path. record { name = name; path = path }) ends)) (sym is)
+  entry_one (item.Recipe r) None row p s = ap (λ r. map (entry_at names paths) (filter enters r)) s
+  entry_one (item.Recipe r) (Some place) row p s = ap (λ r. map (entry_at names paths) (filter enters r)) s
+
+  name_one : (i : Item) (t : Option ℕ) → IsPlaceOf paths (link w folder (bare_item i)) t → name_if i t ≡ map (λ (m : Submodule). m.name) (declared w folder (bare_item i))
+  name_one (item.Import literal absolute optional) None p = refl
+  name_one (item.Import literal absolute optional) (Some place) p = refl
+  name_one (item.Module name literal absolute optional) None p = ap (λ ends. map (λ (m : Submodule). m.name) (map (λ path. record { name = name; path = path }) ends)) (sym (no_end paths (link w folder (item.Module name literal None optional)) p))
+  name_one (item.Module name literal absolute optional) (Some place) p = ap (λ ends. map (λ (m : Submodule). m.name) (map (λ path. record { name = name; path = path }) ends)) (sym (one_end paths (link w folder (item.Module name literal None optional)) place p))
+  name_one (item.Recipe r) None p = refl
+  name_one (item.Recipe r) (Some place) p = refl
+
+  imports_same : (is : List Item) (ts : List (Option ℕ)) (row : List Step) → ArePlacesOf paths (map (link w folder) is) ts → AreSteps names is ts row → map path (imports_in row) ≡ flat_map (imported w folder) is
+  imports_same [] [] row ps ss = ap (λ r. map path (imports_in r)) ss
+  imports_same [] (t ∷ ts) row ps ss = absurd ps
+  imports_same (i ∷ is) [] row ps ss = absurd ps
+  imports_same (i ∷ is) (t ∷ ts) row ps ss =
+      ap (λ r. map path (imports_in r)) ss.4
+      ∙ ap (λ r. map path (map (λ (s : Step). s.target) r)) (filter_append _ ss.0 ss.1)
+      ∙ ap (map path) (map-append (λ (s : Step). s.target) _ _)
+      ∙ map-append path (imports_in ss.0) (imports_in ss.1)
+      ∙ (λ j. import_one i t ss.0 ps.0 ss.2 j ++ imports_same is ts ss.1 ps.1 ss.3 j)
+
+  entries_same : (is : List Item) (ts : List (Option ℕ)) (row : List Step) → ArePlacesOf paths (map (link w folder) is) ts → AreSteps names is ts row → map (entry_at names paths) (filter enters row) ≡ map entry_of (flat_map (declared w folder) is)
+  entries_same [] [] row ps ss = ap (λ r. map (entry_at names paths) (filter enters r)) ss
+  entries_same [] (t ∷ ts) row ps ss = absurd ps
+  entries_same (i ∷ is) [] row ps ss = absurd ps
+  entries_same (i ∷ is) (t ∷ ts) row ps ss =
+      ap (λ r. map (entry_at names paths) (filter enters r)) ss.4
+      ∙ ap (map (entry_at names paths)) (filter_append enters ss.0 ss.1)
+      ∙ map-append (entry_at names paths) (filter enters ss.0) (filter enters ss.1)
+      ∙ (λ j. entry_one i t ss.0 ps.0 ss.2 j ++ entries_same is ts ss.1 ps.1 ss.3 j)
+      ∙ sym (map-append entry_of (declared w folder i) (flat_map (declared w folder) is))
+
+  names_same : (is : List Item) (ts : List (Option ℕ)) → ArePlacesOf paths (map (link w folder) (map bare_item is)) ts → named_in is ts ≡ map (λ (m : Submodule). m.name) (flat_map (declared w folder) (map bare_item is))
+  names_same [] [] ps = refl
+  names_same [] (t ∷ ts) ps = absurd ps
+  names_same (i ∷ is) [] ps = absurd ps
+  names_same (i ∷ is) (t ∷ ts) ps =
+      (λ j. name_one i t ps.0 j ++ names_same is ts ps.1 j)
+      ∙ sym (map-append (λ (m : Submodule). m.name) (declared w folder (bare_item i)) (flat_map (declared w folder) (map bare_item is)))
+
+steps_at : (rows : List (Vec Step Global)) (a : ℕ) (row : Vec Step Global) → slice_get rows a ≡ Some row → steps rows a ≡ row.items
+steps_at [] a row e = absurd (let wrong : None ≡ Some row = e in cc)
+steps_at (r ∷ rows) zero row e = ap (λ (x : Vec Step Global). x.items) (some_same e)
+steps_at (r ∷ rows) (suc a) row e = steps_at rows a row e
+
+pub steps_read : (rows : List (Vec Step Global)) (a : ℕ) (row : Vec Step Global) → a < length rows → row ≡ get_or rows a row → steps rows a ≡ row.items
+steps_read [] a row h e = absurd (omega arith)
+steps_read (r ∷ rows) zero row h e = ap (λ (x : Vec Step Global). x.items) (sym e)
+steps_read (r ∷ rows) (suc a) row h e = steps_read rows a row (omega arith) e
+
+-- one more of a list
+pub flat_more : {B : Type 0} (f : ℕ → List B) (xs : List ℕ) (n : ℕ) → n < length xs → flat_map f (take (n + 1) xs) ≡ flat_map f (take n xs) ++ f (slice_index xs n)
+flat_more f xs n h = ap (flat_map f) (take_more xs n 0 h) ∙ flat_append f (take n xs) (slice_index xs n ∷ []) ∙ ap (λ ys. flat_map f (take n xs) ++ ys) (append-nil (f (slice_index xs n)))
+
+recipes_append : (enabled : Item → Bool) (xs ys : List Item) → recipes_of enabled (xs ++ ys) ≡ recipes_of enabled xs ++ recipes_of enabled ys
+recipes_append enabled [] ys = refl
+recipes_append enabled (item.Import relative absolute optional ∷ xs) ys = recipes_append enabled xs ys
+recipes_append enabled (item.Module name relative absolute optional ∷ xs) ys = recipes_append enabled xs ys
+recipes_append enabled (item.Recipe r ∷ xs) ys = one (enabled (bare_item (item.Recipe r))) (recipes_append enabled xs ys)
+  where
+    one : (b : Bool) → recipes_of enabled (xs ++ ys) ≡ recipes_of enabled xs ++ recipes_of enabled ys
+        → (if b then r ∷ recipes_of enabled (xs ++ ys) else recipes_of enabled (xs ++ ys)) ≡ (if b then r ∷ recipes_of enabled xs else recipes_of enabled xs) ++ recipes_of enabled ys
+    one true e = ap (λ zs. r ∷ zs) e
+    one false e = e
+
+outlines_flat : (enabled : Item → Bool) (f : ℕ → List (Recipe UnresolvedDependency)) (g : ℕ → List Item) (xs : List ℕ) → ((x : ℕ) → In x xs → outlines_of (f x) ≡ outlines_of (recipes_of enabled (g x)))
+    → outlines_of (flat_map f xs) ≡ outlines_of (recipes_of enabled (flat_map g xs))
+outlines_flat enabled f g [] h = refl
+outlines_flat enabled f g (x ∷ xs) h =
+    map-append _ (f x) (flat_map f xs)
+    ∙ (λ i. h x (inl refl) i ++ outlines_flat enabled f g xs (λ y k. h y (inr k)) i)
+    ∙ sym (ap outlines_of (recipes_append enabled (g x) (flat_map g xs)) ∙ map-append _ (recipes_of enabled (g x)) (recipes_of enabled (flat_map g xs)))
+
+module _ (w : World) (scan : Scan) (is : IsScan w scan) where
+  abbrev paths : List Text
+  paths = paths_in scan.files.items
+
+  abbrev names : List Text
+  names = texts_of scan.names.items
+
+  -- the file at a place
+  pub record At (a : ℕ) : Type 0 where
+    pub file : ScannedFile
+    pub row : Vec Step Global
+    pub file_is : slice_get scan.files.items a ≡ Some file
+    pub row_is : slice_get scan.rows.items a ≡ Some row
+    pub path_is : slice_get paths a ≡ Some (file_at scan a)
+    pub path_at : file.path ≡ file_at scan a
+    pub scanned : IsScanned w paths names file row.items
+
+  pub at : (a : ℕ) → a < length scan.files.items → At a
+  at a h =
+      let file = read_at scan.files.items a h in
+      let row = read_at scan.rows.items a (omega (arith, is.count)) in
+      let path = map_get (λ (f : ScannedFile). f.path) scan.files.items a file.0 file.1 in
+      let same : file_at scan a ≡ file.0.path = get_or_from_slice_get paths a file.0.path [] path in
+      record {
+        file = file.0;
+        row = row.0;
+        file_is = file.1;
+        row_is = row.1;
+        path_is = path ∙ ap Some (sym same);
+        path_at = sym same;
+        scanned = is.scanned a file.0 row.0 file.1 row.1;
+      }
+
+  said : (a : ℕ) (x : At a) → items_at w (file_at scan a) ≡ x.scanned.items
+  said a x = ap (λ p. items_at w p) (sym x.path_at) ∙ ap (λ o. unwrap_or o []) x.scanned.parsed
+
+  -- what a file imports
+  pub imports_here : (a : ℕ) → a < length scan.files.items → map (file_at scan) (imports_at scan a) ≡ imports_of w (file_at scan a)
+  imports_here a h =
+      let x = at a h in
+      ap (λ r. map (file_at scan) (imports_in r)) (steps_at scan.rows.items a x.row x.row_is)
+      ∙ imports_same w (folder_of x.file.path) names paths x.scanned.items x.file.targets.items x.row.items x.scanned.targets x.scanned.steps
+      ∙ (λ i. flat_map (imported w (folder_of (x.path_at i))) (sym (said a x) i))
+
+  -- the modules that a file declares, by the steps that enter them
+  pub entries_here : (a : ℕ) → a < length scan.files.items → map (entry_at names paths) (entries_at scan a) ≡ map entry_of (modules_of w (file_at scan a))
+  entries_here a h =
+      let x = at a h in
+      ap (λ r. map (entry_at names paths) (filter enters r)) (steps_at scan.rows.items a x.row x.row_is)
+      ∙ entries_same w (folder_of x.file.path) names paths x.scanned.items x.file.targets.items x.row.items x.scanned.targets x.scanned.steps
+      ∙ ap (map entry_of) (λ i. flat_map (declared w (folder_of (x.path_at i))) (sym (said a x) i))
+
+  pub targets_here : (a : ℕ) → a < length scan.files.items → map (λ (s : Step). file_at scan s.target) (entries_at scan a) ≡ map (λ (m : Submodule). m.path) (modules_of w (file_at scan a))
+  targets_here a h =
+      sym (map_map (λ (p : Text × Text). p.1) (entry_at names paths) (entries_at scan a))
+      ∙ ap (map (λ (p : Text × Text). p.1)) (entries_here a h)
+      ∙ map_map (λ (p : Text × Text). p.1) entry_of (modules_of w (file_at scan a))
+
+  -- the names of these modules
+  pub names_here : (a : ℕ) → a < length scan.files.items → names_at scan a ≡ map (λ (m : Submodule). m.name) (modules_of w (file_at scan a))
+  names_here a h =
+      let x = at a h in
+      let bare : items_at w (file_at scan a) ≡ map bare_item x.file.items = said a x ∙ x.scanned.said in
+      let places = subst (λ is. ArePlacesOf paths (map (link w (folder_of x.file.path)) is) x.file.targets.items) x.scanned.said x.scanned.targets in
+      get_or_from_slice_get (map (λ (f : ScannedFile). named_in f.items f.targets.items) scan.files.items) a (named_in x.file.items x.file.targets.items) [] (map_get (λ (f : ScannedFile). named_in f.items f.targets.items) scan.files.items a x.file x.file_is)
+      ∙ names_same w (folder_of x.file.path) names paths x.file.items x.file.targets.items places
+      ∙ ap (map (λ (m : Submodule). m.name)) (λ i. flat_map (declared w (folder_of (x.path_at i))) (sym bare i))
+
+  -- its recipes
+  pub recipes_here : (enabled : Item → Bool) (a : ℕ) → a < length scan.files.items → outlines_of (recipes_at enabled scan a) ≡ outlines_of (recipes_of enabled (items_at w (file_at scan a)))
+  recipes_here enabled a h =
+      let x = at a h in
+      let bare : items_at w (file_at scan a) ≡ map bare_item x.file.items = said a x ∙ x.scanned.said in
+      ap outlines_of (get_or_from_slice_get (map (λ (f : ScannedFile). recipes_of enabled f.items) scan.files.items) a (recipes_of enabled x.file.items) [] (map_get (λ (f : ScannedFile). recipes_of enabled f.items) scan.files.items a x.file x.file_is))
+      ∙ sym (outlines_bare enabled x.file.items)
+      ∙ ap (λ is. outlines_of (recipes_of enabled is)) (sym bare)
+
+  module _ (files : List ℕ) (inside : (a : ℕ) → In a files → a < length scan.files.items) where
+    pub names_joined : flat_map (names_at scan) files ≡ map (λ (m : Submodule). m.name) (flat_map (modules_of w) (map (file_at scan) files))
+    names_joined =
+        flat_same (names_at scan) (λ a. map (λ (m : Submodule). m.name) (modules_of w (file_at scan a))) files (λ a h. names_here a (inside a h))
+        ∙ sym (map_flat (λ (m : Submodule). m.name) (λ a. modules_of w (file_at scan a)) files)
+        ∙ ap (map (λ (m : Submodule). m.name)) (sym (flat_map_map (modules_of w) (file_at scan) files))
+
+    pub headings_joined : (contents w (map (file_at scan) files)).modules ≡ map heading_named (flat_map (names_at scan) files)
+    headings_joined = sym (ap (map heading_named) names_joined ∙ map_map heading_named (λ (m : Submodule). m.name) (flat_map (modules_of w) (map (file_at scan) files)))
+
+    pub recipes_joined : (enabled : Item → Bool) → w.enabled ≡ enabled → outlines_of (flat_map (recipes_at enabled scan) files) ≡ (contents w (map (file_at scan) files)).recipes
+    recipes_joined enabled e =
+        outlines_flat enabled (recipes_at enabled scan) (λ a. items_at w (file_at scan a)) files (λ a h. recipes_here enabled a (inside a h))
+        ∙ ap (λ items. outlines_of (recipes_of enabled items)) (sym (flat_map_map (items_at w) (file_at scan) files))
+        ∙ ap (λ enabled. outlines_of (recipes_of enabled (flat_map (items_at w) (map (file_at scan) files)))) (sym e)

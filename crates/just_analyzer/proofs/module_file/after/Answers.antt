@@ -1,5 +1,0 @@
-use Rattle.just_analyzer.proofs.ModuleFiles.{after_strip}
-use Rattle.just_analyzer.proofs.module_file.after.Goals as goal
-
-pub returns : goal.returns
-returns c = after_strip c.args.prefix.now c.args.text.now c.strip_prefix.result c.strip_prefix.ensures.cases

@@ -1,7 +1,0 @@
-use Rattle.std.proofs.Common.{◌≡◌, take, map}
-use Rattle.just_parts.specs.Modulepath.{texts}
-use Rattle.just_analyzer.specs.ModuleFile.{relative}
-use Rattle.just_analyzer.proofs.module_file.relative_paths.Given as goal
-
-abbrev pub invariant-loop-path : goal.invariant-loop-path
-invariant-loop-path l = l.shown ≡ map (relative l.folder) (texts (take l.path-index l.paths))

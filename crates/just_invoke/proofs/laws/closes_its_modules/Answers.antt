@@ -1,0 +1,8 @@
+use Rattle.just_invoke.specs.Closed.{is_closed, inner_closed}
+use Rattle.just_invoke.proofs.laws.closes_its_modules.Goals as goal
+
+pub returns-clause-itself : goal.returns-clause-itself
+returns-clause-itself c recipes root = is_closed
+
+pub returns-clause-modules : goal.returns-clause-modules
+returns-clause-modules c recipes root inner closed = inner_closed closed inner

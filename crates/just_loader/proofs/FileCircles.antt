@@ -1,0 +1,223 @@
+-- Steps of a scan and edges of files.
+use Rattle.std.proofs.Common.{◌≡◌, ℕ, zero, suc, ◌+◌, ◌-◌, ◌<◌, Bool, true, false, List, [], ◌∷◌, ◌++◌, map, take, length, get_or, slice_index, Option, None, Some, refl, sym, ap, subst, ◌∙◌, arith, inl, inr}
+use Rattle.std.specs.Prelude.{if◌then◌else◌}
+use Rattle.std.specs.List.{Contains, slice_get}
+use Rattle.std.specs.declared.vec.Vec.{Vec}
+use Rattle.std.specs.declared.alloc.Global.{Global}
+use Rattle.std.proofs.lemmas.Bool.{cases_lt}
+use Rattle.std.proofs.lemmas.List.{length-map, get_or_default}
+use Rattle.std.proofs.lemmas.Option.{slice_get_within}
+use Rattle.just_graph.specs.Building.{targets_past}
+use Rattle.just_graph.specs.Graph.{HasEdge}
+use Rattle.just_graph.specs.Steps.{Leads, by_step, by_steps, IsCircle, circle_by}
+use Rattle.just_graph.specs.Unfolding.{HasStep, AreEdges, IsOrdered, steps}
+use Rattle.just_graph.specs.declared.unfolding.Step.{Step}
+use Rattle.just_graph.proofs.Members.{In, contained, is_in, in_left, in_right, in_last, in_map, from_map}
+use Rattle.just_graph.proofs.Trails.{of_reverse}
+use Rattle.just_parts.specs.Clean.{folder_of}
+use Rattle.just_parts.specs.declared.layers.ast.Item.{Item}
+use Rattle.just_parts.specs.declared.layers.ast.Item.TheVariants as item
+use Rattle.just_loader.specs.FileCircles.{HasRows, LeadsOn, by_edge, by_edges, ChainTo, at_root, and_next, NamesCircle, leads_back}
+use Rattle.just_loader.specs.Links.{Link, Nowhere, To, Fault}
+use Rattle.just_loader.specs.Numbering.{texts_of}
+use Rattle.just_loader.specs.Reached.{World, Reached, from_root, from_file, items_of, link, LeadsTo}
+use Rattle.just_loader.specs.Causes.{LeadsBack}
+use Rattle.just_loader.specs.Scanned.{IsPlaceOf, ArePlacesOf, IsStepTo, AreSteps, IsScan, paths_in}
+use Rattle.just_loader.specs.declared.scanned.Scan.{Scan}
+use Rattle.just_loader.specs.declared.scanned.ScannedFile.{ScannedFile}
+use Rattle.just_loader.proofs.Lists.{in_take}
+use Rattle.just_loader.proofs.Numberings.{got, placed, get_map, map_get, some_same, none_some}
+use Rattle.just_loader.proofs.WholeScans.{steps_target, row_at, read_at}
+
+pub has_rows : (w : World) (scan : Scan) → IsScan w scan → HasRows scan
+has_rows w scan is = record {
+  count = is.count;
+  some = omega (arith, is.count, length-map scan.files.items (λ (f : ScannedFile). f.path), slice_get_within (paths_in scan.files.items) 0 w.root is.root);
+  within = is.within;
+}
+
+-- what has a place is what a link leads to
+link_of_place : (paths : List (List ℕ)) (ls : List Link) (ts : List (Option ℕ)) (place : ℕ) → ArePlacesOf paths ls ts → In (Some place) ts → (path : List ℕ) × In (To path) ls × (slice_get paths place ≡ Some path)
+link_of_place paths ls [] place ps h = absurd h
+link_of_place paths [] (t ∷ ts) place ps h = absurd ps
+link_of_place paths (Nowhere ∷ ls) (t ∷ ts) place ps (inl e) = absurd (subst (IsPlaceOf paths Nowhere) (sym e) ps.0)
+link_of_place paths (To p ∷ ls) (t ∷ ts) place ps (inl e) = (p, inl refl, subst (IsPlaceOf paths (To p)) (sym e) ps.0)
+link_of_place paths (Fault c ∷ ls) (t ∷ ts) place ps (inl e) = absurd ps.0
+link_of_place paths (l ∷ ls) (t ∷ ts) place ps (inr h) = let r = link_of_place paths ls ts place ps.1 h in (r.0, inr r.1, r.2)
+
+-- what a link leads to has a place
+place_of_link : (paths : List (List ℕ)) (ls : List Link) (ts : List (Option ℕ)) (k : ℕ) (path : List ℕ) → ArePlacesOf paths ls ts → slice_get ls k ≡ Some (To path) → (place : ℕ) × (slice_get ts k ≡ Some (Some place)) × (slice_get paths place ≡ Some path)
+place_of_link paths [] ts k path ps e = absurd (none_some e)
+place_of_link paths (l ∷ ls) [] k path ps e = absurd ps
+place_of_link paths (Nowhere ∷ ls) (t ∷ ts) zero path ps e = cc
+place_of_link paths (Fault c ∷ ls) (t ∷ ts) zero path ps e = cc
+place_of_link paths (To p ∷ ls) (None ∷ ts) zero path ps e = absurd ps.0
+place_of_link paths (To p ∷ ls) (Some i ∷ ts) zero path ps e = (i, refl, ps.0 ∙ (let same : p ≡ path = cc in ap Some same))
+place_of_link paths (l ∷ ls) (t ∷ ts) (suc k) path ps e = place_of_link paths ls ts k path ps.1 e
+
+no_link : (b : Bool) (path : List ℕ) → (if b then Nowhere else Nowhere) ≡ To path → ⊥
+no_link true path e = cc
+no_link false path e = cc
+
+-- an item that leads to a file has a step
+module _ (w : World) (folder path : List ℕ) (names : List (List ℕ)) where
+  one_step : (place : ℕ) (i : Item) (row : List Step) → link w folder i ≡ To path → IsStepTo names place i row → (s : Step) × In s row × (s.target ≡ place)
+  one_step place (item.Import literal absolute optional) row l is = (record { target = place; offset = literal.token.offset; enters = None }, subst (In _) (sym is) (inl refl), refl)
+  one_step place (item.Module name literal absolute optional) row l is = (record { target = place; offset = 0; enters = Some is.0 }, subst (In _) (sym is.2) (inl refl), refl)
+  one_step place (item.Recipe r) row l is = absurd (no_link _ path l)
+
+  step_of_place : (is : List Item) (ts : List (Option ℕ)) (row : List Step) (k place : ℕ) (i : Item) → link w folder i ≡ To path → AreSteps names is ts row → slice_get is k ≡ Some i → slice_get ts k ≡ Some (Some place) → (s : Step) × In s row × (s.target ≡ place)
+  step_of_place [] ts row k place i l are e t = absurd (none_some e)
+  step_of_place (x ∷ xs) [] row k place i l are e t = absurd are
+  step_of_place (x ∷ xs) (None ∷ ts) row zero place i l are e t = absurd (none_some (some_same t))
+  step_of_place (x ∷ xs) (Some p ∷ ts) row zero place i l are e t =
+      let r = one_step p x are.0 (ap (link w folder) (some_same e) ∙ l) are.2 in
+      (r.0, subst (In r.0) (sym are.4) (in_left r.0 are.0 are.1 r.1), r.2 ∙ some_same (some_same t))
+  step_of_place (x ∷ xs) (t' ∷ ts) row (suc k) place i l are e t =
+      let r = step_of_place xs ts are.1 k place i l are.3 e t in
+      (r.0, subst (In r.0) (sym are.4) (in_right r.0 are.0 are.1 r.1), r.2)
+
+pub in_steps : (rows : List (Vec Step Global)) (a : ℕ) (row : Vec Step Global) (s : Step) → slice_get rows a ≡ Some row → In s row.items → In s (steps rows a)
+in_steps [] a row s e h = absurd (none_some e)
+in_steps (r ∷ rows) zero row s e h = subst (λ (x : Vec Step Global). In s x.items) (sym (some_same e)) h
+in_steps (r ∷ rows) (suc a) row s e h = in_steps rows a row s e h
+
+-- a file that is reached ends a chain
+chain_to : (w : World) (f : List ℕ) → Reached w f → (files : List (List ℕ)) × ChainTo w files f × Contains files f
+chain_to w _ from_root = (w.root ∷ [], at_root, contained w.root (w.root ∷ []) (inl refl))
+chain_to w _ (from_file {f} {g} r l) =
+    let c = chain_to w f r in
+    (c.0 ++ g ∷ [], and_next c.1 l, contained g (c.0 ++ g ∷ []) (in_last g c.0))
+
+-- a step from a place of the order leads to one
+step_in_order : (rows : List (Vec Step Global)) (ordered : IsOrdered rows 0) (a b : ℕ) → Contains ordered.1 a → HasStep rows a b → Contains ordered.1 b
+step_in_order rows ordered a b c h =
+    let at : slice_index ordered.1 c.0 ≡ a = get_or_default ordered.1 c.0 0 a c.1 ∙ c.2 in
+    let before : Contains (take c.0 ordered.1) b = ordered.3.steps_first c.0 b c.1 (subst (λ x. HasStep rows x b) (sym at) h) in
+    let j = in_take ordered.1 c.0 b (omega (arith, c.1)) before in
+    let inside : j.0 < length ordered.1 = omega (arith, j.1, c.1) in
+    (j.0, inside, get_or_default ordered.1 j.0 b 0 inside ∙ j.2)
+
+root_in_order : (rows : List (Vec Step Global)) (ordered : IsOrdered rows 0) → Contains ordered.1 0
+root_in_order rows ordered =
+    let c = ordered.2 in
+    let at : slice_index ordered.0 c.0 ≡ 0 = c.2 in
+    subst (Contains ordered.1) at (ordered.3.roots_listed c.0 0 c.1)
+
+-- the edges of a list that is lent are those of the list
+pub edges_lent : {rows lent : List (Vec Step Global)} {edges shown : List (Vec ℕ Global)} → lent ≡ rows → shown ≡ edges → AreEdges lent edges → AreEdges rows shown
+edges_lent {rows} {lent} {edges} {shown} e f are = subst (λ r. AreEdges r shown) e (subst (AreEdges lent) (sym f) are)
+
+-- a circle of edges is one of steps
+pub circle_of_steps : (rows : List (Vec Step Global)) (edges : List (Vec ℕ Global)) (ns : List ℕ) → AreEdges rows edges → IsCircle (HasEdge edges) ns → IsCircle (HasStep rows) ns
+circle_of_steps rows edges ns are c = circle_by (λ a b h. elim (cases_lt a (length rows)) [
+  | inl l ↦ of_reverse b (map (λ (s : Step). s.target) (steps rows a)) (subst (λ row. Contains row b) (are.rows a l) h)
+  | inr l ↦ absurd (is_in b [] (subst (λ row. Contains row b) (targets_past edges a (omega (arith, are.count))) h))
+]) ns c
+
+pub circle_inside : (rows : List (Vec Step Global)) (ns : List ℕ) → ((a b : ℕ) → HasStep rows a b → b < length rows) → IsCircle (HasStep rows) ns → (k : ℕ) → k < length ns → slice_index ns k < length rows
+circle_inside rows ns within c zero h =
+    let e : slice_index ns 0 ≡ slice_index ns (length ns - 2 + 1) = c.closed ∙ ap (slice_index ns) (omega (arith, c.steps)) in
+    let l : slice_index ns (length ns - 2 + 1) < length rows = within _ _ (c.walk (length ns - 2) (omega (arith, c.steps))) in
+    omega arith
+circle_inside rows ns within c (suc k) h =
+    let l : slice_index ns (k + 1) < length rows = within _ _ (c.walk k (omega arith)) in
+    let e : slice_index ns (suc k) ≡ slice_index ns (k + 1) = ap (slice_index ns) (omega arith) in
+    omega arith
+
+-- a read of the circle is the place of a file
+pub read_inside : (scan : Scan) (ns : List ℕ) → HasRows scan → IsCircle (HasStep scan.rows.items) ns → (k x : ℕ) → k < length ns → x ≡ get_or ns k x → x < length scan.files.items
+read_inside scan ns has c k x h is =
+    let at : x ≡ slice_index ns k = is ∙ get_or_default ns k x 0 h in
+    let l : slice_index ns k < length scan.rows.items = circle_inside scan.rows.items ns has.within c k h in
+    omega (arith, has.count)
+
+module _ (w : World) (scan : Scan) (is : IsScan w scan) where
+  abbrev paths : List (List ℕ)
+  paths = paths_in scan.files.items
+
+  abbrev rows : List (Vec Step Global)
+  rows = scan.rows.items
+
+  -- a step leads from file to file
+  edge_of_step : (a b : ℕ) (p q : List ℕ) → slice_get paths a ≡ Some p → slice_get paths b ≡ Some q → HasStep rows a b → LeadsTo w p q
+  edge_of_step a b p q at to h =
+      let s = from_map (λ (s : Step). s.target) b (steps rows a) (is_in b (map (λ (s : Step). s.target) (steps rows a)) h) in
+      let row = row_at rows a s.0 s.1 in
+      let file = get_map (λ (f : ScannedFile). f.path) scan.files.items a p at in
+      let read = is.scanned a file.0 row.0 file.1 row.1 in
+      let target = steps_target (texts_of scan.names.items) read.items file.0.targets.items row.0.items s.0 read.steps row.2 in
+      let l = link_of_place paths (map (link w (folder_of file.0.path)) read.items) file.0.targets.items s.0.target read.targets target in
+      let i = from_map (link w (folder_of file.0.path)) (To l.0) read.items l.1 in
+      let same : l.0 ≡ q = some_same (sym l.2 ∙ ap (slice_get paths) (sym s.2) ∙ to) in
+      record {
+        item = i.0;
+        has = (read.items, ap (items_of w) (sym file.2) ∙ read.parsed, contained i.0 read.items i.1);
+        leads = ap (λ x. link w (folder_of x) i.0) (sym file.2) ∙ sym i.2 ∙ ap To same;
+      }
+
+  -- an edge of a file that is there is a step
+  step_of_edge : (a : ℕ) (p q : List ℕ) → slice_get paths a ≡ Some p → LeadsTo w p q → (b : ℕ) × (slice_get paths b ≡ Some q) × HasStep rows a b
+  step_of_edge a p q at l =
+      let file = get_map (λ (f : ScannedFile). f.path) scan.files.items a p at in
+      let row = read_at rows a (omega (arith, is.count, slice_get_within scan.files.items a file.0 file.1)) in
+      let read = is.scanned a file.0 row.0 file.1 row.1 in
+      let same : l.has.0 ≡ read.items = some_same (sym l.has.1 ∙ ap (items_of w) (sym file.2) ∙ read.parsed) in
+      let k = placed read.items l.item (subst (λ xs. Contains xs l.item) same l.has.2) in
+      let leads : link w (folder_of file.0.path) l.item ≡ To q = ap (λ x. link w (folder_of x) l.item) file.2 ∙ l.leads in
+      let to = place_of_link paths (map (link w (folder_of file.0.path)) read.items) file.0.targets.items k.0 q read.targets (map_get (link w (folder_of file.0.path)) read.items k.0 l.item k.1 ∙ ap Some leads) in
+      let s = step_of_place w (folder_of file.0.path) q (texts_of scan.names.items) read.items file.0.targets.items row.0.items k.0 to.0 l.item leads read.steps k.1 to.1 in
+      let target : In to.0 (map (λ (s : Step). s.target) (steps rows a)) = subst (λ x. In x (map (λ (s : Step). s.target) (steps rows a))) s.2 (in_map (λ (s : Step). s.target) s.0 (steps rows a) (in_steps rows a row.0 s.0 row.1 s.1)) in
+      (to.0, to.2, contained to.0 (map (λ (s : Step). s.target) (steps rows a)) target)
+
+  pub leads_by_steps : (a : ℕ) (p q : List ℕ) → slice_get paths a ≡ Some p → LeadsOn w p q → (b : ℕ) × (slice_get paths b ≡ Some q) × Leads (HasStep rows) a b
+  leads_by_steps a _ _ at (by_edge {f} {g} l) = let s = step_of_edge a f g at l in (s.0, s.1, by_step s.2)
+  leads_by_steps a _ _ at (by_edges {f} {g} {h} l m) =
+      let s = step_of_edge a f g at l in
+      let r = leads_by_steps s.0 g h s.1 m in
+      (r.0, r.1, by_steps s.2 r.2)
+
+  module _ (ordered : IsOrdered rows 0) where
+    -- a file that is reached is in the order
+    pub place_in_order : (p : List ℕ) → Reached w p → (a : ℕ) × (slice_get paths a ≡ Some p) × Contains ordered.1 a
+    place_in_order _ from_root = (0, is.root, root_in_order rows ordered)
+    place_in_order _ (from_file {f} {g} r l) =
+        let p = place_in_order f r in
+        let s = step_of_edge p.0 f g p.1 l in
+        (s.0, s.1, step_in_order rows ordered p.0 s.0 p.2 s.2)
+
+    pub none_leads_back : (f : List ℕ) → Reached w f → LeadsOn w f f → ⊥
+    none_leads_back f r l =
+        let p = place_in_order f r in
+        let s = leads_by_steps p.0 f f p.1 l in
+        ordered.3.no_circle p.0 p.2 (subst (Leads (HasStep rows) p.0) (is.once s.0 p.0 f s.1 p.1) s.2)
+
+  module _ (ns : List ℕ) (c : IsCircle (HasStep rows) ns) where
+    path_of : (k : ℕ) → k < length ns → (p : List ℕ) × (slice_get paths (slice_index ns k) ≡ Some p)
+    path_of k h = read_at paths (slice_index ns k) (omega (arith, circle_inside rows ns is.within c k h, is.count, length-map scan.files.items (λ (f : ScannedFile). f.path)))
+
+    -- a chain to a file of the circle that has the first one
+    chain_along : (k : ℕ) (first p : List ℕ) → k < length ns → slice_get paths (slice_index ns 0) ≡ Some first → slice_get paths (slice_index ns k) ≡ Some p → (files : List (List ℕ)) × ChainTo w files p × Contains files first × Reached w p
+    chain_along zero first p h at to =
+        let here : Reached w p = (is.reached p).0 (got paths (slice_index ns 0) p to) in
+        let r = chain_to w p here in
+        (r.0, r.1, subst (Contains r.0) (some_same (sym to ∙ at)) r.2, here)
+    chain_along (suc k) first p h at to =
+        let before = path_of k (omega arith) in
+        let r = chain_along k first before.0 (omega arith) at before.1 in
+        let step : HasStep rows (slice_index ns k) (slice_index ns (suc k)) = subst (λ n. HasStep rows (slice_index ns k) (slice_index ns n)) (omega arith) (c.walk k (omega arith)) in
+        let l : LeadsTo w before.0 p = edge_of_step (slice_index ns k) (slice_index ns (suc k)) before.0 p before.1 to step in
+        (r.0 ++ p ∷ [], and_next r.1 l, contained first (r.0 ++ p ∷ []) (in_left first r.0 (p ∷ []) (is_in first r.0 r.2)), from_file r.3 l)
+
+    -- the files at the last two places of the circle
+    pub names_circle : (n a b : ℕ) (current last : List ℕ) → n ≡ length ns → a ≡ get_or ns (n - 1 - 1) a → b ≡ get_or ns (n - 1) b → slice_get paths a ≡ Some current → slice_get paths b ≡ Some last → NamesCircle w (LeadsBack current last)
+    names_circle n a b current last len is_a is_b at to =
+        let before : n - 1 - 1 < length ns = omega (arith, c.steps) in
+        let end : n - 1 < length ns = omega (arith, c.steps) in
+        let a_is : a ≡ slice_index ns (n - 1 - 1) = is_a ∙ get_or_default ns (n - 1 - 1) a 0 before in
+        let b_is : b ≡ slice_index ns (n - 1) = is_b ∙ get_or_default ns (n - 1) b 0 end in
+        let first : slice_get paths (slice_index ns 0) ≡ Some last = ap (slice_get paths) (c.closed ∙ ap (λ m. slice_index ns (m - 1)) (sym len) ∙ sym b_is) ∙ to in
+        let r = chain_along (n - 1 - 1) last current before first (ap (slice_get paths) (sym a_is) ∙ at) in
+        let step : HasStep rows (slice_index ns (n - 1 - 1)) (slice_index ns (n - 1)) = subst (λ m. HasStep rows (slice_index ns (n - 1 - 1)) (slice_index ns m)) (omega (arith, c.steps)) (c.walk (n - 1 - 1) (omega (arith, c.steps))) in
+        let edge : HasStep rows a b = subst (λ x. HasStep rows x b) (sym a_is) (subst (HasStep rows (slice_index ns (n - 1 - 1))) (sym b_is) step) in
+        leads_back r.0 r.3 (edge_of_step a b current last at to edge) r.1 r.2

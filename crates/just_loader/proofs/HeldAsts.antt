@@ -1,0 +1,189 @@
+-- Tables of what the texts of nodes say.
+use Rattle.std.proofs.Common.{◌≡◌, ℕ, zero, suc, ◌+◌, ◌<◌, ◌≤◌, Bool, true, false, cond, nat_eq, List, [], ◌∷◌, ◌++◌, map, length, get_or, Option, None, Some, ◌⊎◌, refl, sym, ap, subst, ◌∙◌, arith, inl, inr}
+use Rattle.std.specs.Bool.{Decides, beq}
+use Rattle.std.specs.Cmp.Lexicographic.{pointwise}
+use Rattle.std.specs.Cmp.{booleans_Decides}
+use Rattle.std.specs.List.{All, slice_get, flat_map}
+use Rattle.std.proofs.lemmas.Bool.Decides.{Decides-and, Decides-like, Decides-eqb}
+use Rattle.std.proofs.lemmas.Bool.{cases_lt, false_from_ne_true}
+use Rattle.std.proofs.lemmas.List.{append_assoc, length_push, length-append, append-nil}
+use Rattle.std.proofs.lemmas.Option.{slice_get_within, slice_get_read, get_or_from_slice_get}
+use Rattle.std.proofs.lemmas.Slice.Eq.{slice_eq-Decides}
+use Rattle.just_graph.specs.Unfolding.{Key, Node, key}
+use Rattle.just_graph.specs.Unfolded.{unfolded_key}
+use Rattle.just_graph.specs.declared.unfolding.Unfolded.{Unfolded}
+use Rattle.just_graph.proofs.Members.{In, is_in}
+use Rattle.just_parts.specs.Syntax.{AreRising, numbers}
+use Rattle.just_parts.specs.contracts.modulepath.ModulepathPartialEq.TheImpl as path_eq
+use Rattle.just_parts.specs.declared.layers.ast.Ast.{Ast}
+use Rattle.just_parts.specs.declared.modulepath.Modulepath.{Modulepath}
+use Rattle.just_loader.specs.Asts.{Key as AstKey, same_key}
+use Rattle.just_loader.specs.Loaded.{AreAstsOf, AreToldApart, file_at, key_at}
+use Rattle.just_loader.specs.Loading.{AreParsed}
+use Rattle.just_loader.specs.Parsed.{AreKeyed, AreHeld, text_key}
+use Rattle.just_loader.specs.Reached.{World}
+use Rattle.just_loader.specs.Scanned.{paths_in}
+use Rattle.just_loader.specs.declared.scanned.Scan.{Scan}
+use Rattle.just_loader.specs.declared.scanned.ScannedFile.{ScannedFile}
+use Rattle.just_loader.proofs.FileKeys.{in_flat}
+use Rattle.just_loader.proofs.Numberings.{got, placed, get_map, map_get, get_more, get_last, some_same, none_some}
+use Rattle.just_loader.proofs.WholeScans.{read_at}
+
+texts_same : (a b : List (List ℕ)) → Decides (pointwise (pointwise nat_eq) a b) (a ≡ b)
+texts_same a b = slice_eq-Decides (λ x y. slice_eq-Decides Decides-eqb x y (pointwise nat_eq x y) refl) a b (pointwise (pointwise nat_eq) a b) refl
+
+path_same : (a b : Modulepath) → Decides (path_eq.ghosts.eq a b) (a ≡ b)
+path_same a b =
+    Decides-like (path_eq.ghosts.eq a b) (λ e. λ j. record { components = e.0 j; spaced = e.1 j }) (λ e. (ap (λ (m : Modulepath). m.components) e, ap (λ (m : Modulepath). m.spaced) e))
+    (Decides-and (pointwise (pointwise nat_eq) a.components b.components) (beq a.spaced b.spaced) (texts_same a.components b.components) (booleans_Decides a.spaced b.spaced))
+
+-- two keys are the same where they are equal
+pub key_same : (a b : AstKey) → Decides (same_key a b) (a ≡ b)
+key_same a b =
+    Decides-like (same_key a b) (λ e. λ j. (e.0 j, e.1 j)) (λ e. (ap (λ (k : AstKey). k.0) e, ap (λ (k : AstKey). k.1) e))
+    (Decides-and (path_eq.ghosts.eq a.0 b.0) (pointwise nat_eq a.1 b.1) (path_same a.0 b.0) (slice_eq-Decides Decides-eqb a.1 b.1 (pointwise nat_eq a.1 b.1) refl))
+
+-- the nodes from a place on are held, and what is left are those before it
+pub record HeldFrom (scan : Scan) (nodes : List Unfolded) (asts left : List Ast) (table : AstKey → Option Ast) : Type 0 where
+  pub front : (more : List Ast) × (asts ≡ left ++ more)
+  pub found : (k : ℕ) (u : Unfolded) (ast : Ast) → length left ≤ k → slice_get nodes k ≡ Some u → slice_get asts k ≡ Some ast → table (text_key scan u) ≡ Some ast
+  pub only : (key : AstKey) (ast : Ast) → table key ≡ Some ast → (k : ℕ) × (u : Unfolded) × (slice_get nodes k ≡ Some u) × (slice_get asts k ≡ Some ast) × (text_key scan u ≡ key)
+
+pub held_none : (scan : Scan) (nodes : List Unfolded) (asts left : List Ast) (table : AstKey → Option Ast) → left ≡ asts → length asts ≡ length nodes → ((key : AstKey) → table key ≡ None) → HeldFrom scan nodes asts left table
+held_none scan nodes asts left table e count none = record {
+  front = ([], sym e ∙ sym (append-nil left));
+  found = λ k u ast h at to. absurd (omega (arith, h, slice_get_within asts k ast to, ap length e));
+  only = λ key ast at. absurd (none_some (sym (none key) ∙ at));
+}
+
+cond_some : (b : Bool) (x y : Ast) (o : Option Ast) → cond b (Some x) o ≡ Some y → ((b ≡ true) × (x ≡ y)) ⊎ (o ≡ Some y)
+cond_some true x y o e = inl (refl, some_same e)
+cond_some false x y o e = inr e
+
+-- the next node is there
+next_inside : (scan : Scan) (nodes : List Unfolded) (asts left rest : List Ast) (table : AstKey → Option Ast) (last : Ast) → AreKeyed scan nodes asts → HeldFrom scan nodes asts left table → left ≡ rest ++ last ∷ [] → length rest < length nodes
+next_inside scan nodes asts left rest table last keyed held e = omega (arith, keyed.count, ap length held.front.1, length-append left held.front.0, ap length e, length_push rest last)
+
+-- one more node is held
+held_more : (scan : Scan) (nodes : List Unfolded) (asts left rest : List Ast) (old new : AstKey → Option Ast) (here : AstKey) (u : Unfolded) (last : Ast) → AreKeyed scan nodes asts → HeldFrom scan nodes asts left old → left ≡ rest ++ last ∷ []
+    → slice_get nodes (length rest) ≡ Some u → here.0 ≡ last.module_path → here.1 ≡ file_at scan u.node → ((key : AstKey) → new key ≡ cond (same_key here key) (Some last) (old key)) → HeldFrom scan nodes asts rest new
+held_more scan nodes asts left rest old new here u last keyed held e at path file put =
+    let front : asts ≡ (rest ++ last ∷ []) ++ held.front.0 = held.front.1 ∙ ap (λ xs. xs ++ held.front.0) e in
+    let to : slice_get asts (length rest) ≡ Some last = ap (λ xs. slice_get xs (length rest)) front ∙ get_more (rest ++ last ∷ []) held.front.0 (length rest) last (get_last rest last) in
+    let size : length left ≡ suc (length rest) = omega (arith, ap length e, length_push rest last) in
+    let named : here.0 ≡ (text_key scan u).0 = path ∙ keyed.paths (length rest) u last at to in
+    let is : here ≡ text_key scan u = λ j. (named j, file j) in
+    record {
+      front = (last ∷ held.front.0, front ∙ append_assoc rest (last ∷ []) held.front.0);
+      found = λ k v ast h f g. elim (cases_lt (length rest) k) [
+        | inl l ↦
+            (let other : same_key here (text_key scan v) ≡ false = false_from_ne_true (same_key here (text_key scan v)) (λ t.
+            let same : length rest ≡ k = keyed.apart (length rest) k u v at f (sym is ∙ (key_same here (text_key scan v)).0 t) in absurd (omega (arith, same, l))) in
+            put (text_key scan v) ∙ ap (λ b. cond b (Some last) (old (text_key scan v))) other ∙ held.found k v ast (omega (arith, size, l)) f g)
+        | inr l ↦
+            (let place : length rest ≡ k = omega (arith, l, h) in
+            let node : u ≡ v = some_same (sym at ∙ ap (slice_get nodes) place ∙ f) in
+            let what : last ≡ ast = some_same (sym to ∙ ap (slice_get asts) place ∙ g) in
+            let same : same_key here (text_key scan v) ≡ true = (key_same here (text_key scan v)).1 (is ∙ ap (text_key scan) node) in
+            put (text_key scan v) ∙ ap (λ b. cond b (Some last) (old (text_key scan v))) same ∙ ap Some what)
+      ];
+      only = λ key ast g. elim (cond_some (same_key here key) last ast (old key) (sym (put key) ∙ g)) [
+        | inl s ↦ (length rest, u, at, to ∙ ap Some s.1, sym is ∙ (key_same here key).0 s.0)
+        | inr o ↦ held.only key ast o
+      ];
+    }
+
+-- the same by what is read
+module _ (scan : Scan) (nodes : List Unfolded) (asts left rest : List Ast) (old : AstKey → Option Ast) (u : Unfolded) (last : Ast) (place : ℕ)
+    (keyed : AreKeyed scan nodes asts) (held : HeldFrom scan nodes asts left old) (e : left ≡ rest ++ last ∷ []) (is : place ≡ length rest) (read : u ≡ get_or nodes place u) where
+  next_there : slice_get nodes place ≡ Some u
+  next_there = slice_get_read nodes (length nodes) place u refl (omega (arith, is, next_inside scan nodes asts left rest old last keyed held e)) read
+
+  pub node_inside : u.node < length scan.files.items
+  node_inside = keyed.within place u next_there
+
+  pub held_next : (new : AstKey → Option Ast) (here : AstKey) (file : ScannedFile) → file ≡ get_or scan.files.items u.node file → here.0 ≡ last.module_path → here.1 ≡ file.path
+      → ((key : AstKey) → new key ≡ cond (same_key here key) (Some last) (old key)) → HeldFrom scan nodes asts rest new
+  held_next new here file at path named put =
+      let files = scan.files.items in
+      let there : slice_get files u.node ≡ Some file = slice_get_read files (length files) u.node file refl node_inside at in
+      let same : file_at scan u.node ≡ file.path = get_or_from_slice_get (paths_in files) u.node file.path [] (map_get (λ (f : ScannedFile). f.path) files u.node file there) in
+      held_more scan nodes asts left rest old new here u last keyed held e (ap (slice_get nodes) (sym is) ∙ next_there) path (named ∙ sym same) put
+
+-- all nodes are held
+pub held_all : (scan : Scan) (nodes : List Unfolded) (asts left : List Ast) (table : AstKey → Option Ast) → HeldFrom scan nodes asts left table → left ≡ [] → AreHeld scan nodes asts table
+held_all scan nodes asts left table held e = record {
+  found = λ k u ast. held.found k u ast (omega (arith, ap length e));
+  only = held.only;
+}
+
+-- numbers that rise
+rising_on : (low : ℕ) (ns : List ℕ) (high : ℕ) → AreRising low ns high → low ≤ high
+rising_on low [] high h = h
+rising_on low (n ∷ ns) high h = omega (arith, h.0, rising_on (n + 1) ns high h.1)
+
+rising_split : (low : ℕ) (ms ns : List ℕ) (high : ℕ) → AreRising low (ms ++ ns) high → (middle : ℕ) × AreRising low ms middle × AreRising middle ns high
+rising_split low [] ns high h = (low, omega arith, h)
+rising_split low (m ∷ ms) ns high h = let r = rising_split (m + 1) ms ns high h.1 in (r.0, (h.0, r.1), r.2)
+
+rising_within : (low : ℕ) (ns : List ℕ) (high n : ℕ) → AreRising low ns high → In n ns → (low ≤ n) × (n < high)
+rising_within low [] high n h i = absurd i
+rising_within low (m ∷ ns) high n h (inl e) = (omega (arith, h.0, e), omega (arith, e, rising_on (m + 1) ns high h.1))
+rising_within low (m ∷ ns) high n h (inr i) = let r = rising_within (m + 1) ns high n h.1 i in (omega (arith, h.0, r.0), r.1)
+
+module _ {A : Type 0} (f : A → List ℕ) where
+  part_rises : (low : ℕ) (xs : List A) (high k : ℕ) (x : A) → AreRising low (flat_map f xs) high → slice_get xs k ≡ Some x → (from : ℕ) × (to : ℕ) × AreRising from (f x) to
+  part_rises low [] high k x h e = absurd (none_some e)
+  part_rises low (y ∷ xs) high zero x h e =
+      let r = rising_split low (f y) (flat_map f xs) high h in (low, r.0, subst (λ z. AreRising low (f z) r.0) (some_same e) r.1)
+  part_rises low (y ∷ xs) high (suc k) x h e =
+      let r = rising_split low (f y) (flat_map f xs) high h in part_rises r.0 xs high k x r.2 e
+
+  later : (low : ℕ) (y : A) (xs : List A) (high k n : ℕ) (x z : A) → AreRising low (f y ++ flat_map f xs) high → y ≡ z → slice_get xs k ≡ Some x → In n (f z) → In n (f x) → ⊥
+  later low y xs high k n x z h e at a b =
+      let r = rising_split low (f y) (flat_map f xs) high h in
+      let first = rising_within low (f y) r.0 n r.1 (subst (λ v. In n (f v)) (sym e) a) in
+      let rest = rising_within r.0 (flat_map f xs) high n r.2 (in_flat f n x xs (is_in x xs (got xs k x at)) b) in
+      omega (arith, first.1, rest.0)
+
+  -- a number is in one part
+  part_apart : (low : ℕ) (xs : List A) (high i j n : ℕ) (x y : A) → AreRising low (flat_map f xs) high → slice_get xs i ≡ Some x → slice_get xs j ≡ Some y → In n (f x) → In n (f y) → i ≡ j
+  part_apart low [] high i j n x y h e g a b = absurd (none_some e)
+  part_apart low (z ∷ xs) high zero zero n x y h e g a b = refl
+  part_apart low (z ∷ xs) high zero (suc j) n x y h e g a b = absurd (later low z xs high j n y x h (some_same e) g a b)
+  part_apart low (z ∷ xs) high (suc i) zero n x y h e g a b = absurd (later low z xs high i n x y h (some_same g) e b a)
+  part_apart low (z ∷ xs) high (suc i) (suc j) n x y h e g a b =
+      let r = rising_split low (f z) (flat_map f xs) high h in ap suc (part_apart r.0 xs high i j n x y r.2 e g a b)
+
+module _ (scan : Scan) (nodes : List Unfolded) (asts : List Ast) (table : AstKey → Option Ast) (held : AreHeld scan nodes asts table) where
+  -- the nodes themselves
+  pub are_asts_of : (w : World) (ns : List Node) → map unfolded_key nodes ≡ map key ns → AreParsed w scan ns asts → AreAstsOf w scan ns table
+  are_asts_of w ns told parsed = record {
+    held = λ n c.
+        let at = placed ns n c in
+        let u = get_map unfolded_key nodes at.0 (key n) (ap (λ ks. slice_get ks at.0) told ∙ map_get key ns at.0 n at.1) in
+        let ast = read_at asts at.0 (omega (arith, parsed.count, slice_get_within ns at.0 n at.1)) in
+        (ast.0, ap (λ (k : Key). table (key_at scan k.path k.node)) (sym u.2) ∙ held.found at.0 u.0 ast.0 u.1 ast.1, parsed.each at.0 n ast.0 at.1 ast.1);
+    only = λ k ast e.
+        let r = held.only k ast e in
+        let n = get_map key ns r.0 (unfolded_key r.1) (ap (λ ks. slice_get ks r.0) (sym told) ∙ map_get unfolded_key nodes r.0 r.1 r.2) in
+        (n.0, got ns r.0 n.0 n.1, (key_same (key_at scan n.0.path n.0.node) k).1 (ap (λ (x : Key). key_at scan x.path x.node) n.2 ∙ r.4));
+  }
+
+  pub are_told_apart : (high : ℕ) → AreRising 0 (flat_map (λ (a : Ast). numbers a.items) asts) high → AreToldApart table
+  are_told_apart high rising = record {
+    rising = λ k ast e. let r = held.only k ast e in part_rises (λ (a : Ast). numbers a.items) 0 asts high r.0 ast rising r.3;
+    apart = λ k l a b n e g other x y.
+        let r = held.only k a e in
+        let s = held.only l b g in
+        let place : r.0 ≡ s.0 = part_apart (λ (v : Ast). numbers v.items) 0 asts high r.0 s.0 n a b rising r.3 s.3 (is_in n (numbers a.items) x) (is_in n (numbers b.items) y) in
+        let node : r.1 ≡ s.1 = some_same (sym r.2 ∙ ap (slice_get nodes) place ∙ s.2) in
+        let same : same_key k l ≡ true = (key_same k l).1 (sym r.4 ∙ ap (text_key scan) node ∙ s.4) in
+        let wrong : true ≡ false = sym same ∙ other in cc;
+  }
+
+  pub held_each : (P : Ast → Type 0) → All P asts → (k : AstKey) (ast : Ast) → table k ≡ Some ast → P ast
+  held_each P all k ast e =
+      let r = held.only k ast e in
+      let c = got asts r.0 ast r.3 in
+      subst P c.2 (all c.0 ast c.1)

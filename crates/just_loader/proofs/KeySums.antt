@@ -1,0 +1,134 @@
+-- Sums over keys, and the rules of files that are kept.
+use Rattle.std.proofs.Common.{◌≡◌, ℕ, zero, suc, ◌+◌, ◌<◌, ◌≤◌, ◌^◌, List, [], ◌∷◌, map, take, ◌↔◌, Option, None, Some, IsSome, ◌⊎◌, refl, sym, ap, subst, ◌∙◌, arith, inl, inr}
+use Rattle.std.specs.List.{Contains, slice_get, sum_by}
+use Rattle.std.proofs.lemmas.List.Sums.{sum_by-cons}
+use Rattle.just_graph.specs.Unfolding.{Key, KeySteps, root_key, steps}
+use Rattle.just_graph.specs.Unfolded.{unfolded_key, AreApart}
+use Rattle.just_graph.specs.declared.unfolding.Unfolded.{Unfolded}
+use Rattle.just_graph.proofs.Members.{In, contained, is_in, in_cases, in_map}
+use Rattle.just_loader.specs.Causes.{Cause, NoNumber, Keeps}
+use Rattle.just_loader.specs.FileCircles.{LeadsOn, by_edge, by_edges, ChainTo, at_root, and_next, NamesCircle, leads_back}
+use Rattle.just_loader.specs.Keys.{IsKey, FileKey, AreOnceKeys, spends_at, NamesInFiles, no_root, at_fault, in_circle, too_many}
+use Rattle.just_loader.specs.Loaded.{file_at, name_at}
+use Rattle.just_loader.specs.Reached.{World, Reached, LeadsTo, NamesInScan}
+use Rattle.just_loader.specs.Scanned.{IsScan}
+use Rattle.just_loader.specs.Sources.{text_at}
+use Rattle.just_loader.specs.declared.scanned.Scan.{Scan}
+use Rattle.just_loader.proofs.FileKeys.{Stands, file_is, stands, keyed, same_keys}
+use Rattle.just_loader.proofs.Numberings.{got, placed, get_map, map_get, none_some}
+
+-- a list without one of its elements
+without : {A : Type 0} (x : A) (ys : List A) → In x ys → (zs : List A) × ((g : A → ℕ) → sum_by g ys ≡ g x + sum_by g zs) × ((z : A) → In z ys → (z ≡ x → ⊥) → In z zs)
+without x [] h = absurd h
+without x (y ∷ ys) (inl e) = (ys, λ g. sum_by-cons g y ys ∙ ap (λ v. g v + sum_by g ys) (sym e), λ z h other. elim h [ inl k ↦ absurd (other (k ∙ sym e)) | inr i ↦ i ])
+without x (y ∷ ys) (inr h) =
+    let r = without x ys h in (
+      y ∷ r.0,
+      λ g. omega (arith, sum_by-cons g y ys, sum_by-cons g y r.0, r.1 g),
+      λ z i other. elim i [ inl k ↦ inl k | inr j ↦ inr (r.2 z j other) ],
+    )
+
+-- what has each element of another list, where that has none twice, has no smaller sum
+sums : {A : Type 0} (g : A → ℕ) (these those : List A) → ((i j : ℕ) (x : A) → slice_get these i ≡ Some x → slice_get these j ≡ Some x → i ≡ j) → ((x : A) → In x these → In x those) → sum_by g these ≤ sum_by g those
+sums g [] those once all = omega arith
+sums {A} g (x ∷ these) those once all =
+    let r = without x those (all x (inl refl)) in
+    let fresh : In x these → ⊥ = λ h. let k = placed these x (contained x these h) in let same : 0 ≡ suc k.0 = once 0 (suc k.0) x refl k.1 in absurd (omega (arith, same)) in
+    let less : sum_by g these ≤ sum_by g r.0 =
+    sums g these r.0 (λ i j y e f. let same : suc i ≡ suc j = once (suc i) (suc j) y e f in omega (arith, same)) (λ z h. r.2 z (all z (inr h)) (λ e. fresh (subst (λ (y : A). In y these) e h))) in
+    omega (arith, less, r.1 g, sum_by-cons g x these)
+
+sum_map : {A B : Type 0} (g : B → ℕ) (f : A → B) (xs : List A) → sum_by g (map f xs) ≡ sum_by (λ x. g (f x)) xs
+sum_map g f [] = refl
+sum_map g f (x ∷ xs) = sum_by-cons g (f x) (map f xs) ∙ ap (λ n. g (f x) + n) (sum_map g f xs) ∙ sym (sum_by-cons (λ y. g (f y)) x xs)
+
+get_take : {A : Type 0} (xs : List A) (n k : ℕ) (x : A) → slice_get (take n xs) k ≡ Some x → slice_get xs k ≡ Some x
+get_take xs zero k x e = absurd (none_some e)
+get_take [] (suc n) k x e = absurd (none_some e)
+get_take (y ∷ xs) (suc n) zero x e = e
+get_take (y ∷ xs) (suc n) (suc k) x e = get_take xs n k x e
+
+-- a file of a chain is reached, and the last is it or what it leads on to
+reached_in : (w : World) {files : List (List ℕ)} {f : List ℕ} → ChainTo w files f → (g : List ℕ) → In g files → (g ≡ f) ⊎ LeadsOn w g f
+reached_in w at_root g (inl e) = inl e
+reached_in w at_root g (inr h) = absurd h
+reached_in w (and_next {files = files} {g = h} c l) g i = elim (in_cases g files (h ∷ []) i) [
+  | inl a ↦ inr (elim (reached_in w c g a) [ inl e ↦ by_edge (subst (λ x. LeadsTo w x h) (sym e) l) | inr more ↦ leads_after w more l ])
+  | inr (inl e) ↦ inl e
+  | inr (inr none) ↦ absurd none
+]
+  where
+    leads_after : (w : World) {f g h : List ℕ} → LeadsOn w f g → LeadsTo w g h → LeadsOn w f h
+    leads_after w (by_edge m) l = by_edges m (by_edge l)
+    leads_after w (by_edges m more) l = by_edges m (leads_after w more l)
+
+no_circle : (w : World) → ((f : List ℕ) → Reached w f → LeadsOn w f f → ⊥) → (c : Cause) → NamesCircle w c → ⊥
+no_circle w none _ (leads_back {current} {next} files r l chain back) = elim (reached_in w chain next (is_in next files back)) [
+  | inl e ↦ none current r (by_edge (subst (LeadsTo w current) e l))
+  | inr more ↦ none current r (by_edges l more)
+]
+
+not_there : (o : Option (List ℕ)) → o ≡ None → IsSome o → ⊥
+not_there None e h = cc
+not_there (Some x) e h = cc
+
+-- the nodes of an unfolding, by the texts of their keys
+module _ (w : World) (scan : Scan) (is : IsScan w scan) (us : List Unfolded) (keys : (k : Key) → Contains (map unfolded_key us) k ↔ ((n : ℕ) × KeySteps (steps scan.rows.items) (root_key 0) k n)) (apart : AreApart (map unfolded_key us)) where
+  abbrev file_key : Unfolded → FileKey
+  file_key u = (map (name_at scan) u.path.items, file_at scan u.node)
+
+  abbrev takes : Unfolded → ℕ
+  takes u = spends_at w (file_at scan u.node)
+
+  pub node_stands : (k : ℕ) (u : Unfolded) → slice_get us k ≡ Some u → Stands w scan (unfolded_key u)
+  node_stands k u e =
+      let s = (keys (unfolded_key u)).0 (got (map unfolded_key us) k (unfolded_key u) (map_get unfolded_key us k u e)) in
+      stands w scan is (unfolded_key u) s.0 s.1
+
+  -- two places of one key are one
+  pub one_place : (i j : ℕ) (u v : Unfolded) → slice_get us i ≡ Some u → slice_get us j ≡ Some v → map (name_at scan) u.path.items ≡ map (name_at scan) v.path.items → file_at scan u.node ≡ file_at scan v.node → i ≡ j
+  one_place i j u v e f path file =
+      let same = same_keys w scan is (unfolded_key u) (unfolded_key v) (node_stands i u e) (node_stands j v f) path file in
+      apart i j (unfolded_key u) (map_get unfolded_key us i u e) (map_get unfolded_key us j v f ∙ ap Some (sym same))
+
+  each_once : (n : ℕ) → AreOnceKeys (map file_key (take n us))
+  each_once n i j k e f =
+      let u = get_map file_key (take n us) i k e in
+      let v = get_map file_key (take n us) j k f in
+      let same : file_key u.0 ≡ file_key v.0 = u.2 ∙ sym v.2 in
+      one_place i j u.0 v.0 (get_take us n i u.0 u.1) (get_take us n j v.0 v.1) (ap (λ (x : FileKey). x.0) same) (ap (λ (x : FileKey). x.1) same)
+
+  each_key : (n : ℕ) (k : FileKey) → Contains (map file_key (take n us)) k → IsKey w k.0 k.1
+  each_key n k c =
+      let at = placed (map file_key (take n us)) k c in
+      let u = get_map file_key (take n us) at.0 k at.1 in
+      subst (λ (x : FileKey). IsKey w x.0 x.1) u.2 (node_stands at.0 u.0 (get_take us n at.0 u.0 u.1)).is
+
+  -- the first texts take too many numbers
+  pub many : (n : ℕ) → 2 ^ 64 ≤ sum_by takes (take n us) → NamesInFiles w NoNumber
+  many n h =
+      too_many (map file_key (take n us)) (each_once n) (each_key n)
+      (subst (λ m. 2 ^ 64 ≤ m) (sym (sum_map (λ (k : FileKey). spends_at w k.1) file_key (take n us))) h)
+
+  has_key : (k : FileKey) → IsKey w k.0 k.1 → In k (map file_key us)
+  has_key k key =
+      let s = keyed w scan is key in
+      let at = placed (map unfolded_key us) s.0 ((keys s.0).1 (s.1, s.2)) in
+      let u = get_map unfolded_key us at.0 s.0 at.1 in
+      let path : map (name_at scan) u.0.path.items ≡ k.0 = ap (λ (x : Key). map (name_at scan) x.path) u.2 ∙ s.3 in
+      let file : file_at scan u.0.node ≡ k.1 = ap (λ (x : Key). file_at scan x.node) u.2 ∙ file_is w scan is s.0.node k.1 s.4 in
+      let same : file_key u.0 ≡ k = λ j. (path j, file j) in
+      subst (λ x. In x (map file_key us)) same (in_map file_key u.0 us (is_in u.0 us (got us at.0 u.0 u.1)))
+
+  -- no texts of keys take too many
+  few : sum_by takes us < 2 ^ 64 → (these : List FileKey) → AreOnceKeys these → ((k : FileKey) → Contains these k → IsKey w k.0 k.1) → 2 ^ 64 ≤ sum_by (λ (k : FileKey). spends_at w k.1) these → ⊥
+  few total these once are h =
+      let less = sums (λ (k : FileKey). spends_at w k.1) these (map file_key us) once (λ k i. has_key k (are k (contained k these i))) in
+      omega (arith, total, h, less, sum_map (λ (k : FileKey). spends_at w k.1) file_key us)
+
+  -- the rules of files are kept
+  pub files_kept : IsSome (text_at w.files w.root) → Keeps (NamesInScan w) → ((f : List ℕ) → Reached w f → LeadsOn w f f → ⊥) → sum_by takes us < 2 ^ 64 → Keeps (NamesInFiles w)
+  files_kept there kept none total _ (no_root e same) = not_there (text_at w.files w.root) e there
+  files_kept there kept none total c (at_fault n) = kept c n
+  files_kept there kept none total c (in_circle n) = no_circle w none c n
+  files_kept there kept none total _ (too_many these once are h) = few total these once are h

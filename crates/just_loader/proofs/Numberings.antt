@@ -1,0 +1,105 @@
+-- One more text under a number.
+use Rattle.std.proofs.Common.{◌≡◌, ◌≢◌, ℕ, zero, suc, false, List, [], ◌∷◌, ◌++◌, map, length, Option, Some, None, ◌⊎◌, inl, inr, refl, sym, ap, subst, ◌∙◌}
+use Rattle.std.specs.List.{Contains, slice_get}
+use Rattle.std.proofs.lemmas.Option.{slice_get_within, get_or_from_slice_get, slice_get_read}
+use Rattle.std.specs.Str.{bytes_eq}
+use Rattle.std.proofs.lemmas.Bool.{false_from_ne_true}
+use Rattle.std.proofs.lemmas.List.{map-append, length-map}
+use Rattle.std.proofs.lemmas.Slice.Eq.{bytes_eq-Decides}
+use Rattle.std.specs.HashMap.{get}
+use Rattle.just_parts.specs.Name.{text_of_name}
+use Rattle.just_parts.specs.declared.layers.name.Name.{Name}
+use Rattle.just_loader.specs.Sources.{Files}
+use Rattle.just_loader.specs.declared.sources.SourceFile.{SourceFile}
+use Rattle.just_loader.specs.declared.found.Found.{Found}
+use Rattle.just_loader.specs.Numbering.{AreOnce, IsNumbering, IsFile, AreFound, paths_of, texts_of}
+use Rattle.just_loader.proofs.Lists.{same_or_not}
+
+-- what a list has stays behind more
+pub get_more : {A : Type 0} (xs ys : List A) (i : ℕ) (x : A) → slice_get xs i ≡ Some x → slice_get (xs ++ ys) i ≡ Some x
+get_more [] ys i x e = cc
+get_more (y ∷ xs) ys zero x e = e
+get_more (y ∷ xs) ys (suc i) x e = get_more xs ys i x e
+
+pub get_last : {A : Type 0} (xs : List A) (x : A) → slice_get (xs ++ x ∷ []) (length xs) ≡ Some x
+get_last [] x = refl
+get_last (y ∷ xs) x = get_last xs x
+
+pub get_cases : {A : Type 0} (xs : List A) (x y : A) (i : ℕ) → slice_get (xs ++ x ∷ []) i ≡ Some y → (slice_get xs i ≡ Some y) ⊎ ((i ≡ length xs) × (x ≡ y))
+get_cases [] x y zero e = inr (refl, cc)
+get_cases [] x y (suc i) e = cc
+get_cases (z ∷ xs) x y zero e = inl e
+get_cases (z ∷ xs) x y (suc i) e = elim (get_cases xs x y i e) [ inl h ↦ inl h | inr h ↦ inr (ap suc h.0, h.1) ]
+
+pub get_map : {A B : Type 0} (f : A → B) (xs : List A) (k : ℕ) (y : B) → slice_get (map f xs) k ≡ Some y → (x : A) × (slice_get xs k ≡ Some x) × (f x ≡ y)
+get_map f [] k y e = cc
+get_map f (x ∷ xs) zero y e = (x, refl, cc)
+get_map f (x ∷ xs) (suc k) y e = get_map f xs k y e
+
+pub map_get : {A B : Type 0} (f : A → B) (xs : List A) (k : ℕ) (x : A) → slice_get xs k ≡ Some x → slice_get (map f xs) k ≡ Some (f x)
+map_get f [] k x e = cc
+map_get f (y ∷ xs) zero x e = cc
+map_get f (y ∷ xs) (suc k) x e = map_get f xs k x e
+
+-- what is at a place is an element, and the other way round
+pub got : {A : Type 0} (xs : List A) (k : ℕ) (x : A) → slice_get xs k ≡ Some x → Contains xs x
+got xs k x e = (k, slice_get_within xs k x e, get_or_from_slice_get xs k x x e)
+
+pub placed : {A : Type 0} (xs : List A) (x : A) → Contains xs x → (k : ℕ) × (slice_get xs k ≡ Some x)
+placed xs x c = (c.0, slice_get_read xs (length xs) c.0 x refl c.1 (sym c.2))
+
+pub some_same : {A : Type 0} {x y : A} → Some x ≡ Some y → x ≡ y
+some_same e = cc
+
+pub none_some : {A : Type 0} {x : A} → None ≡ Some x → ⊥
+none_some e = cc
+
+-- no text stands at two places of a numbering
+pub once : (texts : List (List ℕ)) (numbers : List ℕ → Option ℕ) → IsNumbering texts numbers → AreOnce texts
+once texts numbers n i j t e f = some_same (sym ((n t i).0 e) ∙ (n t j).0 f)
+
+pub numbering_none : (texts : List (List ℕ)) (numbers : List ℕ → Option ℕ) → texts ≡ [] → ((t : List ℕ) → numbers t ≡ None) → IsNumbering texts numbers
+numbering_none texts numbers e none t i = (λ got. cc, λ at. absurd (none_some (sym (none t) ∙ at)))
+
+differ : (a b : List ℕ) → a ≢ b → bytes_eq a b ≡ false
+differ a b ne = false_from_ne_true (bytes_eq a b) (λ t. ne ((bytes_eq-Decides a b).0 t))
+
+pub numbering_more : (texts more : List (List ℕ)) (old new : List ℕ → Option ℕ) (t : List ℕ) → IsNumbering texts old → old t ≡ None → new t ≡ Some (length texts) → ((q : List ℕ) → bytes_eq t q ≡ false → new q ≡ old q)
+    → more ≡ texts ++ t ∷ [] → IsNumbering more new
+numbering_more texts more old new t n none here others is q i = elim (same_or_not t q) [
+  | inl same ↦ (
+    (λ got. elim (get_cases texts t q i (ap (λ xs. slice_get xs i) (sym is) ∙ got)) [
+      | inl before ↦ absurd (none_some (sym none ∙ ap old same ∙ (n q i).0 before))
+      | inr last ↦ ap new (sym same) ∙ here ∙ ap Some (sym last.0)
+    ]),
+    (λ at. let place : length texts ≡ i = some_same (sym here ∙ ap new same ∙ at) in
+        ap (slice_get more) (sym place) ∙ ap (λ xs. slice_get xs (length texts)) is ∙ get_last texts t ∙ ap Some same),
+  )
+  | inr ne ↦ (
+    (λ got. elim (get_cases texts t q i (ap (λ xs. slice_get xs i) (sym is) ∙ got)) [
+      | inl before ↦ others q (differ t q ne) ∙ (n q i).0 before
+      | inr last ↦ absurd (ne last.1)
+    ]),
+    (λ at. ap (λ xs. slice_get xs i) is ∙ get_more texts (t ∷ []) i q ((n q i).1 (sym (others q (differ t q ne)) ∙ at))),
+  )
+]
+
+pub names_more : (old new : List Name) (n m : Name) (before after : List ℕ → Option ℕ) (t : List ℕ) (number : ℕ) → IsNumbering (texts_of old) before → before t ≡ None → after t ≡ Some number → number ≡ length old
+    → ((q : List ℕ) → bytes_eq t q ≡ false → after q ≡ before q) → new ≡ old ++ m ∷ [] → m ≡ n → t ≡ text_of_name n → IsNumbering (texts_of new) after
+names_more old new n m before after t number numbered none here place others is same text =
+    numbering_more (texts_of old) (texts_of new) before after t numbered none (here ∙ ap Some (place ∙ sym (length-map old text_of_name))) others
+    (ap texts_of is ∙ map-append text_of_name old (m ∷ []) ∙ ap (λ x. texts_of old ++ x ∷ []) (ap text_of_name same ∙ sym text))
+
+abbrev places : Found → List ℕ → Option ℕ
+places found = get bytes_eq found.places
+
+pub found_more : (files : Files) (old new : Found) (f : SourceFile) (t : List ℕ) (place : ℕ) → AreFound files old → places old t ≡ None → places new t ≡ Some place → place ≡ length old.files.items
+    → ((q : List ℕ) → bytes_eq t q ≡ false → places new q ≡ places old q) → new.files.items ≡ old.files.items ++ f ∷ [] → t ≡ f.path → IsFile files f → AreFound files new
+found_more files old new f t place found none here is others items text file = record {
+  numbering = numbering_more (paths_of old.files.items) (paths_of new.files.items) (places old) (places new) t found.numbering none (here ∙ ap Some (is ∙ sym (length-map old.files.items (λ (x : SourceFile). x.path)))) others
+      (ap paths_of items ∙ map-append (λ (x : SourceFile). x.path) old.files.items (f ∷ []) ∙ ap (λ x. paths_of old.files.items ++ x ∷ []) (sym text));
+  there = λ k x e. elim (get_cases old.files.items f x k (ap (λ xs. slice_get xs k) (sym items) ∙ e)) [
+    | inl before ↦ found.there k x before
+    | inr last ↦ subst (IsFile files) last.1 file
+  ];
+}

@@ -1,0 +1,18 @@
+use Rattle.std.proofs.Common.{◌≡◌, ◌<◌, ◌^◌, List, length, take}
+use Rattle.std.specs.List.{All, flat_map}
+use Rattle.just_graph.specs.Unfolding.{Node}
+use Rattle.just_parts.specs.Syntax.{AreRising, PriorsAreDependencies, numbers}
+use Rattle.just_parts.specs.declared.layers.ast.Ast.{Ast}
+use Rattle.just_loader.specs.Loading.{AreNodes, AreParsedSoFar, IsScanBy, spent_by}
+use Rattle.just_loader.specs.Reached.{World}
+use Rattle.just_loader.proofs.loading.parse_all.Given as goal
+
+abbrev pub invariant-loop-place : goal.invariant-loop-place
+invariant-loop-place g l = record {
+  count : length l.asts.items ≡ l.place;
+  parsed : (w : World) (ns : List Node) → IsScanBy w l.scan (g.S.Syntax.parsed l.syntax) (g.S.Syntax.spends l.syntax) → AreNodes l.scan l.nodes ns → AreParsedSoFar w l.scan ns l.asts.items;
+  spent : (w : World) → IsScanBy w l.scan (g.S.Syntax.parsed l.syntax) (g.S.Syntax.spends l.syntax) → l.numerator.next ≡ spent_by w l.scan (take l.place l.nodes);
+  numbers : AreRising 0 (flat_map (λ (ast : Ast). numbers ast.items) l.asts.items) l.numerator.next;
+  priors : All (λ (ast : Ast). All PriorsAreDependencies ast.items) l.asts.items;
+  few : l.numerator.next < 2 ^ 64;
+}

@@ -1,0 +1,37 @@
+-- What reports a broken rule, and groups of rules.
+use Rattle.std.specs.Prelude.{ℕ, List}
+use Rattle.just_parts.specs.Token.{Place}
+use Rattle.just_parts.specs.declared.layers.name.Name.{Name}
+use Rattle.just_parts.specs.declared.layers.error.LoadError.TheVariants as load
+use Rattle.just_parts.specs.declared.layers.error.CompileErrorKind.{CompileErrorKind}
+use Rattle.just_parts.specs.declared.layers.error.Error.{Error}
+use Rattle.just_parts.specs.declared.layers.error.Error.TheVariants as error
+
+-- What reports a broken rule: an error without its token. That there are not as many numbers as wanted counts as one.
+pub data Cause : Type 0 where
+  NoFile : List ℕ → Cause
+  NoHome : Cause
+  NoImport : Place → Cause
+  NoModule : Name → Cause
+  SeveralFiles : Name → List (List ℕ) → Cause
+  LeadsBack : List ℕ → List ℕ → Cause
+  Broken : CompileErrorKind → Cause
+  NoNumber : Cause
+
+-- a group of rules is kept where no cause is named
+abbrev pub Keeps : (Cause → Type 0) → Type 0
+Keeps group = (c : Cause) → group c → ⊥
+
+-- an error is named; want of memory aside
+abbrev pub Reports : (Cause → Type 0) → Error → Type 0
+Reports group (error.Load (load.Load path)) = group (NoFile path)
+Reports group (error.Load load.Homedir) = group NoHome
+Reports group (error.Load (load.MissingImportFile path)) = group (NoImport path)
+Reports group (error.Load (load.MissingModuleFile name)) = group (NoModule name)
+Reports group (error.Load (load.AmbiguousModuleFile name found)) = group (SeveralFiles name found)
+Reports group (error.Load (load.CircularImport current next)) = group (LeadsBack current next)
+Reports group (error.Compile e) = group (Broken e.kind)
+Reports group (error.Invocation e) = ⊥
+Reports group (error.Run e) = ⊥
+Reports group error.Exhausted = group NoNumber
+Reports group error.Memory = Unit {0}

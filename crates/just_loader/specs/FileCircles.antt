@@ -1,0 +1,38 @@
+-- Files that lead back to themselves.
+use Rattle.std.specs.Prelude.{◌≡◌, ℕ, ◌<◌, List, [], ◌∷◌, ◌++◌, length}
+use Rattle.std.specs.List.{Contains}
+use Rattle.std.specs.declared.vec.Vec.{Vec}
+use Rattle.std.specs.declared.alloc.Global.{Global}
+use Rattle.just_graph.specs.declared.unfolding.Step.{Step}
+use Rattle.just_graph.specs.Steps.{IsOrder}
+use Rattle.just_graph.specs.Unfolding.{HasStep}
+use Rattle.just_loader.specs.Reached.{World, LeadsTo, Reached}
+use Rattle.just_loader.specs.Causes.{Cause, LeadsBack}
+use Rattle.just_loader.specs.declared.scanned.Scan.{Scan}
+
+abbrev Text : Type 0
+Text = List ℕ
+
+-- a row for each file, the root among them, and steps that lead to rows
+pub record HasRows (scan : Scan) : Type 0 where
+  pub count : length scan.rows.items ≡ length scan.files.items
+  pub some : 0 < length scan.rows.items
+  pub within : (a b : ℕ) → HasStep scan.rows.items a b → b < length scan.rows.items
+
+-- an order of the places of files, each after those that it leads to, the root's among them
+abbrev pub IsFileOrder : List (Vec Step Global) → List ℕ → Type 0
+IsFileOrder rows order = (roots : List ℕ) × Contains roots 0 × IsOrder (HasStep rows) (length rows) roots order
+
+-- one or more edges lead from f to h
+pub data LeadsOn (w : World) : Text → Text → Type 0 where
+  by_edge : {f g : Text} → LeadsTo w f g → LeadsOn w f g
+  by_edges : {f g h : Text} → LeadsTo w f g → LeadsOn w g h → LeadsOn w f h
+
+-- files from the root to f, each of which leads to the next
+pub data ChainTo (w : World) : List Text → Text → Type 0 where
+  at_root : ChainTo w (w.root ∷ []) w.root
+  and_next : {files : List Text} {f g : Text} → ChainTo w files f → LeadsTo w f g → ChainTo w (files ++ g ∷ []) g
+
+-- A reached file leads to one that stands in a chain to it.
+pub data NamesCircle (w : World) : Cause → Type 0 where
+  leads_back : {current next : Text} (files : List Text) → Reached w current → LeadsTo w current next → ChainTo w files current → Contains files next → NamesCircle w (LeadsBack current next)

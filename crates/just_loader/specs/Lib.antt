@@ -1,0 +1,13 @@
+pub mod Asts
+pub mod Causes
+pub mod FileCircles
+pub mod Keys
+pub mod Links
+pub mod Loaded
+pub mod Loading
+pub mod ModuleFile
+pub mod Numbering
+pub mod Parsed
+pub mod Reached
+pub mod Scanned
+pub mod Sources

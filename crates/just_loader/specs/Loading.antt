@@ -1,0 +1,112 @@
+-- The steps of loading: how each node's file comes in, and what its text says.
+use Rattle.std.specs.Prelude.{◌≡◌, ℕ, ◌+◌, ◌<◌, ◌≤◌, ◌^◌, List, [], ◌∷◌, ◌++◌, map, take, length, slice_get, Option, Some, None}
+use Rattle.std.specs.List.{sum_by}
+use Rattle.just_graph.specs.Unfolding.{Node, AreFirst, IsLeastDepth, offsets_after, steps}
+use Rattle.just_graph.specs.Unfolded.{AllTold, IsUnfolded, unfolded_key}
+use Rattle.just_graph.specs.declared.unfolding.Step.{Step}
+use Rattle.just_graph.specs.declared.unfolding.Unfolded.{Unfolded}
+use Rattle.just_parts.specs.Bare.{bare_item}
+use Rattle.just_parts.specs.Clean.{folder_of}
+use Rattle.just_parts.specs.Syntax.{IsFrom, components_of}
+use Rattle.just_parts.specs.declared.layers.ast.Ast.{Ast}
+use Rattle.just_parts.specs.declared.layers.ast.Item.{Item}
+use Rattle.just_parts.specs.declared.layers.ast.Item.TheVariants as item
+use Rattle.just_parts.specs.declared.layers.error.Error.{Error}
+use Rattle.just_parts.specs.declared.layers.error.Error.TheVariants as error
+use Rattle.just_parts.specs.declared.source.Source.{Source}
+use Rattle.just_loader.specs.Keys.{spends_at}
+use Rattle.just_loader.specs.Loaded.{CameIn, IsAstOf, file_at, name_at, with_path}
+use Rattle.just_loader.specs.Reached.{World, items_of}
+use Rattle.just_loader.specs.Scanned.{IsScan}
+use Rattle.just_loader.specs.declared.scanned.Scan.{Scan}
+
+abbrev Text : Type 0
+Text = List ℕ
+
+-- The scan is of a world where the syntax says this of texts.
+pub record IsScanBy (w : World) (scan : Scan) (parsed : Text → Text → Option (List Item)) (spends : Text → Text → ℕ) : Type 0 where
+  pub is_scan : IsScan w scan
+  pub parses : w.parsed ≡ parsed
+  pub takes : w.spends ≡ spends
+
+-- The elements tell the first node of each key with its least depth, which is below their number.
+pub record AreUnfolded (scan : Scan) (us : List Unfolded) : Type 0 where
+  pub unfolded : IsUnfolded (steps scan.rows.items) 0 us
+  pub depths : (k : ℕ) (u : Unfolded) → slice_get us k ≡ Some u → IsLeastDepth (steps scan.rows.items) 0 (unfolded_key u) u.depth
+  pub shallow : (k : ℕ) (u : Unfolded) → slice_get us k ≡ Some u → u.depth < length us
+
+-- the nodes that the elements tell
+abbrev pub AreNodes : Scan → List Unfolded → List Node → Type 0
+AreNodes scan us ns = AreFirst (steps scan.rows.items) 0 ns × AllTold (steps scan.rows.items) us ns
+
+-- the path of a group after a step, and the folder of its file
+abbrev pub components_after : Scan → List Text → Option ℕ → List Text
+components_after scan components None = components
+components_after scan components (Some number) = components ++ name_at scan number ∷ []
+
+abbrev pub folder_after : Text → Option ℕ → Text → Text
+folder_after folder None path = folder
+folder_after folder (Some number) path = folder_of path
+
+-- How the file that a step leads to comes in, from how the file of the step did. Its depth is set later.
+pub record ComesNext (scan : Scan) (before : Source) (s : Step) (source : Source) : Type 0 where
+  pub chain : source.file_path ≡ before.file_path ++ file_at scan s.target ∷ []
+  pub offsets : source.import_offsets ≡ offsets_after before.import_offsets s.offset s.enters
+  pub components : components_of source.namepath ≡ components_after scan (components_of before.namepath) s.enters
+  pub path : source.path ≡ file_at scan s.target
+  pub folder : source.working_directory ≡ folder_after before.working_directory s.enters (file_at scan s.target)
+
+-- how the files of the first nodes came in
+abbrev pub CameInSoFar : Scan → List Node → List Source → Type 0
+CameInSoFar scan ns sources = (k : ℕ) (n : Node) (source : Source) → slice_get ns k ≡ Some n → slice_get sources k ≡ Some source → CameIn scan n source
+
+-- how the file of each node came in
+pub record AreSources (scan : Scan) (ns : List Node) (sources : List Source) : Type 0 where
+  pub count : length sources ≡ length ns
+  pub came : CameInSoFar scan ns sources
+
+-- an item with an absolute path, where it is one of a file
+abbrev pub with_absolute : Option Text → Item → Item
+with_absolute path (item.Import literal absolute optional) = item.Import literal path optional
+with_absolute path (item.Module name literal absolute optional) = item.Module name literal path optional
+with_absolute path (item.Recipe r) = item.Recipe r
+
+-- What the text at a path says, where its file came in like that.
+pub record IsSaid (w : World) (path : Text) (source : Source) (ast : Ast) : Type 0 where
+  pub parsed : Ast
+  pub from : IsFrom source parsed
+  pub said : items_of w path ≡ Some (map bare_item parsed.items)
+  pub items : ast.items ≡ map (with_path w (folder_of path)) parsed.items
+  pub module_path : ast.module_path ≡ parsed.module_path
+  pub working_directory : ast.working_directory ≡ parsed.working_directory
+
+-- what the texts of the first nodes say
+abbrev pub AreParsedSoFar : World → Scan → List Node → List Ast → Type 0
+AreParsedSoFar w scan ns asts = (k : ℕ) (n : Node) (ast : Ast) → slice_get ns k ≡ Some n → slice_get asts k ≡ Some ast → IsAstOf w scan n ast
+
+-- what the text of each node says
+pub record AreParsed (w : World) (scan : Scan) (ns : List Node) (asts : List Ast) : Type 0 where
+  pub count : length asts ≡ length ns
+  pub each : AreParsedSoFar w scan ns asts
+
+-- how many numbers the texts of elements take
+abbrev pub spent_by : World → Scan → List Unfolded → ℕ
+spent_by w scan us = sum_by (λ (u : Unfolded). spends_at w (file_at scan u.node)) us
+
+-- Memory is refused, or numbers run out: those that were given before, and those of the text.
+abbrev pub StopsAt : ℕ → ℕ → Error → Type 0
+StopsAt given spends (error.Load e) = ⊥
+StopsAt given spends (error.Compile e) = ⊥
+StopsAt given spends (error.Invocation e) = ⊥
+StopsAt given spends (error.Run e) = ⊥
+StopsAt given spends error.Exhausted = 2 ^ 64 ≤ given + spends
+StopsAt given spends error.Memory = Unit {0}
+
+-- the same of the first texts of elements together
+abbrev pub Stops : World → Scan → List Unfolded → Error → Type 0
+Stops w scan us (error.Load e) = ⊥
+Stops w scan us (error.Compile e) = ⊥
+Stops w scan us (error.Invocation e) = ⊥
+Stops w scan us (error.Run e) = ⊥
+Stops w scan us error.Exhausted = (k : ℕ) × (k ≤ length us) × (2 ^ 64 ≤ spent_by w scan (take k us))
+Stops w scan us error.Memory = Unit {0}

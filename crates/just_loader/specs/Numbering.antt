@@ -1,0 +1,40 @@
+-- Texts under numbers.
+use Rattle.std.specs.Prelude.{◌≡◌, ◌↔◌, ℕ, List, Option, Some, map, slice_get}
+use Rattle.std.specs.HashMap.{get}
+use Rattle.std.specs.Str.{bytes_eq}
+use Rattle.just_parts.specs.Clean.{IsClean}
+use Rattle.just_parts.specs.Entries.{find}
+use Rattle.just_parts.specs.Name.{text_of_name}
+use Rattle.just_parts.specs.declared.layers.name.Name.{Name}
+use Rattle.just_loader.specs.Sources.{Files}
+use Rattle.just_loader.specs.declared.sources.SourceFile.{SourceFile}
+use Rattle.just_loader.specs.declared.found.Found.{Found}
+use Rattle.just_loader.specs.declared.found.Names.{Names}
+
+-- no text stands at two places
+abbrev pub AreOnce : List (List ℕ) → Type 0
+AreOnce texts = (i j : ℕ) (text : List ℕ) → slice_get texts i ≡ Some text → slice_get texts j ≡ Some text → i ≡ j
+
+-- the number of a text is its place
+abbrev pub IsNumbering : List (List ℕ) → (List ℕ → Option ℕ) → Type 0
+IsNumbering texts numbers = (text : List ℕ) (i : ℕ) → (slice_get texts i ≡ Some text) ↔ (numbers text ≡ Some i)
+
+-- the paths of files, and the texts of names
+abbrev pub paths_of : List SourceFile → List (List ℕ)
+paths_of files = map (λ (f : SourceFile). f.path) files
+
+abbrev pub texts_of : List Name → List (List ℕ)
+texts_of names = map text_of_name names
+
+-- a file of the source map, under a clean path
+abbrev pub IsFile : Files → SourceFile → Type 0
+IsFile files f = (find f.path files ≡ Some f) × IsClean f.path
+
+-- files that are found, under their places
+pub record AreFound (files : Files) (found : Found) : Type 0 where
+  pub numbering : IsNumbering (paths_of found.files.items) (get bytes_eq found.places)
+  pub there : (k : ℕ) (f : SourceFile) → slice_get found.files.items k ≡ Some f → IsFile files f
+
+-- names under their numbers
+abbrev pub AreNumbered : Names → Type 0
+AreNumbered names = IsNumbering (texts_of names.names.items) (get bytes_eq names.numbers)

@@ -1,0 +1,62 @@
+-- The files that are reached from a root, and what is at fault with them.
+use Rattle.std.specs.Prelude.{◌≡◌, ℕ, ◌^◌, ◌≤◌, Bool, List, Option, None, Some}
+use Rattle.std.specs.List.{Contains}
+use Rattle.std.specs.Option.{option_and_then}
+use Rattle.just_parts.specs.Clean.{folder_of}
+use Rattle.just_parts.specs.declared.layers.ast.Item.{Item}
+use Rattle.just_parts.specs.declared.layers.error.CompileErrorKind.TheVariants as kind
+use Rattle.just_loader.specs.Links.{Link, To, Fault, link_in}
+use Rattle.just_loader.specs.ModuleFile.{relative}
+use Rattle.just_loader.specs.Causes.{Cause, Broken, NoNumber}
+use Rattle.just_loader.specs.Sources.{Files, text_at}
+
+abbrev Text : Type 0
+Text = List ℕ
+
+-- What a compilation reads: the files, the home folder, where it is known, what the syntax says (the items of a text under its relative path, the numbers that it takes, and which items count), and the path of the root.
+pub record World : Type 0 where
+  pub files : Files
+  pub home : Option Text
+  pub parsed : Text → Text → Option (List Item)
+  pub spends : Text → Text → ℕ
+  pub enabled : Item → Bool
+  pub root : Text
+
+-- a path from the root's folder, where it lies below it
+abbrev pub relative_to_root : World → Text → Text
+relative_to_root w path = relative (folder_of w.root) path
+
+-- the items of the file at a path
+abbrev pub items_of : World → Text → Option (List Item)
+items_of w path = option_and_then (w.parsed (relative_to_root w path)) (text_at w.files path)
+
+-- what an item leads to from its file's folder
+abbrev pub link : World → Text → Item → Link
+link w folder item = link_in w.files w.home w.enabled folder item
+
+-- the file at f has the item
+abbrev pub HasItem : World → Text → Item → Type 0
+HasItem w f item = (items : List Item) × (items_of w f ≡ Some items) × Contains items item
+
+-- an item of f leads to g
+pub record LeadsTo (w : World) (f g : Text) : Type 0 where
+  pub item : Item
+  pub has : HasItem w f item
+  pub leads : link w (folder_of f) item ≡ To g
+
+-- the root, and what reached files lead to
+pub data Reached (w : World) : Text → Type 0 where
+  from_root : Reached w w.root
+  from_file : {f g : Text} → Reached w f → LeadsTo w f g → Reached w g
+
+-- The text of a file does not follow the grammar or takes more numbers than there are, or an item is at fault.
+pub data NamesAt (w : World) (path : Text) : Cause → Type 0 where
+  no_grammar : (text : Text) → text_at w.files path ≡ Some text → w.parsed (relative_to_root w path) text ≡ None → NamesAt w path (Broken kind.Syntax)
+  no_number : (text : Text) → text_at w.files path ≡ Some text → 2 ^ 64 ≤ w.spends (relative_to_root w path) text → NamesAt w path NoNumber
+  in_item : {c : Cause} (item : Item) → HasItem w path item → link w (folder_of path) item ≡ Fault c → NamesAt w path c
+
+-- What is at fault with a reached file.
+pub record NamesInScan (w : World) (c : Cause) : Type 0 where
+  pub path : Text
+  pub reached : Reached w path
+  pub at_fault : NamesAt w path c

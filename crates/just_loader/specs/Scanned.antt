@@ -1,0 +1,91 @@
+-- What a scan tells of the files that are reached.
+use Rattle.std.specs.Prelude.{◌≡◌, ◌↔◌, ℕ, ◌<◌, List, [], ◌∷◌, ◌++◌, Option, None, Some, map, length, slice_get}
+use Rattle.std.specs.List.{All, Contains}
+use Rattle.std.specs.declared.vec.Vec.{Vec}
+use Rattle.std.specs.declared.alloc.Global.{Global}
+use Rattle.just_graph.specs.Unfolding.{HasStep}
+use Rattle.just_graph.specs.declared.unfolding.Step.{Step}
+use Rattle.just_parts.specs.Bare.{bare_item}
+use Rattle.just_parts.specs.Clean.{IsClean, folder_of}
+use Rattle.just_parts.specs.Name.{text_of_name}
+use Rattle.just_parts.specs.declared.layers.ast.Item.{Item}
+use Rattle.just_parts.specs.declared.layers.ast.Item.TheVariants as item
+use Rattle.just_loader.specs.Links.{Link, Nowhere, To, Fault}
+use Rattle.just_loader.specs.Numbering.{AreOnce, texts_of}
+use Rattle.just_loader.specs.Reached.{World, Reached, items_of, link, relative_to_root}
+use Rattle.just_loader.specs.Sources.{text_at}
+use Rattle.just_loader.specs.declared.scanned.Scan.{Scan}
+use Rattle.just_loader.specs.declared.scanned.ScannedFile.{ScannedFile}
+
+abbrev Text : Type 0
+Text = List ℕ
+
+-- the place of the path to which a link leads
+abbrev pub IsPlaceOf : List Text → Link → Option ℕ → Type 0
+IsPlaceOf paths Nowhere None = Unit {0}
+IsPlaceOf paths Nowhere (Some place) = ⊥
+IsPlaceOf paths (To path) None = ⊥
+IsPlaceOf paths (To path) (Some place) = slice_get paths place ≡ Some path
+IsPlaceOf paths (Fault cause) place = ⊥
+
+-- the same of each link, with the place beside it
+abbrev pub ArePlacesOf : List Text → List Link → List (Option ℕ) → Type 0
+ArePlacesOf paths [] [] = Unit {0}
+ArePlacesOf paths [] (target ∷ targets) = ⊥
+ArePlacesOf paths (link ∷ links) [] = ⊥
+ArePlacesOf paths (link ∷ links) (target ∷ targets) = IsPlaceOf paths link target × ArePlacesOf paths links targets
+
+-- the step of an item to a place: that of an import has the offset of its text, and that of a module enters the number of its name
+abbrev pub IsStepTo : List Text → ℕ → Item → List Step → Type 0
+IsStepTo names place (item.Import literal absolute optional) steps = steps ≡ record { target = place; offset = literal.token.offset; enters = None } ∷ []
+IsStepTo names place (item.Module name literal absolute optional) steps = (number : ℕ) × (slice_get names number ≡ Some (text_of_name name)) × (steps ≡ record { target = place; offset = 0; enters = Some number } ∷ [])
+IsStepTo names place (item.Recipe r) steps = steps ≡ []
+
+-- no step where there is no place
+abbrev pub IsStepOf : List Text → Item → Option ℕ → List Step → Type 0
+IsStepOf names i None steps = steps ≡ []
+IsStepOf names i (Some place) steps = IsStepTo names place i steps
+
+-- the steps of items to the places beside them, in order
+abbrev pub AreSteps : List Text → List Item → List (Option ℕ) → List Step → Type 0
+AreSteps names [] [] row = row ≡ []
+AreSteps names [] (target ∷ targets) row = ⊥
+AreSteps names (i ∷ is) [] row = ⊥
+AreSteps names (i ∷ is) (target ∷ targets) row = (first rest : List Step) × IsStepOf names i target first × AreSteps names is targets rest × (row ≡ first ++ rest)
+
+-- The file is as its path tells, and its targets and its steps are those of its items.
+pub record IsScanned (w : World) (paths names : List Text) (file : ScannedFile) (row : List Step) : Type 0 where
+  pub text : text_at w.files file.path ≡ Some file.text
+  pub relative : file.relative ≡ relative_to_root w file.path
+  pub items : List Item
+  pub parsed : items_of w file.path ≡ Some items
+  pub said : items ≡ map bare_item file.items
+  pub targets : ArePlacesOf paths (map (link w (folder_of file.path)) items) file.targets.items
+  pub steps : AreSteps names items file.targets.items row
+
+-- the paths of scanned files
+abbrev pub paths_in : List ScannedFile → List Text
+paths_in files = map (λ (f : ScannedFile). f.path) files
+
+-- each file with the row at its place
+abbrev pub AreScanned : World → List Text → List Text → List ScannedFile → List (Vec Step Global) → Type 0
+AreScanned w paths names files rows = (k : ℕ) (file : ScannedFile) (row : Vec Step Global) → slice_get files k ≡ Some file → slice_get rows k ≡ Some row → IsScanned w paths names file row.items
+
+-- The reached files, each once and under a clean path, the root first, each with its row, whose steps lead to rows. Each name has one number.
+pub record IsScan (w : World) (scan : Scan) : Type 0 where
+  pub reached : (path : Text) → Contains (paths_in scan.files.items) path ↔ Reached w path
+  pub once : AreOnce (paths_in scan.files.items)
+  pub clean : All IsClean (paths_in scan.files.items)
+  pub root : slice_get (paths_in scan.files.items) 0 ≡ Some w.root
+  pub count : length scan.rows.items ≡ length scan.files.items
+  pub scanned : AreScanned w (paths_in scan.files.items) (texts_of scan.names.items) scan.files.items scan.rows.items
+  pub within : (a b : ℕ) → HasStep scan.rows.items a b → b < length scan.rows.items
+  pub names : AreOnce (texts_of scan.names.items)
+
+-- a list with more behind it that has a property
+abbrev pub Grows : (Text → Type 0) → List Text → List Text → Type 0
+Grows P old new = (more : List Text) × (new ≡ old ++ more) × ((text : Text) → Contains more text → P text)
+
+-- a list with more behind it
+abbrev pub Extends : List Text → List Text → Type 0
+Extends old new = (more : List Text) × (new ≡ old ++ more)

@@ -1,0 +1,17 @@
+//! Loads the files of a compilation from a source map: what a root reaches, or what is at fault.
+#![tactic(auto)]
+
+mod circles;
+mod found;
+mod links;
+pub mod loaded;
+pub mod loading;
+mod module_file;
+mod scan;
+pub mod scanned;
+pub mod sources;
+
+pub use loaded::Loaded;
+pub use loading::load;
+pub use module_file::find_module_file;
+pub use sources::Sources;

@@ -1,0 +1,137 @@
+//! What the items of a file lead to.
+
+ghost use Rattle.std.specs.Prelude.{◌≡◌, None, Some, is_some, map, option_map, string_bytes, IfOk, IfErr};
+ghost use Rattle.just_parts.specs.Entries.{find};
+ghost use Rattle.just_parts.specs.Join.{clean_join};
+ghost use Rattle.just_loader.specs.Links.{Nowhere, To, Fault, without_slashes, expanded, given, import_link, module_link, enabled_link, link_in, linked};
+ghost use Rattle.just_loader.specs.Causes.{NoHome, Reports};
+
+use crate::module_file::{after, find_module_file};
+use crate::sources::Sources;
+use just_data::Text;
+use just_parts::clean_join;
+use just_parts::layers::{Config, Error, Item, LoadError, Name, StringLiteral, Syntax};
+use std::alloc::Global;
+
+// What a text has after its leading slashes.
+fn without_slashes<'text>(text: &'text str) -> &'text str
+    ensures { result.now ≡ without_slashes text.now }
+{
+    let mut rest = text;
+    while let Some(shorter) = after(rest, "/") {
+        rest = shorter;
+    }
+    rest
+}
+
+// A text with the home folder in place of the `~` of a leading `~/`.
+fn expand<'src>(alloc: Global, home: &Option<Text>, text: &str) -> Result<Text, Error<'src>>
+    ensures path { IfOk result (λ path. expanded home.now text.now ≡ Some path) }
+    ensures error { IfErr result (Reports (λ c. (expanded home.now text.now ≡ None) × (c ≡ NoHome))) }
+{
+    let Some(rest) = after(text, "~/") else {
+        return Ok(Text::from_str(alloc, text)?);
+    };
+    let Some(home) = home else {
+        return Err(Error::Load(LoadError::Homedir));
+    };
+    let mut path = String::from_str(alloc, home.as_str())?;
+    path.push('/')?;
+    path.push_str(without_slashes(rest))?;
+    Ok(Text::from_string(path))
+}
+
+// What an import leads to from a folder.
+fn link_import<'src>(
+    alloc: Global,
+    config: &Config,
+    sources: &Sources,
+    folder: &str,
+    literal: &StringLiteral<'src>,
+    optional: bool,
+) -> Result<Option<Text>, Error<'src>>
+    ensures path { IfOk result (λ path. import_link sources.now folder.now literal.now.token optional (expanded config.now.home literal.now.cooked) ≡ linked path) }
+    ensures error { IfErr result (Reports (λ c. import_link sources.now folder.now literal.now.token optional (expanded config.now.home literal.now.cooked) ≡ Fault c)) }
+{
+    let text = expand(alloc, &config.home, literal.cooked.as_str())?;
+    let path = clean_join(alloc, folder, text.as_str())?;
+    if sources.file(path.as_str()).is_some() {
+        Ok(Some(path))
+    } else if optional {
+        Ok(None)
+    } else {
+        Err(Error::Load(LoadError::MissingImportFile {
+            path: literal.token.copied(),
+        }))
+    }
+}
+
+// The path that may be given for a module, expanded.
+fn expand_given<'src>(
+    alloc: Global,
+    home: &Option<Text>,
+    literal: &Option<StringLiteral<'src>>,
+) -> Result<Option<Text>, Error<'src>>
+    ensures path { IfOk result (λ path. given home.now literal.now ≡ Some path) }
+    ensures error { IfErr result (Reports (λ c. (given home.now literal.now ≡ None) × (c ≡ NoHome))) }
+{
+    match literal {
+        Some(literal) => Ok(Some(expand(alloc, home, literal.cooked.as_str())?)),
+        None => Ok(None),
+    }
+}
+
+// What a module leads to from a folder.
+fn link_module<'src>(
+    alloc: Global,
+    config: &Config,
+    sources: &Sources<'src>,
+    folder: &str,
+    name: &Name<'src>,
+    literal: &Option<StringLiteral<'src>>,
+    optional: bool,
+) -> Result<Option<Text>, Error<'src>>
+    ensures path { IfOk result (λ path. module_link sources.now folder.now name.now optional (given config.now.home literal.now) ≡ linked path) }
+    ensures error { IfErr result (Reports (λ c. module_link sources.now folder.now name.now optional (given config.now.home literal.now) ≡ Fault c)) }
+{
+    let given = expand_given(alloc, &config.home, literal)?;
+    let path = given.as_ref().map(|path| path.as_str());
+    match find_module_file(alloc, sources, folder, name, path)? {
+        Some(path) => Ok(Some(path)),
+        None if optional => Ok(None),
+        None => Err(Error::Load(LoadError::MissingModuleFile {
+            module: name.copied(),
+        })),
+    }
+}
+
+/// The path to which an item of a file in a folder leads, or none, or its fault.
+pub(crate) fn link<'src, S: Syntax>(
+    alloc: Global,
+    config: &Config,
+    syntax: &S,
+    sources: &Sources<'src>,
+    folder: &str,
+    item: &Item<'src>,
+) -> Result<Option<Text>, Error<'src>>
+    ensures path { IfOk result (λ path. link_in sources.now config.now.home (S.enabled syntax.now) folder.now item.now ≡ linked path) }
+    ensures error { IfErr result (Reports (λ c. link_in sources.now config.now.home (S.enabled syntax.now) folder.now item.now ≡ Fault c)) }
+{
+    if !syntax.is_enabled(item) {
+        return Ok(None);
+    }
+    match item {
+        Item::Import {
+            relative,
+            optional,
+            ..
+        } => link_import(alloc, config, sources, folder, relative, *optional),
+        Item::Module {
+            name,
+            relative,
+            optional,
+            ..
+        } => link_module(alloc, config, sources, folder, name, relative, *optional),
+        Item::Recipe(_) => Ok(None),
+    }
+}

@@ -1,0 +1,297 @@
+//! Loads the files of a compilation: what a root reaches, each file as often as it belongs to a module.
+
+ghost use Rattle.std.specs.Prelude.{◌≡◌, ◌+◌, ◌^◌, ◌<◌, ℕ, List, Some, map, length, slice_get, IfSome, IfOk, IfErr, OnOk};
+ghost use Rattle.std.specs.HashMap.{get};
+ghost use Rattle.std.specs.List.{All, flat_map};
+ghost use Rattle.std.specs.Option.{option_map};
+ghost use Rattle.just_graph.specs.Unfolding.{Node};
+ghost use Rattle.just_graph.specs.declared.unfolding.Unfolded.{Unfolded};
+ghost use Rattle.just_parts.specs.Clean.{IsClean};
+ghost use Rattle.just_parts.specs.Syntax.{AreRising, PriorsAreDependencies, numbers};
+ghost use Rattle.just_parts.specs.declared.layers.ast.Ast.{Ast};
+ghost use Rattle.just_loader.specs.Asts.{same_key};
+ghost use Rattle.just_loader.specs.Causes.{Keeps, Reports};
+ghost use Rattle.just_loader.specs.Keys.{NamesInFiles, spends_at};
+ghost use Rattle.just_loader.specs.Loaded.{CameIn, IsLoaded, at_first, file_at, with_path};
+ghost use Rattle.just_loader.specs.Loading.{AreNodes, AreParsed, AreSources, AreUnfolded, CameInSoFar, ComesNext, IsSaid, IsScanBy, Stops, StopsAt, spent_by, with_absolute};
+ghost use Rattle.just_loader.specs.Parsed.{AreHeld, AreKeyed, relative_at};
+ghost use Rattle.just_loader.specs.Reached.{World, link};
+ghost use Rattle.just_loader.specs.Scanned.{ArePlacesOf, IsPlaceOf, IsScan, paths_in};
+
+use crate::circles::check_circles;
+use crate::loaded::Loaded;
+use crate::scan::scan;
+use crate::scanned::Scan;
+use crate::sources::Sources;
+use just_data::{Sequence, Text};
+use just_graph::unfolding::{Step, Unfolded, unfold};
+use just_parts::layers::{Ast, Config, Error, Item, LoadError, Numerator, Syntax};
+use just_parts::{Modulepath, Source};
+use std::alloc::{AllocError, Global};
+use std::collections::HashMap;
+
+// How the file that a step leads to comes in, from how the file of the step did.
+fn next_source<'src>(
+    alloc: Global,
+    scan: &Scan<'src>,
+    before: &Source<'src>,
+    step: Step,
+) -> Result<Source<'src>, Error<'src>>
+    requires target { step.target < length scan.now.files.items }
+    requires number { IfSome step.enters (λ number. number < length scan.now.names.items) }
+    requires clean { All IsClean (paths_in scan.now.files.items) }
+    requires shallow { before.now.file_depth < u64.MAX }
+    ensures next { IfOk result (ComesNext scan.now before.now step) }
+    ensures error { IfErr result (λ e. e ≡ Error.Memory) }
+{
+    let path = scan.files[step.target].path.as_str();
+    match step.enters {
+        None => before.import(alloc, path, step.offset),
+        Some(number) => before.module(alloc, &scan.names[number], path),
+    }
+}
+
+// How the file of a node came in, from how those of the nodes before it did.
+fn source_of<'src>(
+    alloc: Global,
+    scan: &Scan<'src>,
+    nodes: &[Unfolded],
+    sources: &[Source<'src>],
+    node: &Unfolded,
+) -> Result<Source<'src>, Error<'src>>
+    requires scan { (w : World) × IsScan w scan.now }
+    requires nodes { AreUnfolded scan.now nodes.now }
+    requires node { slice_get nodes.now (length sources.now) ≡ Some node.now }
+    requires sources { (ns : List Node) → AreNodes scan.now nodes.now ns → CameInSoFar scan.now ns sources.now }
+    ensures came { IfOk result (λ source. (ns : List Node) (n : Node) → AreNodes scan.now nodes.now ns → slice_get ns (length sources.now) ≡ Some n → CameIn scan.now n source) }
+    ensures error { IfErr result (λ e. e ≡ Error.Memory) }
+{
+    let mut source = match node.origin {
+        None => Source::root(alloc, scan.files[node.node].path.as_str())?,
+        Some(origin) => {
+            let step = scan.rows[nodes[origin.parent].node][origin.step];
+            next_source(alloc, scan, &sources[origin.parent], step)?
+        }
+    };
+    source.file_depth = node.depth as u64;
+    Ok(source)
+}
+
+// How the file of each node came in.
+fn sources_of<'src>(
+    alloc: Global,
+    scan: &Scan<'src>,
+    nodes: &[Unfolded],
+) -> Result<Vec<Source<'src>>, Error<'src>>
+    requires scan { (w : World) × IsScan w scan.now }
+    requires nodes { AreUnfolded scan.now nodes.now }
+    ensures sources { IfOk result (λ sources. (ns : List Node) → AreNodes scan.now nodes.now ns → AreSources scan.now ns sources.items) }
+    ensures error { IfErr result (λ e. e ≡ Error.Memory) }
+{
+    let mut sources = Vec::new(alloc);
+    for node in nodes {
+        sources.push(source_of(alloc, scan, nodes, sources.as_slice(), node)?)?;
+    }
+    Ok(sources)
+}
+
+// The path of the file at a place, where there is one.
+fn target_path<'src>(
+    alloc: Global,
+    scan: &Scan<'src>,
+    target: Option<usize>,
+) -> Result<Option<Text>, AllocError>
+    requires { IfSome target (λ place. place < length scan.now.files.items) }
+    ensures { IfOk result (λ path. path ≡ option_map (file_at scan.now) target) }
+{
+    let Some(place) = target else {
+        return Ok(None);
+    };
+    let path = Text::from_str(alloc, scan.files[place].path.as_str())?;
+    Ok(Some(path))
+}
+
+// An item with an absolute path, where it is one of a file.
+fn with_absolute<'src>(item: Item<'src>, path: Option<Text>) -> Item<'src>
+    ensures { result ≡ with_absolute path item.entry }
+{
+    match item {
+        Item::Import {
+            relative,
+            absolute: _absolute,
+            optional,
+        } => Item::Import {
+            relative,
+            absolute: path,
+            optional,
+        },
+        Item::Module {
+            name,
+            relative,
+            absolute: _absolute,
+            optional,
+        } => Item::Module {
+            name,
+            relative,
+            absolute: path,
+            optional,
+        },
+        Item::Recipe(recipe) => Item::Recipe(recipe),
+    }
+}
+
+// Items with the absolute paths of the files to which they lead.
+fn with_paths<'src>(
+    alloc: Global,
+    scan: &Scan<'src>,
+    items: Sequence<Item<'src>>,
+    targets: &[Option<usize>],
+) -> Result<Sequence<Item<'src>>, AllocError>
+    requires { (w : World) × (folder : List ℕ) × ArePlacesOf (paths_in scan.now.files.items) (map (link w folder) items) targets.now }
+    ensures { IfOk result (λ made. (w : World) (folder : List ℕ) → ArePlacesOf (paths_in scan.now.files.items) (map (link w folder) items.entry) targets.now → made ≡ map (with_path w folder) items.entry) }
+{
+    let mut linked = Vec::new(alloc);
+    for item in items.into_vec() {
+        let path = target_path(alloc, scan, targets[linked.len()])?;
+        linked.push(with_absolute(item, path))?;
+    }
+    Ok(Sequence::from_vec(linked))
+}
+
+// What the text of a scanned file says, where the file came in like that.
+fn parse_file<'src, S: Syntax>(
+    alloc: Global,
+    syntax: &S,
+    numerator: &mut Numerator,
+    scan: &Scan<'src>,
+    place: usize,
+    source: &Source<'src>,
+) -> Result<Ast<'src>, Error<'src>>
+    requires scan { (w : World) × IsScanBy w scan.now (S.parsed syntax.now) (S.spends syntax.now) }
+    requires place { place < length scan.now.files.items }
+    requires few { numerator.old.next < 2 ^ 64 }
+    ensures said { IfOk result (λ ast. (w : World) → IsScanBy w scan.now (S.parsed syntax.now) (S.spends syntax.now) → IsSaid w (file_at scan.now place) source.now ast) }
+    ensures numbers { IfOk result (λ ast. AreRising numerator.old.next (numbers ast.items) numerator.new.next) }
+    ensures priors { IfOk result (λ ast. All PriorsAreDependencies ast.items) }
+    ensures spent { OnOk result ((w : World) → IsScanBy w scan.now (S.parsed syntax.now) (S.spends syntax.now) → numerator.new.next ≡ numerator.old.next + spends_at w (file_at scan.now place)) }
+    ensures fits { OnOk result (numerator.new.next < 2 ^ 64) }
+    ensures stopped { IfErr result (λ e. (w : World) → IsScanBy w scan.now (S.parsed syntax.now) (S.spends syntax.now) → StopsAt numerator.old.next (spends_at w (file_at scan.now place)) e) }
+{
+    let file = &scan.files[place];
+    let Ast {
+        items,
+        module_path,
+        working_directory,
+    } = syntax.parse_source(
+        alloc,
+        numerator,
+        file.relative.as_str(),
+        source,
+        file.text.as_str(),
+    )?;
+    Ok(Ast {
+        items: with_paths(alloc, scan, items, file.targets.as_slice())?,
+        module_path,
+        working_directory,
+    })
+}
+
+// What the text of each node's file says.
+fn parse_all<'src, S: Syntax>(
+    alloc: Global,
+    syntax: &S,
+    scan: &Scan<'src>,
+    nodes: &[Unfolded],
+) -> Result<Vec<Ast<'src>>, Error<'src>>
+    requires scan { (w : World) × IsScanBy w scan.now (S.parsed syntax.now) (S.spends syntax.now) }
+    requires nodes { AreUnfolded scan.now nodes.now }
+    ensures parsed { IfOk result (λ asts. (w : World) (ns : List Node) → IsScanBy w scan.now (S.parsed syntax.now) (S.spends syntax.now) → AreNodes scan.now nodes.now ns → AreParsed w scan.now ns asts.items) }
+    ensures numbers { IfOk result (λ asts. (w : World) → IsScanBy w scan.now (S.parsed syntax.now) (S.spends syntax.now) → AreRising 0 (flat_map (λ (ast : Ast). numbers ast.items) asts.items) (spent_by w scan.now nodes.now)) }
+    ensures priors { IfOk result (λ asts. All (λ (ast : Ast). All PriorsAreDependencies ast.items) asts.items) }
+    ensures fits { OnOk result ((w : World) → IsScanBy w scan.now (S.parsed syntax.now) (S.spends syntax.now) → spent_by w scan.now nodes.now < 2 ^ 64) }
+    ensures stopped { IfErr result (λ e. (w : World) → IsScanBy w scan.now (S.parsed syntax.now) (S.spends syntax.now) → Stops w scan.now nodes.now e) }
+{
+    let sources = sources_of(alloc, scan, nodes)?;
+    let mut numerator = Numerator::new();
+    let mut asts = Vec::new(alloc);
+    for place in 0..nodes.len() {
+        let node = nodes[place].node;
+        let source = &sources[place];
+        asts.push(parse_file(alloc, syntax, &mut numerator, scan, node, source)?)?;
+    }
+    Ok(asts)
+}
+
+// What each node's text says, under the node's key.
+fn hold<'src>(
+    alloc: Global,
+    scan: &Scan<'src>,
+    nodes: &[Unfolded],
+    mut asts: Vec<Ast<'src>>,
+) -> Result<HashMap<(Modulepath, Text), Ast<'src>>, AllocError>
+    requires { AreKeyed scan.now nodes.now asts.items }
+    ensures { IfOk result (λ held. AreHeld scan.now nodes.now asts.entry.items (get same_key held)) }
+{
+    let mut held = HashMap::new(alloc);
+    while let Some(ast) = asts.pop() {
+        let node = &nodes[asts.len()];
+        let path = Text::from_str(alloc, scan.files[node.node].path.as_str())?;
+        held.insert((ast.module_path.clone()?, path), ast)?;
+    }
+    Ok(held)
+}
+
+// The relative path of each file once, in the order of the nodes.
+fn loaded_paths<'src>(
+    alloc: Global,
+    scan: &Scan<'src>,
+    nodes: &[Unfolded],
+) -> Result<Sequence<Text>, AllocError>
+    requires { (k : ℕ) (u : Unfolded) → slice_get nodes.now k ≡ Some u → u.node < length scan.now.files.items }
+    ensures { IfOk result (λ loaded. loaded ≡ map (relative_at scan.now) (at_first (map (λ (u : Unfolded). u.node) nodes.now))) }
+{
+    let mut seen = Vec::new(alloc);
+    seen.resize(scan.files.len(), false)?;
+    let mut loaded = Sequence::new(alloc);
+    for node in nodes {
+        if seen[node.node] {
+            continue;
+        }
+        seen[node.node] = true;
+        loaded.push(Text::from_str(alloc, scan.files[node.node].relative.as_str())?)?;
+    }
+    Ok(loaded)
+}
+
+/// Loads the files that a root reaches, or names a rule of files that is broken: a file is missing, does not follow the
+/// grammar, leads back to itself, or there are not as many numbers as the files take.
+pub fn load<'src, S: Syntax>(
+    alloc: Global,
+    config: &Config,
+    syntax: &S,
+    sources: &Sources<'src>,
+    root: &str,
+) -> Result<Loaded<'src>, Error<'src>>
+    requires { IsClean root.now }
+    ensures kept { let w : World = record { files = sources.now; home = config.now.home; parsed = S.parsed syntax.now; spends = S.spends syntax.now; enabled = S.enabled syntax.now; root = root.now } in IfOk result (λ _. Keeps (NamesInFiles w)) }
+    ensures loaded { let w : World = record { files = sources.now; home = config.now.home; parsed = S.parsed syntax.now; spends = S.spends syntax.now; enabled = S.enabled syntax.now; root = root.now } in IfOk result (IsLoaded w) }
+    ensures named { let w : World = record { files = sources.now; home = config.now.home; parsed = S.parsed syntax.now; spends = S.spends syntax.now; enabled = S.enabled syntax.now; root = root.now } in IfErr result (Reports (NamesInFiles w)) }
+{
+    if sources.file(root).is_none() {
+        return Err(Error::Load(LoadError::Load {
+            path: Text::from_str(alloc, root)?,
+        }));
+    }
+    let scan = scan(alloc, config, syntax, sources, root)?;
+    let order = check_circles(alloc, &scan)?;
+    let nodes = unfold(alloc, scan.rows.as_slice(), 0)?;
+    let asts = parse_all(alloc, syntax, &scan, nodes.as_slice())?;
+    let asts = hold(alloc, &scan, nodes.as_slice(), asts)?;
+    let loaded = loaded_paths(alloc, &scan, nodes.as_slice())?;
+    Ok(Loaded {
+        scan,
+        order,
+        asts,
+        loaded,
+    })
+}

@@ -1,0 +1,245 @@
+//! Scans a source map from a root: the files that are reached, with what their items lead to.
+
+ghost use Rattle.std.specs.Prelude.{◌≡◌, ◌++◌, ◌^◌, ◌<◌, List, Some, map, length, IsSome, IfOk, IfErr, OnOk};
+ghost use Rattle.std.specs.List.{Contains};
+ghost use Rattle.just_graph.specs.declared.unfolding.Step.{Step};
+ghost use Rattle.just_parts.specs.Bare.{bare_item};
+ghost use Rattle.just_parts.specs.Clean.{IsClean};
+ghost use Rattle.just_parts.specs.Entries.{find};
+ghost use Rattle.just_parts.specs.Syntax.{Refuses};
+ghost use Rattle.just_loader.specs.Links.{To, Fault, link_in};
+ghost use Rattle.just_loader.specs.ModuleFile.{relative};
+ghost use Rattle.just_loader.specs.Numbering.{AreFound, AreNumbered, IsFile, paths_of, texts_of};
+ghost use Rattle.just_loader.specs.Reached.{World, LeadsTo, NamesAt, NamesInScan};
+ghost use Rattle.just_loader.specs.Causes.{Keeps, Reports};
+ghost use Rattle.just_loader.specs.Sources.{text_at};
+ghost use Rattle.just_loader.specs.Scanned.{IsPlaceOf, ArePlacesOf, IsStepOf, AreSteps, IsScanned, IsScan, Grows, Extends};
+
+use crate::found::{Found, Names};
+use crate::links::link;
+use crate::module_file::{after, slashed};
+use crate::scanned::{Scan, ScannedFile};
+use crate::sources::{SourceFile, Sources};
+use just_data::{BorrowedText, Sequence};
+use just_graph::unfolding::Step;
+use just_parts::Source;
+use just_parts::layers::{Config, Error, Item, Numerator, Syntax};
+use just_parts::source::folder_of;
+use std::alloc::{AllocError, Global};
+
+// A path from a folder, where it lies below it.
+fn relative_path<'text>(
+    alloc: Global,
+    folder: &str,
+    path: &'text str,
+) -> Result<&'text str, AllocError>
+    ensures { IfOk result (λ shown. shown.now ≡ relative folder.now path.now) }
+{
+    let prefix = slashed(alloc, folder)?;
+    Ok(after(path, prefix.as_str()).unwrap_or(path))
+}
+
+// The items of a text.
+fn parse<'src, S: Syntax>(
+    alloc: Global,
+    syntax: &S,
+    path: &str,
+    relative: &'src str,
+    text: &'src str,
+) -> Result<Sequence<Item<'src>>, Error<'src>>
+    requires { IsClean path.now }
+    ensures items { IfOk result (λ items. S.parsed syntax.now relative.now text.now ≡ Some (map bare_item items)) }
+    ensures fits { OnOk result (S.spends syntax.now relative.now text.now < 2 ^ 64) }
+    ensures refused { IfErr result (λ e. Refuses e (S.parsed syntax.now relative.now text.now) (S.spends syntax.now relative.now text.now)) }
+{
+    let source = Source::root(alloc, path)?;
+    let mut numerator = Numerator::new();
+    match syntax.parse_source(alloc, &mut numerator, relative, &source, text) {
+        Ok(ast) => Ok(ast.items),
+        Err(error) => Err(error),
+    }
+}
+
+// The place of the file to which an item leads. Where it is not found yet it is put last.
+fn target<'src, S: Syntax>(
+    alloc: Global,
+    config: &Config,
+    syntax: &S,
+    sources: &Sources<'src>,
+    folder: &str,
+    item: &Item<'src>,
+    found: &mut Found<'src>,
+) -> Result<Option<usize>, Error<'src>>
+    requires { AreFound sources.now found.old }
+    ensures place { IfOk result (IsPlaceOf (paths_of found.new.files.items) (link_in sources.now config.now.home (S.enabled syntax.now) folder.now item.now)) }
+    ensures grows { OnOk result (Grows (λ path. link_in sources.now config.now.home (S.enabled syntax.now) folder.now item.now ≡ To path) (paths_of found.old.files.items) (paths_of found.new.files.items)) }
+    ensures found { OnOk result (AreFound sources.now found.new) }
+    ensures error { IfErr result (Reports (λ c. link_in sources.now config.now.home (S.enabled syntax.now) folder.now item.now ≡ Fault c)) }
+{
+    match link(alloc, config, syntax, sources, folder, item)? {
+        Some(path) => Ok(Some(found.place(sources, path.as_str())?)),
+        None => Ok(None),
+    }
+}
+
+// The places of the files to which items lead.
+fn targets<'src, S: Syntax>(
+    alloc: Global,
+    config: &Config,
+    syntax: &S,
+    sources: &Sources<'src>,
+    folder: &str,
+    items: &[Item<'src>],
+    found: &mut Found<'src>,
+) -> Result<Vec<Option<usize>>, Error<'src>>
+    requires { AreFound sources.now found.old }
+    ensures places { IfOk result (λ targets. ArePlacesOf (paths_of found.new.files.items) (map (link_in sources.now config.now.home (S.enabled syntax.now) folder.now) items.now) targets.items) }
+    ensures grows { OnOk result (Grows (λ path. Contains (map (link_in sources.now config.now.home (S.enabled syntax.now) folder.now) items.now) (To path)) (paths_of found.old.files.items) (paths_of found.new.files.items)) }
+    ensures found { OnOk result (AreFound sources.now found.new) }
+    ensures error { IfErr result (Reports (λ c. Contains (map (link_in sources.now config.now.home (S.enabled syntax.now) folder.now) items.now) (Fault c))) }
+{
+    let mut targets = Vec::new(alloc);
+    for item in items {
+        targets.push(target(alloc, config, syntax, sources, folder, item, found)?)?;
+    }
+    Ok(targets)
+}
+
+// Pushes the step of an item, where it leads to a file.
+fn push_step<'src>(
+    item: &Item<'src>,
+    target: Option<usize>,
+    names: &mut Names<'src>,
+    row: &mut Vec<Step>,
+) -> Result<(), AllocError>
+    requires { AreNumbered names.old }
+    ensures pushed { OnOk result ((steps : List Step) × IsStepOf (texts_of names.new.names.items) item.now target steps × (row.new.items ≡ row.old.items ++ steps)) }
+    ensures extends { OnOk result (Extends (texts_of names.old.names.items) (texts_of names.new.names.items)) }
+    ensures numbered { OnOk result (AreNumbered names.new) }
+{
+    let Some(place) = target else {
+        return Ok(());
+    };
+    match item {
+        Item::Import { relative, .. } => {
+            row.push(Step {
+                target: place,
+                offset: relative.token.offset(),
+                enters: None,
+            })?;
+        }
+        Item::Module { name, .. } => {
+            let number = names.number(name)?;
+            row.push(Step {
+                target: place,
+                offset: 0,
+                enters: Some(number),
+            })?;
+        }
+        Item::Recipe(_) => {}
+    }
+    Ok(())
+}
+
+// The steps of items to their targets.
+fn row<'src>(
+    alloc: Global,
+    items: &[Item<'src>],
+    targets: &[Option<usize>],
+    names: &mut Names<'src>,
+) -> Result<Vec<Step>, AllocError>
+    requires count { length targets.now ≡ length items.now }
+    requires numbered { AreNumbered names.old }
+    ensures steps { IfOk result (λ row. AreSteps (texts_of names.new.names.items) items.now targets.now row.items) }
+    ensures extends { OnOk result (Extends (texts_of names.old.names.items) (texts_of names.new.names.items)) }
+    ensures numbered { OnOk result (AreNumbered names.new) }
+{
+    let mut row = Vec::new(alloc);
+    for place in 0..items.len() {
+        push_step(&items[place], targets[place], names, &mut row)?;
+    }
+    Ok(row)
+}
+
+// Scans a file: what it leads to is found, and the names that it enters have numbers.
+fn scan_file<'src, S: Syntax>(
+    alloc: Global,
+    config: &Config,
+    syntax: &S,
+    sources: &Sources<'src>,
+    root: &str,
+    file: &SourceFile<'src>,
+    found: &mut Found<'src>,
+    names: &mut Names<'src>,
+) -> Result<(ScannedFile<'src>, Vec<Step>), Error<'src>>
+    requires root { IsClean root.now }
+    requires file { IsFile sources.now file.now }
+    requires found { AreFound sources.now found.old }
+    requires numbered { AreNumbered names.old }
+    ensures path { IfOk result (λ s. s.0.path ≡ file.now.path) }
+    ensures scanned { let w : World = record { files = sources.now; home = config.now.home; parsed = S.parsed syntax.now; spends = S.spends syntax.now; enabled = S.enabled syntax.now; root = root.now } in IfOk result (λ s. IsScanned w (paths_of found.new.files.items) (texts_of names.new.names.items) s.0 s.1.items) }
+    ensures kept { let w : World = record { files = sources.now; home = config.now.home; parsed = S.parsed syntax.now; spends = S.spends syntax.now; enabled = S.enabled syntax.now; root = root.now } in IfOk result (λ _. Keeps (NamesAt w file.now.path)) }
+    ensures grows { let w : World = record { files = sources.now; home = config.now.home; parsed = S.parsed syntax.now; spends = S.spends syntax.now; enabled = S.enabled syntax.now; root = root.now } in OnOk result (Grows (LeadsTo w file.now.path) (paths_of found.old.files.items) (paths_of found.new.files.items)) }
+    ensures extends { OnOk result (Extends (texts_of names.old.names.items) (texts_of names.new.names.items)) }
+    ensures found { OnOk result (AreFound sources.now found.new) }
+    ensures numbered { OnOk result (AreNumbered names.new) }
+    ensures named { let w : World = record { files = sources.now; home = config.now.home; parsed = S.parsed syntax.now; spends = S.spends syntax.now; enabled = S.enabled syntax.now; root = root.now } in IfErr result (Reports (NamesAt w file.now.path)) }
+{
+    let path = file.path.as_str();
+    let text = file.text.as_str();
+    let relative = relative_path(alloc, folder_of(root), path)?;
+    let items = parse(alloc, syntax, path, relative, text)?;
+    let folder = folder_of(path);
+    let targets = targets(
+        alloc,
+        config,
+        syntax,
+        sources,
+        folder,
+        items.as_slice(),
+        found,
+    )?;
+    let row = row(alloc, items.as_slice(), targets.as_slice(), names)?;
+    let scanned = ScannedFile {
+        path: file.path.copied(),
+        text: file.text.copied(),
+        relative: BorrowedText::new(relative),
+        items,
+        targets,
+    };
+    Ok((scanned, row))
+}
+
+/// Scans the files that are reached from a root, each once, or names a fault of one of them.
+pub fn scan<'src, S: Syntax>(
+    alloc: Global,
+    config: &Config,
+    syntax: &S,
+    sources: &Sources<'src>,
+    root: &str,
+) -> Result<Scan<'src>, Error<'src>>
+    requires clean { IsClean root.now }
+    requires there { IsSome (text_at sources.now root.now) }
+    ensures scan { let w : World = record { files = sources.now; home = config.now.home; parsed = S.parsed syntax.now; spends = S.spends syntax.now; enabled = S.enabled syntax.now; root = root.now } in IfOk result (IsScan w) }
+    ensures kept { let w : World = record { files = sources.now; home = config.now.home; parsed = S.parsed syntax.now; spends = S.spends syntax.now; enabled = S.enabled syntax.now; root = root.now } in IfOk result (λ _. Keeps (NamesInScan w)) }
+    ensures named { let w : World = record { files = sources.now; home = config.now.home; parsed = S.parsed syntax.now; spends = S.spends syntax.now; enabled = S.enabled syntax.now; root = root.now } in IfErr result (Reports (NamesInScan w)) }
+{
+    let mut found = Found::new(alloc);
+    let mut names = Names::new(alloc);
+    let mut files = Vec::new(alloc);
+    let mut rows = Vec::new(alloc);
+    found.place(sources, root)?;
+    while files.len() < found.files.len() {
+        let file = found.files[files.len()].copied();
+        let (scanned, row) = scan_file(
+            alloc, config, syntax, sources, root, &file, &mut found, &mut names,
+        )?;
+        files.push(scanned)?;
+        rows.push(row)?;
+    }
+    Ok(Scan {
+        files,
+        rows,
+        names: names.names,
+    })
+}
