@@ -5,7 +5,6 @@ use just_data::Text;
 use just_parts::Recipe;
 use just_parts::layers::{Config, Error};
 use std::alloc::{AllocError, Global};
-use std::process::Abort;
 use std::test::Fail;
 
 // Adds the recipes of a module, each with its path and the depth of its file.
@@ -102,140 +101,135 @@ fn compiled(
     }
 }
 
-// Nothing beside the root.
-const NONE: (&str, &str) = ("/z", "not read");
-
-// The table of a root's text, the files beside it, and what they are compiled to.
-fn check(
-    rt: &impl Abort,
-    alloc: Global,
-    home: Option<&str>,
-    root: &str,
-    others: &[(&str, &str)],
-    want: &str,
-) -> Result<(), Fail> {
-    let mut files = Vec::new(alloc);
-    files.push(("/justfile", root))?;
-    for file in others {
-        files.push(*file)?;
-    }
-    let text = compiled(alloc, home, files.as_slice())?;
-    assert_eq!(rt; text.as_str(), want, "of {root:?}");
+#[test]
+fn file_that_two_import_is_loaded_once(rt: HostRuntime) -> Result<(), Fail> {
+    let files = [
+        ("/justfile", "import 'a'\nimport 'b'\n"),
+        ("/a", "import 'c'\n"),
+        ("/b", "import 'c'\n"),
+        ("/c", "r:\n"),
+    ];
+    let text = compiled(rt.alloc(), None, files.as_slice())?;
+    assert_eq!(rt; text.as_str(), "justfile b c a | r@2");
     Ok(())
 }
 
 #[test]
-fn files_are_loaded_once_from_the_last_to_the_first(rt: HostRuntime) -> Result<(), Fail> {
-    let cases = [
-        // a file that two import
-        (
-            "import 'a'\nimport 'b'\n",
-            [
-                ("/a", "import 'c'\n"),
-                ("/b", "import 'c'\n"),
-                ("/c", "r:\n"),
-            ],
-            "justfile b c a | r@2",
-        ),
-        // the least depth of two ways, of which the deeper goes first
-        (
-            "import 'x'\nimport 'c'\nimport 'b'\n",
-            [("/b", "import 'c'\n"), ("/x", ""), ("/c", "r:\n")],
-            "justfile b c x | r@1",
-        ),
-        // the deeper way goes last
-        (
-            "import 'b'\nimport 'c'\n",
-            [("/b", "import 'c'\n"), ("/c", "r:\n"), NONE],
-            "justfile c b | r@1",
-        ),
-        // one import twice
-        (
-            "import 'c'\nimport './c'\na: r\n",
-            [("/c", "r:\n"), NONE, NONE],
-            "justfile c | a@0 r@1",
-        ),
-        // files that may be missing
-        (
-            "import? 'none'\nmod? m\na:\n",
-            [NONE, NONE, NONE],
-            "justfile | a@0",
-        ),
-        // a recipe of an imported file depends on one of the root's
-        (
-            "import 'd/c'\na:\n",
-            [("/d/c", "import 'b'\nr: a s\n"), ("/d/b", "s:\n"), NONE],
-            "justfile d/c d/b | a@0 r@1 s@2",
-        ),
+fn depth_is_the_least_of_two_ways(rt: HostRuntime) -> Result<(), Fail> {
+    let files = [
+        ("/justfile", "import 'x'\nimport 'c'\nimport 'b'\n"),
+        ("/b", "import 'c'\n"),
+        ("/x", ""),
+        ("/c", "r:\n"),
     ];
-    for (root, others, want) in cases {
-        check(&rt, rt.alloc(), None, root, others.as_slice(), want)?;
-    }
+    let text = compiled(rt.alloc(), None, files.as_slice())?;
+    assert_eq!(rt; text.as_str(), "justfile b c x | r@1");
     Ok(())
 }
 
 #[test]
-fn modules_stand_below_the_one_that_declares_them(rt: HostRuntime) -> Result<(), Fail> {
-    let cases = [
-        // one file under two modules
-        (
-            "mod m 'x'\nmod n 'x'\n",
-            [("/x", "r:\n"), NONE, NONE],
-            "justfile x | [m: m::r@1] [n: n::r@1]",
-        ),
-        // modules stand in the order of their names
-        (
-            "mod n\nmod m\na:\n",
-            [("/m.just", "r: s\ns:\n"), ("/n/mod.just", "a:\n"), NONE],
-            "justfile m.just n/mod.just | a@0 [m: m::r@1 m::s@1] [n: n::a@1]",
-        ),
-        // a module of a module, which an imported file declares
-        (
-            "mod m\n",
-            [
-                ("/m.just", "import 'd/i'\nr:\n"),
-                ("/d/i", "mod n\ns: r\n"),
-                ("/d/n/JUSTFILE", "t:\n"),
-            ],
-            "justfile m.just d/i d/n/JUSTFILE | [m: m::r@1 m::s@2] [m::n: m::n::t@3]",
-        ),
-        // a file that the root imports and that is a module's own
-        (
-            "import 'x'\nmod m 'x'\n",
-            [("/x", "r:\n"), NONE, NONE],
-            "justfile x | r@1 [m: m::r@1]",
-        ),
+fn file_that_is_imported_twice_is_loaded_once(rt: HostRuntime) -> Result<(), Fail> {
+    let files = [
+        ("/justfile", "import 'c'\nimport './c'\na: r\n"),
+        ("/c", "r:\n"),
     ];
-    for (root, others, want) in cases {
-        check(&rt, rt.alloc(), None, root, others.as_slice(), want)?;
-    }
+    let text = compiled(rt.alloc(), None, files.as_slice())?;
+    assert_eq!(rt; text.as_str(), "justfile c | a@0 r@1");
+    Ok(())
+}
+
+#[test]
+fn optional_files_may_be_absent(rt: HostRuntime) -> Result<(), Fail> {
+    let files = [("/justfile", "import? 'none'\nmod? m\na:\n")];
+    let text = compiled(rt.alloc(), None, files.as_slice())?;
+    assert_eq!(rt; text.as_str(), "justfile | a@0");
+    Ok(())
+}
+
+#[test]
+fn recipes_of_imported_files_are_of_one_module(rt: HostRuntime) -> Result<(), Fail> {
+    let files = [
+        ("/justfile", "import 'd/c'\na:\n"),
+        ("/d/c", "import 'b'\nr: a s\n"),
+        ("/d/b", "s:\n"),
+    ];
+    let text = compiled(rt.alloc(), None, files.as_slice())?;
+    assert_eq!(rt; text.as_str(), "justfile d/c d/b | a@0 r@1 s@2");
+    Ok(())
+}
+
+#[test]
+fn one_file_under_two_modules(rt: HostRuntime) -> Result<(), Fail> {
+    let files = [("/justfile", "mod m 'x'\nmod n 'x'\n"), ("/x", "r:\n")];
+    let text = compiled(rt.alloc(), None, files.as_slice())?;
+    assert_eq!(rt; text.as_str(), "justfile x | [m: m::r@1] [n: n::r@1]");
+    Ok(())
+}
+
+#[test]
+fn modules_stand_in_the_order_of_names(rt: HostRuntime) -> Result<(), Fail> {
+    let files = [
+        ("/justfile", "mod n\nmod m\na:\n"),
+        ("/m.just", "r: s\ns:\n"),
+        ("/n/mod.just", "a:\n"),
+    ];
+    let text = compiled(rt.alloc(), None, files.as_slice())?;
+    assert_eq!(rt;
+        text.as_str(),
+        "justfile m.just n/mod.just | a@0 [m: m::r@1 m::s@1] [n: n::a@1]"
+    );
+    Ok(())
+}
+
+#[test]
+fn imported_file_declares_a_module(rt: HostRuntime) -> Result<(), Fail> {
+    let files = [
+        ("/justfile", "mod m\n"),
+        ("/m.just", "import 'd/i'\nr:\n"),
+        ("/d/i", "mod n\ns: r\n"),
+        ("/d/n/JUSTFILE", "t:\n"),
+    ];
+    let text = compiled(rt.alloc(), None, files.as_slice())?;
+    assert_eq!(rt;
+        text.as_str(),
+        "justfile m.just d/i d/n/JUSTFILE | [m: m::r@1 m::s@2] [m::n: m::n::t@3]"
+    );
+    Ok(())
+}
+
+#[test]
+fn file_may_be_imported_and_a_modules_own(rt: HostRuntime) -> Result<(), Fail> {
+    let files = [("/justfile", "import 'x'\nmod m 'x'\n"), ("/x", "r:\n")];
+    let text = compiled(rt.alloc(), None, files.as_slice())?;
+    assert_eq!(rt; text.as_str(), "justfile x | r@1 [m: m::r@1]");
     Ok(())
 }
 
 #[test]
 fn home_folder_stands_for_a_tilde(rt: HostRuntime) -> Result<(), Fail> {
-    let files = [("/h/x", "r:\n")];
-    let import = "import '~//x'\n";
-    let module = "mod m '~/x'\n";
-    let homeless = "Homedir: Failed to get homedir";
-    check(
-        &rt,
-        rt.alloc(),
-        Some("/h"),
-        import,
-        files.as_slice(),
-        "justfile h/x | r@1",
-    )?;
-    check(
-        &rt,
-        rt.alloc(),
-        Some("/h"),
-        module,
-        files.as_slice(),
-        "justfile h/x | [m: m::r@1]",
-    )?;
-    check(&rt, rt.alloc(), None, import, files.as_slice(), homeless)?;
-    check(&rt, rt.alloc(), None, module, files.as_slice(), homeless)
+    let files = [
+        ("/justfile", "import '~//x'\nmod m '~/x'\n"),
+        ("/h/x", "r:\n"),
+    ];
+    let text = compiled(rt.alloc(), Some("/h"), files.as_slice())?;
+    assert_eq!(rt; text.as_str(), "justfile h/x | r@1 [m: m::r@1]");
+    Ok(())
+}
+
+#[test]
+fn import_needs_a_home_folder(rt: HostRuntime) -> Result<(), Fail> {
+    let files = [("/justfile", "import '~//x'\n"), ("/h/x", "r:\n")];
+    let text = compiled(rt.alloc(), None, files.as_slice())?;
+    assert_eq!(rt; text.as_str(), "Homedir: Failed to get homedir");
+    Ok(())
+}
+
+#[test]
+fn module_needs_a_home_folder(rt: HostRuntime) -> Result<(), Fail> {
+    let files = [("/justfile", "mod m '~/x'\n"), ("/h/x", "r:\n")];
+    let text = compiled(rt.alloc(), None, files.as_slice())?;
+    assert_eq!(rt; text.as_str(), "Homedir: Failed to get homedir");
+    Ok(())
 }
 
 #[test]
@@ -251,150 +245,183 @@ fn import_far_above_the_root(rt: HostRuntime) -> Result<(), Fail> {
 }
 
 #[test]
-fn circle_of_files_is_told(rt: HostRuntime) -> Result<(), Fail> {
-    let cases = [
-        (
-            "import 'justfile'\n",
-            [NONE, NONE],
-            "CircularImport: Import `/justfile` in `/justfile` is circular",
-        ),
-        (
-            "import './subdir/b'\na: b\n",
-            [("/subdir/b", "import '../justfile'\nb:\n"), NONE],
-            "CircularImport: Import `/justfile` in `/subdir/b` is circular",
-        ),
-        // through a module
-        (
-            "import 'f'\nimport 'g'\n",
-            [("/f", "import 'g'\n"), ("/g", "mod m 'f'\n")],
-            "CircularImport: Import `/g` in `/f` is circular",
-        ),
-        // through two modules
-        (
-            "mod m 'x'\n",
-            [("/x", "mod n 'y'\n"), ("/y", "import 'x'\n")],
-            "CircularImport: Import `/x` in `/y` is circular",
-        ),
-        // of modules alone
-        (
-            "mod m\n",
-            [("/m.just", "mod n\n"), ("/n.just", "mod m\n")],
-            "CircularImport: Import `/m.just` in `/n.just` is circular",
-        ),
-    ];
-    for (root, others, want) in cases {
-        check(&rt, rt.alloc(), None, root, others.as_slice(), want)?;
-    }
+fn import_of_itself(rt: HostRuntime) -> Result<(), Fail> {
+    let files = [("/justfile", "import 'justfile'\n")];
+    let text = compiled(rt.alloc(), None, files.as_slice())?;
+    assert_eq!(rt;
+        text.as_str(),
+        "CircularImport: Import `/justfile` in `/justfile` is circular"
+    );
     Ok(())
 }
 
 #[test]
-fn fault_of_a_reached_file_is_told(rt: HostRuntime) -> Result<(), Fail> {
-    let syntax = "Syntax: The line does not follow the grammar";
-    let missing = "MissingImportFile: Could not find source file for import";
-    let cases = [
-        ("import 'b'\n", ("/a", ""), missing),
-        ("import 'a'\n", ("/a", "import 'b'\n"), missing),
-        (
-            "mod b\n",
-            ("/B.just", ""),
-            "MissingModuleFile: Could not find source file for module `b`",
-        ),
-        (
-            "mod m 'a'\n",
-            ("/a", "mod m\n"),
-            "MissingModuleFile: Could not find source file for module `m`",
-        ),
-        ("import? 'a'\n", ("/a", "mod\n"), syntax),
-        ("mod? m 'a'\n", ("/a", "x := '1'\n"), syntax),
-        (
-            "import '~/a'\n",
-            ("/a", ""),
-            "Homedir: Failed to get homedir",
-        ),
+fn import_circle_through_the_folder_above(rt: HostRuntime) -> Result<(), Fail> {
+    let files = [
+        ("/justfile", "import './subdir/b'\na: b\n"),
+        ("/subdir/b", "import '../justfile'\nb:\n"),
     ];
-    for (root, other, want) in cases {
-        check(&rt, rt.alloc(), None, root, [other].as_slice(), want)?;
-    }
+    let text = compiled(rt.alloc(), None, files.as_slice())?;
+    assert_eq!(rt;
+        text.as_str(),
+        "CircularImport: Import `/justfile` in `/subdir/b` is circular"
+    );
     Ok(())
 }
 
 #[test]
-fn several_files_of_a_module_are_told(rt: HostRuntime) -> Result<(), Fail> {
-    let several = "AmbiguousModuleFile: Found multiple source files for module `foo`";
-    let cases = [
-        (
-            "mod foo\n",
-            [("/foo/.justfile", ""), ("/foo/justfile", "")],
-            several,
-        ),
-        (
-            "mod foo\n",
-            [("/foo.just", ""), ("/foo/mod.just", "")],
-            several,
-        ),
-        (
-            "mod foo 'bar'\n",
-            [("/bar/justfile", ""), ("/bar/mod.just", "")],
-            several,
-        ),
-        (
-            "mod foo\n",
-            [("/foo/JUSTFILE", "r:\n"), ("/foo/MOD.just", "not read")],
-            "justfile foo/JUSTFILE | [foo: foo::r@1]",
-        ),
-        (
-            "mod foo 'bar'\n",
-            [("/bar", "r:\n"), ("/bar/mod.just", "not read")],
-            "justfile bar | [foo: foo::r@1]",
-        ),
+fn circle_through_a_module(rt: HostRuntime) -> Result<(), Fail> {
+    let files = [
+        ("/justfile", "import 'f'\nimport 'g'\n"),
+        ("/f", "import 'g'\n"),
+        ("/g", "mod m 'f'\n"),
     ];
-    for (root, others, want) in cases {
-        check(&rt, rt.alloc(), None, root, others.as_slice(), want)?;
-    }
+    let text = compiled(rt.alloc(), None, files.as_slice())?;
+    assert_eq!(rt;
+        text.as_str(),
+        "CircularImport: Import `/g` in `/f` is circular"
+    );
     Ok(())
 }
 
 #[test]
-fn rule_of_a_module_that_is_broken_is_told(rt: HostRuntime) -> Result<(), Fail> {
-    let cases = [
-        // recipes of two files
-        (
-            "import 'x'\nr:\n",
-            ("/x", "r:\n"),
-            "Redefinition: Recipe `r` first defined on line 1 is redefined as Recipe",
-        ),
-        (
-            "mod m 'x'\nmod m 'x'\n",
-            ("/x", "r:\n"),
-            "Redefinition: Module `m` first defined on line 1 is redefined as Module",
-        ),
-        // a recipe of another module
-        (
-            "mod m 'x'\nb:\n",
-            ("/x", "a: b\n"),
-            "UnknownDependency: Recipe `a` has unknown dependency `b`",
-        ),
-        (
-            "mod m 'x'\na: b\n",
-            ("/x", "b:\n"),
-            "UnknownDependency: Recipe `a` has unknown dependency `b`",
-        ),
-        // recipes of two files that depend on each other
-        (
-            "import 'x'\na: b\n",
-            ("/x", "b: a\n"),
-            "CircularRecipeDependency: Recipe `b` has circular dependency `a -> b -> a`",
-        ),
-        (
-            "mod m 'x'\n",
-            ("/x", "r p p:\n"),
-            "DuplicateParameter: Recipe `r` has duplicate parameter `p`",
-        ),
+fn circle_through_two_modules(rt: HostRuntime) -> Result<(), Fail> {
+    let files = [
+        ("/justfile", "mod m 'x'\n"),
+        ("/x", "mod n 'y'\n"),
+        ("/y", "import 'x'\n"),
     ];
-    for (root, other, want) in cases {
-        check(&rt, rt.alloc(), None, root, [other].as_slice(), want)?;
-    }
+    let text = compiled(rt.alloc(), None, files.as_slice())?;
+    assert_eq!(rt;
+        text.as_str(),
+        "CircularImport: Import `/x` in `/y` is circular"
+    );
+    Ok(())
+}
+
+#[test]
+fn import_of_a_missing_file(rt: HostRuntime) -> Result<(), Fail> {
+    let files = [("/justfile", "import 'a'\n"), ("/a", "import 'b'\n")];
+    let text = compiled(rt.alloc(), None, files.as_slice())?;
+    assert_eq!(rt;
+        text.as_str(),
+        "MissingImportFile: Could not find source file for import"
+    );
+    Ok(())
+}
+
+#[test]
+fn module_of_a_missing_file(rt: HostRuntime) -> Result<(), Fail> {
+    let files = [("/justfile", "mod b\n"), ("/B.just", "")];
+    let text = compiled(rt.alloc(), None, files.as_slice())?;
+    assert_eq!(rt;
+        text.as_str(),
+        "MissingModuleFile: Could not find source file for module `b`"
+    );
+    Ok(())
+}
+
+#[test]
+fn optional_import_of_a_faulty_file(rt: HostRuntime) -> Result<(), Fail> {
+    let files = [("/justfile", "import? 'a'\n"), ("/a", "mod\n")];
+    let text = compiled(rt.alloc(), None, files.as_slice())?;
+    assert_eq!(rt;
+        text.as_str(),
+        "Syntax: The line does not follow the grammar"
+    );
+    Ok(())
+}
+
+#[test]
+fn optional_module_of_a_faulty_file(rt: HostRuntime) -> Result<(), Fail> {
+    let files = [("/justfile", "mod? m 'a'\n"), ("/a", "x := '1'\n")];
+    let text = compiled(rt.alloc(), None, files.as_slice())?;
+    assert_eq!(rt;
+        text.as_str(),
+        "Syntax: The line does not follow the grammar"
+    );
+    Ok(())
+}
+
+#[test]
+fn module_of_two_files(rt: HostRuntime) -> Result<(), Fail> {
+    let files = [
+        ("/justfile", "mod foo\n"),
+        ("/foo/.justfile", ""),
+        ("/foo/justfile", ""),
+    ];
+    let text = compiled(rt.alloc(), None, files.as_slice())?;
+    assert_eq!(rt;
+        text.as_str(),
+        "AmbiguousModuleFile: Found multiple source files for module `foo`"
+    );
+    Ok(())
+}
+
+#[test]
+fn module_of_a_file_by_its_name_in_any_case(rt: HostRuntime) -> Result<(), Fail> {
+    let files = [
+        ("/justfile", "mod foo\n"),
+        ("/foo/JUSTFILE", "r:\n"),
+        ("/foo/MOD.just", "not read"),
+    ];
+    let text = compiled(rt.alloc(), None, files.as_slice())?;
+    assert_eq!(rt; text.as_str(), "justfile foo/JUSTFILE | [foo: foo::r@1]");
+    Ok(())
+}
+
+#[test]
+fn recipe_defined_in_two_files(rt: HostRuntime) -> Result<(), Fail> {
+    let files = [("/justfile", "import 'x'\nr:\n"), ("/x", "r:\n")];
+    let text = compiled(rt.alloc(), None, files.as_slice())?;
+    assert_eq!(rt;
+        text.as_str(),
+        "Redefinition: Recipe `r` first defined on line 1 is redefined as Recipe"
+    );
+    Ok(())
+}
+
+#[test]
+fn two_modules_of_one_name(rt: HostRuntime) -> Result<(), Fail> {
+    let files = [("/justfile", "mod m 'x'\nmod m 'x'\n"), ("/x", "r:\n")];
+    let text = compiled(rt.alloc(), None, files.as_slice())?;
+    assert_eq!(rt;
+        text.as_str(),
+        "Redefinition: Module `m` first defined on line 1 is redefined as Module"
+    );
+    Ok(())
+}
+
+#[test]
+fn recipe_of_the_module_above_is_unknown(rt: HostRuntime) -> Result<(), Fail> {
+    let files = [("/justfile", "mod m 'x'\nb:\n"), ("/x", "a: b\n")];
+    let text = compiled(rt.alloc(), None, files.as_slice())?;
+    assert_eq!(rt;
+        text.as_str(),
+        "UnknownDependency: Recipe `a` has unknown dependency `b`"
+    );
+    Ok(())
+}
+
+#[test]
+fn recipe_of_a_module_is_unknown_above_it(rt: HostRuntime) -> Result<(), Fail> {
+    let files = [("/justfile", "mod m 'x'\na: b\n"), ("/x", "b:\n")];
+    let text = compiled(rt.alloc(), None, files.as_slice())?;
+    assert_eq!(rt;
+        text.as_str(),
+        "UnknownDependency: Recipe `a` has unknown dependency `b`"
+    );
+    Ok(())
+}
+
+#[test]
+fn recipe_circle_through_two_files(rt: HostRuntime) -> Result<(), Fail> {
+    let files = [("/justfile", "import 'x'\na: b\n"), ("/x", "b: a\n")];
+    let text = compiled(rt.alloc(), None, files.as_slice())?;
+    assert_eq!(rt;
+        text.as_str(),
+        "CircularRecipeDependency: Recipe `b` has circular dependency `a -> b -> a`"
+    );
     Ok(())
 }
 
