@@ -1,13 +1,14 @@
 //! The program, over a reader and two writers.
-ghost use Rattle.std.specs.Prelude.{◌≡◌, ◌≢◌, ◌<◌, [], slice_get, IsNone, IfSome};
+ghost use Rattle.std.specs.Prelude.{◌≡◌, ◌≢◌, ◌<◌, [], slice_get, IsNone, IfOk, IfSome};
 ghost use Rattle.just_parts.specs.Clean.{IsClean};
+ghost use Rattle.just_invoke.specs.Closed.{IsClosed};
 
 use crate::bundle::{read_sources, read_text};
 use crate::fault::Fault;
-use just_analyzer::{Compiler, is_clean};
+use just_analyzer::{Compilation, Compiler, Sources, is_clean};
 use just_bench::{PlainEvaluation, PlainSyntax, Recorder, StopWriter};
 use just_data::Text;
-use just_parts::layers::{Config, Entry, Groups};
+use just_parts::layers::{Config, Entry, Error, Groups};
 use std::alloc::Global;
 use std::io;
 use std::io::{Read, Write};
@@ -42,6 +43,19 @@ fn write_entries<W: Write>(output: &mut W, entries: &[Entry]) -> io::Result<()> 
     output.flush()
 }
 
+// Compiles the root of a bundle.
+fn compile<'src>(
+    alloc: Global,
+    config: &Config,
+    sources: &Sources<'src>,
+    root: &str,
+) -> Result<Compilation<'src>, Error<'src>>
+    requires { IsClean root.now }
+    ensures { IfOk result (λ c. IsClosed c.justfile c.recipes) }
+{
+    Compiler::compile(alloc, config, &PlainSyntax, &PlainEvaluation, sources, root)
+}
+
 // Compiles the root of a bundle, runs the words and writes which recipes began, those before a fault too.
 fn run<'src, W: Write>(
     alloc: Global,
@@ -54,14 +68,7 @@ fn run<'src, W: Write>(
 {
     let sources = read_sources(alloc, text)?;
     let config = Config::default();
-    let compilation = Compiler::compile(
-        alloc,
-        &config,
-        &PlainSyntax,
-        &PlainEvaluation,
-        &sources,
-        root,
-    )?;
+    let compilation = compile(alloc, &config, &sources, root)?;
     let mut host = Recorder::new(alloc);
     let mut writer = StopWriter::new(alloc, 0)?;
     let ran = compilation.justfile.run(

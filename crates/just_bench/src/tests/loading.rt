@@ -1,3 +1,6 @@
+ghost use Rattle.std.specs.Prelude.{IfOk};
+ghost use Rattle.just_invoke.specs.Closed.{IsClosed};
+
 use super::{executed, run, told, words_of};
 use crate::{PlainEvaluation, PlainSyntax, Recorder};
 use just_analyzer::{Compilation, Compiler, Justfile, Sources, is_clean};
@@ -69,6 +72,21 @@ fn sources<'src>(
     Ok(sources)
 }
 
+// Compiles the file at a path.
+fn compile_at<'src>(
+    alloc: Global,
+    config: &Config,
+    sources: &Sources<'src>,
+    root: &str,
+) -> Result<Compilation<'src>, Error<'src>>
+    ensures { IfOk result (λ c. IsClosed c.justfile c.recipes) }
+{
+    if !is_clean(root) {
+        return Err(Error::Memory);
+    }
+    Compiler::compile(alloc, config, &PlainSyntax, &PlainEvaluation, sources, root)
+}
+
 // What files are compiled to from the first of them, or the name of the fault and what it says.
 fn compiled(
     alloc: Global,
@@ -84,17 +102,7 @@ fn compiled(
     let Some((root, _)) = files.first() else {
         return String::from_str(alloc, "no files");
     };
-    if !is_clean(root) {
-        return String::from_str(alloc, "no root");
-    }
-    match Compiler::compile(
-        alloc,
-        &config,
-        &PlainSyntax,
-        &PlainEvaluation,
-        &sources,
-        root,
-    ) {
+    match compile_at(alloc, &config, &sources, root) {
         Ok(compilation) => shown(alloc, &compilation),
         Err(Error::Memory) => Err(AllocError),
         Err(error) => told(alloc, &error),
@@ -429,19 +437,8 @@ fn recipe_circle_through_two_files(rt: HostRuntime) -> Result<(), Fail> {
 fn ran(alloc: Global, files: &[(&str, &str)], words: &[&str]) -> Result<String, AllocError> {
     let sources = sources(alloc, files)?;
     let config = Config::default();
-    let root = "/justfile";
-    if !is_clean(root) {
-        return String::from_str(alloc, "no root");
-    }
     let mut host = Recorder::new(alloc);
-    let outcome = match Compiler::compile(
-        alloc,
-        &config,
-        &PlainSyntax,
-        &PlainEvaluation,
-        &sources,
-        root,
-    ) {
+    let outcome = match compile_at(alloc, &config, &sources, "/justfile") {
         Ok(compilation) => run(alloc, &config, &compilation, &mut host, words),
         Err(error) => Err(error),
     };
@@ -509,6 +506,55 @@ fn find<'b, 'src>(
     }
 }
 
+// Adds how the file of a recipe came in: its depth, its import offsets, and its relative path.
+fn add_entrance<'src>(
+    text: &mut String,
+    compilation: &Compilation<'src>,
+    module: &Justfile<'src>,
+    name: &str,
+) -> Result<(), AllocError> {
+    let Some(recipe) = find(compilation, module, name) else {
+        return text.push_str("none; ");
+    };
+    write!(text, "{}", recipe.file_depth)?;
+    for offset in recipe.import_offsets.as_slice() {
+        write!(text, " {offset}")?;
+    }
+    write!(text, " {}; ", recipe.name.token.path())
+}
+
+// The folder of a module, and how the files of the recipes `r` and `s` came in.
+fn add_module<'src>(
+    text: &mut String,
+    compilation: &Compilation<'src>,
+    module: &Justfile<'src>,
+) -> Result<(), AllocError> {
+    write!(text, "{} {}: ", module.source, module.working_directory)?;
+    add_entrance(text, compilation, module, "r")?;
+    add_entrance(text, compilation, module, "s")
+}
+
+// The same of the root's module and of those in it.
+fn entrances<'src>(alloc: Global, compilation: &Compilation<'src>) -> Result<String, AllocError> {
+    let mut text = String::new(alloc);
+    write!(text, "{} asts; ", compilation.asts.len())?;
+    add_module(&mut text, compilation, &compilation.justfile)?;
+    for module in compilation.justfile.modules.as_slice() {
+        add_module(&mut text, compilation, module)?;
+    }
+    Ok(text)
+}
+
+// How files came in, from the first of them.
+fn came_in(alloc: Global, files: &[(&str, &str)]) -> Result<String, AllocError> {
+    let sources = sources(alloc, files)?;
+    let config = Config::default();
+    match compile_at(alloc, &config, &sources, "/d/justfile") {
+        Ok(compilation) => entrances(alloc, &compilation),
+        Err(error) => told(alloc, &error),
+    }
+}
+
 #[test]
 fn recipe_tells_how_its_file_came_in(rt: HostRuntime) -> Result<(), Fail> {
     let files = [
@@ -517,42 +563,10 @@ fn recipe_tells_how_its_file_came_in(rt: HostRuntime) -> Result<(), Fail> {
         ("/d/e/a", "r p:\nimport? 'b'\n"),
         ("/d/e/b", "s:\n"),
     ];
-    let sources = sources(rt.alloc(), files.as_slice())?;
-    let root = "/d/justfile";
-    assert!(rt; is_clean(root));
-    let compilation = match Compiler::compile(
-        rt.alloc(),
-        &Config::default(),
-        &PlainSyntax,
-        &PlainEvaluation,
-        &sources,
-        root,
-    ) {
-        Ok(compilation) => compilation,
-        Err(error) => return Ok(assert!(rt; false, "{error}")),
-    };
-    assert_eq!(rt; compilation.asts.len(), 6);
-    let justfile = &compilation.justfile;
-    let module = justfile.modules.get(0).ok_or("no module")?;
-    assert_eq!(rt; justfile.working_directory.as_str(), "/d");
-    assert_eq!(rt; module.working_directory.as_str(), "/d/e");
-    assert_eq!(rt; module.source.as_str(), "/d/e/a");
-    assert_eq!(rt; module.name(), "m");
-    assert!(rt; module.is_submodule() && !justfile.is_submodule());
-    let cases = [
-        (justfile, "r", 2, [8, 11].as_slice(), "e/a"),
-        (justfile, "s", 3, [8, 11, 13].as_slice(), "e/b"),
-        (module, "r", 1, [].as_slice(), "e/a"),
-        (module, "s", 2, [13].as_slice(), "e/b"),
-    ];
-    for (module, name, depth, offsets, path) in cases {
-        let recipe = find(&compilation, module, name).ok_or("no recipe")?;
-        assert_eq!(rt; recipe.file_depth, depth);
-        assert_eq!(rt; recipe.import_offsets.as_slice(), offsets);
-        assert_eq!(rt; recipe.name.token.path(), path);
-    }
-    let one = find(&compilation, justfile, "r").ok_or("no recipe")?;
-    let other = find(&compilation, module, "r").ok_or("no recipe")?;
-    assert!(rt; one.number != other.number, "one number twice");
+    let text = came_in(rt.alloc(), files.as_slice())?;
+    assert_eq!(rt;
+        text.as_str(),
+        "6 asts; /d/justfile /d: 2 8 11 e/a; 3 8 11 13 e/b; /d/e/a /d/e: 1 e/a; 2 13 e/b; "
+    );
     Ok(())
 }
