@@ -5,7 +5,7 @@ use Rattle.std.proofs.lemmas.Bool.{cases_lt}
 use Rattle.std.proofs.lemmas.List.{get_or_default, get_or-map, length-map, map-append, take_more, take_all, length-take-le, get_or-take}
 use Rattle.std.proofs.lemmas.Option.{slice_get_within, get_or_from_slice_get}
 use Rattle.std.proofs.lemmas.List.Elements.{Contains-get_or, All-push}
-use Rattle.just_graph.specs.Steps.{IsOnce}
+use Rattle.just_graph.specs.Steps.{in_take, IsOnce}
 use Rattle.just_parts.specs.declared.dependency.Dependency.{Dependency}
 use Rattle.just_parts.specs.declared.layers.name.Namepath.{Namepath}
 use Rattle.just_parts.specs.declared.layers.number.Number.{Number}
@@ -18,7 +18,6 @@ use Rattle.just_analyzer.specs.Index.{AreDifferent}
 use Rattle.just_analyzer.specs.Outline.{outlines_of, names_of, Depends}
 use Rattle.just_analyzer.specs.Rows.{IsRow, IsOrderOf}
 use Rattle.just_analyzer.specs.Resolved.{unresolved_numbers, number_at, HasPriors, linked, Resolves, IsMadeOf, AreMadeOf, Resolving, AreResolved}
-use Rattle.just_loader.proofs.Lists.{in_take}
 use Rattle.just_analyzer.proofs.Edges.{row_steps}
 
 -- the number of a recipe that is read

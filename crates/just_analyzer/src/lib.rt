@@ -6,9 +6,9 @@ pub mod compilation;
 pub mod compiler;
 mod definitions;
 mod headers;
-pub mod modules;
+mod modules;
 mod names;
-pub mod plans;
+mod plans;
 mod recipe_resolver;
 mod unresolved_recipe;
 

@@ -171,7 +171,7 @@ fn ordered<'a, 'src>(
 }
 
 // The row of a place.
-#[tactic(auto, using(just_loader::proofs::Lists::targets_at))]
+#[tactic(auto, using(just_graph::proofs::Targets::targets_at))]
 fn row_at(rows: &[Vec<usize>], place: usize) -> &[usize]
     requires { place < length rows.now }
     ensures { result.now ≡ targets rows.now place }

@@ -9,7 +9,7 @@ use Rattle.std.proofs.lemmas.List.{length-map, get_or_default}
 use Rattle.std.proofs.lemmas.Option.{slice_get_within}
 use Rattle.just_graph.specs.Building.{targets_past}
 use Rattle.just_graph.specs.Graph.{HasEdge}
-use Rattle.just_graph.specs.Steps.{Leads, by_step, by_steps, IsCircle, circle_by}
+use Rattle.just_graph.specs.Steps.{Leads, by_step, by_steps, in_take, IsCircle, circle_by}
 use Rattle.just_graph.specs.Unfolding.{HasStep, AreEdges, IsOrdered, steps}
 use Rattle.just_graph.specs.declared.unfolding.Step.{Step}
 use Rattle.just_graph.proofs.Members.{In, contained, is_in, in_left, in_right, in_last, in_map, from_map}
@@ -25,7 +25,6 @@ use Rattle.just_loader.specs.Causes.{LeadsBack}
 use Rattle.just_loader.specs.Scanned.{IsPlaceOf, ArePlacesOf, IsStepTo, AreSteps, IsScan, paths_in}
 use Rattle.just_loader.specs.declared.scanned.Scan.{Scan}
 use Rattle.just_loader.specs.declared.scanned.ScannedFile.{ScannedFile}
-use Rattle.just_loader.proofs.Lists.{in_take}
 use Rattle.just_loader.proofs.Numberings.{got, placed, get_map, map_get, some_same, none_some}
 use Rattle.just_loader.proofs.WholeScans.{steps_target, row_at, read_at}
 
