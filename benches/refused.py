@@ -15,6 +15,11 @@ CRATE = pathlib.Path(__file__).resolve().parent.parent / "crates" / "justrun"
 MEMORY = "justrun: Memory: Out of memory"
 CASES = [
     ("recipes run", "--- /justfile\na: b c\nb: d\nc: d\nd:\n", ["/justfile", "a"]),
+    (
+        "imports and modules",
+        "--- /justfile\nimport 'x'\nmod m\na: b\n--- /x\nb:\n--- /m.just\nmod n 'x'\nc:\n",
+        ["/justfile", "a"],
+    ),
     ("a rule is broken", "--- /justfile\na: b\nb: a\n", ["/justfile", "a"]),
     ("words are refused", "--- /justfile\np x:\n", ["/justfile", "p"]),
 ]

@@ -33,18 +33,19 @@ use Rattle.just_invoke.specs.declared.justfile.Justfile.{Justfile, out-Justfile}
 use Rattle.just_loader.specs.Loaded.{file_at, name_at}
 use Rattle.just_loader.specs.Reached.{World}
 use Rattle.just_loader.specs.declared.loaded.Loaded.{Loaded}
+use Rattle.just_loader.proofs.FileKeys.{from_flat}
 use Rattle.just_analyzer.specs.Analysis.{IsOf}
 use Rattle.just_analyzer.specs.Compiling.{IsMade, ast_of, modulepath_at, recipes_under, IsNameOf}
-use Rattle.just_analyzer.specs.Modules.{Built, IsCompiledFrom, IsJustfileOf, IsModuleKey, IsTree, tree, AreCompiled, recipes_said, entries_in, last_name}
+use Rattle.just_analyzer.specs.Modules.{Built, ComeAfter, IsCompiledFrom, IsJustfileOf, IsModuleKey, IsTree, tree, AreCompiled, recipes_said, entries_in, last_name}
 use Rattle.just_analyzer.specs.Outline.{recipes_of}
 use Rattle.just_analyzer.specs.Resolved.{AreResolved, unresolved_numbers}
 use Rattle.just_analyzer.specs.declared.plans.Plan.{Plan}
 use Rattle.just_analyzer.specs.declared.plans.Plans.{Plans}
-use Rattle.just_analyzer.proofs.KnownKeys.{name_by}
+use Rattle.just_analyzer.proofs.Placed.{name_by}
 use Rattle.just_analyzer.proofs.ModuleNodes.{AreNodes, IsFrom, IsPlanned, entries}
 use Rattle.just_analyzer.proofs.Said.{all_said, recipes_same, made_numbers}
 use Rattle.just_analyzer.proofs.TableValues.{put_there, put_cases, put_keeps, keyed_values}
-use Rattle.just_analyzer.proofs.Trees.{tree_stays, from_flat}
+use Rattle.just_analyzer.proofs.Trees.{tree_stays}
 
 abbrev pub Entries : Type 0
 Entries = List (List ℕ × Justfile)
@@ -76,6 +77,7 @@ pub record Building (w : World) (loaded : Loaded) (us : List Unfolded) (tables :
   pub built : List Built
   pub all : recipes ≡ flat_map (λ (b : Built). b.1) built
   pub once : (i j : ℕ) (k : Key) → slice_get (map (λ (b : Built). b.0) built) i ≡ Some k → slice_get (map (λ (b : Built). b.0) built) j ≡ Some k → i ≡ j
+  pub after : ComeAfter built
   pub each : (b : Built) → Contains built b → IsBuilt w loaded us (length tables) b
   pub keyed : (p : ℕ) (t : Entries) → slice_get tables p ≡ Some t → IsKeyed module_name t
   pub sound : (p : ℕ) (t : Entries) (j : Justfile) → slice_get tables p ≡ Some t → Contains (values_of t) j → IsHeld w loaded us built p (length tables) j
@@ -130,6 +132,7 @@ building_none w loaded us tables recipes some is none =
       built = [];
       all = none;
       once = λ i j k e. cc;
+      after = λ i j k l n e. cc;
       each = λ b c. absurd (omega (arith, c.1));
       keyed = λ p t e. subst (IsKeyed module_name) (sym (empty p t e)) (All-nil (λ (x : List ℕ × Justfile). module_name x.1 ≡ x.0));
       sound = λ p t j e c. absurd (omega (arith, subst (λ (x : Entries). Contains (values_of x) j) (empty p t e) c));
@@ -159,6 +162,18 @@ module _ (w : World) (loaded : Loaded) (plans : Plans) (us : List Unfolded) (nod
       go : (o : Option Origin) → u.origin ≡ o → option_map text_of_name given ≡ last_name loaded u.path.items
       go None at = ap (option_map text_of_name) (none at) ∙ sym (ap (λ (k : Key). last_name loaded k.path) (nodes.root i u e at))
       go (Some o) at = let r = node_name i u o e at in ap (option_map text_of_name) (some o r.0 at r.1) ∙ sym r.2
+
+  -- a node whose path is one with a name more came from that of this path
+  came_from : (c : ℕ) (v : Unfolded) (number : ℕ) → slice_get us c ≡ Some v → (path : List ℕ) → v.path.items ≡ path ++ number ∷ [] → (o : Origin) × (v.origin ≡ Some o) × (f : IsFrom plans us c v o) × (f.parent.path.items ≡ path)
+  came_from c v number there path path_is = go v.origin refl
+    where
+      go : (o : Option Origin) → v.origin ≡ o → (o : Origin) × (v.origin ≡ Some o) × (f : IsFrom plans us c v o) × (f.parent.path.items ≡ path)
+      go None e =
+          let empty : [] ≡ path ++ number ∷ [] = sym (ap (λ (k : Key). k.path) (nodes.root c v there e)) ∙ path_is in
+          absurd (omega (arith, ap length empty, length_push path number))
+      go (Some o) e =
+          let f = nodes.from c v o there e in
+          (o, e, f, (ends_same f.parent.path.items path f.name number (sym (from_path c v o f) ∙ path_is)).0)
 
   module _ (rest : List Entries) (t : Entries) (recipes : List (Recipe Dependency)) (b : Building w loaded us (rest ++ t ∷ []) recipes) (u : Unfolded) (at : slice_get us (length rest) ≡ Some u) (plan : Plan) (p : IsPlanned w loaded plans u plan) where
     long : length (rest ++ t ∷ []) ≡ length rest + 1
@@ -242,27 +257,17 @@ module _ (w : World) (loaded : Loaded) (plans : Plans) (us : List Unfolded) (nod
           (f.step, subst (λ ss. Contains ss f.step) p.listed (got_in (entries plans u.node) h.origin.step f.step taken), subst (λ k. IsTree w loaded more k inner) key (stays {i = inner} h.tree_is))
 
       -- the node that a step leads to came from this one
-      came_from : (c : ℕ) (v : Unfolded) (s : Step) (number : ℕ) → slice_get us c ≡ Some v → s.enters ≡ Some number → unfolded_key v ≡ key_child (unfolded_key u) s → (o : Origin) × (v.origin ≡ Some o) × (o.parent ≡ length rest) × (o.parent < c)
-      came_from c v s number there enters key = go v.origin refl
-        where
-          path_is : v.path.items ≡ path ++ number ∷ []
-          path_is = ap (λ (k : Key). k.path) key ∙ ap (path_after path) enters
-
-          go : (o : Option Origin) → v.origin ≡ o → (o : Origin) × (v.origin ≡ Some o) × (o.parent ≡ length rest) × (o.parent < c)
-          go None e =
-              let empty : [] ≡ path ++ number ∷ [] = sym (ap (λ (k : Key). k.path) (nodes.root c v there e)) ∙ path_is in
-              absurd (omega (arith, ap length empty, length_push path number))
-          go (Some o) e =
-              let f = nodes.from c v o there e in
-              let paths = ends_same f.parent.path.items path f.name number (sym (from_path c v o f) ∙ path_is) in
-              (o, e, nodes.one_path o.parent (length rest) f.parent u f.there at paths.0, f.before)
+      came_by : (c : ℕ) (v : Unfolded) (s : Step) (number : ℕ) → slice_get us c ≡ Some v → s.enters ≡ Some number → unfolded_key v ≡ key_child (unfolded_key u) s → (o : Origin) × (v.origin ≡ Some o) × (o.parent ≡ length rest) × (o.parent < c)
+      came_by c v s number there enters key =
+          let r = came_from c v number there path (ap (λ (k : Key). k.path) key ∙ ap (path_after path) enters) in
+          (r.0, r.1, nodes.one_path r.0.parent (length rest) r.2.parent u r.2.there at r.3, r.2.before)
 
       complete : (s : Step) → Contains (entries_in loaded plan.files.items) s → (inner : Justfile) × Contains (out-Justfile j).modules inner × IsTree w loaded more (key_child (unfolded_key u) s) inner
       complete s c =
           let c' : Contains (entries plans u.node) s = subst (λ ss. Contains ss s) (sym p.listed) c in
           let number = nodes.entering (length rest) u s at c' in
           let l = nodes.led (length rest) u s at c' in
-          let o = came_from l.0 l.1 s number.0 l.2 number.1 l.3 in
+          let o = came_by l.0 l.1 s number.0 l.2 number.1 l.3 in
           let in_t : slice_get (rest ++ t ∷ []) o.0.parent ≡ Some t = ap (slice_get (rest ++ t ∷ [])) o.2 ∙ get_last rest t in
           let r = b.complete l.0 l.1 o.0 t (omega (arith, o.2, o.3, long)) l.2 o.1 in_t in
           (r.0, subst (λ is. Contains is r.0) (sym modules) r.1, subst (λ k. IsTree w loaded more k r.0) l.3 (stays {i = r.0} r.2))
@@ -303,11 +308,33 @@ module _ (w : World) (loaded : Loaded) (plans : Plans) (us : List Unfolded) (nod
             ]
           ]
 
+      -- what is named in an older module is no new one
+      no_parent : (n : ℕ) (x : Built) (name : ℕ) → slice_get b.built n ≡ Some x → path ≡ x.0.path ++ name ∷ [] → ⊥
+      no_parent n x name there path_is =
+          let e = b.each x (got_in b.built n x there) in
+          let node_path : e.node.path.items ++ name ∷ [] ≡ path = ap (λ (k : Key). k.path ++ name ∷ []) (sym e.key) ∙ sym path_is in
+          let o = came_from (length rest) u name at e.node.path.items (sym node_path) in
+          let place : o.0.parent ≡ e.place = nodes.one_path o.0.parent e.place o.2.parent e.node o.2.there e.there o.3 in
+          absurd (omega (arith, place, o.2.before, e.above, long))
+
+      after_more : ComeAfter more
+      after_more n o x y name en eo path_is = elim (get_push_cases b.built one n x en) [
+        | inl (gx, lx) ↦ elim (get_push_cases b.built one o y eo) [
+          | inl (gy, ly) ↦ b.after n o x y name gx gy path_is
+          | inr (ny, ey) ↦ absurd (no_parent n x name gx (ap (λ (z : Built). z.0.path) (sym ey) ∙ path_is))
+        ]
+        | inr (nx, ex) ↦ elim (get_push_cases b.built one o y eo) [
+          | inl (gy, ly) ↦ omega (arith, nx, slice_get_within b.built o y gy)
+          | inr (ny, ey) ↦ absurd (omega (arith, ap length path_is, length_push x.0.path name, ap (λ (z : Built). length z.0.path) (ex ∙ sym ey)))
+        ]
+      ]
+
       -- the root's module is the last
       pub compiled : u.origin ≡ None → AreCompiled w loaded j new
       compiled none = record {
         built = more;
         once = once_more;
+        after = after_more;
         each = λ x c.
             let e = each_more x c in
             (subst (IsModuleKey loaded) (sym e.key) (nodes.keys e.place e.node e.there), subst (λ k. IsCompiledFrom w loaded k x.1) (sym e.key) e.from);
@@ -403,6 +430,7 @@ module _ (w : World) (loaded : Loaded) (plans : Plans) (us : List Unfolded) (nod
             built = more;
             all = all_more;
             once = once_more;
+            after = after_more;
             each = λ x c. subst (λ n. IsBuilt w loaded us n x) (sym count) (each_more x c);
             keyed = keyed_more;
             sound = λ q x inner e c. subst (λ n. IsHeld w loaded us more q n inner) (sym count) (sound_more q x inner e c);

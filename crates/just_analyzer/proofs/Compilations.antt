@@ -1,10 +1,7 @@
 -- The root's file is loaded, under the key of the root.
-use Rattle.std.proofs.Common.{◌≡◌, false, ℕ, List, [], ◌∷◌, slice_get, get_or, map, Option, Some, None, IsSome, Result, Ok, Err, IfErr, refl, sym, ◌∙◌, ap, subst}
+use Rattle.std.proofs.Common.{◌≡◌, false, ℕ, List, [], ◌∷◌, slice_get, get_or, Some, IsSome, refl, sym, ◌∙◌, ap, subst}
 use Rattle.std.specs.HashMap.{get}
-use Rattle.std.proofs.lemmas.List.{get_or_default}
-use Rattle.just_graph.specs.Unfolding.{Key, Node, root_key, stay, key}
-use Rattle.just_parts.specs.declared.layers.ast.Ast.{Ast}
-use Rattle.just_parts.specs.declared.layers.error.Error.{Error}
+use Rattle.just_graph.specs.Unfolding.{Key, root_key, stay}
 use Rattle.just_loader.specs.Asts.{same_key, root_key as ast_key}
 use Rattle.just_loader.specs.Loaded.{IsLoaded, file_at, key_at}
 use Rattle.just_loader.specs.Reached.{World}
@@ -27,8 +24,3 @@ module _ (w : World) (loaded : Loaded) (is : IsLoaded w loaded) where
       let held = is.asts.held node k.1 in
       let same : key_at loaded.scan node.path node.node ≡ ast_key w.root = ap (λ (x : Key). key_at loaded.scan x.path x.node) k.2 ∙ ap (λ f. (record { components = []; spaced = false }, f)) root_file in
       subst (λ o. IsSome o) (sym (ap (get same_key loaded.asts) (sym same) ∙ held.1)) refl
-
--- an error that is named wherever this holds
-pub named_for : {A : Type 0} (P Q : Error → Type 0) → ((e : Error) → P e → Q e) → (r : Result A Error) → IfErr r P → IfErr r Q
-named_for P Q f (Ok a) h = tt
-named_for P Q f (Err e) h = f e h

@@ -1,5 +1,5 @@
 -- A file that is found, and what it says.
-use Rattle.std.proofs.Common.{◌≡◌, ℕ, ◌+◌, cond, List, [], ◌∷◌, map, Bool, true, false, Result, Ok, Err, IfOk, refl, ap}
+use Rattle.std.proofs.Common.{◌≡◌, ℕ, ◌+◌, cond, List, [], ◌∷◌, map, Bool, true, false, refl, ap}
 use Rattle.std.specs.Prelude.{if◌then◌else◌}
 use Rattle.std.specs.List.{list_any, fold}
 use Rattle.std.proofs.lemmas.List.{length-map}
@@ -57,8 +57,3 @@ outlines_bare enabled (item.Module name relative absolute optional ∷ items) = 
 outlines_bare enabled (item.Recipe r ∷ items) =
     let again : bare_item (bare_item (item.Recipe r)) ≡ bare_item (item.Recipe r) = ap (λ (ps : List Parameter). item.Recipe (record (bare_recipe r) { parameters = ps })) (bare_twice r.parameters) in
     outline_if (enabled (bare_item (bare_item (item.Recipe r)))) (enabled (bare_item (item.Recipe r))) r (recipes_of enabled (map bare_item items)) (recipes_of enabled items) (ap enabled again) (outlines_bare enabled items)
-
--- what holds of a success
-pub ok_more : {A E : Type 0} (P Q : Type 0) → (P → Q) → (r : Result A E) → IfOk r (λ _. P) → IfOk r (λ _. Q)
-ok_more P Q f (Ok a) p = f p
-ok_more P Q f (Err e) p = tt

@@ -52,9 +52,6 @@ found : (b : Bool) (key : RecipeKey) (o : Option RecipeKey) (m : ℕ) → (b ≡
 found true key o m here there = ap (λ n. Some n) (here refl)
 found false key o m here there = there refl
 
-pub keys_held_none : (rs : List (Recipe UnresolvedDependency)) (table : List (List ℕ × RecipeKey)) → HasKeysOf rs 0 table
-keys_held_none rs table = λ place h. absurd (omega arith)
-
 -- one more key
 pub keys_held_more : (rs : List (Recipe UnresolvedDependency)) (n : ℕ) (k : List ℕ) (key : RecipeKey) (old new : List (List ℕ × RecipeKey)) → AreDifferent (names_of (outlines_of rs)) → n < length (outlines_of rs) → (outline_at (outlines_of rs) n).name ≡ k → key.number.0 ≡ number_at rs n
     → HasKeysOf rs n old → new ≡ put k key old → HasKeysOf rs (n + 1) new

@@ -1,9 +1,7 @@
 -- What is known of the keys of the modules.
-use Rattle.std.proofs.Common.{◌≡◌, ℕ, ◌<◌, List, [], ◌∷◌, map, length, get_or, Option, Some, None, IsSome, inl, inr, refl, sym, ap, subst, ◌∙◌, arith}
+use Rattle.std.proofs.Common.{◌≡◌, ℕ, ◌<◌, List, [], ◌∷◌, map, length, get_or, Some, inl, inr, sym, ap, subst, ◌∙◌, arith}
 use Rattle.std.specs.Prelude.{flat_map}
-use Rattle.std.specs.Option.{unwrap_or}
 use Rattle.std.proofs.lemmas.List.Elements.{Contains-get_or}
-use Rattle.std.proofs.lemmas.Bool.{false≢true}
 use Rattle.std.proofs.lemmas.List.{length-map}
 use Rattle.std.proofs.lemmas.Option.{slice_get_within}
 use Rattle.just_graph.proofs.Members.{In, is_in}
@@ -12,11 +10,10 @@ use Rattle.std.specs.HashMap.{get}
 use Rattle.std.specs.List.{All, Contains, slice_get}
 use Rattle.just_graph.specs.Steps.{IsOnce}
 use Rattle.just_graph.specs.Unfolding.{steps, IsOrdered, Key, KeySteps, root_key}
-use Rattle.just_graph.specs.declared.unfolding.Step.{Step}
 use Rattle.just_parts.specs.Name.{text_of_name}
 use Rattle.just_parts.specs.declared.layers.ast.Ast.{Ast}
 use Rattle.just_loader.specs.Asts.{same_key}
-use Rattle.just_loader.specs.Loaded.{IsLoaded, key_at, name_at}
+use Rattle.just_loader.specs.Loaded.{IsLoaded, key_at}
 use Rattle.just_loader.specs.Reached.{World}
 use Rattle.just_loader.specs.declared.loaded.Loaded.{Loaded}
 use Rattle.just_loader.specs.declared.scanned.Scan.{Scan}
@@ -32,35 +29,12 @@ use Rattle.just_analyzer.proofs.ModuleAsts.{IsModule, AreAstsAt, ast_path, modul
 use Rattle.just_analyzer.proofs.ModuleKeys.{module_keys, plan_of}
 use Rattle.just_analyzer.proofs.ModulePlans.{module_join, module_of, one_join}
 use Rattle.just_analyzer.proofs.ModuleSteps.{module_order}
-use Rattle.just_analyzer.proofs.OnePath.{entered_at, entered_name, entries_differ, files_inside, one_path, plan_names}
-
--- the text of a name by its number, if there is one
-abbrev pub name_by : Scan → Option ℕ → List ℕ
-name_by scan None = []
-name_by scan (Some number) = name_at scan number
-
--- the name of the module that a step enters
-abbrev pub name_entered : Scan → Step → List ℕ
-name_entered scan s = name_by scan s.enters
+use Rattle.just_analyzer.proofs.OnePath.{entries_differ, files_inside, one_path, plan_names}
+use Rattle.just_analyzer.proofs.Placed.{name_entered}
 
 -- the texts of a key's files at places
 abbrev pub AreSaid : Loaded → Key → List ℕ → List Ast → Type 0
 AreSaid loaded k files asts = map Some asts ≡ map (λ file. get same_key loaded.asts (key_at loaded.scan k.path file)) files
-
--- the same text by either word
-entered_same : (scan : Scan) (s : Step) → IsSome s.enters → name_entered scan s ≡ entered_name scan s
-entered_same scan s some = by s.enters some
-  where
-    by : (o : Option ℕ) → IsSome o → name_by scan o ≡ get_or (texts_of scan.names.items) (unwrap_or o 0) []
-    by None some = absurd (false≢true some)
-    by (Some number) some = refl
-
-entered_all : (scan : Scan) (ss : List Step) → ((s : Step) → In s ss → IsSome s.enters) → map (name_entered scan) ss ≡ map (entered_name scan) ss
-entered_all scan [] all = refl
-entered_all scan (s ∷ ss) all = λ i. entered_same scan s (all s (inl refl)) i ∷ entered_all scan ss (λ x h. all x (inr h)) i
-
-some_is : (o : Option ℕ) (name : ℕ) → o ≡ Some name → IsSome o
-some_is o name e = subst IsSome (sym e) refl
 
 in_numbers : (scan : Scan) (path : List ℕ) → AreNumbers scan path → (x : ℕ) → In x path → IsNumber scan x
 in_numbers scan [] a x h = absurd h
@@ -100,7 +74,7 @@ module _ (w : World) (loaded : Loaded) (plans : Plans) (is : IsLoaded w loaded) 
 
     pub key_files : All (λ file. file < length loaded.scan.files.items) files
     key_files = all_in (λ file. file < length loaded.scan.files.items) files
-        (λ g h. let l : g < length loaded.scan.rows.items = files_inside w loaded.scan is.scan plans are k.node of_key.0 of_key.1.at g (subst (In g) (sym same_files) h) in omega (arith, is.scan.count))
+        (λ g h. files_inside w loaded.scan is.scan plans are k.node of_key.0 of_key.1.at g (subst (In g) (sym same_files) h))
 
     pub key_said : (file : ℕ) → Contains files file → (ast : Ast) × (get same_key loaded.asts (key_at loaded.scan k.path file) ≡ Some ast) × (ast.module_path ≡ (key_at loaded.scan k.path file).0)
     key_said file c =
@@ -127,10 +101,7 @@ module _ (w : World) (loaded : Loaded) (plans : Plans) (is : IsLoaded w loaded) 
 
   -- the names of the modules that a module declares
   pub entry_names : (a : ℕ) (plan : Plan) → slice_get plans.plans.items a ≡ Some (Some plan) → map (name_entered loaded.scan) (flat_map (entries_at loaded.scan) plan.files.items) ≡ map text_of_name plan.names.items
-  entry_names a plan at =
-      let row = (are.planned a plan at).1 in
-      let some : (s : Step) → In s (steps plans.entries.items a) → IsSome s.enters = λ s h. let e = entered_at w loaded.scan is.scan plans are a s h in some_is s.enters e.0 e.1 in
-      ap (map (name_entered loaded.scan)) (sym row) ∙ entered_all loaded.scan (steps plans.entries.items a) some ∙ plan_names w loaded.scan is.scan plans are a plan at
+  entry_names a plan at = ap (map (name_entered loaded.scan)) (sym (are.planned a plan at).1) ∙ plan_names w loaded.scan is.scan plans are a plan at
 
   pub entries_different : (a : ℕ) (plan : Plan) → slice_get plans.plans.items a ≡ Some (Some plan) → AreDifferent (map text_of_name plan.names.items)
   entries_different a plan at = subst AreDifferent (plan_names w loaded.scan is.scan plans are a plan at) (entries_differ w loaded.scan is.scan plans are a plan at)

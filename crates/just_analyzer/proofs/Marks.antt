@@ -1,6 +1,6 @@
 -- The marks of own files, and what rows of steps tell, step by step.
 use Rattle.std.proofs.Common.{◌≡◌, ℕ, zero, suc, ◌+◌, ◌<◌, Bool, true, false, cond, ◌||◌, List, [], ◌∷◌, ◌++◌, map, set, take, length, get_or, ◌⊎◌, inl, inr, refl, sym, ap, subst, ◌∙◌, arith, ◌↔◌}
-use Rattle.std.specs.Prelude.{◌==◌, replicate, slice_set, filter, flat_map, not, if◌then◌else◌}
+use Rattle.std.specs.Prelude.{◌==◌, replicate, slice_set, filter, flat_map, if◌then◌else◌}
 use Rattle.std.specs.List.{All}
 use Rattle.std.specs.declared.vec.Vec.{Vec}
 use Rattle.std.specs.declared.alloc.Global.{Global}
@@ -14,24 +14,8 @@ use Rattle.just_graph.proofs.Last.{bool_cases, in_has, has_in}
 use Rattle.just_graph.proofs.Members.{In, contained, is_in, in_cases, in_left, in_right, in_map, from_map}
 use Rattle.just_loader.specs.declared.scanned.Scan.{Scan}
 use Rattle.just_analyzer.specs.Planned.{enters, entries_at, IsOwnAt, of_root, of_step}
-use Rattle.just_analyzer.specs.Places.{entered_in, imports_in}
+use Rattle.just_analyzer.specs.Places.{entered_in}
 use Rattle.just_analyzer.proofs.Placed.{filter_append, flat_append}
-
--- one more step of a row
-pub import_more : (row : List Step) (n : ℕ) (s : Step) → n < length row → s ≡ get_or row n s → enters s ≡ false → imports_in (take (n + 1) row) ≡ imports_in (take n row) ++ s.target ∷ []
-import_more row n s h is stays =
-    ap imports_in (take_more row n s h ∙ ap (λ x. take n row ++ x ∷ []) (sym is))
-    ∙ ap (map (λ (s : Step). s.target)) (filter_append (λ s. not (enters s)) (take n row) (s ∷ []))
-    ∙ map-append (λ (s : Step). s.target) (filter (λ s. not (enters s)) (take n row)) (filter (λ s. not (enters s)) (s ∷ []))
-    ∙ ap (λ b. imports_in (take n row) ++ map (λ (s : Step). s.target) (if not b then s ∷ [] else [])) stays
-
-pub import_same : (row : List Step) (n : ℕ) (s : Step) → n < length row → s ≡ get_or row n s → enters s ≡ true → imports_in (take (n + 1) row) ≡ imports_in (take n row)
-import_same row n s h is stays =
-    ap imports_in (take_more row n s h ∙ ap (λ x. take n row ++ x ∷ []) (sym is))
-    ∙ ap (map (λ (s : Step). s.target)) (filter_append (λ s. not (enters s)) (take n row) (s ∷ []))
-    ∙ map-append (λ (s : Step). s.target) (filter (λ s. not (enters s)) (take n row)) (filter (λ s. not (enters s)) (s ∷ []))
-    ∙ ap (λ b. imports_in (take n row) ++ map (λ (s : Step). s.target) (if not b then s ∷ [] else [])) stays
-    ∙ append-nil (imports_in (take n row))
 
 pub entry_more : (row : List Step) (n : ℕ) (s : Step) → n < length row → s ≡ get_or row n s → enters s ≡ true → filter enters (take (n + 1) row) ≡ filter enters (take n row) ++ s ∷ []
 entry_more row n s h is stays =

@@ -1,5 +1,5 @@
 -- The asts of modules: what they hold together, and that modules are told apart.
-use Rattle.std.proofs.Common.{◌≡◌, ℕ, zero, suc, true, List, [], ◌∷◌, ◌++◌, map, Some, inl, inr, refl, sym, ap, ◌∙◌}
+use Rattle.std.proofs.Common.{◌≡◌, ℕ, zero, suc, List, [], ◌∷◌, ◌++◌, map, Some, refl, ap, ◌∙◌}
 use Rattle.std.specs.Prelude.{flat_map, false}
 use Rattle.std.specs.HashMap.{get}
 use Rattle.std.specs.List.{All, Contains, slice_get}
@@ -12,15 +12,13 @@ use Rattle.just_loader.specs.Asts.{same_key}
 use Rattle.just_loader.specs.Loaded.{IsLoaded, name_at, key_at}
 use Rattle.just_loader.specs.Reached.{World}
 use Rattle.just_loader.specs.declared.loaded.Loaded.{Loaded}
-use Rattle.just_loader.specs.declared.scanned.Scan.{Scan}
 use Rattle.just_analyzer.specs.Outline.{outlines_of, recipes_of}
-use Rattle.just_analyzer.specs.Planned.{imports_at, IsJoin, contents_at, ArePlans}
+use Rattle.just_analyzer.specs.Planned.{contents_at, ArePlans}
 use Rattle.just_analyzer.specs.Resolved.{unresolved_numbers, HasPriors}
 use Rattle.just_analyzer.specs.declared.plans.Plan.{Plan}
 use Rattle.just_analyzer.specs.declared.plans.Plans.{Plans}
 use Rattle.just_analyzer.proofs.AstNumbers.{join_once, numbers_differ, number_of_ast, numbers_once}
 use Rattle.just_analyzer.proofs.AstRecipes.{are_held, held_at, outlines_of_asts, priors_of_asts}
-use Rattle.just_analyzer.proofs.KeysApart.{one_key}
 use Rattle.just_analyzer.proofs.ModuleKeys.{HasAst, Way, ast_of, file_keys}
 use Rattle.just_analyzer.proofs.OnePath.{one_path}
 
@@ -28,15 +26,6 @@ starts : (next : ℕ → List ℕ) (start n : ℕ) → (more : List ℕ) × (bef
 unfolding level before
 starts next start zero = ([], refl)
 starts next start (suc n) = let r = starts next start n in (r.0 ++ level next start (suc n), ap (λ xs. xs ++ level next start (suc n)) r.1)
-
--- a join begins with its own file
-pub own_first : (scan : Scan) (own : ℕ) (files : List ℕ) → IsJoin scan own files → (more : List ℕ) × (files ≡ own ∷ more)
-unfolding level before
-own_first scan own files join = by join.count join.listed join.ended
-  where
-    by : (n : ℕ) → files ≡ before (imports_at scan) own n → level (imports_at scan) own n ≡ [] → (more : List ℕ) × (files ≡ own ∷ more)
-    by zero e none = let wrong : own ∷ [] ≡ [] = none in cc
-    by (suc n) e none = let r = starts (imports_at scan) own n in (r.0, e ∙ r.1)
 
 -- an ast has the path of its module
 pub ast_path : (w : World) (loaded : Loaded) (nodes : List Node) (path : List ℕ) (g : ℕ) (h : HasAst w loaded nodes path g) → h.ast.module_path ≡ record { components = map (name_at loaded.scan) path; spaced = false }
@@ -48,13 +37,6 @@ ast_path w loaded nodes path g h =
 -- asts that are held of files
 abbrev pub AreAstsAt : Loaded → List ℕ → List ℕ → List Ast → Type 0
 AreAstsAt loaded path files asts = map Some asts ≡ map (λ g. get same_key loaded.asts (key_at loaded.scan path g)) files
-
-all_held : (w : World) (loaded : Loaded) (nodes : List Node) (path files : List ℕ) → ((g : ℕ) → In g files → HasAst w loaded nodes path g) → (asts : List Ast) × AreAstsAt loaded path files asts
-all_held w loaded nodes path [] has = ([], refl)
-all_held w loaded nodes path (g ∷ gs) has =
-    let h = has g (inl refl) in
-    let r = all_held w loaded nodes path gs (λ x i. has x (inr i)) in
-    (h.ast ∷ r.0, λ i. sym h.held i ∷ r.1 i)
 
 -- the key of a module, and its plan
 pub record IsModule (plans : Plans) (k : Key) (plan : Plan) : Type 0 where
@@ -69,16 +51,6 @@ module _ (w : World) (loaded : Loaded) (is : IsLoaded w loaded) (plans : Plans) 
   -- each file of a module has its ast
   pub module_ast : (k : Key) (plan : Plan) → IsModule plans k plan → (g : ℕ) → In g plan.files.items → HasAst w loaded is.nodes k.path g
   module_ast k plan m g h = ast_of w loaded is plans are m.way plan m.at g h
-
-  -- a module has its asts
-  pub module_asts : (k : Key) (plan : Plan) → IsModule plans k plan → (asts : List Ast) × AreAstsAt loaded k.path plan.files.items asts
-  module_asts k plan m = all_held w loaded is.nodes k.path plan.files.items (module_ast k plan m)
-
-  -- files of modules have different keys
-  pub one_module_file : (k l : Key) (p q : Plan) → IsModule plans k p → IsModule plans l q → (g h : ℕ) → In g p.files.items → In h q.files.items → same_key (key_at loaded.scan k.path g) (key_at loaded.scan l.path h) ≡ true → (k ≡ l) × (g ≡ h)
-  one_module_file k l p q m n g h in_g in_h e =
-      let same : record { path = k.path; node = g } ≡ record { path = l.path; node = h } = one_key w loaded.scan is.scan (file_way k p m g in_g).1 (file_way l q n h in_h).1 e in
-      (one_path w loaded.scan is.scan plans are m.way n.way (ap (λ (x : Key). x.path) same), ap (λ (x : Key). x.node) same)
 
   module _ (k : Key) (plan : Plan) (m : IsModule plans k plan) (asts : List Ast) (e : AreAstsAt loaded k.path plan.files.items asts) where
     -- the recipes of a module's asts are those of its files

@@ -1,10 +1,9 @@
 -- The nodes of the modules, as they are compiled.
 use Rattle.std.proofs.Common.{◌≡◌, ◌∙◌, ℕ, zero, suc, ◌<◌, Bool, true, false, List, [], ◌∷◌, map, flat_map, filter, length, take, get_or, is_some, Option, Some, None, IsSome, inl, inr, ◌⊎◌, ◌↔◌, refl, sym, ap, subst, arith, cond}
 use Rattle.std.specs.List.{All, Contains, slice_get}
-use Rattle.std.proofs.lemmas.Bool.{cases_lt}
 use Rattle.std.proofs.lemmas.List.{length-map}
 use Rattle.std.proofs.lemmas.List.Elements.{Contains-get_or}
-use Rattle.std.proofs.lemmas.Option.{slice_get_within, get_or_from_slice_get}
+use Rattle.std.proofs.lemmas.Option.{slice_get_within}
 use Rattle.just_graph.specs.Unfolding.{steps, Key, Node, key, key_child, root_key, KeySteps, stay, move, Firsts, none, again, first}
 use Rattle.just_graph.specs.Unfolded.{unfolded_key, AllTold, AreApart, CameFrom, IsUnfolded}
 use Rattle.just_graph.specs.declared.unfolding.Origin.{Origin}
@@ -23,8 +22,9 @@ use Rattle.just_parts.specs.declared.recipe.Recipe.{Recipe}
 use Rattle.just_loader.specs.Loaded.{IsLoaded}
 use Rattle.just_loader.specs.Reached.{World}
 use Rattle.just_loader.specs.declared.loaded.Loaded.{Loaded}
+use Rattle.just_loader.proofs.FileKeys.{from_flat}
 use Rattle.just_analyzer.specs.Compiling.{CanResolve, IsReady, HasPlan, ast_of, modulepath_at}
-use Rattle.just_analyzer.specs.Index.{AreDifferent, name_at}
+use Rattle.just_analyzer.specs.Index.{AreDifferent}
 use Rattle.just_analyzer.specs.Modules.{recipes_said, entries_in, IsModuleKey, of_root, of_entry}
 use Rattle.just_analyzer.specs.Outline.{Outline, outlines_of, names_of}
 use Rattle.just_analyzer.specs.Planned.{ArePlans, IsPlan, IsJoin, enters, entries_at}
@@ -34,9 +34,11 @@ use Rattle.just_graph.specs.Building.{EachRow}
 use Rattle.just_analyzer.specs.declared.plans.Plan.{Plan}
 use Rattle.just_analyzer.specs.declared.plans.Plans.{Plans}
 use Rattle.just_analyzer.proofs.KnownKeys as keys
-use Rattle.just_analyzer.proofs.KnownKeys.{AreSaid, name_by, name_entered}
+use Rattle.just_analyzer.proofs.KnownKeys.{AreSaid}
+use Rattle.just_analyzer.proofs.OnePath.{one_at}
+use Rattle.just_analyzer.proofs.Placed.{name_entered}
 use Rattle.just_analyzer.proofs.Said.{all_said, recipes_same}
-use Rattle.just_analyzer.proofs.Trees.{own_joined, from_flat}
+use Rattle.just_analyzer.proofs.Trees.{own_joined}
 
 -- the steps into the modules that the module of an own file declares
 abbrev pub entries : Plans → ℕ → List Step
@@ -71,8 +73,8 @@ pub record AreNodes (w : World) (loaded : Loaded) (plans : Plans) (us : List Unf
   pub led : (i : ℕ) (u : Unfolded) (s : Step) → slice_get us i ≡ Some u → Contains (entries plans u.node) s → (c : ℕ) × (v : Unfolded) × (slice_get us c ≡ Some v) × (unfolded_key v ≡ key_child (unfolded_key u) s)
   pub one_path : (i j : ℕ) (u v : Unfolded) → slice_get us i ≡ Some u → slice_get us j ≡ Some v → u.path.items ≡ v.path.items → i ≡ j
   pub entering : (i : ℕ) (u : Unfolded) (s : Step) → slice_get us i ≡ Some u → Contains (entries plans u.node) s → (name : ℕ) × (s.enters ≡ Some name)
-  pub named : (i p : ℕ) (u : Unfolded) (plan : Plan) (s : Step) → slice_get us i ≡ Some u → HasPlan plans u plan → slice_get (entries plans u.node) p ≡ Some s → (name : Name) × (slice_get plan.names.items p ≡ Some name) × (text_of_name name ≡ name_by loaded.scan s.enters)
-  pub different : (i p q : ℕ) (u : Unfolded) (s t : Step) → slice_get us i ≡ Some u → slice_get (entries plans u.node) p ≡ Some s → slice_get (entries plans u.node) q ≡ Some t → name_by loaded.scan s.enters ≡ name_by loaded.scan t.enters → s ≡ t
+  pub named : (i p : ℕ) (u : Unfolded) (plan : Plan) (s : Step) → slice_get us i ≡ Some u → HasPlan plans u plan → slice_get (entries plans u.node) p ≡ Some s → (name : Name) × (slice_get plan.names.items p ≡ Some name) × (text_of_name name ≡ name_entered loaded.scan s)
+  pub different : (i p q : ℕ) (u : Unfolded) (s t : Step) → slice_get us i ≡ Some u → slice_get (entries plans u.node) p ≡ Some s → slice_get (entries plans u.node) q ≡ Some t → name_entered loaded.scan s ≡ name_entered loaded.scan t → s ≡ t
   pub keys : (i : ℕ) (u : Unfolded) → slice_get us i ≡ Some u → IsModuleKey loaded (unfolded_key u)
   pub apart : (i j : ℕ) (u v : Unfolded) → slice_get us i ≡ Some u → slice_get us j ≡ Some v → (i ≡ j → ⊥) → (files more : List ℕ) → IsJoin loaded.scan u.node files → IsJoin loaded.scan v.node more
       → (asts others : List Ast) → AreSaid loaded (unfolded_key u) files asts → AreSaid loaded (unfolded_key v) more others → (n : ℕ) → Contains (unresolved_numbers (recipes_said w asts)) n → Contains (unresolved_numbers (recipes_said w others)) n → ⊥
@@ -103,9 +105,6 @@ no_origin : (o : Option Origin) → ((p : Origin) → o ≡ Some p → ⊥) → 
 no_origin None h = refl
 no_origin (Some p) h = absurd (h p refl)
 
-nothing_trails : (n : Node) → n.trail ≡ [] → length n.trail ≡ 0
-nothing_trails n e = ap length e
-
 entered : (xs : List Step) (s : Step) → In s (filter enters xs) → is_some s.enters ≡ true
 entered [] s h = absurd h
 entered (x ∷ xs) s h = go (enters x) refl (entered xs s) h
@@ -118,20 +117,6 @@ entered (x ∷ xs) s h = go (enters x) refl (entered xs s) h
 has_name : (o : Option ℕ) → is_some o ≡ true → (name : ℕ) × (o ≡ Some name)
 has_name None e = cc
 has_name (Some name) e = (name, refl)
-
--- one place of a text
-one_place : (names : List (List ℕ)) → AreDifferent names → (i j : ℕ) (text : List ℕ) → slice_get names i ≡ Some text → slice_get names j ≡ Some text → i ≡ j
-one_place names different i j text ei ej =
-    let li : i < length names = slice_get_within names i text ei in
-    let lj : j < length names = slice_get_within names j text ej in
-    let same : name_at names i ≡ name_at names j = get_or_from_slice_get names i text [] ei ∙ sym (get_or_from_slice_get names j text [] ej) in
-    elim (cases_lt i j) [
-      | inl l ↦ absurd (different i j l lj same)
-      | inr l ↦ elim (cases_lt j i) [
-        | inl m ↦ absurd (different j i m li (sym same))
-        | inr m ↦ omega arith
-      ]
-    ]
 
 module _ (w : World) (loaded : Loaded) (plans : Plans) (is : IsLoaded w loaded) (are : ArePlans w loaded.scan plans) where
   abbrev Reached : Key → Type 0
@@ -243,7 +228,7 @@ module _ (w : World) (loaded : Loaded) (plans : Plans) (is : IsLoaded w loaded) 
         (plan.0, record { is = plan.1; ready = is_ready (unfolded_key u) (reached i u e) plan.0 plan.1; join = (known.0).join; listed = known.1 })
 
     named_at : (i p : ℕ) (u : Unfolded) (plan : Plan) (s : Step) → slice_get us i ≡ Some u → HasPlan plans u plan → slice_get (entries plans u.node) p ≡ Some s
-        → (name : Name) × (slice_get plan.names.items p ≡ Some name) × (text_of_name name ≡ name_by loaded.scan s.enters)
+        → (name : Name) × (slice_get plan.names.items p ≡ Some name) × (text_of_name name ≡ name_entered loaded.scan s)
     named_at i p u plan s e has at =
         let known = are.planned u.node plan has in
         let at' : slice_get (flat_map (entries_at loaded.scan) plan.files.items) p ≡ Some s = subst (λ ss. slice_get ss p ≡ Some s) known.1 at in
@@ -252,14 +237,14 @@ module _ (w : World) (loaded : Loaded) (plans : Plans) (is : IsLoaded w loaded) 
         let r = get_map text_of_name plan.names.items p (name_entered loaded.scan s) texts in
         (r.0, r.1, sym r.2)
 
-    different_at : (i p q : ℕ) (u : Unfolded) (s t : Step) → slice_get us i ≡ Some u → slice_get (entries plans u.node) p ≡ Some s → slice_get (entries plans u.node) q ≡ Some t → name_by loaded.scan s.enters ≡ name_by loaded.scan t.enters → s ≡ t
+    different_at : (i p q : ℕ) (u : Unfolded) (s t : Step) → slice_get us i ≡ Some u → slice_get (entries plans u.node) p ≡ Some s → slice_get (entries plans u.node) q ≡ Some t → name_entered loaded.scan s ≡ name_entered loaded.scan t → s ≡ t
     different_at i p q u s t e es et same =
         let plan = plan_at i u e in
         let a = named_at i p u plan.0 s e (plan.1).is es in
         let b = named_at i q u plan.0 t e (plan.1).is et in
-        let ta : slice_get (map text_of_name plan.0.names.items) p ≡ Some (name_by loaded.scan s.enters) = map_get text_of_name plan.0.names.items p a.0 a.1 ∙ ap Some a.2 in
-        let tb : slice_get (map text_of_name plan.0.names.items) q ≡ Some (name_by loaded.scan s.enters) = map_get text_of_name plan.0.names.items q b.0 b.1 ∙ ap Some (b.2 ∙ sym same) in
-        let place : p ≡ q = one_place (map text_of_name plan.0.names.items) (keys.entries_different w loaded plans is are u.node plan.0 (plan.1).is) p q (name_by loaded.scan s.enters) ta tb in
+        let ta : slice_get (map text_of_name plan.0.names.items) p ≡ Some (name_entered loaded.scan s) = map_get text_of_name plan.0.names.items p a.0 a.1 ∙ ap Some a.2 in
+        let tb : slice_get (map text_of_name plan.0.names.items) q ≡ Some (name_entered loaded.scan s) = map_get text_of_name plan.0.names.items q b.0 b.1 ∙ ap Some (b.2 ∙ sym same) in
+        let place : p ≡ q = one_at (map text_of_name plan.0.names.items) p q (name_entered loaded.scan s) (keys.entries_different w loaded plans is are u.node plan.0 (plan.1).is) ta tb in
         some_same (sym es ∙ (ap (λ n. slice_get (entries plans u.node) n) place ∙ et))
 
     key_at_place : (i : ℕ) (u : Unfolded) → slice_get us i ≡ Some u → slice_get (map unfolded_key us) i ≡ Some (unfolded_key u)

@@ -5,10 +5,6 @@ use Rattle.std.proofs.lemmas.List.{append_assoc, append-nil}
 use Rattle.just_parts.specs.declared.layers.ast.Item.{Item}
 use Rattle.just_analyzer.specs.Places.{name_if, named_in}
 
-named_none : (is : List Item) → named_in is [] ≡ []
-named_none [] = refl
-named_none (i ∷ is) = refl
-
 -- one more item
 pub named_more : (is : List Item) (ts : List (Option ℕ)) (n m : ℕ) (i : Item) (t : Option ℕ) → m ≡ suc n → n < length is → n < length ts → i ≡ get_or is n i → t ≡ get_or ts n t → named_in (take m is) (take m ts) ≡ named_in (take n is) (take n ts) ++ name_if i t
 named_more [] ts n m i t e h k a b = absurd (omega arith)

@@ -19,7 +19,7 @@ use Rattle.just_parts.specs.declared.layers.ast.UnresolvedDependency.{Unresolved
 use Rattle.just_parts.specs.declared.recipe.Recipe.{Recipe}
 use Rattle.just_loader.specs.Keys.{Submodule, declared, end_of, imported, imports_of, items_at, modules_of}
 use Rattle.just_loader.specs.Links.{Link, Nowhere, To, Fault}
-use Rattle.just_loader.specs.Loaded.{file_at}
+use Rattle.just_loader.specs.Loaded.{file_at, name_at}
 use Rattle.just_loader.specs.Numbering.{texts_of}
 use Rattle.just_loader.specs.Reached.{World, link}
 use Rattle.just_loader.specs.Scanned.{IsPlaceOf, ArePlacesOf, IsStepOf, AreSteps, IsScan, IsScanned, paths_in}
@@ -71,6 +71,14 @@ entry_at names paths s = (unwrap_or (option_map (λ n. get_or names n []) s.ente
 
 abbrev pub entry_of : Submodule → Text × Text
 entry_of m = (text_of_name m.name, m.path)
+
+-- the text of a name by its number, if there is one
+abbrev pub name_by : Scan → Option ℕ → Text
+name_by scan o = unwrap_or (option_map (name_at scan) o) []
+
+-- the name of the module that a step enters
+abbrev pub name_entered : Scan → Step → Text
+name_entered scan s = name_by scan s.enters
 
 -- where links lead
 no_end : (paths : List Text) (l : Link) → IsPlaceOf paths l None → end_of l ≡ []
@@ -237,6 +245,12 @@ module _ (w : World) (scan : Scan) (is : IsScan w scan) where
       ∙ ap (map (λ (p : Text × Text). p.1)) (entries_here a h)
       ∙ map_map (λ (p : Text × Text). p.1) entry_of (modules_of w (file_at scan a))
 
+  pub entered_here : (a : ℕ) → a < length scan.files.items → map (name_entered scan) (entries_at scan a) ≡ map (λ (m : Submodule). text_of_name m.name) (modules_of w (file_at scan a))
+  entered_here a h =
+      sym (map_map (λ (p : Text × Text). p.0) (entry_at names paths) (entries_at scan a))
+      ∙ ap (map (λ (p : Text × Text). p.0)) (entries_here a h)
+      ∙ map_map (λ (p : Text × Text). p.0) entry_of (modules_of w (file_at scan a))
+
   -- the names of these modules
   pub names_here : (a : ℕ) → a < length scan.files.items → names_at scan a ≡ map (λ (m : Submodule). m.name) (modules_of w (file_at scan a))
   names_here a h =
@@ -262,6 +276,13 @@ module _ (w : World) (scan : Scan) (is : IsScan w scan) where
         flat_same (names_at scan) (λ a. map (λ (m : Submodule). m.name) (modules_of w (file_at scan a))) files (λ a h. names_here a (inside a h))
         ∙ sym (map_flat (λ (m : Submodule). m.name) (λ a. modules_of w (file_at scan a)) files)
         ∙ ap (map (λ (m : Submodule). m.name)) (sym (flat_map_map (modules_of w) (file_at scan) files))
+
+    pub entered_joined : map (name_entered scan) (flat_map (entries_at scan) files) ≡ map (λ (m : Submodule). text_of_name m.name) (flat_map (modules_of w) (map (file_at scan) files))
+    entered_joined =
+        map_flat (name_entered scan) (entries_at scan) files
+        ∙ flat_same (λ a. map (name_entered scan) (entries_at scan a)) (λ a. map (λ (m : Submodule). text_of_name m.name) (modules_of w (file_at scan a))) files (λ a h. entered_here a (inside a h))
+        ∙ sym (map_flat (λ (m : Submodule). text_of_name m.name) (λ a. modules_of w (file_at scan a)) files)
+        ∙ ap (map (λ (m : Submodule). text_of_name m.name)) (sym (flat_map_map (modules_of w) (file_at scan) files))
 
     pub headings_joined : (contents w (map (file_at scan) files)).modules ≡ map heading_named (flat_map (names_at scan) files)
     headings_joined = sym (ap (map heading_named) names_joined ∙ map_map heading_named (λ (m : Submodule). m.name) (flat_map (modules_of w) (map (file_at scan) files)))

@@ -65,9 +65,6 @@ made_more rs path [] (x ∷ made) place r so m = absurd so
 made_more rs path (p ∷ order) [] place r so m = absurd so
 made_more rs path (p ∷ order) (x ∷ made) place r so m = (so.0, made_more rs path order made place r so.1 m)
 
-pub resolving_none : (rs : List (Recipe UnresolvedDependency)) (path : Modulepath) (order : List ℕ) (made : List (Recipe Dependency)) → made ≡ [] → Resolving rs path order 0 made
-resolving_none rs path order made e = subst (Resolving rs path order 0) (sym e) (record { made_of = tt; numbered = refl; resolved = λ k d h. absurd (omega arith) })
-
 module _ (rs : List (Recipe UnresolvedDependency)) (order : List ℕ) (different : AreDifferent (names_of (outlines_of rs))) (once : IsOnce (unresolved_numbers rs)) (o : IsOrderOf (outlines_of rs) order) (n : ℕ) (inside : n < length order) (made : List (Recipe Dependency)) (path : Modulepath) (so : Resolving rs path order n made) where
   many : length (outlines_of rs) ≡ length rs
   many = length-map rs _

@@ -9,7 +9,6 @@ use Rattle.just_parts.specs.declared.layers.ast.UnresolvedDependency.{Unresolved
 use Rattle.just_parts.specs.declared.recipe.Recipe.{Recipe}
 use Rattle.just_analyzer.specs.Index.{name_at, IsLast, IsIndex, place_in}
 use Rattle.just_analyzer.specs.Outline.{Outline, outline_of, outline_at, names_of}
-use Rattle.just_analyzer.specs.Rows.{IsTarget}
 use Rattle.just_loader.specs.Causes.{Broken}
 use Rattle.just_analyzer.specs.Rules.{Dependencies, unknown_dependency, argument_count}
 use Rattle.just_analyzer.proofs.Outlines.{name_of_outline}
@@ -72,11 +71,6 @@ module _ (os : List Outline) (found : List ℕ → Option ℕ) (index : IsIndex 
         unknown_dependency i in_os (sym (named ∙ ap (λ (o : Outline). o.name) is))
         (subst (λ (p : Namepath). Contains (outline_at os i).dependencies (texts_of_path p)) (sym copied) path_there)
         (λ j h e. outline_missing (texts_of_path d.recipe) none j h (ap texts_of_path (sym copied) ∙ e))
-
-    pub is_target : (j : ℕ) (t : Recipe UnresolvedDependency) → place_in found (texts_of_path d.recipe) ≡ Some j → outline_of t ≡ outline_at os j → (outline_of t).least ≡ 0 → IsTarget os (get_or (outline_at os i).dependencies at []) j
-    is_target j t e there none =
-        let s = outline_found (texts_of_path d.recipe) j e in
-        record { there = s.0; named = sym path_read ∙ s.1; enough = ap (λ (o : Outline). o.least) (sym there) ∙ none }
 
     pub is_mismatch : (j least most : ℕ) (t : Recipe UnresolvedDependency) (dependency : Namepath) → dependency ≡ d.recipe → place_in found (texts_of_path d.recipe) ≡ Some j → outline_of t ≡ outline_at os j → least ≡ (outline_of t).least → most ≡ (outline_of t).most → 0 < least
         → Dependencies os (Broken (kind.DependencyArgumentCountMismatch dependency 0 least most))

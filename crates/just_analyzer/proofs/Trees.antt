@@ -6,7 +6,7 @@ use Rattle.std.proofs.lemmas.List.{length-map, get_or_default}
 use Rattle.std.proofs.lemmas.List.Elements.{All-contains, Contains-get_or}
 use Rattle.just_graph.specs.Levels.{level, before}
 use Rattle.just_graph.specs.Unfolding.{Key}
-use Rattle.just_graph.proofs.Members.{In, contained, is_in, in_left, in_right, in_cases, in_map, from_map}
+use Rattle.just_graph.proofs.Members.{In, contained, is_in, in_left, in_map, from_map}
 use Rattle.just_graph.proofs.Index.{get_map, map_get, some_same, got_in}
 use Rattle.just_loader.proofs.Numberings.{placed}
 use Rattle.just_parts.specs.Entries.{find}
@@ -25,6 +25,7 @@ use Rattle.just_loader.specs.Asts.{same_key}
 use Rattle.just_loader.specs.Loaded.{file_at, key_at}
 use Rattle.just_loader.specs.Reached.{World}
 use Rattle.just_loader.specs.declared.loaded.Loaded.{Loaded}
+use Rattle.just_loader.proofs.FileKeys.{in_flat, from_flat}
 use Rattle.just_analyzer.specs.Analysis.{IsDefaultOf, IsKeyOf, IsOf}
 use Rattle.just_analyzer.specs.Modules.{Built, IsCompiledFrom, IsJustfileOf, IsTree, tree, AreCompiled, recipes_said}
 use Rattle.just_analyzer.specs.Outline.{recipes_of}
@@ -67,22 +68,11 @@ module _ (w v : World) (same : w.enabled ≡ v.enabled) (loaded : Loaded) where
   compiled_for j recipes all = record {
     built = all.built;
     once = all.once;
+    after = all.after;
     each = λ b c. let r = all.each b c in (r.0, from_for r.1);
     all = all.all;
     root = tree_stays all.built all.built (λ b c. c) all.root;
   }
-
-in_flat : {A B : Type 0} (f : A → List B) (y : A) (x : B) (ys : List A) → In y ys → In x (f y) → In x (flat_map f ys)
-in_flat f y x [] h i = absurd h
-in_flat f y x (z ∷ ys) (inl e) i = in_left x (f z) (flat_map f ys) (subst (λ a. In x (f a)) e i)
-in_flat f y x (z ∷ ys) (inr h) i = in_right x (f z) (flat_map f ys) (in_flat f y x ys h i)
-
-pub from_flat : {A B : Type 0} (f : A → List B) (x : B) (ys : List A) → In x (flat_map f ys) → (y : A) × In y ys × In x (f y)
-from_flat f x [] h = absurd h
-from_flat f x (y ∷ ys) h = elim (in_cases x (f y) (flat_map f ys) h) [
-  | inl i ↦ (y, inl refl, i)
-  | inr i ↦ (let r = from_flat f x ys i in (r.0, inr r.1, r.2))
-]
 
 -- the start stands in what is joined
 start_in : (next : ℕ → List ℕ) (start n : ℕ) → In start (before next start (suc n))
@@ -127,7 +117,7 @@ module _ (w : World) (loaded : Loaded) (built : List Built) (recipes : List (Rec
   number_held : (b : Built) → Contains built b → (n : ℕ) → Contains (numbers b.1) n → IsSome (find_number recipes n)
   number_held b c n d =
       let r = from_map (λ (q : Recipe Dependency). q.number.0) n b.1 (is_in n (numbers b.1) d) in
-      let i : In r.0 (flat_map made_by built) = in_flat made_by b r.0 built (is_in b built c) r.1 in
+      let i : In r.0 (flat_map made_by built) = in_flat made_by r.0 b built (is_in b built c) r.1 in
       let j : In r.0 recipes = subst (λ (rs : List (Recipe Dependency)). In r.0 rs) (sym all) i in
       number_found recipes n (subst (λ m. In m (numbers recipes)) (sym r.2) (in_map (λ (q : Recipe Dependency). q.number.0) r.0 recipes j))
 
@@ -151,7 +141,7 @@ module _ (w : World) (loaded : Loaded) (built : List Built) (recipes : List (Rec
     own_held : (n : ℕ) → In n (unresolved_numbers own_rs) → IsSome (find_number recipes n)
     own_held n h =
         let q = from_map (λ (r : Recipe UnresolvedDependency). r.number.0) n own_rs h in
-        let i : In q.0 rs = in_flat (λ (ast : Ast). recipes_of w.enabled ast.items) is.from.own q.0 is.from.asts (is_in is.from.own is.from.asts own_in) q.1 in
+        let i : In q.0 rs = in_flat (λ (ast : Ast). recipes_of w.enabled ast.items) q.0 is.from.own is.from.asts (is_in is.from.own is.from.asts own_in) q.1 in
         let p = number_in rs n (subst (λ m. In m (unresolved_numbers rs)) (sym q.2) (in_map (λ (r : Recipe UnresolvedDependency). r.number.0) q.0 rs i)) in
         subst (λ m. IsSome (find_number recipes m)) p.2 (place_held p.0 p.1)
 

@@ -1,5 +1,5 @@
 -- One turn of compiling modules, as its loop takes it.
-use Rattle.std.proofs.Common.{◌≡◌, ◌∙◌, ℕ, ◌+◌, ◌<◌, Bool, List, [], ◌∷◌, ◌++◌, ◌↔◌, map, length, get_or, set, replicate, Option, Some, None, ap, subst, sym, arith}
+use Rattle.std.proofs.Common.{◌≡◌, ◌∙◌, ℕ, ◌<◌, Bool, List, [], ◌∷◌, ◌++◌, ◌↔◌, map, length, get_or, set, replicate, Option, Some, None, ap, subst, sym, arith}
 use Rattle.std.specs.List.{Contains, slice_get}
 use Rattle.std.specs.Map.{values_of}
 use Rattle.std.proofs.lemmas.List.{length_push, length-set}

@@ -1,5 +1,5 @@
 -- What the modules of a compilation are compiled to: a tree of justfiles, and the recipes of all.
-use Rattle.std.specs.Prelude.{◌≡◌, ℕ, List, [], ◌∷◌, map, flat_map, slice_get, Option, None, Some}
+use Rattle.std.specs.Prelude.{◌≡◌, ◌<◌, ◌++◌, ℕ, List, [], ◌∷◌, map, flat_map, slice_get, Option, None, Some}
 use Rattle.std.specs.HashMap.{get}
 use Rattle.std.specs.List.{Contains}
 use Rattle.std.specs.List.Sorted.{IsStrictlySortedBy}
@@ -64,6 +64,10 @@ pub record IsJustfileOf (w : World) (loaded : Loaded) (k : Key) (made : List (Re
 abbrev pub Built : Type 0
 Built = Key × List (Recipe Dependency)
 
+-- a module comes after those that are named in it
+abbrev pub ComeAfter : List Built → Type 0
+ComeAfter built = (i j : ℕ) (b inner : Built) (name : ℕ) → slice_get built i ≡ Some b → slice_get built j ≡ Some inner → inner.0.path ≡ b.0.path ++ name ∷ [] → j < i
+
 -- A justfile is that of a module, and its modules are those of the modules that the module declares: each of them is that of a step into one, and each step leads to one of them.
 pub data IsTree (w : World) (loaded : Loaded) (built : List Built) : Key → Justfile → Type 0 where
   tree : {k : Key} {made : List (Recipe Dependency)} {j : Justfile} → Contains built (k, made) → (is : IsJustfileOf w loaded k made j)
@@ -75,10 +79,11 @@ pub data IsTree (w : World) (loaded : Loaded) (built : List Built) : Key → Jus
       → ((s : Step) (c : Contains (entries_in loaded is.from.files) s) → IsTree w loaded built (key_child k s) (module_of s c))
       → IsTree w loaded built k j
 
--- What is compiled: modules, each once, whose recipes one after another are all recipes, and the tree of their justfiles from the root's.
+-- What is compiled: modules, each once and after those in it, whose recipes one after another are all recipes, and the tree of their justfiles from the root's.
 pub record AreCompiled (w : World) (loaded : Loaded) (justfile : Justfile) (recipes : List (Recipe Dependency)) : Type 0 where
   pub built : List Built
   pub once : (i j : ℕ) (k : Key) → slice_get (map (λ (b : Built). b.0) built) i ≡ Some k → slice_get (map (λ (b : Built). b.0) built) j ≡ Some k → i ≡ j
+  pub after : ComeAfter built
   pub each : (b : Built) → Contains built b → IsModuleKey loaded b.0 × IsCompiledFrom w loaded b.0 b.1
   pub all : recipes ≡ flat_map (λ (b : Built). b.1) built
   pub root : IsTree w loaded built (root_key 0) justfile

@@ -39,25 +39,6 @@ Cut-start text all none utf8 = record {
   lines = rw none (All-nil (IsLineOf text));
 }
 
-pub le_of_add_one : (a b : ℕ) → a < b + 1 → a ≤ b
-le_of_add_one a b h = omega (arith, h)
-
-pub clear_more : (text : List ℕ) (start end k : ℕ) {all : List Line} → Cut text all start end → end < length text → is_newline (get_or text end 0) ≡ false → k < end + 1 - start → is_newline (get_or (drop start text) k 0) ≡ false
-clear_more text start end k cut left other h = elim (eq-or-lt_of_le (le_of_add_one k (end - start) (omega (arith, h, cut.ordered)))) [
-  | inl past ↦ let is : start + k ≡ end = omega (arith, past, cut.ordered) in rw (get_or-drop start text k 0, is) other
-  | inr before ↦ cut.clear k before
-]
-
-pub Cut-more : (text : List ℕ) (all : List Line) (start end : ℕ) → Cut text all start end → end < length text → is_newline (get_or text end 0) ≡ false → Cut text all start (end + 1)
-Cut-more text all start end cut left other = record {
-  whole = cut.whole;
-  ordered = omega (arith, cut.ordered);
-  within = omega (arith, left);
-  clear = λ k h. clear_more text start end k cut left other h;
-  boundary = cut.boundary;
-  lines = cut.lines;
-}
-
 pub length_part : (text : List ℕ) (start end : ℕ) → start ≤ end → end ≤ length text → length (slice_range text start end) ≡ end - start
 length_part text start end ordered within = grind (arith, common_steps)
 

@@ -82,17 +82,8 @@ Lexed-start path text line found none = record {
 pub at_front : (bytes : List ℕ) (at : ℕ) → at < length bytes → drop at bytes ≡ get_or bytes at 0 ∷ drop (at + 1) bytes
 at_front bytes at within = drop-cons bytes at 0 within ∙ ap (λ m. get_or bytes at 0 ∷ drop m bytes) (sym (add-one at))
 
-pub from_blank : (token : ℕ → ℕ → Place) (at b : ℕ) (rest : List ℕ) → is_blank b ≡ true → lexemes_from token at 0 (b ∷ rest) ≡ lexemes_from token (at + 1) 0 rest
-from_blank token at b rest h = rw h refl
-
 pub from_lexeme : (token : ℕ → ℕ → Place) (at b : ℕ) (rest : List ℕ) → is_blank b ≡ false → lexemes_from token at 0 (b ∷ rest) ≡ before token at (first (b ∷ rest)) (λ more. lexemes_from token (at + 1) more rest)
 from_lexeme token at b rest h = rw h refl
-
-pub Lexed-blank : (path text : List ℕ) (line : Line) (found : List Lexeme) (at : ℕ) → Lexed path text line found at → at < length line.text → is_blank (get_or line.text at 0) ≡ true → Lexed path text line found (at + 1)
-Lexed-blank path text line found at read left blank = record {
-  whole = read.whole ∙ ap (option_map (λ rest. found ++ rest)) (ap (lexemes_from (place path text line) at 0) (at_front line.text at left) ∙ from_blank (place path text line) at (get_or line.text at 0) (drop (at + 1) line.text) blank);
-  within = omega (arith, left);
-}
 
 pub after : (token : ℕ → ℕ → Place) (at : ℕ) (bytes : List ℕ) → at < length bytes → is_blank (get_or bytes at 0) ≡ false
     → lexemes_from token at 0 (drop at bytes) ≡ before token at (first (drop at bytes)) (λ more. lexemes_from token (at + 1) more (drop (at + 1) bytes))
@@ -123,15 +114,6 @@ Lexed-push path text line found at kind size found' read left sharp is takes pus
       whole = rw pushed (read.whole ∙ ap (option_map (λ rest. found ++ rest)) (after token at line.text left sharp ∙ ap (λ f. before token at f (λ more. lexemes_from token (at + 1) more (drop (at + 1) line.text))) is) ∙ rw rest (option_grown found (record { kind = kind; token = token at size }) (lexemes_from token (at + size) 0 (drop (at + size) line.text))));
       within = within_after line.text at size left takes;
     }
-
-pub Lexed-none : (path text : List ℕ) (line : Line) (found : List Lexeme) (at : ℕ)
-    → Lexed path text line found at → at < length line.text → is_blank (get_or line.text at 0) ≡ false → first (drop at line.text) ≡ None → None ≡ lexemes path text line
-Lexed-none path text line found at read left sharp is =
-    let token = place path text line in
-    sym (read.whole ∙ ap (option_map (λ rest. found ++ rest)) (after token at line.text left sharp ∙ ap (λ f. before token at f (λ more. lexemes_from token (at + 1) more (drop (at + 1) line.text))) is))
-
-pub Lexed-end : (path text : List ℕ) (line : Line) (found : List Lexeme) (at : ℕ) → Lexed path text line found at → length line.text ≤ at → Some found ≡ lexemes path text line
-Lexed-end path text line found at read ends = sym (read.whole ∙ rw (drop_all at line.text ends) (ap Some (append-nil found)))
 
 pub last_byte : (bytes : List ℕ) (at size : ℕ) → at < length bytes → Takes (drop at bytes) size → get_or bytes (at + size - 1) 0 < 128
 last_byte bytes at size left takes =

@@ -50,18 +50,6 @@ pub record Read (path text : List ℕ) (source : Source) (low : ℕ) (all : List
   pub onward : low ≤ high
   pub fits : low < 2 ^ 64 → high < 2 ^ 64
 
-pub Read-start : (path text : List ℕ) (source : Source) (low : ℕ) (all : List Line) (items : List Item) → all ≡ lines_of text → items ≡ [] → Read path text source low all 0 items low
-unfolding items_of spends
-Read-start path text source low all items whole none = rw (whole, none) (record {
-  whole = refl;
-  source_of = All-nil (ItemCameBy source);
-  priors = All-nil PriorsAreDependencies;
-  rising = omega arith;
-  spent = refl;
-  onward = omega arith;
-  fits = λ h. h;
-})
-
 pub rest_of : (all : List Line) (n : ℕ) (line : Line) → n < length all → get_or all n line ≡ line → drop n all ≡ line ∷ drop (n + 1) all
 rest_of all n line within is = drop-cons all n line within ∙ ap (λ m. get_or all n line ∷ drop m all) (sym (add-one n)) ∙ ap (λ x. x ∷ drop (n + 1) all) is
 
@@ -74,18 +62,6 @@ by_line path text items all n line r within is read = rw (rest_of all n line wit
 pub spends_by_line : (path text : List ℕ) (all : List Line) (n : ℕ) (line : Line) (r : Reading) → n < length all → get_or all n line ≡ line → r ≡ reading path text line
     → spends_lines path text (drop n all) ≡ spends_line r (spends_lines path text (drop (n + 1) all))
 spends_by_line path text all n line r within is read = rw (rest_of all n line within is, read) refl
-
-pub Read-ignored : (path text : List ℕ) (source : Source) (low : ℕ) (all : List Line) (n : ℕ) (items : List Item) (high : ℕ) (line : Line)
-    → Read path text source low all n items high → n < length all → get_or all n line ≡ line → Ignored ≡ reading path text line → Read path text source low all (n + 1) items high
-Read-ignored path text source low all n items high line so_far within is read = record {
-  whole = so_far.whole ∙ by_line path text (map bare_item items) all n line Ignored within is read;
-  source_of = so_far.source_of;
-  priors = so_far.priors;
-  rising = so_far.rising;
-  spent = so_far.spent ∙ ap (λ k. high + k) (spends_by_line path text all n line Ignored within is read);
-  onward = so_far.onward;
-  fits = so_far.fits;
-}
 
 pub Read-bad : (path text : List ℕ) (source : Source) (low : ℕ) (all : List Line) (n : ℕ) (items : List Item) (high : ℕ) (line : Line) (token : Place)
     → all ≡ lines_of text → Read path text source low all n items high → n < length all → get_or all n line ≡ line → Bad ≡ reading path text line → token ≡ line_place path text line

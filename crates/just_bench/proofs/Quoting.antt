@@ -183,18 +183,6 @@ sorted_quoted : (found : Option (List Lexeme)) → IfSome found (All IsSound) �
 sorted_quoted None all = tt
 sorted_quoted (Some ls) all = told_quoted (import_line ls) (module_line ls) (heading ls) (quoted_import ls all) (quoted_module ls all)
 
-reading_if : (c : Bool) (a b : Reading) → PathIsQuoted a → PathIsQuoted b → PathIsQuoted (if c then a else b)
-reading_if true a b p q = p
-reading_if false a b p q = q
-
--- what a line says
-pub quoted_reading : (path text : List ℕ) (line : Line) → IsLineOf text line → PathIsQuoted (reading path text line)
-unfolding reading
-quoted_reading path text line of =
-    reading_if (is_comment line.text) Ignored _ tt
-    (reading_if (is_indented line.text) Bad (sorted (lexemes path text line)) tt
-    (sorted_quoted (lexemes path text line) (sound_lexemes path text line of)))
-
 pub read_quoted : {E : Type 0} (path text : List ℕ) (line : Line) (ls : List Lexeme) (r : Result Reading E) → IsLineOf text line → Some ls ≡ lexemes path text line → IfOk r (λ found. found ≡ sorted (Some ls)) → IfOk r PathIsQuoted
 read_quoted path text line ls (Ok found) of is here = subst PathIsQuoted (ap sorted (sym is) ∙ sym here) (sorted_quoted (lexemes path text line) (sound_lexemes path text line of))
 read_quoted path text line ls (Err e) of is here = tt

@@ -97,14 +97,6 @@ module _ (g : List (Vec ℕ Global)) (start : List ℕ) (stops : List Bool) wher
     | inr l ↦ get_or_past (replicate n false) a false (omega (arith, length-replicate n false))
   ]
 
-  pub none_listed : (seen : List Bool) (found : List ℕ) → seen ≡ replicate (length g) false → found ≡ [] → Listing seen found
-  none_listed seen found is_seen0 is_found0 =
-      subst (λ s. Listing s found) (sym is_seen0) (subst (Listing (replicate (length g) false)) (sym is_found0) (record {
-        found_seen = λ k h. absurd (omega arith);
-        seen_found = λ a h. absurd (false≢true (sym (all_unseen (length g) a) ∙ h));
-        once = λ i j h l. absurd (omega arith);
-      }))
-
   pub reach_begun : (seen0 : List Bool) (found0 : List ℕ) (seen : List Bool) (found : List ℕ) → length seen0 ≡ length g → found0 ≡ [] → Added start (length start) seen0 found0 seen found → Reaching g start stops seen found 0
   reach_begun seen0 found0 seen found len none s =
       let len0 : length found0 ≡ 0 = ap length none in
@@ -150,21 +142,6 @@ module _ (g : List (Vec ℕ Global)) (start : List ℕ) (stops : List Bool) wher
                     row_done row seen found seen' found' add b (subst (λ xs. Contains xs b) (sym is_row) (subst (λ a. HasEdge g a b) at e'))
               ];
         }
-
-    pub reach_skip : (node : ℕ) → n < length found → slice_index found n ≡ node → get_or stops node false ≡ true → Reaching g start stops seen found (n + 1)
-    reach_skip node h is_node stopped = record {
-      listing = s.listing;
-      seen_len = s.seen_len;
-      within = omega arith;
-      reached = s.reached;
-      start_seen = s.start_seen;
-      passed = λ k b l on e. elim (cases_lt k n) [
-        | inl lk ↦ s.passed k b lk on e
-        | inr lk ↦
-            let at : slice_index found k ≡ node = ap (slice_index found) (omega arith) ∙ is_node in
-            absurd (false≢true (sym on ∙ (ap (λ a. get_or stops a false) at ∙ stopped)))
-      ];
-    }
 
     pub all_seen : length found ≤ n → {a : ℕ} → Reached (HasEdge g) start stops a → is_seen seen a ≡ true
     all_seen over (from_start c) = at_contained (λ a. is_seen seen a ≡ true) start s.start_seen _ c

@@ -23,17 +23,8 @@ only_open New a b = absurd (a refl)
 only_open Open a b = refl
 only_open Done a b = absurd (b refl)
 
-pub only_done : (x : Mark) → x ≢ New → x ≢ Open → x ≡ Done
-only_done New a b = absurd (a refl)
-only_done Open a b = absurd (b refl)
-only_done Done a b = refl
-
 pub marked_inside : (m : List Mark) (a : ℕ) → mark m a ≢ New → a < length m
 marked_inside m a seen = elim (cases_lt a (length m)) [ inl l ↦ l | inr l ↦ absurd (seen (get_or_past m a New l)) ]
-
--- after the search of one root
-pub finished : (g : List (Vec ℕ Global)) (m : List Mark) (o : List ℕ) (a : ℕ) → Searching g m [] [] o → mark m a ≢ New → mark m a ≡ Done
-finished g m o a s seen = only_done (mark m a) seen (λ e. let c : Contains [] a = s.open_path a e in absurd (omega (arith, c.1)))
 
 pub set_steps : (m : List Mark) (v : ℕ) (x : Mark) → v < length m → steps_left (set m v x) + steps_of (mark m v) ≡ steps_left m + steps_of x
 set_steps m v x h = sum_by-set steps_of m v x New h

@@ -22,9 +22,6 @@ use Rattle.just_graph.proofs.Index.{map_get, get_map, some_same, none_some}
 no_member : {A : Type 0} (x : A) → Contains [] x → ⊥
 no_member x c = let l = c.1 in absurd (omega arith)
 
-pub linked_none : (path : List ℕ) (places : HashKey → Option ℕ) → AreLinked [] path places []
-linked_none path places = record { sound = λ q c. absurd (no_member q c); complete = λ s c. absurd (no_member s c) }
-
 module _ (row : List Step) (path : List ℕ) (places : HashKey → Option ℕ) (links : List ℕ) (s : Step) (h : HashKey) (a : AreLinked row path places links) (after : IsAfter path s h) where
   pub linked_some : (q : ℕ) → places h ≡ Some q → AreLinked (row ++ s ∷ []) path places (links ++ q ∷ [])
   linked_some q at = record {

@@ -1,9 +1,8 @@
 -- The loop that notes the depths.
-use Rattle.std.proofs.Common.{◌≡◌, ◌≢◌, ℕ, ◌+◌, ◌<◌, ◌≤◌, ◌∙◌, Option, Some, None, List, length, take, set, map, inl, inr, refl, sym, ap, subst, arith}
+use Rattle.std.proofs.Common.{◌≡◌, ◌≢◌, ℕ, ◌<◌, ◌≤◌, ◌∙◌, Option, Some, None, List, length, take, set, map, refl, sym, ap, subst, arith}
 use Rattle.std.specs.Prelude.{slice_get}
 use Rattle.std.specs.Option.{unwrap_or}
 use Rattle.std.proofs.lemmas.List.{length-set, length-map, get_or-set_same, get_or-set_other}
-use Rattle.std.proofs.lemmas.Bool.{cases_eq}
 use Rattle.std.proofs.lemmas.Option.{slice_get_within, slice_get-get_or, get_or_from_slice_get}
 use Rattle.just_graph.specs.declared.unfolding.Step.{Step}
 use Rattle.just_graph.specs.declared.unfolding.Unfolded.{Unfolded}
@@ -21,9 +20,6 @@ pub record Noting (depths : List (Option ℕ)) (old now : List Unfolded) (place 
   pub front : (k : ℕ) (u : Unfolded) → k < place → slice_get old k ≡ Some u → slice_get now k ≡ Some (noted depths k u)
   pub rest : (k : ℕ) (u : Unfolded) → place ≤ k → slice_get old k ≡ Some u → slice_get now k ≡ Some u
 
-pub noting_none : (depths : List (Option ℕ)) (old : List Unfolded) → Noting depths old old 0
-noting_none depths old = record { count = refl; front = λ k u l. absurd (omega arith); rest = λ k u l e. e }
-
 get_set_other : {A : Type 0} (xs : List A) (i k : ℕ) (y x : A) → k ≢ i → slice_get xs k ≡ Some x → slice_get (set xs i y) k ≡ Some x
 get_set_other xs i k y x ne e =
     let l : k < length (set xs i y) = omega (arith, length-set xs i y, slice_get_within xs k x e) in
@@ -33,24 +29,6 @@ get_set_same : {A : Type 0} (xs : List A) (i : ℕ) (y : A) → i < length xs �
 get_set_same xs i y l =
     let m : i < length (set xs i y) = omega (arith, length-set xs i y) in
     slice_get-get_or (set xs i y) i y m ∙ ap Some (get_or-set_same xs i y y l)
-
-pub noting_step : (depths : List (Option ℕ)) (old now : List Unfolded) (place : ℕ) (was new : Unfolded) → Noting depths old now place → place < length now → slice_get now place ≡ Some was → new ≡ noted depths place was → Noting depths old (set now place new) (place + 1)
-noting_step depths old now place was new s l at is = record {
-  count = length-set now place new ∙ s.count;
-  front = λ k u lk e. elim (cases_eq k place) [
-    | inl same ↦
-        let here : was ≡ u = some_same (sym at ∙ s.rest place u (omega arith) (subst (λ x. slice_get old x ≡ Some u) same e)) in
-        subst (λ x. slice_get (set now place new) x ≡ Some (noted depths x u)) (sym same) (get_set_same now place new l ∙ ap Some (is ∙ ap (noted depths place) here))
-    | inr ne ↦ get_set_other now place k new (noted depths k u) ne (s.front k u (let apart : k ≢ place = ne in let below : k < place + 1 = lk in omega arith) e)
-  ];
-  rest = λ k u lk e. get_set_other now place k new u (λ same. absurd (omega (arith, lk, same))) (s.rest k u (omega (arith, lk)) e);
-}
-
-pub noting_over : (depths : List (Option ℕ)) (old now : List Unfolded) (place : ℕ) → length old ≤ place → Noting depths old now place → AreNoted depths old now
-noting_over depths old now place l s = record {
-  count = s.count;
-  each = λ k u e. s.front k u (omega (arith, slice_get_within old k u e)) e;
-}
 
 -- the elements tell the same nodes
 module _ (depths : List (Option ℕ)) (old new : List Unfolded) (s : AreNoted depths old new) where

@@ -69,14 +69,6 @@ pub record Places (found : List ℕ) (old seen : List Bool) (kept : List ℕ) (i
   pub room : length seen ≡ length old
   pub fewer : unseen seen + length kept ≡ unseen old
 
-pub places_none : (found : List ℕ) (old : List Bool) (kept : List ℕ) → kept ≡ [] → Places found old old kept (length found)
-places_none found old kept e = subst (λ ks. Places found old old ks (length found)) (sym e) (record {
-  kept_is = sym (ap (λ xs. at_last (unmarked (is_seen old) xs)) (drop_all found));
-  marks = λ a. or_false (is_seen old a);
-  room = refl;
-  fewer = omega arith;
-})
-
 module _ (found : List ℕ) (old seen : List Bool) (kept : List ℕ) (i j : ℕ) (next : j ≡ i + 1) (within : j ≤ length found) (s : Places found old seen kept j) where
   inside : i < length found
   inside = omega arith

@@ -235,9 +235,6 @@ none-below k i d h = absurd (omega arith)
 pub one-below : (p : Pair) → AllLow (suc p.recipe) (p ∷ [])
 one-below p = All-cons (λ (q : Pair). q.recipe < suc p.recipe) p [] (omega arith) (none-below (suc p.recipe))
 
-pub counts-empty : (ns : List ℕ) → ns ≡ ns ++ if_any [] []
-counts-empty ns = sym (append-nil ns)
-
 pub if_any-none : (ts : List Task) (ns : List ℕ) → length ts ≡ 0 → if_any ts ns ≡ []
 if_any-none [] ns h = refl
 if_any-none (t ∷ ts) ns h = absurd (omega arith)
@@ -250,10 +247,6 @@ pub opened-counts : (calls pushed new : List ℕ) (n k : ℕ) (below : List ℕ)
 opened-counts calls pushed new n k below ts some e h g =
     g ∙ ap (λ x. add_at x n k ++ below) h ∙ ap (λ x. add_at (calls ++ 0 ∷ []) x k ++ below) e ∙ ap (λ x. x ++ below) (add-last calls k)
     ∙ append_assoc calls (k ∷ []) below ∙ ap (λ x. calls ++ x) (sym (if_any-some ts (k ∷ below) some))
-
--- the lists that a table has
-pub holds-none : Holds [] []
-holds-none p = refl
 
 pub holds-more : (old new done : List Pair) (p : Pair) → Holds old done → ((q : Pair) → has same_pair new q ≡ (has same_pair old q || same_pair p q)) → Holds new (done ++ p ∷ [])
 holds-more old new done p h k q = k q ∙ ap (λ b. b || same_pair p q) (h q) ∙ ap (λ b. has same_pair done q || b) (sym (or_false (same_pair p q))) ∙ sym (has-append same_pair done (p ∷ []) q)

@@ -26,11 +26,6 @@ pub follows-stop : (xs ys a b : List Entry) (e : Halt) → Follows xs a b (Some 
 follows-stop xs ys a b Memory h = broken-stop xs ys a b h
 follows-stop xs ys a b Exhausted h = broken-stop xs ys a b h
 
--- a refusal may come after all questions, and before all
-pub follows-here : (xs a b : List Entry) (e : Halt) → Follows xs a b None → Follows xs a b (Some e)
-follows-here xs a b Memory h = (xs, [], sym (append-nil xs), h)
-follows-here xs a b Exhausted h = (xs, [], sym (append-nil xs), h)
-
 pub follows-none : (a : List Entry) → Follows [] a a None
 follows-none a = sym (append-nil a)
 

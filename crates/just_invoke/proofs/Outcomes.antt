@@ -1,5 +1,5 @@
 -- From the words' invocations to the outcome of their run.
-use Rattle.std.proofs.Common.{◌≡◌, ◌≤◌, ℕ, Bool, true, false, List, [], ◌∷◌, map, length, Result, Ok, Err, IfSome, IfOk, IfErr, refl, ap, subst, sym, inl, inr}
+use Rattle.std.proofs.Common.{◌≡◌, ◌≤◌, ℕ, Bool, true, false, List, [], ◌∷◌, map, length, Result, Ok, Err, IfOk, IfErr, refl, ap, subst, sym, inr}
 use Rattle.std.proofs.lemmas.List.{length-map}
 use Rattle.just_parts.specs.declared.dependency.Dependency.{Dependency}
 use Rattle.just_parts.specs.declared.layers.host.Entry.{Entry}
@@ -10,10 +10,9 @@ use Rattle.just_parts.specs.declared.recipe.Recipe.{Recipe}
 use Rattle.just_invoke.specs.declared.invocation.Invocation as parsed
 use Rattle.just_invoke.specs.declared.justfile.Justfile.{Justfile}
 use Rattle.just_invoke.specs.declared.running.Report.{Report}
-use Rattle.just_invoke.specs.Cause.{cause_of, IsExpected}
 use Rattle.just_invoke.specs.Pairs.{Task, tasks, top_of, pairs_of, tops_of}
 use Rattle.just_invoke.specs.Run.{IsRun}
-use Rattle.just_invoke.specs.Split.{Reading, reading_of, IsSplit, IsFault}
+use Rattle.just_invoke.specs.Split.{Reading, reading_of, IsSplit}
 use Rattle.just_invoke.specs.Unready.{IsUnready, AreReady, IsReason}
 use Rattle.just_invoke.specs.Outcome.{pairs_read, tops, expected_run, IsOutcome, IsRefusal, MayRun, IsWhole}
 use Rattle.just_invoke.specs.Account.{Table, own, AreIn, Complete, counts}
@@ -25,15 +24,6 @@ same_read recipes (i ∷ is) = ap (λ ps. top_of recipes i ∷ ps) (same_read re
 
 pub tops_read : (recipes : List (Recipe Dependency)) (is : List parsed.Invocation) → tops_of recipes is ≡ tops recipes (map reading_of is)
 tops_read recipes is = ap (tasks false) (same_read recipes is)
-
--- words that are refused
-pub outcome_refused : (root : Justfile) (recipes : List (Recipe Dependency)) (words : List (List ℕ)) (old : List Entry) (e : Error) → IfSome (cause_of e) (IsFault root recipes words) → IsExpected e → IsOutcome root recipes words old old (Err e)
-outcome_refused root recipes words old (Load e) f x = absurd x
-outcome_refused root recipes words old (Compile e) f x = absurd x
-outcome_refused root recipes words old (Invocation e) f x = (f, refl)
-outcome_refused root recipes words old (Run e) f x = absurd x
-outcome_refused root recipes words old Exhausted f x = absurd x
-outcome_refused root recipes words old Memory f x = inl refl
 
 -- words that are run
 pub outcome_run : (root : Justfile) (recipes : List (Recipe Dependency)) (words : List (List ℕ)) (old new : List Entry) (readings : List Reading) (r : Result Report Error) → IsSplit root recipes words readings → IsRun (expected_run recipes readings) old new r → IsOutcome root recipes words old new r

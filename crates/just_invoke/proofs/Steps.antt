@@ -41,9 +41,6 @@ module _ {P K : Type 0} (same : K → K → Bool) (key : P → K) (before : P �
   opened n table p h = ap (flat_map part) (cond-false (has same table (key p)) _ _ h)
       ∙ ap (λ t. part (Ask p) ++ t) (flat_map-append part (walks key (W n) table (before p)) (Block p ∷ []) ∙ ap (λ t. flat_map part (walks key (W n) table (before p)) ++ t) (append-nil (part (Block p))))
 
-  pub recipe-ask : (n : ℕ) (table : List K) (p : P) (old new : List Entry) (e : Halt) → has same table (key p) ≡ false → Follows (part (Ask p)) old new (Some e) → Follows (flat_map part (W (suc n) table p)) old new (Some e)
-  recipe-ask n table p old new e h a = subst (λ xs. Follows xs old new (Some e)) (sym (opened n table p h)) (follows-stop (part (Ask p)) _ old new e a)
-
   pub recipe-priors : (n : ℕ) (table : List K) (p : P) (old start new : List Entry) (e : Halt) → has same table (key p) ≡ false → Follows (part (Ask p)) old start None → Follows (flat_map part (walks key (W n) table (before p))) start new (Some e) → Follows (flat_map part (W (suc n) table p)) old new (Some e)
   recipe-priors n table p old start new e h a b = subst (λ xs. Follows xs old new (Some e)) (sym (opened n table p h))
       (follows-then (part (Ask p)) _ old start new (Some e) a (follows-stop (flat_map part (walks key (W n) table (before p))) (part (Block p)) start new e b))

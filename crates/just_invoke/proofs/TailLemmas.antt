@@ -1,5 +1,5 @@
 -- Tails and their groups.
-use Rattle.std.proofs.Common.{◌≡◌, ◌≢◌, ℕ, zero, suc, ◌+◌, ◌<◌, Bool, true, false, cond, eqb, List, [], ◌∷◌, ◌++◌, length, get_or, set, take, drop, refl, sym, ap, ◌∙◌, arith, eq-eqb, ◌||◌}
+use Rattle.std.proofs.Common.{◌≡◌, ◌≢◌, ℕ, suc, ◌+◌, ◌<◌, Bool, true, false, cond, eqb, List, [], ◌∷◌, ◌++◌, length, get_or, set, take, drop, refl, sym, ap, ◌∙◌, arith, eq-eqb, ◌||◌}
 use Rattle.std.proofs.lemmas.List.{length-map, length-take-le, append-nil, map-append, map-set, get_or-map, get_or-set_same, get_or-set_other, drop_more}
 use Rattle.std.proofs.lemmas.Bool.{cases_eq, ne_eqb}
 use Rattle.std.proofs.Common.{⊎_elim}
@@ -11,15 +11,6 @@ use Rattle.just_parts.specs.Modulepath.{Text}
 use Rattle.just_invoke.specs.Head.{Words}
 use Rattle.just_invoke.specs.Tail.{shown, place, uses_from, group, any_missing, is_missing}
 use Rattle.just_parts.specs.declared.layers.parameter.Parameter.{Parameter}
-
-pub get_or_push_empty : (xs : List Words) (j : ℕ) → get_or xs j [] ≡ [] → get_or (xs ++ [] ∷ []) j [] ≡ []
-get_or_push_empty [] zero h = refl
-get_or_push_empty [] (suc j) h = refl
-get_or_push_empty (x ∷ xs) zero h = h
-get_or_push_empty (x ∷ xs) (suc j) h = get_or_push_empty xs j h
-
-pub shown_push : (xs : List (Vec (Bor Text) Global)) (g : Vec (Bor Text) Global) → shown (xs ++ g ∷ []) ≡ shown xs ++ texts g.items ∷ []
-shown_push xs g = map-append (λ v. texts v.items) xs (g ∷ [])
 
 -- a word more in one group
 pub shown_pushed_at : (xs : List (Vec (Bor Text) Global)) (i : ℕ) (old new : Vec (Bor Text) Global) (w : Bor Text) → i < length xs →

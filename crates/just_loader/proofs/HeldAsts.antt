@@ -110,13 +110,6 @@ module _ (scan : Scan) (nodes : List Unfolded) (asts left rest : List Ast) (old 
       let same : file_at scan u.node ≡ file.path = get_or_from_slice_get (paths_in files) u.node file.path [] (map_get (λ (f : ScannedFile). f.path) files u.node file there) in
       held_more scan nodes asts left rest old new here u last keyed held e (ap (slice_get nodes) (sym is) ∙ next_there) path (named ∙ sym same) put
 
--- all nodes are held
-pub held_all : (scan : Scan) (nodes : List Unfolded) (asts left : List Ast) (table : AstKey → Option Ast) → HeldFrom scan nodes asts left table → left ≡ [] → AreHeld scan nodes asts table
-held_all scan nodes asts left table held e = record {
-  found = λ k u ast. held.found k u ast (omega (arith, ap length e));
-  only = held.only;
-}
-
 -- numbers that rise
 rising_on : (low : ℕ) (ns : List ℕ) (high : ℕ) → AreRising low ns high → low ≤ high
 rising_on low [] high h = h

@@ -1,5 +1,5 @@
 -- What items lead to.
-use Rattle.std.proofs.Common.{◌≡◌, ℕ, ◌<◌, ◌==◌, Bool, true, false, List, [], ◌∷◌, length, map, None, Some, ◌⊎◌, inl, inr, Result, Ok, Err, IfErr, refl, ap, arith}
+use Rattle.std.proofs.Common.{◌≡◌, ℕ, ◌<◌, ◌==◌, Bool, true, false, List, [], ◌∷◌, length, map, None, Some, ◌⊎◌, inl, inr, Result, Ok, Err, IfErr, refl, arith}
 use Rattle.std.specs.Prelude.{if◌then◌else◌}
 use Rattle.std.proofs.lemmas.Bool.{eqb-true}
 use Rattle.just_parts.specs.declared.layers.name.Name.{Name}
@@ -7,7 +7,7 @@ use Rattle.just_parts.specs.declared.layers.error.LoadError.TheVariants as load
 use Rattle.just_parts.specs.declared.layers.error.Error.{Error}
 use Rattle.just_parts.specs.declared.layers.error.Error.TheVariants as error
 use Rattle.just_loader.specs.ModuleFile.{after, relative}
-use Rattle.just_loader.specs.Links.{Fault, without_slashes, choice}
+use Rattle.just_loader.specs.Links.{Fault, choice}
 use Rattle.just_loader.specs.Causes.{Reports, SeveralFiles}
 
 -- what has a slash before it
@@ -18,21 +18,6 @@ after_slash (b ∷ bs) rest e = go (47 == b) refl e
     go : (t : Bool) → (47 == b) ≡ t → (if t then Some bs else None) ≡ Some rest → b ∷ bs ≡ 47 ∷ rest
     go true q e = let same : 47 ≡ b = eqb-true 47 b q in cc
     go false q e = cc
-
-pub slash_off : (text rest : List ℕ) → after (47 ∷ []) text ≡ Some rest → without_slashes text ≡ without_slashes rest
-slash_off text rest e = ap without_slashes (after_slash text rest e)
-
-pub slash_shorter : (text rest : List ℕ) → after (47 ∷ []) text ≡ Some rest → length rest < length text
-slash_shorter text rest e = omega (arith, ap length (after_slash text rest e))
-
--- what has none
-pub no_slash : (text : List ℕ) → after (47 ∷ []) text ≡ None → without_slashes text ≡ text
-no_slash [] e = refl
-no_slash (b ∷ bs) e = go (b == 47) refl
-  where
-    go : (t : Bool) → (b == 47) ≡ t → (if t then without_slashes bs else b ∷ bs) ≡ b ∷ bs
-    go true q = let there : after (47 ∷ []) (b ∷ bs) ≡ Some bs = ap (λ x. after (47 ∷ []) (x ∷ bs)) (eqb-true b 47 q) in cc
-    go false q = refl
 
 several : (folder : List ℕ) (name : Name) (optional : Bool) (found : List (List ℕ)) → 1 < length found → choice folder name optional found ≡ Fault (SeveralFiles name (map (relative folder) found))
 several folder name optional [] h = absurd (omega arith)

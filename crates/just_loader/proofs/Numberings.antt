@@ -58,9 +58,6 @@ none_some e = cc
 pub once : (texts : List (List ℕ)) (numbers : List ℕ → Option ℕ) → IsNumbering texts numbers → AreOnce texts
 once texts numbers n i j t e f = some_same (sym ((n t i).0 e) ∙ (n t j).0 f)
 
-pub numbering_none : (texts : List (List ℕ)) (numbers : List ℕ → Option ℕ) → texts ≡ [] → ((t : List ℕ) → numbers t ≡ None) → IsNumbering texts numbers
-numbering_none texts numbers e none t i = (λ got. cc, λ at. absurd (none_some (sym (none t) ∙ at)))
-
 differ : (a b : List ℕ) → a ≢ b → bytes_eq a b ≡ false
 differ a b ne = false_from_ne_true (bytes_eq a b) (λ t. ne ((bytes_eq-Decides a b).0 t))
 

@@ -62,9 +62,6 @@ steps_push names (x ∷ is) [] row i t steps s p = absurd s
 steps_push names (x ∷ is) (y ∷ ts) row i t steps s p =
     (s.0, s.1 ++ steps, s.2, steps_push names is ts s.1 i t steps s.3 p, ap (λ r. r ++ steps) s.4 ∙ append_assoc s.0 s.1 steps)
 
-pub grows_none : (P : List ℕ → Type 0) (old new : List (List ℕ)) → new ≡ old → Grows P old new
-grows_none P old new e = ([], e ∙ sym (append-nil old), λ t c. absurd (omega (arith, c.1)))
-
 pub grows_on : (P Q : List ℕ → Type 0) (old mid new : List (List ℕ)) → Grows Q old mid → Grows P mid new → ((t : List ℕ) → P t → Q t) → Grows Q old new
 grows_on P Q old mid new g h f = (g.0 ++ h.0, h.1 ∙ ap (λ xs. xs ++ h.0) g.1 ∙ append_assoc old g.0 h.0, λ t c. elim (Contains-append_cases g.0 h.0 t c) [ inl a ↦ g.2 t a | inr b ↦ f t (h.2 t b) ])
 

@@ -1,7 +1,6 @@
 -- What files say, under the path of their module and their own.
-use Rattle.std.specs.Prelude.{◌≡◌, ℕ, Bool, false, ◌&&◌, List, [], cond, nat_eq, Option, Some, None}
+use Rattle.std.specs.Prelude.{ℕ, Bool, false, ◌&&◌, List, [], nat_eq}
 use Rattle.std.specs.Cmp.Lexicographic.{pointwise}
-use Rattle.just_parts.specs.declared.layers.ast.Ast.{Ast}
 use Rattle.just_parts.specs.declared.modulepath.Modulepath.{Modulepath}
 use Rattle.just_parts.specs.contracts.modulepath.ModulepathPartialEq.TheImpl as path_eq
 
@@ -16,7 +15,3 @@ same_key a b = path_eq.ghosts.eq a.0 b.0 && pointwise nat_eq a.1 b.1
 -- the root file, in the root module
 abbrev pub root_key : List ℕ → Key
 root_key root = (record { components = []; spaced = false }, root)
-
--- the root file says this, and no other file is there
-abbrev pub IsOnlyAst : (Key → Option Ast) → List ℕ → Ast → Type 0
-IsOnlyAst asts root ast = (key : Key) → asts key ≡ cond (same_key (root_key root) key) (Some ast) None

@@ -1,6 +1,5 @@
 -- What a change of a map says of the entries that a table shows.
-use Rattle.std.proofs.lemmas.Slice.Eq.{bytes_eq-Decides}
-use Rattle.std.proofs.Common.{rules, bytes_eq, ◌∙◌, ◌≡◌, ℕ, sym, ap, refl, suc, List, [], ◌∷◌, length, map, Bool, true, false, true≢false, cond, ◌&&◌, Option, None, Some, is_some}
+use Rattle.std.proofs.Common.{bytes_eq, ◌∙◌, ◌≡◌, ℕ, sym, ap, refl, suc, List, [], ◌∷◌, length, map, Bool, true, false, true≢false, cond, ◌&&◌, Option, None, Some, is_some}
 use Rattle.std.specs.Borrow.{Bor}
 use Rattle.std.specs.declared.cmp.Ordering.{Ordering}
 use Rattle.std.specs.declared.cmp.Ordering.TheVariants.{Less, Equal, Greater}
@@ -49,10 +48,6 @@ module _ {K V : Type 0} (text : K → List ℕ) where
   pub without_shown : (k : List ℕ) (es : List (K × V)) → without k (shown text es) ≡ shown text (remove_entry (at text k) es)
   without_shown k [] = refl
   without_shown k (e ∷ es) = rw (← is_eq-slice_cmp k (text e.0), without_shown k es) (sym (cond_shown (at text k e.0) es (e ∷ remove_entry (at text k) es)))
-
-  pub write_shown : (k : List ℕ) (w : V) (es : List (K × V)) → write k w (shown text es) ≡ shown text (set_value (at text k) es w)
-  write_shown k w [] = refl
-  write_shown k w (e ∷ es) = rw (← is_eq-slice_cmp k (text e.0), write_shown k w es) (sym (cond_shown (at text k e.0) ((e.0, w) ∷ es) (e ∷ set_value (at text k) es w)))
 
   pub from_shown : (k : K) (es : List (K × V)) → shown text (filter (λ e. is_le (by text k e.0) && true) es) ≡ from_key (text k) (shown text es)
   from_shown k [] = refl
@@ -114,12 +109,6 @@ module _ {F V : Type 0} (U : F → V → V → F → Type 0) where
   updated_keys f [] new r = ap keys_of r
   updated_keys f (e ∷ es) new r = ap keys_of r.5 ∙ ap (λ ks. e.0 ∷ ks) (updated_keys r.1 es r.2 r.4)
 
-  -- where each call leaves a function of the value that was there
-  pub updated_map : (change : V → V) → ((f : F) (v w : V) (g : F) → U f v w g → w ≡ change v) → (f : F) (es new : List (List ℕ × V)) → UpdatesEach U f es new → new ≡ map (λ e. (e.0, change e.1)) es
-  updated_map change h f [] new r = r
-  updated_map change h f (e ∷ es) new r =
-      r.5 ∙ ap (λ w. (e.0, w) ∷ r.2) (h f e.1 r.0 r.1 r.3) ∙ ap (λ rest. (e.0, change e.1) ∷ rest) (updated_map change h r.1 es r.2 r.4)
-
 module _ {K V S F : Type 0} (text : K → List ℕ) (T : S → K → V → Bool → V → S → Type 0) (U : F → V → V → F → Type 0) (state : S → F) where
   pub updated_by : ((s : S) (k : K) (v : V) (b : Bool) (w : V) (t : S) → T s k v b w t → (b ≡ true) × U (state s) v w (state t))
       → (s : S) (es kept : List (K × V)) → RetainsPairs T s es kept → UpdatesEach U (state s) (shown text es) (shown text kept)
@@ -141,12 +130,3 @@ module _ {V : Type 0} (key_of : V → List ℕ) where
       go Less q ih = All-cons Fits (key_of v, v) (e ∷ es) refl h
       go Equal q ih = All-cons Fits (e.0, v) es (exact_bytes (key_of v) e.0 q) (All-tail Fits e es h)
       go Greater q ih = All-cons Fits e (put (key_of v) v es) (All-head Fits e es h) ih
-
-  -- a writer that leaves the value's key leaves the table keyed
-  pub write_keyed : (k : List ℕ) (w : V) (es : List (List ℕ × V)) → key_of w ≡ k → IsKeyed key_of es → IsKeyed key_of (write k w es)
-  write_keyed k w [] e h = h
-  write_keyed k w (x ∷ xs) e h = go (bytes_eq k x.0) refl (write_keyed k w xs e (All-tail Fits x xs h))
-    where
-      go : (b : Bool) → bytes_eq k x.0 ≡ b → IsKeyed key_of (write k w xs) → IsKeyed key_of (cond b ((x.0, w) ∷ xs) (x ∷ write k w xs))
-      go true q ih = let same : k ≡ x.0 = search (rules, bytes_eq-Decides) in All-cons Fits (x.0, w) xs (e ∙ same) (All-tail Fits x xs h)
-      go false q ih = All-cons Fits x (write k w xs) (All-head Fits x xs h) ih

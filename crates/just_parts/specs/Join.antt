@@ -1,5 +1,5 @@
 -- Where a text leads from a folder.
-use Rattle.std.specs.Prelude.{ℕ, ◌-◌, Bool, false, List, [], ◌∷◌, ◌++◌, length, take, if◌then◌else◌}
+use Rattle.std.specs.Prelude.{◌-◌, Bool, false, List, [], ◌∷◌, ◌++◌, length, take, if◌then◌else◌}
 use Rattle.std.specs.List.{fold, slice_split}
 use Rattle.std.specs.Str.{bytes_eq}
 use Rattle.just_parts.specs.Clean.{is_slash, is_component}

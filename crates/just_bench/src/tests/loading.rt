@@ -109,6 +109,26 @@ fn compiled(
     }
 }
 
+// Whether two modules have recipes `r` of different numbers.
+fn differ<'src>(first: &Justfile<'src>, second: &Justfile<'src>) -> bool {
+    match (first.recipes.get("r"), second.recipes.get("r")) {
+        (Some(first), Some(second)) => first.number != second.number,
+        _ => false,
+    }
+}
+
+// Whether the root's module has two modules, whose recipes `r` have different numbers.
+fn told_apart(alloc: Global, files: &[(&str, &str)]) -> Result<bool, AllocError> {
+    let sources = sources(alloc, files)?;
+    match compile_at(alloc, &Config::default(), &sources, "/justfile") {
+        Ok(compilation) => match compilation.justfile.modules.as_slice() {
+            [first, second] => Ok(differ(first, second)),
+            _ => Ok(false),
+        },
+        Err(_) => Ok(false),
+    }
+}
+
 #[test]
 fn file_that_two_import_is_loaded_once(rt: HostRuntime) -> Result<(), Fail> {
     let files = [
@@ -171,6 +191,7 @@ fn one_file_under_two_modules(rt: HostRuntime) -> Result<(), Fail> {
     let files = [("/justfile", "mod m 'x'\nmod n 'x'\n"), ("/x", "r:\n")];
     let text = compiled(rt.alloc(), None, files.as_slice())?;
     assert_eq!(rt; text.as_str(), "justfile x | [m: m::r@1] [n: n::r@1]");
+    assert_eq!(rt; told_apart(rt.alloc(), files.as_slice())?, true);
     Ok(())
 }
 

@@ -1,9 +1,8 @@
-use Rattle.std.proofs.Common.{◌≡◌, ◌∙◌, ◌<◌, length, Some, ap, subst, sym, arith}
+use Rattle.std.proofs.Common.{◌≡◌, ◌<◌, length, Some, subst, sym, arith}
 use Rattle.std.proofs.lemmas.Grind.{common_steps}
 use Rattle.just_graph.specs.declared.unfolding.Origin.{Origin}
 use Rattle.just_parts.specs.declared.layers.name.Name.{Name}
 use Rattle.just_analyzer.specs.Compiling.{IsNameOf}
-use Rattle.just_analyzer.proofs.Building.{Building}
 use Rattle.just_analyzer.proofs.Turns as turns
 use Rattle.just_analyzer.proofs.modules.compile_modules.Goals as goal
 
