@@ -22,11 +22,6 @@ use Rattle.just_analyzer.proofs.AstRecipes.{are_held, held_at, outlines_of_asts,
 use Rattle.just_analyzer.proofs.ModuleKeys.{HasAst, Way, ast_of, file_keys}
 use Rattle.just_analyzer.proofs.OnePath.{one_path}
 
-starts : (next : ℕ → List ℕ) (start n : ℕ) → (more : List ℕ) × (before next start (suc n) ≡ start ∷ more)
-unfolding level before
-starts next start zero = ([], refl)
-starts next start (suc n) = let r = starts next start n in (r.0 ++ level next start (suc n), ap (λ xs. xs ++ level next start (suc n)) r.1)
-
 -- an ast has the path of its module
 pub ast_path : (w : World) (loaded : Loaded) (nodes : List Node) (path : List ℕ) (g : ℕ) (h : HasAst w loaded nodes path g) → h.ast.module_path ≡ record { components = map (name_at loaded.scan) path; spaced = false }
 ast_path w loaded nodes path g h =

@@ -14,27 +14,6 @@ use Rattle.just_graph.specs.declared.Mark.TheVariants.{New, Done}
 use Rattle.just_graph.proofs.Steps.{new≢open, new≢done}
 use Rattle.just_graph.proofs.Frames.{marked_inside}
 
-all_new : (n a : ℕ) → mark (replicate n New) a ≡ New
-all_new n a = elim (cases_lt a n) [
-  | inl l ↦ get_or-replicate n a New New l
-  | inr l ↦ get_or_past (replicate n New) a New (omega (arith, length-replicate n New))
-]
-
-pub begun : (g : List (Vec ℕ Global)) → Searching g (replicate (length g) New) [] [] []
-begun g = record {
-  marks_len = length-replicate (length g) New;
-  passed_len = refl;
-  path_open = λ k h. absurd (omega arith);
-  open_path = λ a h. absurd (new≢open (sym (all_new (length g) a) ∙ h));
-  path_once = λ i j h l. absurd (omega arith);
-  path_walk = λ k h. absurd (omega arith);
-  passed_done = λ k j h l w. absurd (omega arith);
-  order_done = λ k h. absurd (omega arith);
-  done_order = λ a h. absurd (new≢done (sym (all_new (length g) a) ∙ h));
-  order_once = λ i j h l. absurd (omega arith);
-  order_after = λ k b h. absurd (omega arith);
-}
-
 module _ (R : ℕ → ℕ → Type 0) (o : List ℕ) (after : ListsStepsFirst R o) where
   pub no_way_back : IsOnce o → (a : ℕ) → Contains o a → Leads R a a → ⊥
   no_way_back once a c r =

@@ -20,16 +20,6 @@ pub record Noting (depths : List (Option ℕ)) (old now : List Unfolded) (place 
   pub front : (k : ℕ) (u : Unfolded) → k < place → slice_get old k ≡ Some u → slice_get now k ≡ Some (noted depths k u)
   pub rest : (k : ℕ) (u : Unfolded) → place ≤ k → slice_get old k ≡ Some u → slice_get now k ≡ Some u
 
-get_set_other : {A : Type 0} (xs : List A) (i k : ℕ) (y x : A) → k ≢ i → slice_get xs k ≡ Some x → slice_get (set xs i y) k ≡ Some x
-get_set_other xs i k y x ne e =
-    let l : k < length (set xs i y) = omega (arith, length-set xs i y, slice_get_within xs k x e) in
-    slice_get-get_or (set xs i y) k x l ∙ ap Some (get_or-set_other xs i k y x ne ∙ get_or_from_slice_get xs k x x e)
-
-get_set_same : {A : Type 0} (xs : List A) (i : ℕ) (y : A) → i < length xs → slice_get (set xs i y) i ≡ Some y
-get_set_same xs i y l =
-    let m : i < length (set xs i y) = omega (arith, length-set xs i y) in
-    slice_get-get_or (set xs i y) i y m ∙ ap Some (get_or-set_same xs i y y l)
-
 -- the elements tell the same nodes
 module _ (depths : List (Option ℕ)) (old new : List Unfolded) (s : AreNoted depths old new) where
   pub was : (k : ℕ) (v : Unfolded) → slice_get new k ≡ Some v → (u : Unfolded) × (slice_get old k ≡ Some u) × (v ≡ noted depths k u)

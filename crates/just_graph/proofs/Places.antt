@@ -1,25 +1,16 @@
--- The walk from the end of a list that keeps what isn't marked, each at its last place.
-use Rattle.std.proofs.Common.{◌≡◌, ◌≢◌, cond, true, false, Bool, ℕ, ◌+◌, ◌<◌, ◌≤◌, ◌∙◌, ◌||◌, List, [], ◌∷◌, ◌++◌, reverse, length, drop, get_or, set, slice_index, ◌⊎◌, inl, inr, refl, sym, ap, subst, arith, add-one}
+-- The walk from the end of a list that keeps what isn't seen, each at its last place.
+use Rattle.std.proofs.Common.{◌≡◌, ◌≢◌, ◌==◌, cond, true, false, Bool, ℕ, ◌+◌, ◌<◌, ◌≤◌, ◌∙◌, ◌||◌, List, [], ◌∷◌, ◌++◌, reverse, length, drop, get_or, slice_index, ◌⊎◌, inl, inr, refl, sym, ap, subst, arith, add-one}
 use Rattle.std.specs.Prelude.{filter, not}
 use Rattle.std.proofs.Math.Seq.{drop-cons}
-use Rattle.std.proofs.lemmas.List.{reverse-append, length-reverse, length-set, length_push, get_or-set_same, get_or-set_other}
-use Rattle.std.proofs.lemmas.List.Sums.{sum_by-set}
-use Rattle.std.proofs.lemmas.Bool.{cases_eq, false≢true}
+use Rattle.std.proofs.lemmas.List.{reverse-append}
+use Rattle.std.proofs.lemmas.Bool.{false≢true}
+use Rattle.std.proofs.lemmas.Bool.Decides.{eqb_tells}
 use Rattle.just_graph.specs.Levels.{has, at_last}
-use Rattle.just_graph.specs.Found.{is_seen, unseen}
 use Rattle.just_graph.proofs.Members.{In, in_left, in_right, in_cases, in_reverse, from_reverse}
 use Rattle.just_graph.proofs.Last.{bool_cases, in_has, has_in, not_has, no_member, at_last_in, from_at_last}
 
 pub drop_is : {A : Type 0} (xs : List A) (i : ℕ) (d : A) → i < length xs → drop i xs ≡ get_or xs i d ∷ drop (i + 1) xs
 drop_is xs i d h = rw (add-one, drop-cons xs i d)
-
-pub drop_all : {A : Type 0} (xs : List A) → drop (length xs) xs ≡ []
-drop_all [] = refl
-drop_all (x ∷ xs) = drop_all xs
-
-pub or_false : (b : Bool) → b ≡ (b || false)
-or_false true = refl
-or_false false = refl
 
 pub or_true : (b c : Bool) → c ≡ true → true ≡ (b || c)
 or_true true c e = refl
@@ -63,59 +54,51 @@ unmarked_by m n h [] = refl
 unmarked_by m n h (x ∷ xs) = ap (λ b. cond (not b) (x ∷ unmarked m xs) (unmarked m xs)) (h x) ∙ ap (λ ys. cond (not (n x)) (x ∷ ys) ys) (unmarked_by m n h xs)
 
 -- the places of the list from i on are passed
-pub record Places (found : List ℕ) (old seen : List Bool) (kept : List ℕ) (i : ℕ) : Type 0 where
-  pub kept_is : reverse kept ≡ at_last (unmarked (is_seen old) (drop i found))
-  pub marks : (a : ℕ) → is_seen seen a ≡ (is_seen old a || has a kept)
-  pub room : length seen ≡ length old
-  pub fewer : unseen seen + length kept ≡ unseen old
+pub record Places (found : List ℕ) (old seen : ℕ → Bool) (kept : List ℕ) (i : ℕ) : Type 0 where
+  pub kept_is : reverse kept ≡ at_last (unmarked old (drop i found))
+  pub marks : (a : ℕ) → seen a ≡ (old a || has a kept)
 
-module _ (found : List ℕ) (old seen : List Bool) (kept : List ℕ) (i j : ℕ) (next : j ≡ i + 1) (within : j ≤ length found) (s : Places found old seen kept j) where
+module _ (found : List ℕ) (old seen seen' : ℕ → Bool) (kept : List ℕ) (i j : ℕ) (next : j ≡ i + 1) (within : j ≤ length found)
+    (put : (a : ℕ) → seen' a ≡ cond (slice_index found i == a) true (seen a)) (s : Places found old seen kept j) where
   inside : i < length found
   inside = omega arith
 
-  so_far : reverse kept ≡ at_last (unmarked (is_seen old) (drop (i + 1) found))
-  so_far = s.kept_is ∙ ap (λ k. at_last (unmarked (is_seen old) (drop k found))) next
+  so_far : reverse kept ≡ at_last (unmarked old (drop (i + 1) found))
+  so_far = s.kept_is ∙ ap (λ k. at_last (unmarked old (drop k found))) next
 
-  pub places_old : is_seen seen (slice_index found i) ≡ true → Places found old seen kept i
+  here : at_last (unmarked old (drop i found)) ≡ at_last (unmarked old (slice_index found i ∷ drop (i + 1) found))
+  here = ap (λ xs. at_last (unmarked old xs)) (drop_is found i 0 inside)
+
+  pub places_old : seen (slice_index found i) ≡ true → Places found old seen' kept i
   places_old h =
-      let p : ℕ = slice_index found i in let rest = unmarked (is_seen old) (drop (i + 1) found) in
-      let here : at_last (unmarked (is_seen old) (drop i found)) ≡ at_last (unmarked (is_seen old) (p ∷ drop (i + 1) found)) = ap (λ xs. at_last (unmarked (is_seen old) xs)) (drop_is found i 0 inside) in
-      let same : at_last (unmarked (is_seen old) (p ∷ drop (i + 1) found)) ≡ at_last rest = elim (or_cases (is_seen old p) (has p kept) (sym h ∙ s.marks p)) [
-        | inl t ↦ ap at_last (unmarked_old (is_seen old) p (drop (i + 1) found) t)
+      let p : ℕ = slice_index found i in let rest = unmarked old (drop (i + 1) found) in
+      let same : at_last (unmarked old (p ∷ drop (i + 1) found)) ≡ at_last rest = elim (or_cases (old p) (has p kept) (sym h ∙ s.marks p)) [
+        | inl t ↦ ap at_last (unmarked_old old p (drop (i + 1) found) t)
         | inr (f, k) ↦
             let later : has p rest ≡ true = has_in p rest (from_at_last p rest (subst (In p) so_far (in_reverse p kept (in_has p kept k)))) in
-            ap at_last (unmarked_new (is_seen old) p (drop (i + 1) found) f) ∙ ap (λ b. cond b (at_last rest) (p ∷ at_last rest)) later
+            ap at_last (unmarked_new old p (drop (i + 1) found) f) ∙ ap (λ b. cond b (at_last rest) (p ∷ at_last rest)) later
       ] in
-      record { kept_is = so_far ∙ sym (here ∙ same); marks = s.marks; room = s.room; fewer = s.fewer }
-
-  pub places_new : (more : List ℕ) → is_seen seen (slice_index found i) ≡ false → slice_index found i < length seen → more ≡ kept ++ slice_index found i ∷ [] → Places found old (set seen (slice_index found i) true) more i
-  places_new more h in_seen is_more =
-      let p : ℕ = slice_index found i in let rest = unmarked (is_seen old) (drop (i + 1) found) in
-      let none : (is_seen old p ≡ false) × (has p kept ≡ false) = or_none (is_seen old p) (has p kept) (sym h ∙ s.marks p) in
-      let alone : has p rest ≡ false = not_has p rest (λ k. no_member p kept none.1 (from_reverse p kept (subst (In p) (sym so_far) (at_last_in p rest k)))) in
-      let one : ℕ = 1 in
-      let weight : cond (is_seen seen p) 0 1 ≡ one = ap {B = ℕ} (λ b. cond b 0 1) h in
-      subst (λ ks. Places found old (set seen p true) ks i) (sym is_more) (record {
-        kept_is = reverse-append kept (p ∷ []) ∙ ap (λ xs. p ∷ xs) so_far
-            ∙ sym (ap (λ xs. at_last (unmarked (is_seen old) xs)) (drop_is found i 0 inside) ∙ ap at_last (unmarked_new (is_seen old) p (drop (i + 1) found) none.0) ∙ ap (λ b. cond b (at_last rest) (p ∷ at_last rest)) alone);
-        marks = λ a. elim (cases_eq a p) [
-          | inl e ↦ subst (λ x. is_seen (set seen p true) x ≡ (is_seen old x || has x (kept ++ p ∷ []))) (sym e)
-              (get_or-set_same seen p true false in_seen ∙ or_true (is_seen old p) (has p (kept ++ p ∷ [])) (has_in p (kept ++ p ∷ []) (in_right p kept (p ∷ []) (inl refl))))
-          | inr ne ↦ get_or-set_other seen p a true false ne ∙ s.marks a ∙ ap (λ b. is_seen old a || b) (has_push a p kept ne)
+      record {
+        kept_is = so_far ∙ sym (here ∙ same);
+        marks = λ a. put a ∙ elim (eqb_tells p a) [
+          | inl t ↦ ap (λ b. cond b true (seen a)) t.0 ∙ sym h ∙ ap seen t.1 ∙ s.marks a
+          | inr t ↦ ap (λ b. cond b true (seen a)) t.0 ∙ s.marks a
         ];
-        room = length-set seen p true ∙ s.room;
-        fewer = omega (arith, s.fewer, sum_by-set (λ b. cond b 0 1) seen p true false in_seen, weight, length_push kept p);
+      }
+
+  pub places_new : (more : List ℕ) → seen (slice_index found i) ≡ false → more ≡ kept ++ slice_index found i ∷ [] → Places found old seen' more i
+  places_new more h is_more =
+      let p : ℕ = slice_index found i in let rest = unmarked old (drop (i + 1) found) in
+      let none : (old p ≡ false) × (has p kept ≡ false) = or_none (old p) (has p kept) (sym h ∙ s.marks p) in
+      let alone : has p rest ≡ false = not_has p rest (λ k. no_member p kept none.1 (from_reverse p kept (subst (In p) (sym so_far) (at_last_in p rest k)))) in
+      subst (λ ks. Places found old seen' ks i) (sym is_more) (record {
+        kept_is = reverse-append kept (p ∷ []) ∙ ap (λ xs. p ∷ xs) so_far
+            ∙ sym (here ∙ ap at_last (unmarked_new old p (drop (i + 1) found) none.0) ∙ ap (λ b. cond b (at_last rest) (p ∷ at_last rest)) alone);
+        marks = λ a. put a ∙ elim (eqb_tells p a) [
+          | inl t ↦ ap (λ b. cond b true (seen a)) t.0 ∙ or_true (old a) (has a (kept ++ p ∷ [])) (has_in a (kept ++ p ∷ []) (in_right a kept (p ∷ []) (inl (sym t.1))))
+          | inr t ↦ ap (λ b. cond b true (seen a)) t.0 ∙ s.marks a ∙ ap (λ b. old a || b) (has_push a p kept (λ e. t.1 (sym e)))
+        ];
       })
 
-module _ (found : List ℕ) (old seen : List Bool) (kept more : List ℕ) (is_more : more ≡ reverse kept) (i : ℕ) (e : i ≤ 0) (s : Places found old seen kept i) where
-  at_start : Places found old seen kept 0
-  at_start = subst (Places found old seen kept) (omega arith) s
-
-  pub all_places : more ≡ at_last (unmarked (is_seen old) found)
-  all_places = is_more ∙ at_start.kept_is
-
-  pub all_marks : (a : ℕ) → is_seen seen a ≡ (is_seen old a || has a more)
-  all_marks a = s.marks a ∙ ap (λ b. is_seen old a || b) (has_reverse a kept ∙ ap (has a) (sym is_more))
-
-  pub all_fewer : unseen seen + length more ≡ unseen old
-  all_fewer = omega (arith, at_start.fewer, ap length is_more, length-reverse kept)
+pub all_seen : (found : List ℕ) (old seen : ℕ → Bool) (kept more : List ℕ) → more ≡ reverse kept → (i : ℕ) → Places found old seen kept i → (a : ℕ) → seen a ≡ (old a || has a more)
+all_seen found old seen kept more is_more i s a = s.marks a ∙ ap (λ b. old a || b) (has_reverse a kept ∙ ap (has a) (sym is_more))

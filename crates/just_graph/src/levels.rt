@@ -1,14 +1,15 @@
 //! What a node leads to, by levels: first the start, then what it has edges to, then what these have edges to.
 
-ghost use Rattle.std.specs.Prelude.{◌≡◌, ◌+◌, ◌<◌, ◌↔◌, ◌||◌, ◌∷◌, [], ℕ, List, cond, filter, flat_map, length, not, IfOk, MatchOption};
+ghost use Rattle.std.specs.Prelude.{◌≡◌, ◌<◌, ◌↔◌, ◌||◌, ◌∷◌, [], ℕ, List, cond, filter, flat_map, length, nat_eq, not, IfOk, MatchOption};
 ghost use Rattle.std.specs.List.{All, Contains};
-ghost use Rattle.just_graph.specs.Found.{is_seen, unseen};
+ghost use Rattle.std.specs.HashSet.{contains};
 ghost use Rattle.just_graph.specs.Graph.{targets, HasEdge, IsGraph};
 ghost use Rattle.just_graph.specs.Levels.{at_last, before, depth_of, has, level, InSteps, IsLeast};
 ghost use Rattle.just_graph.specs.Steps.{IsOnce, Reached};
 
 use crate::row;
 use std::alloc::{AllocError, Global};
+use std::collections::HashSet;
 
 // What the nodes of a level have edges to, row after row.
 fn ends(alloc: Global, edges: &[Vec<usize>], nodes: &[usize]) -> Result<Vec<usize>, AllocError>
@@ -22,23 +23,19 @@ fn ends(alloc: Global, edges: &[Vec<usize>], nodes: &[usize]) -> Result<Vec<usiz
     Ok(found)
 }
 
-// Marks the nodes of a list, and answers those that weren't marked, each once, at its last place.
+// Puts the nodes of a list into a set, and answers those that it didn't have, each once, at its last place.
 fn last_places(
     alloc: Global,
     found: &[usize],
-    seen: &mut Vec<bool>,
+    seen: &mut HashSet<usize>,
 ) -> Result<Vec<usize>, AllocError>
-    requires { All (λ a. a < length seen.old.items) found.now }
-    ensures places { IfOk result (λ kept. kept.items ≡ at_last (filter (λ a. not (is_seen seen.old.items a)) found.now)) }
-    ensures marks { IfOk result (λ kept. (a : ℕ) → is_seen seen.new.items a ≡ (is_seen seen.old.items a || has a kept.items)) }
-    ensures room { IfOk result (λ _. length seen.new.items ≡ length seen.old.items) }
-    ensures fewer { IfOk result (λ kept. unseen seen.new.items + length kept.items ≡ unseen seen.old.items) }
+    ensures places { IfOk result (λ kept. kept.items ≡ at_last (filter (λ a. not (contains nat_eq seen.old a)) found.now)) }
+    ensures seen { IfOk result (λ kept. (a : ℕ) → contains nat_eq seen.new a ≡ (contains nat_eq seen.old a || has a kept.items)) }
 {
     let mut kept = Vec::new(alloc);
     for place in (0..found.len()).rev() {
         let node = found[place];
-        if !seen[node] {
-            seen[node] = true;
+        if seen.insert(node)? {
             kept.push(node)?;
         }
     }
@@ -49,7 +46,7 @@ fn last_places(
 /// Lists what `start` leads to by levels: first the start, and after each level what its nodes have edges to and no
 /// level has yet, row after row, each node once, at its last place.
 ///
-/// It takes time in the number of nodes and edges, and no recursion.
+/// It takes time in the nodes that it lists and their edges, and no recursion.
 pub fn levels(alloc: Global, edges: &[Vec<usize>], start: usize) -> Result<Vec<usize>, AllocError>
     requires graph { IsGraph edges.now }
     requires start { start < length edges.now }
@@ -59,9 +56,8 @@ pub fn levels(alloc: Global, edges: &[Vec<usize>], start: usize) -> Result<Vec<u
     ensures once { IfOk result (λ found. IsOnce found.items) }
     ensures reached { IfOk result (λ found. (a : ℕ) → Contains found.items a ↔ Reached (HasEdge edges.now) (start ∷ []) [] a) }
 {
-    let mut seen = Vec::new(alloc);
-    seen.resize(edges.len(), false)?;
-    seen[start] = true;
+    let mut seen = HashSet::new(alloc);
+    seen.insert(start)?;
     let mut listed = Vec::new(alloc);
     listed.push(start)?;
     let mut level = Vec::new(alloc);
@@ -100,9 +96,8 @@ pub fn depths(
     // Each depth is below the number of nodes.
     ensures below { IfOk result (λ depths. (a d : ℕ) → depth_of depths.items a ≡ Some d → d < length edges.now) }
 {
-    let mut seen = Vec::new(alloc);
-    seen.resize(edges.len(), false)?;
-    seen[start] = true;
+    let mut seen = HashSet::new(alloc);
+    seen.insert(start)?;
     let mut depths = Vec::new(alloc);
     depths.resize(edges.len(), None)?;
     let mut level = Vec::new(alloc);

@@ -16,9 +16,6 @@ module _ {A K : Type 0} (same : K → K → Bool) (e : Exact same) (key : A → 
   keep seen [] = []
   keep seen (x ∷ xs) = cond (has same seen (key x)) (keep seen xs) (x ∷ keep (seen ++ (key x ∷ [])) xs)
 
-  abbrev ks : List A → List K
-  ks xs = map key xs
-
   pub keep-seen : (seen : List K) (x : A) (xs : List A) → has same seen (key x) ≡ true → keep seen (x ∷ xs) ≡ keep seen xs
   keep-seen seen x xs h = cond-true (has same seen (key x)) _ _ h
 

@@ -10,15 +10,6 @@ use Rattle.just_loader.specs.ModuleFile.{after, relative}
 use Rattle.just_loader.specs.Links.{Fault, choice}
 use Rattle.just_loader.specs.Causes.{Reports, SeveralFiles}
 
--- what has a slash before it
-pub after_slash : (text rest : List ℕ) → after (47 ∷ []) text ≡ Some rest → text ≡ 47 ∷ rest
-after_slash [] rest e = cc
-after_slash (b ∷ bs) rest e = go (47 == b) refl e
-  where
-    go : (t : Bool) → (47 == b) ≡ t → (if t then Some bs else None) ≡ Some rest → b ∷ bs ≡ 47 ∷ rest
-    go true q e = let same : 47 ≡ b = eqb-true 47 b q in cc
-    go false q e = cc
-
 several : (folder : List ℕ) (name : Name) (optional : Bool) (found : List (List ℕ)) → 1 < length found → choice folder name optional found ≡ Fault (SeveralFiles name (map (relative folder) found))
 several folder name optional [] h = absurd (omega arith)
 several folder name optional (p ∷ []) h = absurd (omega arith)
