@@ -1,6 +1,7 @@
 //! A small grammar, a recorder and a writer for trying the analyzer without a host of its own.
 #![tactic(auto)]
 
+pub mod bundle;
 mod grammar;
 pub mod laws;
 mod lexer;
@@ -9,8 +10,6 @@ pub mod plain_evaluation;
 pub mod plain_syntax;
 pub mod recorder;
 pub mod stop_writer;
-#[cfg(test)]
-mod tests;
 
 pub use plain_evaluation::PlainEvaluation;
 pub use plain_syntax::PlainSyntax;

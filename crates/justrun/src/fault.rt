@@ -1,7 +1,6 @@
 //! Why the program ends early.
-use crate::bundle::BundleError;
+use just_bench::bundle::BundleError;
 use just_parts::layers::Error;
-use std::alloc::AllocError;
 use std::fmt;
 
 /// Why the program ends early, when it was used well.
@@ -42,23 +41,5 @@ impl<'src> fmt::Display for Fault<'src> {
             Fault::Write => f.write_str("The output could not be written"),
             Fault::Memory => f.write_str("Out of memory"),
         }
-    }
-}
-
-impl<'src> From<BundleError> for Fault<'src> {
-    fn from(error: BundleError) -> Fault<'src> {
-        Fault::Bundle(error)
-    }
-}
-
-impl<'src> From<Error<'src>> for Fault<'src> {
-    fn from(error: Error<'src>) -> Fault<'src> {
-        Fault::Analyzer(error)
-    }
-}
-
-impl<'src> From<AllocError> for Fault<'src> {
-    fn from(_refused: AllocError) -> Fault<'src> {
-        Fault::Memory
     }
 }

@@ -1,7 +1,6 @@
 //! Runs the recipes of a bundle of files, and prints which ones began.
 #![tactic(auto)]
 
-mod bundle;
 mod fault;
 mod program;
 #[cfg(test)]

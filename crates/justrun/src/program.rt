@@ -3,9 +3,9 @@ ghost use Rattle.std.specs.Prelude.{◌≡◌, ◌≢◌, ◌<◌, [], slice_get
 ghost use Rattle.just_parts.specs.Clean.{IsClean};
 ghost use Rattle.just_invoke.specs.Closed.{IsClosed};
 
-use crate::bundle::{read_sources, read_text};
 use crate::fault::Fault;
 use just_analyzer::{Compilation, Compiler, Sources, is_clean};
+use just_bench::bundle::{read_sources, read_text};
 use just_bench::{PlainEvaluation, PlainSyntax, Recorder, StopWriter};
 use just_data::Text;
 use just_parts::layers::{Config, Entry, Error, Groups};
@@ -56,38 +56,82 @@ fn compile<'src>(
     Compiler::compile(alloc, config, &PlainSyntax, &PlainEvaluation, sources, root)
 }
 
-// Compiles the root of a bundle, runs the words and writes which recipes began, those before a fault too.
-fn run<'src, W: Write>(
+// Runs the words. The host records what began, before a fault too.
+fn run_words<'src>(
     alloc: Global,
+    config: &Config,
+    compilation: &Compilation<'src>,
+    host: &mut Recorder,
+    words: &[&str],
+) -> Result<(), Error<'src>>
+    requires { IsClosed compilation.now.justfile compilation.now.recipes }
+{
+    let mut writer = StopWriter::new(alloc, 0)?;
+    compilation.justfile.run(
+        alloc,
+        config,
+        &compilation.recipes,
+        &PlainSyntax,
+        &PlainEvaluation,
+        host,
+        &mut writer,
+        words,
+        &compilation.overrides,
+    )?;
+    Ok(())
+}
+
+// Runs the words, and writes which recipes began.
+fn run_compilation<'src, W: Write>(
+    alloc: Global,
+    config: &Config,
+    compilation: &Compilation<'src>,
+    words: &[&str],
+    output: &mut W,
+) -> Result<(), Fault<'src>>
+    requires { IsClosed compilation.now.justfile compilation.now.recipes }
+{
+    let mut host = Recorder::new(alloc);
+    let ran = run_words(alloc, config, compilation, &mut host, words);
+    let is_written = write_entries(output, host.entries()).is_ok();
+    match ran {
+        Err(error) => Err(Fault::Analyzer(error)),
+        Ok(()) if is_written => Ok(()),
+        Ok(()) => Err(Fault::Write),
+    }
+}
+
+// Compiles the root of a source map, and runs the words.
+fn run_sources<'src, W: Write>(
+    alloc: Global,
+    sources: &Sources<'src>,
     root: &str,
     words: &[&str],
-    text: &'src str,
     output: &mut W,
 ) -> Result<(), Fault<'src>>
     requires { IsClean root.now }
 {
-    let sources = read_sources(alloc, text)?;
     let config = Config::default();
-    let compilation = compile(alloc, &config, &sources, root)?;
-    let mut host = Recorder::new(alloc);
-    let mut writer = StopWriter::new(alloc, 0)?;
-    let ran = compilation.justfile.run(
-        alloc,
-        &config,
-        &compilation.recipes,
-        &PlainSyntax,
-        &PlainEvaluation,
-        &mut host,
-        &mut writer,
-        words,
-        &compilation.overrides,
-    );
-    let written = write_entries(output, host.entries());
-    ran?;
-    if written.is_err() {
-        return Err(Fault::Write);
+    match compile(alloc, &config, sources, root) {
+        Ok(compilation) => run_compilation(alloc, &config, &compilation, words, output),
+        Err(error) => Err(Fault::Analyzer(error)),
     }
-    Ok(())
+}
+
+// Runs the words over the files of a bundle.
+fn run_bundle<'src, W: Write>(
+    alloc: Global,
+    text: &'src str,
+    root: &str,
+    words: &[&str],
+    output: &mut W,
+) -> Result<(), Fault<'src>>
+    requires { IsClean root.now }
+{
+    match read_sources(alloc, text) {
+        Ok(sources) => run_sources(alloc, &sources, root, words, output),
+        Err(error) => Err(Fault::Bundle(error)),
+    }
 }
 
 /// Tells a fault in a line, and answers the status that it gives. Whether the line is written counts for nothing.
@@ -107,6 +151,45 @@ fn tell_usage<E: Write>(errors: &mut E) -> u8
     2
 }
 
+// Runs the words over a bundle, and answers the status.
+fn run_text<W: Write, E: Write>(
+    alloc: Global,
+    text: &str,
+    root: &str,
+    words: &[&str],
+    output: &mut W,
+    errors: &mut E,
+) -> u8
+    requires { IsClean root.now }
+    ensures { result < 2 }
+{
+    match run_bundle(alloc, text, root, words, output) {
+        Ok(()) => 0,
+        Err(fault) => tell(errors, &fault),
+    }
+}
+
+// Runs the words over the bundle that is read, and answers the status.
+fn run_input<R: Read, W: Write, E: Write>(
+    alloc: Global,
+    root: &str,
+    words: &[&str],
+    input: &mut R,
+    output: &mut W,
+    errors: &mut E,
+) -> u8
+    ensures status { result < 2 }
+    ensures not_clean { (IsClean root.now → ⊥) → result ≡ 1 }
+{
+    if !is_clean(root) {
+        return tell(errors, &Fault::NotClean);
+    }
+    match read_text(alloc, input) {
+        Ok(text) => run_text(alloc, text.as_str(), root, words, output, errors),
+        Err(error) => tell(errors, &Fault::Bundle(error)),
+    }
+}
+
 /// Runs the program on the words after its name, or on none where one of them is not UTF-8, and answers its status.
 pub fn program<R: Read, W: Write, E: Write>(
     alloc: Global,
@@ -123,18 +206,8 @@ pub fn program<R: Read, W: Write, E: Write>(
     let Some(arguments) = arguments else {
         return tell_usage(errors);
     };
-    let Some((root, words)) = arguments.split_first() else {
-        return tell_usage(errors);
-    };
-    if !is_clean(root) {
-        return tell(errors, &Fault::NotClean);
-    }
-    let text = match read_text(alloc, input) {
-        Ok(text) => text,
-        Err(error) => return tell(errors, &Fault::Bundle(error)),
-    };
-    match run(alloc, root, words, text.as_str(), output) {
-        Ok(()) => 0,
-        Err(fault) => tell(errors, &fault),
+    match arguments.split_first() {
+        Some((root, words)) => run_input(alloc, root, words, input, output, errors),
+        None => tell_usage(errors),
     }
 }

@@ -1,5 +1,5 @@
-use crate::bundle::{BundleError, read_sources};
-use std::alloc::{AllocError, Global};
+//! Which files a bundle has.
+use just_bench::bundle::{BundleError, read_sources};
 use std::test::Fail;
 
 #[test]
@@ -60,46 +60,4 @@ fn text_that_is_no_bundle_is_refused(rt: HostRuntime) {
             Err(error) => assert_eq!(rt; error, want, "of {text:?}"),
         }
     }
-}
-
-// As many files, each of one line.
-fn many_files(alloc: Global, count: u32) -> Result<String, AllocError> {
-    let mut text = String::new(alloc);
-    for file in 0..count {
-        writeln!(text, "--- /f{file}\nr{file}:")?;
-    }
-    Ok(text)
-}
-
-#[test]
-fn many_lines_are_read_in_time(rt: HostRuntime) -> Result<(), Fail> {
-    let text = many_files(rt.alloc(), 50_000)?;
-    match read_sources(rt.alloc(), text.as_str()) {
-        Ok(sources) => {
-            assert_eq!(rt; sources.get("/f0"), Some("r0:\n"));
-            assert_eq!(rt; sources.get("/f49999"), Some("r49999:\n"));
-            assert_eq!(rt; sources.get("/f50000"), None);
-        }
-        Err(error) => assert!(rt; false, "{error}"),
-    }
-    Ok(())
-}
-
-// A file of so many lines.
-fn long_file(alloc: Global, count: u32) -> Result<String, AllocError> {
-    let mut text = String::from_str(alloc, "--- /f\n")?;
-    for line in 0..count {
-        writeln!(text, "r{line}:")?;
-    }
-    Ok(text)
-}
-
-#[test]
-fn long_file_is_read_in_time(rt: HostRuntime) -> Result<(), Fail> {
-    let text = long_file(rt.alloc(), 100_000)?;
-    match read_sources(rt.alloc(), text.as_str()) {
-        Ok(sources) => assert_eq!(rt; sources.get("/f"), text.strip_prefix("--- /f\n")),
-        Err(error) => assert!(rt; false, "{error}"),
-    }
-    Ok(())
 }

@@ -1,9 +1,9 @@
 //! Many files in one text.
-use just_analyzer::Sources;
+use just_loader::Sources;
 use just_parts::layers::SourceError;
 use std::alloc::Global;
-use std::fmt;
 use std::io::{ErrorKind, Read};
+use thiserror::Error;
 
 // What stands before the path in a line that begins a file.
 const MARK: &str = "--- ";
@@ -12,30 +12,19 @@ const MARK: &str = "--- ";
 const NEXT_MARK: &str = "\n--- ";
 
 /// Why an input is no bundle of files.
-#[derive(Clone, Copy, Debug, PartialEq, Eq)]
+#[derive(Clone, Copy, Debug, PartialEq, Eq, Error)]
 pub enum BundleError {
-    /// It could not be read to its end.
+    #[error("The input could not be read")]
     Unreadable,
-    /// It is not UTF-8.
+    #[error("The input is not UTF-8")]
     NotText,
     /// A text stands before the first file.
+    #[error("The input does not begin with a line `--- PATH`")]
     NoFile,
-    /// The path of a file is not clean.
+    #[error("A path in the input is not clean")]
     NotClean,
-    /// Memory was refused.
+    #[error("Out of memory")]
     Memory,
-}
-
-impl fmt::Display for BundleError {
-    fn fmt<W: fmt::Write>(&self, f: &mut fmt::Formatter<W>) -> fmt::Result {
-        f.write_str(match self {
-            BundleError::Unreadable => "The input could not be read",
-            BundleError::NotText => "The input is not UTF-8",
-            BundleError::NoFile => "The input does not begin with a line `--- PATH`",
-            BundleError::NotClean => "A path in the input is not clean",
-            BundleError::Memory => "Out of memory",
-        })
-    }
 }
 
 /// The whole of an input as a text.

@@ -1,0 +1,242 @@
+//! What is answered to the questions of a case.
+ghost use Rattle.std.specs.Prelude.{IfOk};
+ghost use Rattle.just_parts.specs.Clean.{IsClean};
+ghost use Rattle.just_invoke.specs.Closed.{IsClosed};
+
+use crate::asked::{Asked, read_asked};
+use crate::faults::add_fault;
+use crate::items::answer_parse;
+use crate::modules::add_compilation;
+use crate::written::unmarked;
+use just_analyzer::{Compilation, Compiler, Invocation, Modulepath, Sources, is_clean};
+use just_bench::bundle::read_sources;
+use just_bench::{PlainEvaluation, PlainSyntax, Recorder, StopWriter};
+use just_data::Text;
+use just_invoke::{InvocationParser, Report};
+use just_parts::layers::{Config, Entry, Error, Groups};
+use std::alloc::{AllocError, Global};
+
+// Compiles the file at a path.
+fn compile<'src>(
+    alloc: Global,
+    config: &Config,
+    sources: &Sources<'src>,
+    root: &str,
+) -> Result<Compilation<'src>, Error<'src>>
+    requires { IsClean root.now }
+    ensures { IfOk result (λ c. IsClosed c.justfile c.recipes) }
+{
+    Compiler::compile(alloc, config, &PlainSyntax, &PlainEvaluation, sources, root)
+}
+
+// Runs words over a compilation.
+fn run<'src>(
+    alloc: Global,
+    config: &Config,
+    compilation: &Compilation<'src>,
+    host: &mut Recorder,
+    words: &[&str],
+) -> Result<Report, Error<'src>>
+    requires { IsClosed compilation.now.justfile compilation.now.recipes }
+{
+    let mut writer = StopWriter::new(alloc, 0)?;
+    compilation.justfile.run(
+        alloc,
+        config,
+        &compilation.recipes,
+        &PlainSyntax,
+        &PlainEvaluation,
+        host,
+        &mut writer,
+        words,
+        &compilation.overrides,
+    )
+}
+
+// Adds a group of words in brackets.
+fn add_words(text: &mut String, words: &[&str]) -> Result<(), AllocError> {
+    text.push_str(" [")?;
+    for (place, word) in words.iter().enumerate() {
+        if place > 0 {
+            text.push_str(", ")?;
+        }
+        text.push_str(word)?;
+    }
+    text.push(']')
+}
+
+// Adds an invocation: the path of its recipe, and its groups in brackets.
+fn add_invocation(text: &mut String, invocation: &Invocation) -> Result<(), AllocError> {
+    if let Some(path) = &invocation.recipe.recipe_path {
+        write!(text, "{path}")?;
+    }
+    for group in &invocation.arguments {
+        add_words(text, group.as_slice())?;
+    }
+    Ok(())
+}
+
+// Adds the line of invocations.
+fn add_invocations(text: &mut String, invocations: &[Invocation]) -> Result<(), AllocError> {
+    text.push_str("split")?;
+    for (place, invocation) in invocations.iter().enumerate() {
+        text.push_str(if place == 0 { " " } else { ", " })?;
+        add_invocation(text, invocation)?;
+    }
+    text.push('\n')
+}
+
+// Adds how words split, where they do.
+fn add_split(
+    text: &mut String,
+    alloc: Global,
+    compilation: &Compilation,
+    words: &[&str],
+) -> Result<(), AllocError>
+    requires { IsClosed compilation.now.justfile compilation.now.recipes }
+{
+    let root = &compilation.justfile;
+    let recipes = &compilation.recipes;
+    match InvocationParser::parse_invocations(alloc, root, recipes, &PlainEvaluation, words) {
+        Ok(invocations) => add_invocations(text, invocations.as_slice()),
+        Err(_) => Ok(()),
+    }
+}
+
+// Adds a group of texts in brackets.
+fn add_texts(text: &mut String, texts: &[Text]) -> Result<(), AllocError> {
+    text.push_str(" [")?;
+    for (place, word) in texts.iter().enumerate() {
+        if place > 0 {
+            text.push_str(", ")?;
+        }
+        text.push_str(word.as_str())?;
+    }
+    text.push(']')
+}
+
+fn add_groups(text: &mut String, groups: &Groups) -> Result<(), AllocError> {
+    for group in groups.as_slice() {
+        add_texts(text, group.as_slice())?;
+    }
+    Ok(())
+}
+
+// Adds the line of the recipes that began.
+fn add_executed(text: &mut String, entries: &[Entry]) -> Result<(), AllocError> {
+    text.push_str(if entries.is_empty() {
+        "executed nothing"
+    } else {
+        "executed"
+    })?;
+    for (place, entry) in entries.iter().enumerate() {
+        let Entry::Begin { path, groups } = entry;
+        text.push_str(if place == 0 { " " } else { ", " })?;
+        write!(text, "{path}")?;
+        add_groups(text, groups)?;
+    }
+    text.push('\n')
+}
+
+// Adds the line of the counts of calls.
+fn add_calls(text: &mut String, calls: &[u64]) -> Result<(), AllocError> {
+    text.push_str("calls")?;
+    for (place, count) in calls.iter().enumerate() {
+        text.push_str(if place == 0 { " " } else { ", " })?;
+        write!(text, "{count}")?;
+    }
+    text.push('\n')
+}
+
+// Adds what a run did, and what it answered.
+fn add_run(
+    text: &mut String,
+    alloc: Global,
+    config: &Config,
+    compilation: &Compilation,
+    words: &[&str],
+) -> Result<(), AllocError>
+    requires { IsClosed compilation.now.justfile compilation.now.recipes }
+{
+    let mut host = Recorder::new(alloc);
+    let ran = run(alloc, config, compilation, &mut host, words);
+    add_executed(text, host.entries())?;
+    match ran {
+        Ok(report) => add_calls(text, report.calls.as_slice()),
+        Err(error) => add_fault(text, &error),
+    }
+}
+
+// Adds what a compilation has, what words mean in it, and what running them does.
+fn add_whole(
+    text: &mut String,
+    alloc: Global,
+    config: &Config,
+    compilation: &Compilation,
+    words: &[&str],
+) -> Result<(), AllocError>
+    requires { IsClosed compilation.now.justfile compilation.now.recipes }
+{
+    add_compilation(text, alloc, compilation)?;
+    add_split(text, alloc, compilation, words)?;
+    add_run(text, alloc, config, compilation, words)
+}
+
+// Adds what the files of a source map are compiled to, and what words do.
+fn add_sources(
+    text: &mut String,
+    alloc: Global,
+    sources: &Sources,
+    asked: &Asked,
+    words: &[&str],
+) -> Result<(), AllocError> {
+    let root = asked.root.as_str();
+    if !is_clean(root) {
+        return text.push_str("error NotClean\n");
+    }
+    match compile(alloc, &asked.config, sources, root) {
+        Ok(compilation) => add_whole(text, alloc, &asked.config, &compilation, words),
+        Err(error) => add_fault(text, &error),
+    }
+}
+
+// Texts as words.
+fn words_of<'a>(alloc: Global, texts: &'a [String]) -> Result<Vec<&'a str>, AllocError> {
+    texts.iter().map(|text| text.as_str()).collect(alloc)
+}
+
+// Answers a line `$ just` over a bundle.
+fn answer_just(alloc: Global, bundle: &str, line: &str) -> Result<String, AllocError> {
+    let mut answer = String::new(alloc);
+    let asked = read_asked(alloc, line)?;
+    let words = words_of(alloc, asked.words.as_slice())?;
+    match read_sources(alloc, bundle) {
+        Ok(sources) => add_sources(&mut answer, alloc, &sources, &asked, words.as_slice())?,
+        Err(error) => writeln!(answer, "error Bundle: {error}")?,
+    }
+    Ok(answer)
+}
+
+// Answers with a module path, or that there is none.
+fn answer_path(alloc: Global, found: Result<Modulepath, ()>) -> Result<String, AllocError> {
+    match found {
+        Ok(path) => format!(in alloc; "path {path}\n"),
+        Err(()) => String::from_str(alloc, "refused\n"),
+    }
+}
+
+/// Answers a question over a bundle, a line for each thing that a case may ask of it, or none where it is no question.
+pub fn answer(alloc: Global, bundle: &str, question: &str) -> Result<Option<String>, AllocError> {
+    let (kind, rest) = question.split_once(' ').unwrap_or((question, ""));
+    let answer = match kind {
+        "just" => answer_just(alloc, bundle, rest)?,
+        "parse" => answer_parse(alloc, unmarked(alloc, rest)?.as_str())?,
+        "path" => {
+            let words: Vec<&str> = rest.split_whitespace().collect(alloc)?;
+            answer_path(alloc, Modulepath::try_from(alloc, words.as_slice())?)?
+        }
+        "argument" => answer_path(alloc, Modulepath::from_argument(alloc, rest)?)?,
+        _ => return Ok(None),
+    };
+    Ok(Some(answer))
+}

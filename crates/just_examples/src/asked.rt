@@ -1,0 +1,73 @@
+//! What a line `$ just` asks.
+use crate::written::unmarked;
+use just_data::Text;
+use just_parts::layers::Config;
+use std::alloc::{AllocError, Global};
+
+// What a part of the line is to be.
+#[derive(Clone, Copy, Debug, PartialEq, Eq)]
+enum Part {
+    OptionOrWord,
+    Home,
+    Root,
+    Word,
+}
+
+/// A root, a configuration and words.
+#[derive(Drop)]
+pub struct Asked {
+    pub config: Config,
+    pub root: String,
+    pub words: Vec<String>,
+    next: Part,
+}
+
+impl Asked {
+    // The root `/justfile`, the configuration without options, and no words.
+    fn new(alloc: Global) -> Result<Asked, AllocError> {
+        Ok(Asked {
+            config: Config::default(),
+            root: String::from_str(alloc, "/justfile")?,
+            words: Vec::new(alloc),
+            next: Part::OptionOrWord,
+        })
+    }
+
+    // An option or a word. What follows the first word is a word.
+    fn take_option(&mut self, alloc: Global, part: &str) -> Result<(), AllocError> {
+        match part {
+            "--one" => self.config.one = true,
+            "--home" => self.next = Part::Home,
+            "--justfile" => self.next = Part::Root,
+            _ => {
+                self.next = Part::Word;
+                self.words.push(unmarked(alloc, part)?)?;
+            }
+        }
+        Ok(())
+    }
+
+    // The next part of the line.
+    fn take(&mut self, alloc: Global, part: &str) -> Result<(), AllocError> {
+        match self.next {
+            Part::OptionOrWord => return self.take_option(alloc, part),
+            Part::Home => self.config.home = Some(Text::from_str(alloc, part)?),
+            Part::Root => self.root = unmarked(alloc, part)?,
+            Part::Word => {
+                self.words.push(unmarked(alloc, part)?)?;
+                return Ok(());
+            }
+        }
+        self.next = Part::OptionOrWord;
+        Ok(())
+    }
+}
+
+/// What stands behind `$ just`: the options `--one`, `--home PATH` and `--justfile PATH`, then words.
+pub fn read_asked(alloc: Global, line: &str) -> Result<Asked, AllocError> {
+    let mut asked = Asked::new(alloc)?;
+    for part in line.split_whitespace() {
+        asked.take(alloc, part)?;
+    }
+    Ok(asked)
+}

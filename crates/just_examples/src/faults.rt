@@ -1,0 +1,136 @@
+//! The lines that tell a fault.
+use just_parts::layers::{CompileErrorKind, Error, InvocationError, LoadError, RunError, Token};
+use std::alloc::AllocError;
+
+// Adds the fields of a fault of loading.
+fn add_load(text: &mut String, error: &LoadError) -> Result<(), AllocError> {
+    match error {
+        LoadError::Load { path } => write!(text, ": path {path}"),
+        LoadError::Homedir => Ok(()),
+        LoadError::MissingImportFile { path } => write!(text, ": path {}", path.lexeme()),
+        LoadError::MissingModuleFile { module } => write!(text, ": module {module}"),
+        LoadError::AmbiguousModuleFile { module, found } => {
+            write!(text, ": module {module}, found")?;
+            for path in found.as_slice() {
+                write!(text, " {path}")?;
+            }
+            Ok(())
+        }
+        LoadError::CircularImport { current, import } => {
+            write!(text, ": current {current}, import {import}")
+        }
+    }
+}
+
+// Adds the fields of a broken rule.
+fn add_broken(text: &mut String, kind: &CompileErrorKind) -> Result<(), AllocError> {
+    match kind {
+        CompileErrorKind::Syntax => Ok(()),
+        CompileErrorKind::DuplicateParameter { recipe, parameter } => {
+            write!(text, ": recipe {recipe}, parameter {parameter}")
+        }
+        CompileErrorKind::Redefinition {
+            first_type,
+            second_type,
+            name,
+            first,
+        } => write!(text, ": {first_type}, {second_type}, {name}, first {first}"),
+        CompileErrorKind::UnknownDependency { recipe, unknown } => {
+            write!(text, ": recipe {recipe}, unknown {unknown}")
+        }
+        CompileErrorKind::CircularRecipeDependency { recipe, circle } => {
+            write!(text, ": recipe {recipe}, circle")?;
+            for name in circle.as_slice() {
+                write!(text, " {name}")?;
+            }
+            Ok(())
+        }
+        CompileErrorKind::DependencyArgumentCountMismatch {
+            dependency,
+            found,
+            min,
+            max,
+        } => write!(
+            text,
+            ": dependency {dependency}, found {found}, min {min}, max {max}"
+        ),
+    }
+}
+
+// Adds the fields of a fault of words.
+fn add_invocation(text: &mut String, error: &InvocationError) -> Result<(), AllocError> {
+    match error {
+        InvocationError::UnknownRecipe { recipe } => write!(text, ": {recipe}"),
+        InvocationError::UnknownSubmodule { path } => write!(text, ": {path}"),
+        InvocationError::ExpectedSubmoduleButFoundRecipe { path } => write!(text, ": {path}"),
+        InvocationError::NoRecipes | InvocationError::NoDefaultRecipe => Ok(()),
+        InvocationError::DefaultRecipeRequiresArguments {
+            recipe,
+            min_arguments,
+        } => write!(text, ": recipe {recipe}, {min_arguments}"),
+        InvocationError::PositionalArgumentCountMismatch {
+            recipe,
+            found,
+            min,
+            max,
+        } => write!(
+            text,
+            ": recipe {recipe}, found {found}, min {min}, max {max}"
+        ),
+    }
+}
+
+// Adds the fields of a fault of a run.
+fn add_run(text: &mut String, error: &RunError) -> Result<(), AllocError> {
+    match error {
+        RunError::ExcessInvocations { invocations } => write!(text, ": {invocations}"),
+        RunError::NotYet { recipe } => write!(text, ": recipe {recipe}"),
+    }
+}
+
+fn add_fields(text: &mut String, error: &Error) -> Result<(), AllocError> {
+    match error {
+        Error::Load(error) => add_load(text, error),
+        Error::Compile(error) => add_broken(text, &error.kind),
+        Error::Invocation(error) => add_invocation(text, error),
+        Error::Run(error) => add_run(text, error),
+        Error::Exhausted | Error::Memory => Ok(()),
+    }
+}
+
+// The token that a fault has.
+fn token_of<'a, 'src>(error: &'a Error<'src>) -> Option<&'a Token<'src>> {
+    match error {
+        Error::Compile(error) => Some(&error.token),
+        Error::Load(LoadError::MissingImportFile { path }) => Some(path),
+        Error::Load(LoadError::MissingModuleFile { module }) => Some(&module.token),
+        Error::Load(LoadError::AmbiguousModuleFile { module, .. }) => Some(&module.token),
+        _ => None,
+    }
+}
+
+// Adds where a token stands, and the token. Lines and columns count from 1.
+fn add_place(text: &mut String, token: &Token) -> Result<(), AllocError> {
+    let line = token.line().saturating_add(1);
+    let column = token.column().saturating_add(1);
+    let (path, lexeme) = (token.path(), token.lexeme());
+    writeln!(text, "at {path}:{line}:{column} {lexeme}")
+}
+
+fn add_message(text: &mut String, error: &Error) -> Result<(), AllocError> {
+    match error {
+        Error::Compile(error) => writeln!(text, "message {}", error.kind),
+        _ => writeln!(text, "message {error}"),
+    }
+}
+
+/// Adds the lines of a fault: its name with its fields, what it says, and its token where it has one.
+pub fn add_fault(text: &mut String, error: &Error) -> Result<(), AllocError> {
+    write!(text, "error {}", error.name())?;
+    add_fields(text, error)?;
+    text.push('\n')?;
+    if let Some(token) = token_of(error) {
+        add_place(text, token)?;
+    }
+    add_message(text, error)
+}

@@ -1,0 +1,112 @@
+//! Copies are equal to what they are of, and there is memory for them.
+use just_analyzer::{Compilation, Compiler, Sources, is_clean};
+use just_bench::{PlainEvaluation, PlainSyntax, Recorder};
+use just_data::{Boxed, Exact, Sequence, Text};
+use just_parts::layers::{Ast, Config, Error, Groups, Host, Numerator, Syntax};
+use just_parts::{Modulepath, Source};
+use std::alloc::{AllocError, Global};
+use std::test::Fail;
+
+// Whether a copy of a value is equal to it.
+fn is_copied<T: Exact + PartialEq + Drop>(value: &T) -> Result<bool, AllocError> {
+    Ok(value.clone()? == *value)
+}
+
+// What the grammar reads in a text.
+fn parse<'src>(alloc: Global, text: &'src str) -> Result<Ast<'src>, Error<'src>> {
+    let path = "/justfile";
+    if !is_clean(path) {
+        return Err(Error::Memory);
+    }
+    let source = Source::root(alloc, path)?;
+    PlainSyntax.parse_source(alloc, &mut Numerator::new(), "justfile", &source, text)
+}
+
+#[test]
+fn what_was_read_is_copied(rt: HostRuntime) -> Result<(), Fail> {
+    let ast = parse(
+        rt.alloc(),
+        "a x y: b && c\nb:\nc:\nimport 'a'\nmod? m 'b'\nmod n\n",
+    )?;
+    assert_eq!(rt; ast.items.len(), 6);
+    assert!(rt; is_copied(&ast)?);
+    Ok(())
+}
+
+// Compiles a text as the one file there is.
+fn compile<'src>(alloc: Global, sources: &Sources<'src>) -> Result<Compilation<'src>, Error<'src>> {
+    let root = "/justfile";
+    if !is_clean(root) {
+        return Err(Error::Memory);
+    }
+    let config = Config::default();
+    Compiler::compile(
+        alloc,
+        &config,
+        &PlainSyntax,
+        &PlainEvaluation,
+        sources,
+        root,
+    )
+}
+
+// Whether the recipes of a compilation are copied, and the keys under which they stand.
+fn are_recipes_copied(compilation: &Compilation) -> Result<bool, AllocError> {
+    for key in compilation.justfile.recipes.values() {
+        let Some(recipe) = compilation.recipes.get(key.number) else {
+            return Ok(false);
+        };
+        if !is_copied(key)? || !is_copied(recipe)? {
+            return Ok(false);
+        }
+    }
+    Ok(true)
+}
+
+#[test]
+fn recipes_are_copied(rt: HostRuntime) -> Result<(), Fail> {
+    let mut sources = Sources::new(rt.alloc());
+    sources.insert("/justfile", "a x: b && c\nb:\nc:\n")?;
+    match compile(rt.alloc(), &sources) {
+        Ok(compilation) => assert!(rt; are_recipes_copied(&compilation)?),
+        Err(error) => assert!(rt; false, "{error}"),
+    }
+    Ok(())
+}
+
+// One group of one word.
+fn groups(alloc: Global, word: &str) -> Result<Groups, AllocError> {
+    let mut group = Sequence::new(alloc);
+    group.push(Text::from_str(alloc, word)?)?;
+    let mut groups = Sequence::new(alloc);
+    groups.push(group)?;
+    Ok(groups)
+}
+
+// A host that was asked to begin the root's recipe `a` with one group.
+fn asked(alloc: Global) -> Result<Recorder, AllocError> {
+    let path = Modulepath::root(alloc).join(alloc, "a")?;
+    let groups = groups(alloc, "1")?;
+    let mut host = Recorder::new(alloc);
+    host.begin(&path, &groups)?;
+    Ok(host)
+}
+
+#[test]
+fn call_of_a_host_is_copied(rt: HostRuntime) -> Result<(), Fail> {
+    let host = asked(rt.alloc())?;
+    assert_eq!(rt; host.entries().len(), 1);
+    for entry in host.entries() {
+        assert!(rt; is_copied(entry)?);
+    }
+    Ok(())
+}
+
+#[test]
+fn plain_data_is_copied(rt: HostRuntime) -> Result<(), Fail> {
+    let mut numbers = Sequence::from_slice(rt.alloc(), &[1u64, 2, 3])?;
+    numbers.append(Sequence::from_slice(rt.alloc(), &[4])?)?;
+    assert_eq!(rt; numbers.len(), 4);
+    assert!(rt; is_copied(&Boxed::new(rt.alloc(), numbers)?)?);
+    Ok(())
+}
