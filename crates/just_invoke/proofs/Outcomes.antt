@@ -43,15 +43,15 @@ whole_run root recipes words readings ts t (Ok report) s is x = record { reading
 
 -- what a run of invocations refuses is a refusal of their words
 pub refused_run : (root : Justfile) (recipes : List (Recipe Dependency)) (words : List (List ℕ)) (one : Bool) (readings : List Reading) (ps : List Pair) (r : Result Report Error) → IsSplit root recipes words readings → ps ≡ pairs_read recipes readings
-    → IfErr r (IsReason recipes ps) → IfErr r (IsRefusal root recipes words one)
-refused_run root recipes words one readings ps (Ok report) s is x = tt
-refused_run root recipes words one readings ps (Err (Run (NotYet name))) s is x = (readings, s, subst (λ qs. IsUnready recipes qs name) is x)
-refused_run root recipes words one readings ps (Err (Run (ExcessInvocations n))) s is x = absurd x
-refused_run root recipes words one readings ps (Err (Load e)) s is x = tt
-refused_run root recipes words one readings ps (Err (Compile e)) s is x = tt
-refused_run root recipes words one readings ps (Err (Invocation e)) s is x = tt
-refused_run root recipes words one readings ps (Err Exhausted) s is x = tt
-refused_run root recipes words one readings ps (Err Memory) s is x = tt
+    → (one ≡ true → length readings ≤ 1) → IfErr r (IsReason recipes ps) → IfErr r (IsRefusal root recipes words one)
+refused_run root recipes words one readings ps (Ok report) s is few x = tt
+refused_run root recipes words one readings ps (Err (Run (NotYet name))) s is few x = (readings, s, few, subst (λ qs. IsUnready recipes qs name) is x)
+refused_run root recipes words one readings ps (Err (Run (ExcessInvocations n))) s is few x = absurd x
+refused_run root recipes words one readings ps (Err (Load e)) s is few x = tt
+refused_run root recipes words one readings ps (Err (Compile e)) s is few x = tt
+refused_run root recipes words one readings ps (Err (Invocation e)) s is few x = tt
+refused_run root recipes words one readings ps (Err Exhausted) s is few x = tt
+refused_run root recipes words one readings ps (Err Memory) s is few x = tt
 
 -- what runs may run
 pub allowed_run : (root : Justfile) (recipes : List (Recipe Dependency)) (words : List (List ℕ)) (one : Bool) (readings : List Reading) (ps : List Pair) (r : Result Report Error) → IsSplit root recipes words readings → ps ≡ pairs_read recipes readings

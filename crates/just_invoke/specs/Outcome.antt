@@ -43,10 +43,10 @@ IsOutcome root recipes words old new (Err (Run e)) = (readings : List Reading) �
 IsOutcome root recipes words old new (Err (Load e)) = ⊥
 IsOutcome root recipes words old new (Err (Compile e)) = ⊥
 
--- Why a run of words that are invocations is refused, where one alone is allowed or not: they are several, or lead to a recipe that cannot be run.
+-- Why a run of words that are invocations is refused, where one alone is allowed or not: they are several, or else lead to a recipe that cannot be run.
 abbrev pub IsRefusal : Justfile → List (Recipe Dependency) → List (List ℕ) → Bool → Error → Type 0
 IsRefusal root recipes words one (Run (ExcessInvocations n)) = (one ≡ true) × (readings : List Reading) × IsSplit root recipes words readings × (n ≡ length readings) × (1 < length readings)
-IsRefusal root recipes words one (Run (NotYet name)) = (readings : List Reading) × IsSplit root recipes words readings × IsUnready recipes (pairs_read recipes readings) name
+IsRefusal root recipes words one (Run (NotYet name)) = (readings : List Reading) × IsSplit root recipes words readings × (one ≡ true → length readings ≤ 1) × IsUnready recipes (pairs_read recipes readings) name
 IsRefusal root recipes words one (Load e) = Unit {0}
 IsRefusal root recipes words one (Compile e) = Unit {0}
 IsRefusal root recipes words one (Invocation e) = Unit {0}

@@ -82,7 +82,7 @@ impl<'src> Justfile<'src> {
 }
 
 impl<'src> Justfile<'src> {
-    ghost use Rattle.std.specs.Prelude.{List, IfOk, IfErr};
+    ghost use Rattle.std.specs.Prelude.{◌≡◌, List, IfOk, IfErr};
     ghost use Rattle.just_parts.specs.Host.{KeepsPromises};
     ghost use Rattle.just_parts.specs.Modulepath.{texts};
     ghost use Rattle.just_invoke.specs.Account.{Table};
@@ -112,6 +112,9 @@ impl<'src> Justfile<'src> {
         ensures outcome { IsOutcome self.now recipes.now (texts words.now) (H.entries host.old) (H.entries host.new) result }
         ensures refused { IfErr result (IsRefusal self.now recipes.now (texts words.now) config.now.one) }
         ensures allowed { IfOk result (λ _. MayRun self.now recipes.now (texts words.now) config.now.one) }
+        // The writer is left as it was.
+        ensures unwritten { W.written writer.new ≡ W.written writer.old }
+        ensures unfailed { W.failed writer.new ≡ W.failed writer.old }
         ensures account { (ts : List Task) × (t : Table) × HasAccount recipes.now (H.entries host.old) (H.entries host.new) ts t × IfOk result (IsWhole self.now recipes.now (texts words.now) ts t) }
     {
         let invocations = InvocationParser::parse_invocations(

@@ -35,7 +35,12 @@ returns-clause-account g c =
 pub returns-clause-refused : goal.returns-clause-refused
 returns-clause-refused g c =
     let same : pairs_of c.args.recipes.now c.as_slice.result.now ≡ pairs_read c.args.recipes.now (map reading_of c.in_ok-invocations.invocations.items) = ap (pairs_of c.args.recipes.now) c.as_slice.ensures.value ∙ same_read c.args.recipes.now c.in_ok-invocations.invocations.items in
-    refused_run c.args.self.now c.args.recipes.now (texts c.args.words.now) c.args.config.now.one (map reading_of c.in_ok-invocations.invocations.items) (pairs_of c.args.recipes.now c.as_slice.result.now) c.run_invocations.result c.in_ok-invocations.ensures.split same c.run_invocations.ensures.unready
+    let few : c.args.config.now.one ≡ true → length c.in_ok-invocations.invocations.items ≤ 1 = elim c.else-config.branch [
+      | else-config-via-then-config+else-len-gt1 w ↦ λ yes. (search rules)
+      | else-config-via-else-config w ↦ λ yes. (search rules)
+    ] in
+    refused_run c.args.self.now c.args.recipes.now (texts c.args.words.now) c.args.config.now.one (map reading_of c.in_ok-invocations.invocations.items) (pairs_of c.args.recipes.now c.as_slice.result.now) c.run_invocations.result c.in_ok-invocations.ensures.split same
+    (λ yes. few_readings c.in_ok-invocations.invocations.items (few yes)) c.run_invocations.ensures.unready
 
 pub returns-clause-allowed : goal.returns-clause-allowed
 returns-clause-allowed g c =
