@@ -2,7 +2,7 @@ ghost use Rattle.std.specs.Prelude.{◌≡◌, [], OnOk};
 
 use super::parse;
 use crate::Recorder;
-use just_data::{Boxed, Sequence, Text};
+use just_data::{Boxed, Chain, Sequence, Text};
 use just_invoke::{RecipeKey, Recipes};
 use just_parts::layers::{Ast, Entry, Host, Item, Name, Number, UnresolvedDependency};
 use just_parts::{Dependency, Modulepath, Recipe, UnresolvedRecipe};
@@ -25,7 +25,7 @@ fn lone_recipe<'src>(alloc: Global, name: Name<'src>, number: Number) -> Recipe<
     Recipe {
         dependencies: Sequence::new(alloc),
         file_depth: 0,
-        import_offsets: Sequence::new(alloc),
+        import_offsets: Chain::new(),
         name,
         number,
         parameters: Sequence::new(alloc),

@@ -529,6 +529,7 @@ fn find<'b, 'src>(
 
 // Adds how the file of a recipe came in: its depth, its import offsets, and its relative path.
 fn add_entrance<'src>(
+    alloc: Global,
     text: &mut String,
     compilation: &Compilation<'src>,
     module: &Justfile<'src>,
@@ -538,7 +539,7 @@ fn add_entrance<'src>(
         return text.push_str("none; ");
     };
     write!(text, "{}", recipe.file_depth)?;
-    for offset in recipe.import_offsets.as_slice() {
+    for offset in recipe.import_offsets.to_sequence(alloc)?.as_slice() {
         write!(text, " {offset}")?;
     }
     write!(text, " {}; ", recipe.name.token.path())
@@ -546,22 +547,23 @@ fn add_entrance<'src>(
 
 // The folder of a module, and how the files of the recipes `r` and `s` came in.
 fn add_module<'src>(
+    alloc: Global,
     text: &mut String,
     compilation: &Compilation<'src>,
     module: &Justfile<'src>,
 ) -> Result<(), AllocError> {
     write!(text, "{} {}: ", module.source, module.working_directory)?;
-    add_entrance(text, compilation, module, "r")?;
-    add_entrance(text, compilation, module, "s")
+    add_entrance(alloc, text, compilation, module, "r")?;
+    add_entrance(alloc, text, compilation, module, "s")
 }
 
 // The same of the root's module and of those in it.
 fn entrances<'src>(alloc: Global, compilation: &Compilation<'src>) -> Result<String, AllocError> {
     let mut text = String::new(alloc);
     write!(text, "{} asts; ", compilation.asts.len())?;
-    add_module(&mut text, compilation, &compilation.justfile)?;
+    add_module(alloc, &mut text, compilation, &compilation.justfile)?;
     for module in compilation.justfile.modules.as_slice() {
-        add_module(&mut text, compilation, module)?;
+        add_module(alloc, &mut text, compilation, module)?;
     }
     Ok(text)
 }
