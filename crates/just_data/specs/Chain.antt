@@ -1,10 +1,10 @@
--- A chain as the list of its texts.
-use Rattle.std.specs.Prelude.{ℕ, List, [], ◌∷◌, ◌++◌, Option, None, Some}
+-- A chain as the list of its elements.
+use Rattle.std.specs.Prelude.{List, [], ◌∷◌, ◌++◌, Option, None, Some}
 use Rattle.std.specs.declared.rc.Rc.{Rc}
 use Rattle.std.specs.declared.alloc.Global.{Global}
 use Rattle.just_data.specs.declared.chain.Link.{Link}
 
--- the texts before the last one, and the last one
-abbrev pub texts_of : Option (Rc Link Global) → List (List ℕ)
-texts_of None = []
-texts_of (Some rc) = rc.value.front ++ rc.value.last ∷ []
+-- the elements before the last one, and the last one
+abbrev pub elements_of : {T : Type 0} → Option (Rc (Link T) Global) → List T
+elements_of None = []
+elements_of (Some rc) = rc.value.front ++ rc.value.last ∷ []

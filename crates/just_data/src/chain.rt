@@ -1,37 +1,38 @@
-ghost use Rattle.std.specs.Prelude.{◌≡◌, ◌↔◌, IsTrue, [], ◌∷◌, ◌++◌, IfOk, nat_eq};
-ghost use Rattle.std.specs.List.{Contains};
-ghost use Rattle.std.specs.Cmp.{partial_equiv_from_equiv};
-ghost use Rattle.std.specs.Cmp.Lexicographic.{pointwise, lists_per, lists_equiv, nat_list_eq_equiv};
+ghost use Rattle.std.specs.Prelude.{◌≡◌, [], ◌∷◌, ◌++◌, IfOk};
+ghost use Rattle.std.specs.Cmp.Lexicographic.{pointwise, lists_per, lists_equiv};
 
 use crate::Exact;
-use crate::text::Text;
+use crate::sequence::Sequence;
 use std::alloc::{AllocError, Global};
 use std::marker::Model;
 use std::rc::Rc;
 
-/// A list of texts that shares what it begins with: a longer chain refers to the shorter one, and copies none of it.
-#[derive(Debug, Drop)]
+/// A list that shares what it begins with: a longer chain refers to the shorter one, and copies none of it.
+#[derive(Debug)]
 #[cycle(chain)]
-pub struct Chain {
-    link: Option<Rc<Link>>,
+pub struct Chain<T> {
+    link: Option<Rc<Link<T>>>,
 }
 
-// The last text, and the chain before it.
+// The last element, and the chain before it.
 #[derive(Debug, Drop)]
 #[cycle(chain)]
-struct Link {
-    front: Chain,
-    last: Text,
+struct Link<T> {
+    front: Chain<T>,
+    last: T,
 }
 
-impl Model for Chain {
-    ghost use Rattle.std.specs.Prelude.{List, ℕ, length};
+impl<T> Model for Chain<T> {
+    ghost use Rattle.std.specs.Prelude.{List, length};
+    ghost use Rattle.std.specs.Coded.{coded_list};
 
-    ghost Value = { List (List ℕ) };
+    ghost Value = { List T };
 
-    ghost use Rattle.just_data.specs.Chain.{texts_of};
+    ghost coded = { coded_list T.code };
 
-    ghost view = { λ c. texts_of c.link };
+    ghost use Rattle.just_data.specs.Chain.{elements_of};
+
+    ghost view = { λ c. elements_of c.link };
 
     ghost size = { length };
 
@@ -40,48 +41,70 @@ impl Model for Chain {
     ghost size_decreases = { λ a h. Prim.grind (arith, length-append) };
 }
 
-impl Chain {
-    /// No texts, which takes no memory.
-    pub fn new() -> Chain
+impl<T> Chain<T> {
+    /// No elements, which takes no memory.
+    pub fn new() -> Chain<T>
         ensures { result ≡ [] }
     {
         Chain { link: None }
     }
+}
 
-    /// The chain that goes on by a text.
-    pub fn pushed(&self, alloc: Global, text: Text) -> Result<Chain, AllocError>
-        ensures { IfOk result (λ chain. chain ≡ self.now ++ text ∷ []) }
+impl<T: Drop> Chain<T> {
+    /// The chain that goes on by an element.
+    pub fn pushed(&self, alloc: Global, last: T) -> Result<Chain<T>, AllocError>
+        ensures { IfOk result (λ chain. chain ≡ self.now ++ last ∷ []) }
     {
         let link = Link {
             front: self.clone()?,
-            last: text,
+            last,
         };
         Ok(Chain {
             link: Some(Rc::new(alloc, link)?),
         })
     }
+}
 
-    /// Whether a text is one of them.
-    pub fn contains(&self, text: &str) -> bool
-        ensures { IsTrue result ↔ Contains self.now text.now }
+impl<T: Exact + Drop> Chain<T> {
+    /// Copies of the elements, in order.
+    pub fn to_sequence(&self, alloc: Global) -> Result<Sequence<T>, AllocError>
+        ensures { IfOk result (λ items. items ≡ self.now) }
     {
+        let mut items = Vec::new(alloc);
         let mut chain = self;
         while let Some(link) = &chain.link {
-            if link.last.as_str() == text {
-                return true;
-            }
+            items.push(link.last.clone()?)?;
             chain = &link.front;
         }
-        false
+        items.reverse();
+        Ok(Sequence::from_vec(items))
     }
 }
 
-impl PartialEq for Chain {
-    ghost eq = { pointwise (pointwise nat_eq) };
+// A loop, so that a long chain is dropped in little stack. It ends where another chain shares what is left.
+impl<T: Drop> Drop for Chain<T> {
+    fn drop(mut self) {
+        loop {
+            let Chain { link } = self;
+            let Some(shared) = link else {
+                return;
+            };
+            let Some(link) = Rc::into_inner(shared) else {
+                return;
+            };
+            let Link { front, last } = link;
+            drop(last);
+            self = front;
+        }
+    }
+}
 
-    ghost laws = { lists_per (partial_equiv_from_equiv nat_list_eq_equiv) };
+impl<T: PartialEq> PartialEq for Chain<T> {
+    ghost eq = { pointwise T.eq };
 
-    fn eq(&self, other: &Chain) -> bool {
+    ghost laws = { lists_per T.laws };
+
+    fn eq(&self, other: &Chain<T>) -> bool {
         match (&self.link, &other.link) {
             (Some(link), Some(others)) => link.last == others.last && link.front == others.front,
             (None, None) => true,
@@ -90,20 +113,20 @@ impl PartialEq for Chain {
     }
 }
 
-impl Eq for Chain {
-    ghost laws = { lists_equiv nat_list_eq_equiv };
+impl<T: Eq> Eq for Chain<T> {
+    ghost laws = { lists_equiv T.Eq.laws };
 }
 
-impl Clone for Chain {
+impl<T: Drop> Clone for Chain<T> {
     ghost is_clone = { λ chain copy. copy ≡ chain };
 
-    fn clone(&self) -> Result<Chain, AllocError> {
+    fn clone(&self) -> Result<Chain<T>, AllocError> {
         Ok(Chain {
             link: self.link.clone()?,
         })
     }
 }
 
-impl Exact for Chain {
+impl<T: Drop> Exact for Chain<T> {
     ghost exact = { λ x y h. h };
 }

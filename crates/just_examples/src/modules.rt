@@ -89,13 +89,17 @@ fn add_recipes(text: &mut String, recipes: &[&Recipe]) -> Result<(), AllocError>
 }
 
 // Adds the line of how the files of recipes came in: each with its file and the offsets of imports.
-fn add_entrances(text: &mut String, recipes: &[&Recipe]) -> Result<(), AllocError> {
+fn add_entrances(
+    text: &mut String,
+    alloc: Global,
+    recipes: &[&Recipe],
+) -> Result<(), AllocError> {
     text.push_str("entrances")?;
     for (place, recipe) in recipes.iter().enumerate() {
         write!(text, "{}", before(place))?;
         add_path(text, recipe)?;
         write!(text, " {}", recipe.name.token.path())?;
-        for offset in recipe.import_offsets.as_slice() {
+        for offset in recipe.import_offsets.to_sequence(alloc)?.as_slice() {
             write!(text, " {offset}")?;
         }
     }
@@ -125,7 +129,7 @@ pub fn add_compilation(
     add_modules(text, modules.as_slice())?;
     let recipes = recipes_of(alloc, compilation, modules.as_slice())?;
     add_recipes(text, recipes.as_slice())?;
-    add_entrances(text, recipes.as_slice())?;
+    add_entrances(text, alloc, recipes.as_slice())?;
     let different = different(alloc, recipes.as_slice())?;
     writeln!(text, "numbers {different} of {}", recipes.len())
 }

@@ -33,7 +33,7 @@ module _ (depths : List (Option ℕ)) (old new : List Unfolded) (s : AreNoted de
     tells = λ k v n ev en.
         let u = was k v ev in
         let is = t.tells k u.0 n u.1 en in
-        subst (λ x. Tells S (take k ns) x n) (sym u.2) (record { path = is.path; node = is.node; offsets = is.offsets; origin = is.origin });
+        subst (λ x. Tells S (take k ns) x n) (sym u.2) (record { path = is.path; node = is.node; origin = is.origin });
   }
 
   pub noted_keys : map unfolded_key new ≡ map unfolded_key old

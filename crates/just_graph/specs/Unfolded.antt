@@ -20,11 +20,10 @@ abbrev pub CameFrom : (ℕ → List Step) → List Node → Node → Option Orig
 CameFrom S earlier n None = n.trail ≡ []
 CameFrom S earlier n (Some origin) = (parent : Node) × (s : Step) × (slice_get earlier origin.parent ≡ Some parent) × (slice_get (S parent.node) origin.step ≡ Some s) × (n ≡ child parent s)
 
--- the element tells the node's key, its offsets, and where it came from
+-- the element tells the node's key, and where it came from
 pub record Tells (S : ℕ → List Step) (earlier : List Node) (u : Unfolded) (n : Node) : Type 0 where
   pub path : u.path.items ≡ n.path
   pub node : u.node ≡ n.node
-  pub offsets : u.offsets.items ≡ n.offsets
   pub origin : CameFrom S earlier n u.origin
 
 -- the elements tell the nodes, one by one

@@ -8,7 +8,7 @@ ghost use Rattle.std.specs.List.{All, Contains};
 ghost use Rattle.std.specs.HashMap.{get};
 ghost use Rattle.std.specs.declared.vec.Vec.{Vec};
 ghost use Rattle.std.specs.declared.alloc.Global.{Global};
-ghost use Rattle.just_graph.specs.Unfolding.{steps, AreEdges, HasStep, AreFirst, IsOrdered, Key, KeySteps, Node, Unfolds, key, root_key, root_node, path_after, offsets_after, IsLeastDepth};
+ghost use Rattle.just_graph.specs.Unfolding.{steps, AreEdges, HasStep, AreFirst, IsOrdered, Key, KeySteps, Node, Unfolds, key, root_key, root_node, path_after, IsLeastDepth};
 ghost use Rattle.just_graph.specs.Graph.{HasEdge, IsGraph};
 ghost use Rattle.just_graph.specs.Steps.{IsOrder};
 ghost use Rattle.just_graph.specs.Building.{EachRow};
@@ -43,8 +43,6 @@ pub struct Unfolded {
     pub node: usize,
     /// The names of the groups that were entered on the way.
     pub path: Vec<usize>,
-    /// The offsets of the steps since the last group was entered.
-    pub offsets: Vec<usize>,
     /// Nothing for the root.
     pub origin: Option<Origin>,
     /// The least number of steps that lead to its key.
@@ -67,20 +65,6 @@ fn path_after(path: &Vec<usize>, step: Step) -> Result<Vec<usize>, AllocError>
         more.push(name)?;
     }
     Ok(more)
-}
-
-// The offsets since the last group was entered, after a step.
-fn offsets_after(alloc: Global, offsets: &Vec<usize>, step: Step) -> Result<Vec<usize>, AllocError>
-    ensures { IfOk result (λ more. more.items ≡ offsets_after offsets.now.items step.offset step.enters) }
-{
-    match step.enters {
-        Some(_) => Ok(Vec::new(alloc)),
-        None => {
-            let mut more = offsets.clone()?;
-            more.push(step.offset)?;
-            Ok(more)
-        }
-    }
 }
 
 // Pushes the steps of the node at a place, in their order.
@@ -137,7 +121,6 @@ fn walk(
     let first = Unfolded {
         node: root,
         path: Vec::new(alloc),
-        offsets: Vec::new(alloc),
         origin: None,
         depth: 0,
     };
@@ -151,7 +134,6 @@ fn walk(
         let unfolded = Unfolded {
             node: key.1,
             path: key.0,
-            offsets: offsets_after(alloc, &parent.offsets, frame.step)?,
             origin: Some(frame.origin),
             depth: 0,
         };

@@ -9,7 +9,7 @@ use crate::layers::name::Name;
 use crate::layers::number::Number;
 use crate::layers::parameter::Parameter;
 use crate::modulepath::Modulepath;
-use just_data::{Exact, Sequence};
+use just_data::{Chain, Exact, Sequence};
 use std::alloc::AllocError;
 
 /// A recipe. Its first `priors` dependencies run before it, the others after it. The last two fields are there once
@@ -18,7 +18,7 @@ use std::alloc::AllocError;
 pub struct Recipe<'src, D = Dependency<'src>> {
     pub dependencies: Sequence<D>,
     pub file_depth: u64,
-    pub import_offsets: Sequence<usize>,
+    pub import_offsets: Chain<usize>,
     pub name: Name<'src>,
     pub number: Number,
     pub parameters: Sequence<Parameter<'src>>,

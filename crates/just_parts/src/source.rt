@@ -5,7 +5,7 @@ ghost use Rattle.just_parts.specs.Name.{submodule_path};
 use crate::layers::error::Error;
 use crate::layers::name::{Name, Namepath};
 use crate::layers::number::Exhausted;
-use just_data::{Chain, Exact, Sequence, Text};
+use just_data::{Chain, Exact, Text};
 use std::alloc::{AllocError, Global};
 
 // Whether the text may stand between two slashes of a clean path.
@@ -64,8 +64,8 @@ pub fn file_name_of(path: &str) -> &str
 #[derive(Clone, Debug, PartialEq, Eq, Drop)]
 pub struct Source<'src> {
     pub file_depth: u64,
-    pub file_path: Chain,
-    pub import_offsets: Sequence<usize>,
+    pub file_path: Chain<Text>,
+    pub import_offsets: Chain<usize>,
     pub namepath: Option<Namepath<'src>>,
     pub path: Text,
     pub working_directory: Text,
@@ -105,7 +105,7 @@ impl<'src> Source<'src> {
         Ok(Source {
             file_depth: 0,
             file_path: Chain::new().pushed(alloc, Text::from_str(alloc, path)?)?,
-            import_offsets: Sequence::new(alloc),
+            import_offsets: Chain::new(),
             namepath: None,
             path: Text::from_str(alloc, path)?,
             working_directory: Text::from_str(alloc, folder_of(path))?,
@@ -139,8 +139,7 @@ impl<'src> Source<'src> {
         ensures error { IfErr result (λ e. (e ≡ Error.Exhausted) ⊎ (e ≡ Error.Memory)) }
     {
         let file_depth = self.next_depth()?;
-        let mut import_offsets = self.import_offsets.clone()?;
-        import_offsets.push(offset)?;
+        let import_offsets = self.import_offsets.pushed(alloc, offset)?;
         Ok(Source {
             file_depth,
             file_path: self.file_path.pushed(alloc, Text::from_str(alloc, path)?)?,
@@ -170,7 +169,7 @@ impl<'src> Source<'src> {
     {
         let file_depth = self.next_depth()?;
         let folder = folder_of(path);
-        let import_offsets = Sequence::new(alloc);
+        let import_offsets = Chain::new();
         Ok(Source {
             file_depth,
             file_path: self.file_path.pushed(alloc, Text::from_str(alloc, path)?)?,
