@@ -6,12 +6,12 @@ ghost use Rattle.just_invoke.specs.Closed.{IsClosed};
 use crate::asked::{Asked, read_asked};
 use crate::faults::add_fault;
 use crate::items::answer_parse;
+use crate::lists::{add_group, add_list, before};
 use crate::modules::add_compilation;
 use crate::written::unmarked;
 use just_analyzer::{Compilation, Compiler, Invocation, Modulepath, Sources, is_clean};
 use just_bench::bundle::read_sources;
 use just_bench::{PlainEvaluation, PlainSyntax, Recorder, StopWriter};
-use just_data::Text;
 use just_invoke::{InvocationParser, Report};
 use just_parts::layers::{Config, Entry, Error, Groups};
 use std::alloc::{AllocError, Global};
@@ -53,25 +53,13 @@ fn run<'src>(
     )
 }
 
-// Adds a group of words in brackets.
-fn add_words(text: &mut String, words: &[&str]) -> Result<(), AllocError> {
-    text.push_str(" [")?;
-    for (place, word) in words.iter().enumerate() {
-        if place > 0 {
-            text.push_str(", ")?;
-        }
-        text.push_str(word)?;
-    }
-    text.push(']')
-}
-
 // Adds an invocation: the path of its recipe, and its groups in brackets.
 fn add_invocation(text: &mut String, invocation: &Invocation) -> Result<(), AllocError> {
     if let Some(path) = &invocation.recipe.recipe_path {
         write!(text, "{path}")?;
     }
     for group in &invocation.arguments {
-        add_words(text, group.as_slice())?;
+        add_group(text, group.as_slice())?;
     }
     Ok(())
 }
@@ -80,7 +68,7 @@ fn add_invocation(text: &mut String, invocation: &Invocation) -> Result<(), Allo
 fn add_invocations(text: &mut String, invocations: &[Invocation]) -> Result<(), AllocError> {
     text.push_str("split")?;
     for (place, invocation) in invocations.iter().enumerate() {
-        text.push_str(if place == 0 { " " } else { ", " })?;
+        text.push_str(before(place))?;
         add_invocation(text, invocation)?;
     }
     text.push('\n')
@@ -103,21 +91,9 @@ fn add_split(
     }
 }
 
-// Adds a group of texts in brackets.
-fn add_texts(text: &mut String, texts: &[Text]) -> Result<(), AllocError> {
-    text.push_str(" [")?;
-    for (place, word) in texts.iter().enumerate() {
-        if place > 0 {
-            text.push_str(", ")?;
-        }
-        text.push_str(word.as_str())?;
-    }
-    text.push(']')
-}
-
 fn add_groups(text: &mut String, groups: &Groups) -> Result<(), AllocError> {
     for group in groups.as_slice() {
-        add_texts(text, group.as_slice())?;
+        add_group(text, group.as_slice())?;
     }
     Ok(())
 }
@@ -131,7 +107,7 @@ fn add_executed(text: &mut String, entries: &[Entry]) -> Result<(), AllocError> 
     })?;
     for (place, entry) in entries.iter().enumerate() {
         let Entry::Begin { path, groups } = entry;
-        text.push_str(if place == 0 { " " } else { ", " })?;
+        text.push_str(before(place))?;
         write!(text, "{path}")?;
         add_groups(text, groups)?;
     }
@@ -141,10 +117,7 @@ fn add_executed(text: &mut String, entries: &[Entry]) -> Result<(), AllocError> 
 // Adds the line of the counts of calls.
 fn add_calls(text: &mut String, calls: &[u64]) -> Result<(), AllocError> {
     text.push_str("calls")?;
-    for (place, count) in calls.iter().enumerate() {
-        text.push_str(if place == 0 { " " } else { ", " })?;
-        write!(text, "{count}")?;
-    }
+    add_list(text, calls)?;
     text.push('\n')
 }
 

@@ -1,5 +1,6 @@
 //! What a text says, item by item.
 use crate::faults::add_fault;
+use crate::lists::before;
 use just_bench::PlainSyntax;
 use just_parts::layers::{Ast, Error, Item, Numerator, StringLiteral, Syntax};
 use just_parts::{Source, is_clean};
@@ -47,7 +48,7 @@ fn add_item(text: &mut String, item: &Item) -> Result<(), AllocError> {
 fn add_items(text: &mut String, items: &[Item]) -> Result<(), AllocError> {
     text.push_str("items")?;
     for (place, item) in items.iter().enumerate() {
-        text.push_str(if place == 0 { " " } else { ", " })?;
+        text.push_str(before(place))?;
         add_item(text, item)?;
     }
     text.push('\n')

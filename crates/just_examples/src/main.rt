@@ -6,6 +6,7 @@ mod asked;
 mod cases;
 mod faults;
 mod items;
+mod lists;
 mod modules;
 mod written;
 

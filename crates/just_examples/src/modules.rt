@@ -1,4 +1,5 @@
 //! The lines that tell what a compilation has.
+use crate::lists::{add_list, before};
 use just_analyzer::{Compilation, Justfile};
 use just_parts::Recipe;
 use just_parts::layers::Number;
@@ -42,11 +43,6 @@ fn recipes_of<'a, 'src>(
     Ok(found)
 }
 
-// What stands before a part of a line.
-fn before(place: usize) -> &'static str {
-    if place == 0 { " " } else { ", " }
-}
-
 // Adds a recipe's path from the root.
 fn add_path(text: &mut String, recipe: &Recipe) -> Result<(), AllocError> {
     match &recipe.recipe_path {
@@ -58,9 +54,7 @@ fn add_path(text: &mut String, recipe: &Recipe) -> Result<(), AllocError> {
 // Adds the line of the loaded files.
 fn add_loaded(text: &mut String, root: &Justfile) -> Result<(), AllocError> {
     text.push_str("loaded")?;
-    for (place, path) in root.loaded.get().as_slice().iter().enumerate() {
-        write!(text, "{}{path}", before(place))?;
-    }
+    add_list(text, root.loaded.get().as_slice())?;
     text.push('\n')
 }
 
@@ -68,7 +62,7 @@ fn add_loaded(text: &mut String, root: &Justfile) -> Result<(), AllocError> {
 fn add_modules(text: &mut String, modules: &[&Justfile]) -> Result<(), AllocError> {
     text.push_str("modules")?;
     for (place, module) in modules.iter().enumerate() {
-        write!(text, "{}", before(place))?;
+        text.push_str(before(place))?;
         if module.is_submodule() {
             write!(text, "{} ", module.module_path)?;
         }
@@ -81,7 +75,7 @@ fn add_modules(text: &mut String, modules: &[&Justfile]) -> Result<(), AllocErro
 fn add_recipes(text: &mut String, recipes: &[&Recipe]) -> Result<(), AllocError> {
     text.push_str("recipes")?;
     for (place, recipe) in recipes.iter().enumerate() {
-        write!(text, "{}", before(place))?;
+        text.push_str(before(place))?;
         add_path(text, recipe)?;
         write!(text, "@{}", recipe.file_depth)?;
     }
@@ -89,14 +83,10 @@ fn add_recipes(text: &mut String, recipes: &[&Recipe]) -> Result<(), AllocError>
 }
 
 // Adds the line of how the files of recipes came in: each with its file and the offsets of imports.
-fn add_entrances(
-    text: &mut String,
-    alloc: Global,
-    recipes: &[&Recipe],
-) -> Result<(), AllocError> {
+fn add_entrances(text: &mut String, alloc: Global, recipes: &[&Recipe]) -> Result<(), AllocError> {
     text.push_str("entrances")?;
     for (place, recipe) in recipes.iter().enumerate() {
-        write!(text, "{}", before(place))?;
+        text.push_str(before(place))?;
         add_path(text, recipe)?;
         write!(text, " {}", recipe.name.token.path())?;
         for offset in recipe.import_offsets.to_sequence(alloc)?.as_slice() {

@@ -110,3 +110,15 @@ fn plain_data_is_copied(rt: HostRuntime) -> Result<(), Fail> {
     assert!(rt; is_copied(&Boxed::new(rt.alloc(), numbers)?)?);
     Ok(())
 }
+
+#[test]
+fn source_and_configuration_are_copied(rt: HostRuntime) -> Result<(), Fail> {
+    let path = "/d/justfile";
+    assert!(rt; is_clean(path));
+    let source = Source::root(rt.alloc(), path)?;
+    assert!(rt; is_copied(&source)?);
+    let home = Some(Text::from_str(rt.alloc(), "/h")?);
+    let config = Config { home, one: true };
+    assert!(rt; config.clone()? == config);
+    Ok(())
+}

@@ -1,0 +1,25 @@
+//! Lists in a line.
+use std::alloc::AllocError;
+use std::fmt;
+
+/// What stands before a part of a line, by its place in a list.
+pub fn before(place: usize) -> &'static str {
+    if place == 0 { " " } else { ", " }
+}
+
+/// Adds a blank and the parts, with commas between them.
+pub fn add_list<T: fmt::Display>(text: &mut String, parts: &[T]) -> Result<(), AllocError> {
+    for (place, part) in parts.iter().enumerate() {
+        write!(text, "{}{part}", before(place))?;
+    }
+    Ok(())
+}
+
+/// Adds a group of words in brackets.
+pub fn add_group<T: fmt::Display>(text: &mut String, words: &[T]) -> Result<(), AllocError> {
+    text.push_str(" [")?;
+    for (place, word) in words.iter().enumerate() {
+        write!(text, "{}{word}", if place == 0 { "" } else { ", " })?;
+    }
+    text.push(']')
+}
