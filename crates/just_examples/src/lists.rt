@@ -23,3 +23,8 @@ pub fn add_group<T: fmt::Display>(text: &mut String, words: &[T]) -> Result<(), 
     }
     text.push(']')
 }
+
+/// What stands before the next part of a line that has these.
+pub fn next(parts: &String) -> &'static str {
+    if parts.is_empty() { " " } else { ", " }
+}

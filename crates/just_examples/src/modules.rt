@@ -1,46 +1,19 @@
 //! The lines that tell what a compilation has.
-use crate::lists::{add_list, before};
+use crate::lists::{add_list, next};
 use just_analyzer::{Compilation, Justfile};
 use just_parts::Recipe;
 use just_parts::layers::Number;
 use std::alloc::{AllocError, Global};
 use std::collections::HashSet;
 
-// The root's module and those inside, each before those that it declares.
-fn modules_of<'a, 'src>(
-    alloc: Global,
-    root: &'a Justfile<'src>,
-) -> Result<Vec<&'a Justfile<'src>>, AllocError> {
-    let mut found = Vec::new(alloc);
-    let mut left = Vec::new(alloc);
-    left.push(root)?;
-    for _ in 0..u64::MAX {
-        let Some(module) = left.pop() else {
-            break;
-        };
-        found.push(module)?;
-        for inner in module.modules.as_slice().iter().rev() {
-            left.push(inner)?;
-        }
-    }
-    Ok(found)
-}
-
-// The recipes of modules, module by module, each in the order of its table.
-fn recipes_of<'a, 'src>(
-    alloc: Global,
-    compilation: &'a Compilation<'src>,
-    modules: &[&'a Justfile<'src>],
-) -> Result<Vec<&'a Recipe<'src>>, AllocError> {
-    let mut found = Vec::new(alloc);
-    for module in modules {
-        for key in module.recipes.values() {
-            if let Some(recipe) = compilation.recipes.get(key.number) {
-                found.push(recipe)?;
-            }
-        }
-    }
-    Ok(found)
+// What is told of the modules and the recipes so far.
+#[derive(Drop)]
+struct Lines {
+    modules: String,
+    recipes: String,
+    entrances: String,
+    numbers: HashSet<u64>,
+    count: u64,
 }
 
 // Adds a recipe's path from the root.
@@ -51,59 +24,87 @@ fn add_path(text: &mut String, recipe: &Recipe) -> Result<(), AllocError> {
     }
 }
 
-// Adds the line of the loaded files.
-fn add_loaded(text: &mut String, root: &Justfile) -> Result<(), AllocError> {
-    text.push_str("loaded")?;
-    add_list(text, root.loaded.get().as_slice())?;
-    text.push('\n')
-}
-
-// Adds the line of the modules, each with its own file and the folder that it works in.
-fn add_modules(text: &mut String, modules: &[&Justfile]) -> Result<(), AllocError> {
-    text.push_str("modules")?;
-    for (place, module) in modules.iter().enumerate() {
-        text.push_str(before(place))?;
-        if module.is_submodule() {
-            write!(text, "{} ", module.module_path)?;
-        }
-        write!(text, "{} in {}", module.source, module.working_directory)?;
+// Adds the file of a recipe, and the offsets of the imports by which it came in.
+fn add_entrance(text: &mut String, alloc: Global, recipe: &Recipe) -> Result<(), AllocError> {
+    write!(text, " {}", recipe.name.token.path())?;
+    for offset in recipe.import_offsets.to_sequence(alloc)?.as_slice() {
+        write!(text, " {offset}")?;
     }
-    text.push('\n')
+    Ok(())
 }
 
-// Adds the line of the recipes, each with the depth of its file.
-fn add_recipes(text: &mut String, recipes: &[&Recipe]) -> Result<(), AllocError> {
-    text.push_str("recipes")?;
-    for (place, recipe) in recipes.iter().enumerate() {
-        text.push_str(before(place))?;
-        add_path(text, recipe)?;
-        write!(text, "@{}", recipe.file_depth)?;
-    }
-    text.push('\n')
-}
-
-// Adds the line of how the files of recipes came in: each with its file and the offsets of imports.
-fn add_entrances(text: &mut String, alloc: Global, recipes: &[&Recipe]) -> Result<(), AllocError> {
-    text.push_str("entrances")?;
-    for (place, recipe) in recipes.iter().enumerate() {
-        text.push_str(before(place))?;
-        add_path(text, recipe)?;
-        write!(text, " {}", recipe.name.token.path())?;
-        for offset in recipe.import_offsets.to_sequence(alloc)?.as_slice() {
-            write!(text, " {offset}")?;
+impl Lines {
+    fn new(alloc: Global) -> Lines {
+        Lines {
+            modules: String::new(alloc),
+            recipes: String::new(alloc),
+            entrances: String::new(alloc),
+            numbers: HashSet::new(alloc),
+            count: 0,
         }
     }
-    text.push('\n')
-}
 
-// How many different numbers recipes have.
-fn different(alloc: Global, recipes: &[&Recipe]) -> Result<usize, AllocError> {
-    let mut numbers: HashSet<u64> = HashSet::new(alloc);
-    for recipe in recipes {
+    // A recipe: its path with the depth of its file, and how that came in.
+    fn add_recipe(&mut self, alloc: Global, recipe: &Recipe) -> Result<(), AllocError> {
         let Number(number) = recipe.number;
-        numbers.insert(number)?;
+        self.numbers.insert(number)?;
+        self.count = self.count.saturating_add(1);
+        self.recipes.push_str(next(&self.recipes))?;
+        add_path(&mut self.recipes, recipe)?;
+        write!(self.recipes, "@{}", recipe.file_depth)?;
+        self.entrances.push_str(next(&self.entrances))?;
+        add_path(&mut self.entrances, recipe)?;
+        add_entrance(&mut self.entrances, alloc, recipe)
     }
-    Ok(numbers.len())
+
+    // A module, its own file and the folder that it works in.
+    fn add_module(&mut self, module: &Justfile) -> Result<(), AllocError> {
+        self.modules.push_str(next(&self.modules))?;
+        if module.is_submodule() {
+            write!(self.modules, "{} ", module.module_path)?;
+        }
+        write!(
+            self.modules,
+            "{} in {}",
+            module.source, module.working_directory
+        )
+    }
+
+    // The recipes of a module, in the order of its table.
+    fn add_recipes(
+        &mut self,
+        alloc: Global,
+        compilation: &Compilation,
+        module: &Justfile,
+    ) -> Result<(), AllocError> {
+        for key in module.recipes.values() {
+            if let Some(recipe) = compilation.recipes.get(key.number) {
+                self.add_recipe(alloc, recipe)?;
+            }
+        }
+        Ok(())
+    }
+
+    // The modules of a compilation with their recipes, each before those that it declares.
+    fn add_compilation(
+        &mut self,
+        alloc: Global,
+        compilation: &Compilation,
+    ) -> Result<(), AllocError> {
+        let mut left = Vec::new(alloc);
+        left.push(&compilation.justfile)?;
+        for _ in 0..u64::MAX {
+            let Some(module) = left.pop() else {
+                break;
+            };
+            self.add_module(module)?;
+            self.add_recipes(alloc, compilation, module)?;
+            for inner in module.modules.as_slice().iter().rev() {
+                left.push(inner)?;
+            }
+        }
+        Ok(())
+    }
 }
 
 /// Adds what a compilation has: the loaded files, how many texts were read, the modules, and of the recipes the depths,
@@ -113,13 +114,13 @@ pub fn add_compilation(
     alloc: Global,
     compilation: &Compilation,
 ) -> Result<(), AllocError> {
-    add_loaded(text, &compilation.justfile)?;
-    writeln!(text, "texts {}", compilation.asts.len())?;
-    let modules = modules_of(alloc, &compilation.justfile)?;
-    add_modules(text, modules.as_slice())?;
-    let recipes = recipes_of(alloc, compilation, modules.as_slice())?;
-    add_recipes(text, recipes.as_slice())?;
-    add_entrances(text, alloc, recipes.as_slice())?;
-    let different = different(alloc, recipes.as_slice())?;
-    writeln!(text, "numbers {different} of {}", recipes.len())
+    text.push_str("loaded")?;
+    add_list(text, compilation.justfile.loaded.get().as_slice())?;
+    writeln!(text, "\ntexts {}", compilation.asts.len())?;
+    let mut lines = Lines::new(alloc);
+    lines.add_compilation(alloc, compilation)?;
+    writeln!(text, "modules{}", lines.modules)?;
+    writeln!(text, "recipes{}", lines.recipes)?;
+    writeln!(text, "entrances{}", lines.entrances)?;
+    writeln!(text, "numbers {} of {}", lines.numbers.len(), lines.count)
 }
