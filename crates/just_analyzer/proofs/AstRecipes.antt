@@ -18,7 +18,7 @@ use Rattle.just_parts.specs.declared.recipe.Recipe.{Recipe}
 use Rattle.just_loader.specs.Asts.{Key as AstKey, same_key}
 use Rattle.just_loader.specs.Keys.{items_at}
 use Rattle.just_loader.specs.Loaded.{IsLoaded, file_at, key_at, with_path}
-use Rattle.just_loader.specs.Reached.{World}
+use Rattle.just_loader.specs.Reached.{World, items_said}
 use Rattle.just_loader.specs.declared.loaded.Loaded.{Loaded}
 use Rattle.just_loader.proofs.Numberings.{some_same}
 use Rattle.just_analyzer.specs.Outline.{outline_of, outlines_of, recipes_of}
@@ -74,39 +74,39 @@ recipes_with_paths enabled w folder (item.Recipe r ∷ is) = ap (λ rs. if enabl
 
 module _ (w : World) (loaded : Loaded) (nodes : List Node) where
   -- what is held of a file has the outlines of its text
-  pub outlines_held : (path : List ℕ) (g : ℕ) (h : HasAst w loaded nodes path g) → outlines_of (recipes_of w.enabled h.ast.items) ≡ outlines_of (recipes_of w.enabled (items_at w (file_at loaded.scan g)))
+  pub outlines_held : (path : List ℕ) (g : ℕ) (h : HasAst w loaded nodes path g) → outlines_of (recipes_of w.answers.enabled h.ast.items) ≡ outlines_of (recipes_of w.answers.enabled (items_at w (file_at loaded.scan g)))
   outlines_held path g h =
       let f : List ℕ = file_at loaded.scan h.node.node in
-      let said : items_at w f ≡ map bare_item h.of.parsed.items = ap (λ o. unwrap_or o []) h.of.said in
+      let said : items_at w f ≡ map bare_item h.of.parsed.items = ap (λ o. unwrap_or (items_said o) []) h.of.said in
       let here : items_at w (file_at loaded.scan g) ≡ map bare_item h.of.parsed.items = ap (λ n. items_at w (file_at loaded.scan n)) (sym h.node_is) ∙ said in
-      ap (λ is. outlines_of (recipes_of w.enabled is)) h.of.items
-      ∙ ap outlines_of (recipes_with_paths w.enabled w (folder_of f) h.of.parsed.items)
-      ∙ sym (outlines_bare w.enabled h.of.parsed.items)
-      ∙ ap (λ is. outlines_of (recipes_of w.enabled is)) (sym here)
+      ap (λ is. outlines_of (recipes_of w.answers.enabled is)) h.of.items
+      ∙ ap outlines_of (recipes_with_paths w.answers.enabled w (folder_of f) h.of.parsed.items)
+      ∙ sym (outlines_bare w.answers.enabled h.of.parsed.items)
+      ∙ ap (λ is. outlines_of (recipes_of w.answers.enabled is)) (sym here)
 
   module _ (path : List ℕ) where
     -- asts that are held of files under a path
     abbrev pub Asts : List Ast → List ℕ → Type 0
     Asts asts files = AreHeld (get same_key loaded.asts) (key_at loaded.scan path) asts files
 
-    outlines_each : (asts : List Ast) (files : List ℕ) → ((g : ℕ) → In g files → HasAst w loaded nodes path g) → Asts asts files → outlines_of (recipes_in w.enabled asts) ≡ (contents_at w loaded.scan files).recipes
+    outlines_each : (asts : List Ast) (files : List ℕ) → ((g : ℕ) → In g files → HasAst w loaded nodes path g) → Asts asts files → outlines_of (recipes_in w.answers.enabled asts) ≡ (contents_at w loaded.scan files).recipes
     outlines_each [] [] has are = refl
     outlines_each [] (g ∷ gs) has are = absurd are
     outlines_each (a ∷ rest) [] has are = absurd are
     outlines_each (a ∷ rest) (g ∷ gs) has are =
         let h = has g (inl refl) in
         let same : a ≡ h.ast = some_same (sym are.0 ∙ h.held) in
-        let one : outlines_of (recipes_of w.enabled a.items) ≡ outlines_of (recipes_of w.enabled (items_at w (file_at loaded.scan g))) = ap (λ (x : Ast). outlines_of (recipes_of w.enabled x.items)) same ∙ outlines_held path g h in
+        let one : outlines_of (recipes_of w.answers.enabled a.items) ≡ outlines_of (recipes_of w.answers.enabled (items_at w (file_at loaded.scan g))) = ap (λ (x : Ast). outlines_of (recipes_of w.answers.enabled x.items)) same ∙ outlines_held path g h in
         let more = outlines_each rest gs (λ x i. has x (inr i)) are.1 in
         let others : List Item = flat_map (items_at w) (map (file_at loaded.scan) gs) in
-        map-append outline_of (recipes_of w.enabled a.items) (recipes_in w.enabled rest)
+        map-append outline_of (recipes_of w.answers.enabled a.items) (recipes_in w.answers.enabled rest)
         ∙ (λ i. one i ++ more i)
-        ∙ sym (map-append outline_of (recipes_of w.enabled (items_at w (file_at loaded.scan g))) (recipes_of w.enabled others))
-        ∙ ap outlines_of (sym (recipes_append w.enabled (items_at w (file_at loaded.scan g)) others))
+        ∙ sym (map-append outline_of (recipes_of w.answers.enabled (items_at w (file_at loaded.scan g))) (recipes_of w.answers.enabled others))
+        ∙ ap outlines_of (sym (recipes_append w.answers.enabled (items_at w (file_at loaded.scan g)) others))
 
     -- a module's asts have the outlines of its files
     pub outlines_of_asts : (asts : List Ast) (files : List ℕ) → ((g : ℕ) → In g files → HasAst w loaded nodes path g) → map Some asts ≡ map (λ g. get same_key loaded.asts (key_at loaded.scan path g)) files
-        → outlines_of (recipes_in w.enabled asts) ≡ (contents_at w loaded.scan files).recipes
+        → outlines_of (recipes_in w.answers.enabled asts) ≡ (contents_at w loaded.scan files).recipes
     outlines_of_asts asts files has e = outlines_each asts files has (are_held (get same_key loaded.asts) (key_at loaded.scan path) asts files e)
 
 from_if : (b : Bool) (q r : Recipe UnresolvedDependency) (rs : List (Recipe UnresolvedDependency)) → In r (if b then q ∷ rs else rs) → (r ≡ q) ⊎ In r rs
@@ -124,8 +124,8 @@ all_by : {A : Type 0} (P : A → Type 0) (xs : List A) → ((x : A) → In x xs 
 all_by P xs f = λ k d h. f (get_or xs k d) (is_in (get_or xs k d) xs (Contains-get_or xs k d h))
 
 -- the recipes of what is held have no more priors than dependencies
-pub priors_of_asts : (w : World) (loaded : Loaded) → IsLoaded w loaded → (at : ℕ → AstKey) (asts : List Ast) (files : List ℕ) → map Some asts ≡ map (λ g. get same_key loaded.asts (at g)) files → All HasPriors (recipes_in w.enabled asts)
-priors_of_asts w loaded is at asts files e = all_by HasPriors (recipes_in w.enabled asts) (λ r h.
-    let a = from_joined (λ (ast : Ast). recipes_of w.enabled ast.items) r asts h in
+pub priors_of_asts : (w : World) (loaded : Loaded) → IsLoaded w loaded → (at : ℕ → AstKey) (asts : List Ast) (files : List ℕ) → map Some asts ≡ map (λ g. get same_key loaded.asts (at g)) files → All HasPriors (recipes_in w.answers.enabled asts)
+priors_of_asts w loaded is at asts files e = all_by HasPriors (recipes_in w.answers.enabled asts) (λ r h.
+    let a = from_joined (λ (ast : Ast). recipes_of w.answers.enabled ast.items) r asts h in
     let g = held_at (get same_key loaded.asts) at asts files (are_held (get same_key loaded.asts) at asts files e) a.0 a.1 in
-    All-contains PriorsAreDependencies a.0.items (item.Recipe r) (is.priors (at g.0) a.0 g.2) (contained (item.Recipe r) a.0.items (recipe_item w.enabled r a.0.items a.2)))
+    All-contains PriorsAreDependencies a.0.items (item.Recipe r) (is.priors (at g.0) a.0 g.2) (contained (item.Recipe r) a.0.items (recipe_item w.answers.enabled r a.0.items a.2)))

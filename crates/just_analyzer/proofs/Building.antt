@@ -183,13 +183,13 @@ module _ (w : World) (loaded : Loaded) (plans : Plans) (us : List Unfolded) (nod
     path = u.path.items
 
     abbrev rs : List (Recipe UnresolvedDependency)
-    rs = recipes_under w.enabled loaded (modulepath_at loaded.scan path) plan.files.items
+    rs = recipes_under w.answers.enabled loaded (modulepath_at loaded.scan path) plan.files.items
 
     abbrev said : (asts : List Ast) × (map Some asts ≡ map (λ file. ast_of loaded (modulepath_at loaded.scan path) file) plan.files.items)
     said = all_said (λ file. ast_of loaded (modulepath_at loaded.scan path) file) plan.files.items p.ready.held.said
 
     same : rs ≡ recipes_said w said.0
-    same = recipes_same w.enabled (λ file. ast_of loaded (modulepath_at loaded.scan path) file) plan.files.items said.0 said.1
+    same = recipes_same w.answers.enabled (λ file. ast_of loaded (modulepath_at loaded.scan path) file) plan.files.items said.0 said.1
 
     -- no recipe that was compiled has a number of the next module
     pub apart_from : (n : ℕ) → Contains (numbers recipes) n → Contains (unresolved_numbers rs) n → ⊥
@@ -202,7 +202,7 @@ module _ (w : World) (loaded : Loaded) (plans : Plans) (us : List Unfolded) (nod
         nodes.apart e.place (length rest) e.node u e.there at (λ q. absurd (omega (arith, q, e.above, long))) e.from.files plan.files.items e.from.join p.join e.from.asts said.0 e.from.said said.1
         n (contained n (unresolved_numbers (recipes_said w e.from.asts)) j) (subst (λ (xs : List (Recipe UnresolvedDependency)). Contains (unresolved_numbers xs) n) same d)
 
-    module _ (new : List (Recipe Dependency)) (j : Justfile) (m : IsMade w.enabled loaded (unfolded_key u) plan.files.items recipes new j)
+    module _ (new : List (Recipe Dependency)) (j : Justfile) (m : IsMade w.answers.enabled loaded (unfolded_key u) plan.files.items recipes new j)
         (name : option_map text_of_name (out-Justfile j).name ≡ last_name loaded path) (modules : (out-Justfile j).modules ≡ values_of t) (sorted : IsSorted t) where
       abbrev from : IsCompiledFrom w loaded (unfolded_key u) m.made
       from = record {
@@ -224,7 +224,7 @@ module _ (w : World) (loaded : Loaded) (plans : Plans) (us : List Unfolded) (nod
       abbrev is : IsJustfileOf w loaded (unfolded_key u) m.made j
       is = record {
         from = from;
-        fields = subst (λ (xs : List (Recipe UnresolvedDependency)). IsOf xs (recipes_of w.enabled m.own.items) m.own loaded.loaded (file_at loaded.scan u.node) j) same m.fields;
+        fields = subst (λ (xs : List (Recipe UnresolvedDependency)). IsOf xs (recipes_of w.answers.enabled m.own.items) m.own loaded.loaded (file_at loaded.scan u.node) j) same m.fields;
         name = name;
         sorted = subst (IsStrictlySortedBy (slice_cmp nat_cmp)) (sym names_of_modules) sorted;
       }

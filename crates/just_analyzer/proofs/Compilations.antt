@@ -1,12 +1,17 @@
--- The root's file is loaded, under the key of the root.
-use Rattle.std.proofs.Common.{◌≡◌, false, ℕ, List, [], ◌∷◌, slice_get, get_or, Some, IsSome, refl, sym, ◌∙◌, ap, subst}
+-- The root's file is loaded, under the key of the root; and a refusal.
+use Rattle.std.proofs.Common.{◌≡◌, false, ℕ, List, [], ◌∷◌, slice_get, get_or, Some, IsSome, Result, Ok, Err, IfOk, IfErr, refl, sym, ◌∙◌, ap, subst}
 use Rattle.std.specs.HashMap.{get}
 use Rattle.just_graph.specs.Unfolding.{Key, root_key, stay}
+use Rattle.just_parts.specs.declared.layers.error.Error.{Error}
 use Rattle.just_loader.specs.Asts.{same_key, root_key as ast_key}
+use Rattle.just_loader.specs.Causes.{Reports}
 use Rattle.just_loader.specs.Loaded.{IsLoaded, file_at, key_at}
 use Rattle.just_loader.specs.Reached.{World}
 use Rattle.just_loader.specs.Scanned.{paths_in}
 use Rattle.just_loader.specs.declared.loaded.Loaded.{Loaded}
+use Rattle.just_analyzer.specs.Compiled.{Compiles}
+use Rattle.just_analyzer.specs.Rules.{Names}
+use Rattle.just_analyzer.specs.declared.compilation.Compilation.{Compilation}
 
 -- what is found in a list is what a default stands for elsewhere
 read_first : (xs : List (List ℕ)) (x : List ℕ) → slice_get xs 0 ≡ Some x → get_or xs 0 [] ≡ x
@@ -24,3 +29,16 @@ module _ (w : World) (loaded : Loaded) (is : IsLoaded w loaded) where
       let held = is.asts.held node k.1 in
       let same : key_at loaded.scan node.path node.node ≡ ast_key w.root = ap (λ (x : Key). key_at loaded.scan x.path x.node) k.2 ∙ ap (λ f. (record { components = []; spaced = false }, f)) root_file in
       subst (λ o. IsSome o) (sym (ap (get same_key loaded.asts) (sym same) ∙ held.1)) refl
+
+-- a refusal that is named
+pub refused : (w : World) (r : Result Compilation Error) → IfOk r (λ _. ⊥) → IfErr r (Reports (Names w)) → Compiles w r
+refused w (Ok c) none h = absurd none
+refused w (Err e) none h = record {
+  kept = tt;
+  compiled = tt;
+  closed = tt;
+  all_closed = tt;
+  root = tt;
+  root_ast = tt;
+  named = h;
+}

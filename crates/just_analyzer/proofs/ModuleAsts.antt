@@ -49,20 +49,20 @@ module _ (w : World) (loaded : Loaded) (is : IsLoaded w loaded) (plans : Plans) 
 
   module _ (k : Key) (plan : Plan) (m : IsModule plans k plan) (asts : List Ast) (e : AreAstsAt loaded k.path plan.files.items asts) where
     -- the recipes of a module's asts are those of its files
-    pub module_outlines : outlines_of (flat_map (λ (ast : Ast). recipes_of w.enabled ast.items) asts) ≡ (contents_at w loaded.scan plan.files.items).recipes
+    pub module_outlines : outlines_of (flat_map (λ (ast : Ast). recipes_of w.answers.enabled ast.items) asts) ≡ (contents_at w loaded.scan plan.files.items).recipes
     module_outlines = outlines_of_asts w loaded is.nodes k.path asts plan.files.items (module_ast k plan m) e
 
     -- and have no more priors than dependencies
-    pub module_priors : All HasPriors (flat_map (λ (ast : Ast). recipes_of w.enabled ast.items) asts)
+    pub module_priors : All HasPriors (flat_map (λ (ast : Ast). recipes_of w.answers.enabled ast.items) asts)
     module_priors = priors_of_asts w loaded is (key_at loaded.scan k.path) asts plan.files.items e
 
     -- no number is that of two
-    pub module_numbers_once : IsOnce (unresolved_numbers (flat_map (λ (ast : Ast). recipes_of w.enabled ast.items) asts))
+    pub module_numbers_once : IsOnce (unresolved_numbers (flat_map (λ (ast : Ast). recipes_of w.answers.enabled ast.items) asts))
     module_numbers_once = numbers_once w loaded is k.path asts plan.files.items (join_once loaded.scan k.node plan.files.items (are.planned k.node plan m.at).0.join) e (file_way k plan m)
 
     -- nor of a recipe of another module
     pub module_numbers_apart : (l : Key) (other : Plan) → IsModule plans l other → (asts_l : List Ast) → AreAstsAt loaded l.path other.files.items asts_l → (k ≡ l → ⊥) → (x : ℕ)
-        → Contains (unresolved_numbers (flat_map (λ (ast : Ast). recipes_of w.enabled ast.items) asts)) x → Contains (unresolved_numbers (flat_map (λ (ast : Ast). recipes_of w.enabled ast.items) asts_l)) x → ⊥
+        → Contains (unresolved_numbers (flat_map (λ (ast : Ast). recipes_of w.answers.enabled ast.items) asts)) x → Contains (unresolved_numbers (flat_map (λ (ast : Ast). recipes_of w.answers.enabled ast.items) asts_l)) x → ⊥
     module_numbers_apart l other n asts_l f apart x c d =
         let a = number_of_ast w loaded is x asts (is_in x _ c) in
         let b = number_of_ast w loaded is x asts_l (is_in x _ d) in

@@ -47,7 +47,7 @@ entries plans a = steps plans.entries.items a
 -- What is known of a node's plan: its module can be compiled by it, and its steps are those of the plan's files.
 pub record IsPlanned (w : World) (loaded : Loaded) (plans : Plans) (u : Unfolded) (plan : Plan) : Type 0 where
   pub is : HasPlan plans u plan
-  pub ready : IsReady w.enabled loaded (unfolded_key u) plan
+  pub ready : IsReady w.answers.enabled loaded (unfolded_key u) plan
   pub join : IsJoin loaded.scan u.node plan.files.items
   pub listed : entries plans u.node ≡ entries_in loaded plan.files.items
 
@@ -150,10 +150,10 @@ module _ (w : World) (loaded : Loaded) (plans : Plans) (is : IsLoaded w loaded) 
         let r = keys.key_said w loaded plans is are k reached plan.files.items is_plan.join (get_or plan.files.items n d) (Contains-get_or plan.files.items n d h) in
         subst IsSome (sym r.1) refl
 
-    is_ready : IsReady w.enabled loaded k plan
+    is_ready : IsReady w.answers.enabled loaded k plan
     is_ready =
         let asts = all_said (λ file. ast_of loaded (modulepath_at loaded.scan k.path) file) plan.files.items all_there in
-        let same = recipes_same w.enabled (λ file. ast_of loaded (modulepath_at loaded.scan k.path) file) plan.files.items asts.0 asts.1 in
+        let same = recipes_same w.answers.enabled (λ file. ast_of loaded (modulepath_at loaded.scan k.path) file) plan.files.items asts.0 asts.1 in
         record {
           names = keys.key_names w loaded plans is are k reached;
           held = record { there = keys.key_files w loaded plans is are k reached plan.files.items is_plan.join; said = all_there };

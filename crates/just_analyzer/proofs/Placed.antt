@@ -287,7 +287,7 @@ module _ (w : World) (scan : Scan) (is : IsScan w scan) where
     pub headings_joined : (contents w (map (file_at scan) files)).modules ≡ map heading_named (flat_map (names_at scan) files)
     headings_joined = sym (ap (map heading_named) names_joined ∙ map_map heading_named (λ (m : Submodule). m.name) (flat_map (modules_of w) (map (file_at scan) files)))
 
-    pub recipes_joined : (enabled : Item → Bool) → w.enabled ≡ enabled → outlines_of (flat_map (recipes_at enabled scan) files) ≡ (contents w (map (file_at scan) files)).recipes
+    pub recipes_joined : (enabled : Item → Bool) → w.answers.enabled ≡ enabled → outlines_of (flat_map (recipes_at enabled scan) files) ≡ (contents w (map (file_at scan) files)).recipes
     recipes_joined enabled e =
         outlines_flat enabled (recipes_at enabled scan) (λ a. items_at w (file_at scan a)) files (λ a h. recipes_here enabled a (inside a h))
         ∙ ap (λ items. outlines_of (recipes_of enabled items)) (sym (flat_map_map (items_at w) (file_at scan) files))

@@ -100,7 +100,7 @@ module _ (enabled : Item → Bool) (scan : Scan) (has : HasRows scan) (own : ℕ
   abbrev names : List Name
   names = listed.items
 
-  module _ (w : World) (e : w.enabled ≡ enabled) (is : IsScan w scan) where
+  module _ (w : World) (e : w.answers.enabled ≡ enabled) (is : IsScan w scan) where
     headings : (contents_at w scan files).modules ≡ map heading_named names
     headings = headings_joined w scan is files (λ a i. omega (arith, is.count, joined_inside w scan is has own files inside join a i)) ∙ ap (map heading_named) (sym are_names)
 

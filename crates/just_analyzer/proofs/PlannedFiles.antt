@@ -147,7 +147,7 @@ module _ (enabled : Item → Bool) (scan : Scan) (order : List ℕ) (n : ℕ) (o
     ];
   }
 
-module _ (w : World) (scan : Scan) (is : IsScan w scan) (has : HasRows scan) (enabled : Item → Bool) (e : w.enabled ≡ enabled) (order : List ℕ) (o : IsFileOrder scan.rows.items order) (n : ℕ) (plans : Plans) (so : PlannedSoFar enabled scan order n plans) where
+module _ (w : World) (scan : Scan) (is : IsScan w scan) (has : HasRows scan) (enabled : Item → Bool) (e : w.answers.enabled ≡ enabled) (order : List ℕ) (o : IsFileOrder scan.rows.items order) (n : ℕ) (plans : Plans) (so : PlannedSoFar enabled scan order n plans) where
   -- an own file among the first keeps all its groups
   keeps_at : (k : ℕ) → k < n → IsOwnAt scan (slice_index order k) → (files : List Text) → IsJoinOrder w (file_at scan (slice_index order k)) files → KeepsModule (contents w files)
   keeps_at k h own files join =

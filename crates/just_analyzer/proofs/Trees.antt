@@ -37,7 +37,7 @@ use Rattle.just_analyzer.proofs.Keys.{each_found}
 abbrev pub said_by : (Item → Bool) → List Ast → List (Recipe UnresolvedDependency)
 said_by enabled asts = flat_map (λ (ast : Ast). recipes_of enabled ast.items) asts
 
-module _ (w v : World) (same : w.enabled ≡ v.enabled) (loaded : Loaded) where
+module _ (w v : World) (same : w.answers.enabled ≡ v.answers.enabled) (loaded : Loaded) where
   -- only what items count is asked of the world
   abbrev pub from_for : {k : Key} {made : List (Recipe Dependency)} → IsCompiledFrom w loaded k made → IsCompiledFrom v loaded k made
   from_for {k} {made} f = record {
@@ -126,7 +126,7 @@ module _ (w : World) (loaded : Loaded) (built : List Built) (recipes : List (Rec
     rs = recipes_said w is.from.asts
 
     abbrev own_rs : List (Recipe UnresolvedDependency)
-    own_rs = recipes_of w.enabled is.from.own.items
+    own_rs = recipes_of w.answers.enabled is.from.own.items
 
     place_held : (place : ℕ) → place < length rs → IsSome (find_number recipes (number_at rs place))
     place_held place h = number_held (k, made) there (number_at rs place) (is.from.resolved.there place h)
@@ -141,7 +141,7 @@ module _ (w : World) (loaded : Loaded) (built : List Built) (recipes : List (Rec
     own_held : (n : ℕ) → In n (unresolved_numbers own_rs) → IsSome (find_number recipes n)
     own_held n h =
         let q = from_map (λ (r : Recipe UnresolvedDependency). r.number.0) n own_rs h in
-        let i : In q.0 rs = in_flat (λ (ast : Ast). recipes_of w.enabled ast.items) q.0 is.from.own is.from.asts (is_in is.from.own is.from.asts own_in) q.1 in
+        let i : In q.0 rs = in_flat (λ (ast : Ast). recipes_of w.answers.enabled ast.items) q.0 is.from.own is.from.asts (is_in is.from.own is.from.asts own_in) q.1 in
         let p = number_in rs n (subst (λ m. In m (unresolved_numbers rs)) (sym q.2) (in_map (λ (r : Recipe UnresolvedDependency). r.number.0) q.0 rs i)) in
         subst (λ m. IsSome (find_number recipes m)) p.2 (place_held p.0 p.1)
 

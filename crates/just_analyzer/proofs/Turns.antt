@@ -84,7 +84,7 @@ module _ (enabled : Item → Bool) (loaded : Loaded) (plans : Plans) (a : ArePla
           module _ (new : List (Recipe Dependency)) (j : Justfile) (given : Option Name) (modules : List Justfile) (m : IsMade enabled loaded (unfolded_key u) plan.files.items recipes new j)
               (some : (o : Origin) (name : Name) → u.origin ≡ Some o → IsNameOf plans us o name → given ≡ Some name) (none : u.origin ≡ None → given ≡ None) (name : (out-Justfile j).name ≡ given)
               (inner : (out-Justfile j).modules ≡ modules) (values : modules ≡ values_of t) (sorted : IsSorted t) where
-            made : IsMade a.world.enabled loaded (unfolded_key u) plan.files.items recipes new j
+            made : IsMade a.world.answers.enabled loaded (unfolded_key u) plan.files.items recipes new j
             made = subst (λ (e : Item → Bool). IsMade e loaded (unfolded_key u) plan.files.items recipes new j) (sym a.counts) m
 
             named : option_map text_of_name (out-Justfile j).name ≡ last_name loaded u.path.items
@@ -93,7 +93,7 @@ module _ (enabled : Item → Bool) (loaded : Loaded) (plans : Plans) (a : ArePla
             compiled : u.origin ≡ None → AreCompiled a.world loaded j new
             compiled e = building.compiled a.world loaded plans us nodes rest t recipes whole u at plan planned new j made named (inner ∙ values) sorted e
 
-            pub all_compiled : u.origin ≡ None → (v : World) → v.enabled ≡ enabled → AreCompiled v loaded j new
+            pub all_compiled : u.origin ≡ None → (v : World) → v.answers.enabled ≡ enabled → AreCompiled v loaded j new
             all_compiled e v counts = compiled_for a.world v (a.counts ∙ sym counts) loaded j new (compiled e)
 
             pub all_closed : u.origin ≡ None → AreClosed new j

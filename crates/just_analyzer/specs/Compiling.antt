@@ -32,7 +32,7 @@ use Rattle.just_analyzer.specs.declared.plans.Plans.{Plans}
 -- The files are those of a compilation under this syntax, and the plans are theirs.
 pub record ArePlanned (enabled : Item → Bool) (loaded : Loaded) (plans : Plans) : Type 0 where
   pub world : World
-  pub counts : world.enabled ≡ enabled
+  pub counts : world.answers.enabled ≡ enabled
   pub loaded_is : IsLoaded world loaded
   pub plans_are : ArePlans world loaded.scan plans
 

@@ -35,7 +35,7 @@ pub record Contents : Type 0 where
 
 abbrev pub contents : World → List Text → Contents
 contents w files = record {
-  recipes = outlines_of (recipes_of w.enabled (flat_map (items_at w) files));
+  recipes = outlines_of (recipes_of w.answers.enabled (flat_map (items_at w) files));
   modules = map heading_of (flat_map (modules_of w) files);
 }
 

@@ -26,7 +26,7 @@ use Rattle.just_analyzer.specs.Resolved.{AreResolved}
 
 -- the recipes that texts say, one text after another
 abbrev pub recipes_said : World → List Ast → List (Recipe UnresolvedDependency)
-recipes_said w asts = flat_map (λ (ast : Ast). recipes_of w.enabled ast.items) asts
+recipes_said w asts = flat_map (λ (ast : Ast). recipes_of w.answers.enabled ast.items) asts
 
 -- What the module of a key is compiled from: the files of its join order, what they say under its path, and its recipes, resolved.
 pub record IsCompiledFrom (w : World) (loaded : Loaded) (k : Key) (made : List (Recipe Dependency)) : Type 0 where
@@ -56,7 +56,7 @@ last_name loaded (n ∷ m ∷ ns) = last_name loaded (m ∷ ns)
 -- A justfile is that of a module: it has the keys of its recipes, the default and the paths of its own file, its name, and its modules by their names.
 pub record IsJustfileOf (w : World) (loaded : Loaded) (k : Key) (made : List (Recipe Dependency)) (j : Justfile) : Type 0 where
   pub from : IsCompiledFrom w loaded k made
-  pub fields : IsOf (recipes_said w from.asts) (recipes_of w.enabled from.own.items) from.own loaded.loaded (file_at loaded.scan k.node) j
+  pub fields : IsOf (recipes_said w from.asts) (recipes_of w.answers.enabled from.own.items) from.own loaded.loaded (file_at loaded.scan k.node) j
   pub name : option_map text_of_name (out-Justfile j).name ≡ last_name loaded k.path
   pub sorted : IsStrictlySortedBy (slice_cmp nat_cmp) (map module_name (out-Justfile j).modules)
 

@@ -65,7 +65,7 @@ pub data NamesModule (w : World) (scan : Scan) (own : ℕ) : Cause → Type 0 wh
 
 -- a plan of an own file, whose module keeps all groups
 abbrev pub IsKeptPlan : (Item → Bool) → Scan → ℕ → Plan → Type 0
-IsKeptPlan enabled scan own plan = (w : World) → w.enabled ≡ enabled → IsScan w scan → IsPlan w scan own plan × KeepsModule (contents_at w scan plan.files.items)
+IsKeptPlan enabled scan own plan = (w : World) → w.answers.enabled ≡ enabled → IsScan w scan → IsPlan w scan own plan × KeepsModule (contents_at w scan plan.files.items)
 
 -- Plans with one more: that of the own file at a place.
 pub record AddsPlan (enabled : Item → Bool) (scan : Scan) (own : ℕ) (old new : Plans) : Type 0 where

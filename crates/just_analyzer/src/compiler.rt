@@ -1,14 +1,9 @@
-ghost use Rattle.std.specs.Prelude.{◌≡◌, ◌<◌, ◌⊎◌, Some, length, map, option_map, option_to_list, IsSome, IfOk, IfErr};
-ghost use Rattle.std.specs.HashMap.{get};
+ghost use Rattle.std.specs.Prelude.{◌≡◌, ◌<◌, ◌⊎◌, length, map, option_map, option_to_list, IfOk, IfErr};
 ghost use Rattle.just_parts.specs.Clean.{IsClean};
 ghost use Rattle.just_parts.specs.Token.{lexeme};
-ghost use Rattle.just_invoke.specs.Closed.{IsClosed, AreClosed};
-ghost use Rattle.just_loader.specs.Asts.{same_key, root_key};
-ghost use Rattle.just_loader.specs.Causes.{Keeps, Reports};
 ghost use Rattle.just_loader.specs.ModuleFile.{relative, candidates};
-ghost use Rattle.just_loader.specs.Reached.{World};
-ghost use Rattle.just_analyzer.specs.Compiled.{IsCompilation};
-ghost use Rattle.just_analyzer.specs.Rules.{Names};
+ghost use Rattle.just_loader.specs.Reached.{world_of};
+ghost use Rattle.just_analyzer.specs.Compiled.{Compiles};
 
 use crate::compilation::Compilation;
 use crate::modules::compile_modules;
@@ -52,13 +47,7 @@ impl Compiler {
         root: &str,
     ) -> Result<Compilation<'src>, Error<'src>>
         requires { IsClean root.now }
-        ensures kept { let w : World = record { files = sources.now; home = config.now.home; parsed = S.parsed syntax.now; spends = S.spends syntax.now; enabled = S.enabled syntax.now; root = root.now } in IfOk result (λ _. Keeps (Names w)) }
-        ensures compiled { let w : World = record { files = sources.now; home = config.now.home; parsed = S.parsed syntax.now; spends = S.spends syntax.now; enabled = S.enabled syntax.now; root = root.now } in IfOk result (IsCompilation w) }
-        ensures closed { IfOk result (λ c. IsClosed c.justfile c.recipes) }
-        ensures all_closed { IfOk result (λ c. AreClosed c.recipes c.justfile) }
-        ensures root { IfOk result (λ c. c.root ≡ root.now) }
-        ensures root_ast { IfOk result (λ c. IsSome (get same_key c.asts (root_key c.root))) }
-        ensures named { let w : World = record { files = sources.now; home = config.now.home; parsed = S.parsed syntax.now; spends = S.spends syntax.now; enabled = S.enabled syntax.now; root = root.now } in IfErr result (Reports (Names w)) }
+        ensures { Compiles (world_of sources.now config.now (S.answers syntax.now) root.now) result }
     {
         let path = Text::from_str(alloc, root)?;
         let loaded = load(alloc, config, syntax, sources, root)?;

@@ -27,7 +27,7 @@ impl<'a, 'src> Definitions<'a, 'src> {
 
     /// Adds the recipes of the enabled items, in the order of the text. Imports and modules are not looked at.
     pub fn add<S: Syntax>(&mut self, syntax: &S, items: &'a [Item<'src>]) -> Result<(), AllocError>
-        ensures { OnOk result (recipes_in self.new ≡ recipes_in self.old ++ recipes_of (S.enabled syntax.now) items.now) }
+        ensures { OnOk result (recipes_in self.new ≡ recipes_in self.old ++ recipes_of (S.answers syntax.now).enabled items.now) }
     {
         for item in items {
             if !syntax.is_enabled(item) {

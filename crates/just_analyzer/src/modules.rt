@@ -85,7 +85,7 @@ fn definitions_at<'b, 'src, S: Syntax>(
     files: &[usize],
 ) -> Result<Definitions<'b, 'src>, AllocError>
     requires { AreHeld loaded.now path.now files.now }
-    ensures { IfOk result (λ definitions. recipes_in definitions ≡ recipes_under (S.enabled syntax.now) loaded.now path.now files.now) }
+    ensures { IfOk result (λ definitions. recipes_in definitions ≡ recipes_under (S.answers syntax.now).enabled loaded.now path.now files.now) }
 {
     let mut definitions = Definitions::new(alloc);
     for place in files {
@@ -113,10 +113,10 @@ fn compile_module<'src, S: Syntax>(
     inner: Inner<'src>,
     recipes: &mut Recipes<'src>,
 ) -> Result<Justfile<'src>, AllocError>
-    requires ready { IsReady (S.enabled syntax.now) loaded.now (unfolded_key node.now) plan.now }
+    requires ready { IsReady (S.answers syntax.now).enabled loaded.now (unfolded_key node.now) plan.now }
     requires shared { shared.now ≡ loaded.now.loaded }
-    requires apart { (n : ℕ) → Contains (numbers recipes.old) n → Contains (unresolved_numbers (recipes_under (S.enabled syntax.now) loaded.now (modulepath_at loaded.now.scan node.now.path.items) plan.now.files.items)) n → ⊥ }
-    ensures made { IfOk result (IsMade (S.enabled syntax.now) loaded.now (unfolded_key node.now) plan.now.files.items recipes.old recipes.new) }
+    requires apart { (n : ℕ) → Contains (numbers recipes.old) n → Contains (unresolved_numbers (recipes_under (S.answers syntax.now).enabled loaded.now (modulepath_at loaded.now.scan node.now.path.items) plan.now.files.items)) n → ⊥ }
+    ensures made { IfOk result (IsMade (S.answers syntax.now).enabled loaded.now (unfolded_key node.now) plan.now.files.items recipes.old recipes.new) }
     ensures name { IfOk result (λ j. (out-Justfile j).name ≡ inner.entry.name) }
     ensures modules { IfOk result (λ j. (out-Justfile j).modules ≡ inner.entry.modules) }
 {
@@ -218,8 +218,8 @@ pub fn compile_modules<'src, S: Syntax>(
     loaded: &Loaded<'src>,
     plans: &Plans<'src>,
 ) -> Result<(Justfile<'src>, Recipes<'src>), AllocError>
-    requires { ArePlanned (S.enabled syntax.now) loaded.now plans.now }
-    ensures compiled { IfOk result (λ made. (w : World) → w.enabled ≡ S.enabled syntax.now → AreCompiled w loaded.now made.0 made.1) }
+    requires { ArePlanned (S.answers syntax.now).enabled loaded.now plans.now }
+    ensures compiled { IfOk result (λ made. (w : World) → w.answers.enabled ≡ (S.answers syntax.now).enabled → AreCompiled w loaded.now made.0 made.1) }
     ensures closed { IfOk result (λ made. AreClosed made.1 made.0) }
 {
     let nodes = unfold(alloc, plans.entries.as_slice(), 0)?;

@@ -143,7 +143,7 @@ fn definitions_of<'a, 'src, S: Syntax>(
     files: &[usize],
 ) -> Result<Definitions<'a, 'src>, AllocError>
     requires { All (λ a. a < length scan.now.files.items) files.now }
-    ensures { IfOk result (λ definitions. recipes_in definitions ≡ flat_map (recipes_at (S.enabled syntax.now) scan.now) files.now) }
+    ensures { IfOk result (λ definitions. recipes_in definitions ≡ flat_map (recipes_at (S.answers syntax.now).enabled scan.now) files.now) }
 {
     let mut definitions = Definitions::new(alloc);
     for file in files {
@@ -200,8 +200,8 @@ fn plan_module<'src, S: Syntax>(
     requires imports { EachRow (λ a row. row ≡ imports_at scan.now a) (length scan.now.rows.items) imports.now }
     requires own { own < length scan.now.rows.items }
     ensures within { IfOk result (λ plan. All (λ a. a < length scan.now.rows.items) plan.files.items) }
-    ensures kept { IfOk result (IsKeptPlan (S.enabled syntax.now) scan.now own) }
-    ensures named { IfErr result (λ e. (w : World) → w.enabled ≡ S.enabled syntax.now → IsScan w scan.now → Reports (NamesModule w scan.now own) e) }
+    ensures kept { IfOk result (IsKeptPlan (S.answers syntax.now).enabled scan.now own) }
+    ensures named { IfErr result (λ e. (w : World) → w.answers.enabled ≡ (S.answers syntax.now).enabled → IsScan w scan.now → Reports (NamesModule w scan.now own) e) }
 {
     let files = levels(alloc, imports, own)?;
     let names = names_of(alloc, scan, files.as_slice())?;
@@ -247,8 +247,8 @@ fn add_plan<'src, S: Syntax>(
     requires own { own < length scan.now.rows.items }
     requires plans { length plans.old.plans.items ≡ length scan.now.rows.items }
     requires entries { length plans.old.entries.items ≡ length scan.now.rows.items }
-    ensures added { OnOk result (AddsPlan (S.enabled syntax.now) scan.now own plans.old plans.new) }
-    ensures named { IfErr result (λ e. (w : World) → w.enabled ≡ S.enabled syntax.now → IsScan w scan.now → Reports (NamesModule w scan.now own) e) }
+    ensures added { OnOk result (AddsPlan (S.answers syntax.now).enabled scan.now own plans.old plans.new) }
+    ensures named { IfErr result (λ e. (w : World) → w.answers.enabled ≡ (S.answers syntax.now).enabled → IsScan w scan.now → Reports (NamesModule w scan.now own) e) }
 {
     let plan = plan_module(alloc, syntax, scan, imports, own)?;
     plans.entries[own] = entries_of(alloc, scan.rows.as_slice(), plan.files.as_slice())?;
@@ -264,9 +264,9 @@ pub fn plan_modules<'src, S: Syntax>(
 ) -> Result<Plans<'src>, Error<'src>>
     requires rows { HasRows loaded.now.scan }
     requires order { IsFileOrder loaded.now.scan.rows.items loaded.now.order.items }
-    ensures kept { IfOk result (λ _. (w : World) → w.enabled ≡ S.enabled syntax.now → IsLoaded w loaded.now → Keeps (NamesInFiles w) → Keeps (Names w)) }
-    ensures plans { IfOk result (λ plans. (w : World) → w.enabled ≡ S.enabled syntax.now → IsLoaded w loaded.now → ArePlans w loaded.now.scan plans) }
-    ensures named { IfErr result (λ e. (w : World) → w.enabled ≡ S.enabled syntax.now → IsLoaded w loaded.now → Keeps (NamesInFiles w) → Reports (Names w) e) }
+    ensures kept { IfOk result (λ _. (w : World) → w.answers.enabled ≡ (S.answers syntax.now).enabled → IsLoaded w loaded.now → Keeps (NamesInFiles w) → Keeps (Names w)) }
+    ensures plans { IfOk result (λ plans. (w : World) → w.answers.enabled ≡ (S.answers syntax.now).enabled → IsLoaded w loaded.now → ArePlans w loaded.now.scan plans) }
+    ensures named { IfErr result (λ e. (w : World) → w.answers.enabled ≡ (S.answers syntax.now).enabled → IsLoaded w loaded.now → Keeps (NamesInFiles w) → Reports (Names w) e) }
 {
     let imports = import_rows(alloc, loaded.scan.rows.as_slice())?;
     let own = own_files(alloc, &loaded.scan)?;

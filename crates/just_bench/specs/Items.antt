@@ -1,8 +1,10 @@
 -- The items of a text, over its lines.
-use Rattle.std.specs.Prelude.{ℕ, ◌+◌, ◌-◌, ◌==◌, Bool, false, List, [], ◌∷◌, ◌++◌, map, length, slice_range, Option, None, Result, Ok, Err}
+use Rattle.std.specs.Prelude.{ℕ, ◌+◌, ◌-◌, ◌==◌, Bool, false, true, List, [], ◌∷◌, ◌++◌, map, length, slice_range, Option, None, Result, Ok, Err}
 use Rattle.std.specs.Option.{option_map}
+use Rattle.std.specs.Result.{result_ok}
 use Rattle.just_parts.specs.Token.{Place, lexeme}
-use Rattle.just_parts.specs.Bare.{no_number}
+use Rattle.just_parts.specs.Bare.{no_number, ast_of_items}
+use Rattle.just_parts.specs.Syntax.{SyntaxAnswers}
 use Rattle.just_parts.specs.declared.layers.name.Name.{Name}
 use Rattle.just_parts.specs.declared.layers.parameter.Parameter.{Parameter}
 use Rattle.just_parts.specs.declared.layers.parameter.ParameterKind.TheVariants as parameter_kind
@@ -93,3 +95,11 @@ spends path text = spends_lines path text (lines_of text)
 -- the items of a text, or the number of the first line that does not follow the grammar
 unfoldable pub items_of : List ℕ → List ℕ → Result (List Item) ℕ
 items_of path text = with_lines path text [] (lines_of text)
+
+-- what the small grammar answers: each item counts
+abbrev pub answers : SyntaxAnswers
+answers = record {
+  parsed = λ relative text. option_map ast_of_items (result_ok (items_of relative text));
+  spends = spends;
+  enabled = λ _. true;
+}

@@ -7,9 +7,10 @@ use Rattle.std.specs.declared.alloc.Global.{Global}
 use Rattle.std.proofs.lemmas.List.Elements.{All-contains}
 use Rattle.std.proofs.lemmas.Option.{slice_get_read}
 use Rattle.just_graph.specs.declared.unfolding.Step.{Step}
-use Rattle.just_parts.specs.Bare.{bare_item}
+use Rattle.just_parts.specs.Bare.{bare_ast, bare_item}
 use Rattle.just_parts.specs.Clean.{folder_of}
-use Rattle.just_parts.specs.Syntax.{PriorsAreDependencies, Refuses}
+use Rattle.just_parts.specs.Syntax.{SyntaxAnswers, PriorsAreDependencies, Refuses}
+use Rattle.just_parts.specs.declared.layers.ast.Ast.{Ast}
 use Rattle.just_parts.specs.declared.layers.ast.Item.{Item}
 use Rattle.just_parts.specs.declared.layers.ast.Item.TheVariants as item
 use Rattle.just_parts.specs.declared.layers.error.Error.{Error}
@@ -18,7 +19,7 @@ use Rattle.just_loader.specs.Keys.{spends_at}
 use Rattle.just_loader.specs.Loaded.{file_at, with_path}
 use Rattle.just_loader.specs.Loading.{IsScanBy, StopsAt}
 use Rattle.just_loader.specs.Numbering.{texts_of}
-use Rattle.just_loader.specs.Reached.{World, items_of, link, relative_to_root}
+use Rattle.just_loader.specs.Reached.{World, ast_of, items_said, link, relative_to_root}
 use Rattle.just_loader.specs.Scanned.{ArePlacesOf, IsScanned, paths_in}
 use Rattle.just_loader.specs.declared.scanned.Scan.{Scan}
 use Rattle.just_loader.specs.declared.scanned.ScannedFile.{ScannedFile}
@@ -38,7 +39,7 @@ priors_kept w folder items all = all_at PriorsAreDependencies (map (with_path w 
     let x = get_map (with_path w folder) items k y e in
     subst PriorsAreDependencies x.2 (prior_kept w folder x.0 (All-contains PriorsAreDependencies items x.0 all (got items k x.0 x.1))))
 
-module _ (w : World) (scan : Scan) (parsed : List ℕ → List ℕ → Option (List Item)) (spends : List ℕ → List ℕ → ℕ) (by : IsScanBy w scan parsed spends) (place : ℕ) (file : ScannedFile) (inside : place < length scan.files.items) (is : file ≡ get_or scan.files.items place file) where
+module _ (w : World) (scan : Scan) (answers : SyntaxAnswers) (by : IsScanBy w scan answers) (place : ℕ) (file : ScannedFile) (inside : place < length scan.files.items) (is : file ≡ get_or scan.files.items place file) where
   row : (row : Vec Step Global) × (slice_get scan.rows.items place ≡ Some row)
   row = read_at scan.rows.items place (omega (arith, inside, by.is_scan.count))
 
@@ -49,37 +50,37 @@ module _ (w : World) (scan : Scan) (parsed : List ℕ → List ℕ → Option (L
   path = path_is scan place file inside is
 
   module _ (relative text : List ℕ) (r : relative ≡ file.relative) (t : text ≡ file.text) where
-    says : items_of w file.path ≡ parsed relative text
-    says = ap (option_and_then (w.parsed (relative_to_root w file.path))) scanned.text ∙ ap (λ x. w.parsed x file.text) (sym scanned.relative) ∙ ap (λ (f : List ℕ → List ℕ → Option (List Item)). f file.relative file.text) by.parses
-        ∙ ap (λ x. parsed x file.text) (sym r) ∙ ap (parsed relative) (sym t)
+    says : ast_of w file.path ≡ answers.parsed relative text
+    says = ap (option_and_then (w.answers.parsed (relative_to_root w file.path))) scanned.text ∙ ap (λ x. w.answers.parsed x file.text) (sym scanned.relative) ∙ ap (λ (a : SyntaxAnswers). a.parsed file.relative file.text) by.same
+        ∙ ap (λ x. answers.parsed x file.text) (sym r) ∙ ap (answers.parsed relative) (sym t)
 
-    takes : spends_at w file.path ≡ spends relative text
-    takes = ap (λ o. unwrap_or (option_map (w.spends (relative_to_root w file.path)) o) 0) scanned.text ∙ ap (λ x. w.spends x file.text) (sym scanned.relative) ∙ ap (λ (f : List ℕ → List ℕ → ℕ). f file.relative file.text) by.takes
-        ∙ ap (λ x. spends x file.text) (sym r) ∙ ap (spends relative) (sym t)
+    takes : spends_at w file.path ≡ answers.spends relative text
+    takes = ap (λ o. unwrap_or (option_map (w.answers.spends (relative_to_root w file.path)) o) 0) scanned.text ∙ ap (λ x. w.answers.spends x file.text) (sym scanned.relative) ∙ ap (λ (a : SyntaxAnswers). a.spends file.relative file.text) by.same
+        ∙ ap (λ x. answers.spends x file.text) (sym r) ∙ ap (answers.spends relative) (sym t)
 
-    pub spent_at : spends relative text ≡ spends_at w (file_at scan place)
+    pub spent_at : answers.spends relative text ≡ spends_at w (file_at scan place)
     spent_at = sym takes ∙ ap (spends_at w) path
 
     -- it is not refused again
-    pub stops_at : (given : ℕ) (e : Error) → Refuses e (parsed relative text) (given + spends relative text) → StopsAt given (spends_at w (file_at scan place)) e
+    pub stops_at : (given : ℕ) (e : Error) → Refuses answers relative text given e → StopsAt given (spends_at w (file_at scan place)) e
     stops_at given (error.Load e) h = h
-    stops_at given (error.Compile e) h = let both : Some scanned.items ≡ None = sym scanned.parsed ∙ says ∙ h.0 in cc
+    stops_at given (error.Compile e) h = let both : Some scanned.items ≡ None = sym scanned.parsed ∙ ap items_said (says ∙ h.0) in cc
     stops_at given (error.Invocation e) h = h
     stops_at given (error.Run e) h = h
     stops_at given error.Exhausted h = subst (λ n. 2 ^ 64 ≤ given + n) spent_at h
     stops_at given error.Memory h = tt
 
-    module _ (items : List Item) (p : parsed relative text ≡ Some (map bare_item items)) where
-      pub places : ArePlacesOf (paths_in scan.files.items) (map (link w (folder_of (file_at scan place))) items) file.targets.items
+    module _ (ast : Ast) (p : answers.parsed relative text ≡ Some (bare_ast ast)) where
+      pub places : ArePlacesOf (paths_in scan.files.items) (map (link w (folder_of (file_at scan place))) ast.items) file.targets.items
       places =
-          let same : scanned.items ≡ map bare_item items = some_same (sym scanned.parsed ∙ says ∙ p) in
-          let bare = links_bare w.files w.home w.enabled (folder_of file.path) items in
-          subst (λ f. ArePlacesOf (paths_in scan.files.items) (map (link w (folder_of f)) items) file.targets.items) path
+          let same : scanned.items ≡ map bare_item ast.items = some_same (sym scanned.parsed ∙ ap items_said (says ∙ p)) in
+          let bare = links_bare w.files w.home w.answers.enabled (folder_of file.path) ast.items in
+          subst (λ f. ArePlacesOf (paths_in scan.files.items) (map (link w (folder_of f)) ast.items) file.targets.items) path
           (subst (λ ls. ArePlacesOf (paths_in scan.files.items) ls file.targets.items) (ap (map (link w (folder_of file.path))) same ∙ bare) scanned.targets)
 
-      pub said : items_of w (file_at scan place) ≡ Some (map bare_item items)
-      said = ap (items_of w) (sym path) ∙ says ∙ p
+      pub said : ast_of w (file_at scan place) ≡ Some (bare_ast ast)
+      said = ap (ast_of w) (sym path) ∙ says ∙ p
 
-pub stopped_err : {A : Type 0} (r : Result A Error) (given spends : ℕ) (parsed : Option (List Item)) (P : Error → Type 0) → IfErr r (λ e. Refuses e parsed (given + spends)) → ((e : Error) → Refuses e parsed (given + spends) → P e) → IfErr r P
-stopped_err (Ok a) given spends parsed P h f = tt
-stopped_err (Err e) given spends parsed P h f = f e h
+pub stopped_err : {A : Type 0} (r : Result A Error) (answers : SyntaxAnswers) (relative text : List ℕ) (given : ℕ) (P : Error → Type 0) → IfErr r (Refuses answers relative text given) → ((e : Error) → Refuses answers relative text given e → P e) → IfErr r P
+stopped_err (Ok a) answers relative text given P h f = tt
+stopped_err (Err e) answers relative text given P h f = f e h

@@ -13,7 +13,7 @@ use Rattle.just_parts.specs.declared.layers.ast.Item.TheVariants as item
 use Rattle.just_parts.specs.declared.layers.error.Error.{Error}
 use Rattle.just_parts.specs.declared.layers.error.Error.TheVariants as error
 use Rattle.just_loader.specs.Links.{Link, Nowhere, To, Fault, link_in}
-use Rattle.just_loader.specs.Reached.{World, relative_to_root, items_of, link, HasItem, LeadsTo, NamesAt, no_grammar, no_number, in_item}
+use Rattle.just_loader.specs.Reached.{World, relative_to_root, items_of, items_said, link, HasItem, LeadsTo, NamesAt, no_grammar, no_number, in_item}
 use Rattle.just_loader.specs.Causes.{Cause, Broken, Reports}
 use Rattle.just_loader.specs.Scanned.{ArePlacesOf, IsStepOf, AreSteps, IsScanned}
 use Rattle.just_loader.specs.Sources.{Files, text_at}
@@ -67,28 +67,28 @@ module _ (w : World) (f : SourceFile) (file : find f.path w.files ≡ Some f) wh
   text_there = ap (option_map (λ (x : SourceFile). x.text)) file
 
   -- a text that is refused is named
-  pub refused_at : (relative text : List ℕ) (e : Error) → relative ≡ relative_to_root w f.path → text ≡ f.text → Refuses e (w.parsed relative text) (w.spends relative text) → Reports (NamesAt w f.path) e
+  pub refused_at : (relative text : List ℕ) (e : Error) → relative ≡ relative_to_root w f.path → text ≡ f.text → Refuses w.answers relative text 0 e → Reports (NamesAt w f.path) e
   refused_at relative text (error.Load e) r t h = absurd h
   refused_at relative text (error.Compile e) r t h =
-      subst (λ k. NamesAt w f.path (Broken k)) (sym h.1) (no_grammar f.text text_there (ap (λ x. w.parsed x f.text) (sym r) ∙ ap (w.parsed relative) (sym t) ∙ h.0))
+      subst (λ k. NamesAt w f.path (Broken k)) (sym h.1) (no_grammar f.text text_there (ap (λ x. w.answers.parsed x f.text) (sym r) ∙ ap (w.answers.parsed relative) (sym t) ∙ h.0))
   refused_at relative text (error.Invocation e) r t h = absurd h
   refused_at relative text (error.Run e) r t h = absurd h
-  refused_at relative text error.Exhausted r t h = no_number f.text text_there (subst (λ n. 2 ^ 64 ≤ n) (ap (w.spends relative) t ∙ ap (λ x. w.spends x f.text) r) h)
+  refused_at relative text error.Exhausted r t h = no_number f.text text_there (let same : w.answers.spends relative text ≡ w.answers.spends (relative_to_root w f.path) f.text = ap (w.answers.spends relative) t ∙ ap (λ x. w.answers.spends x f.text) r in omega (arith, same, h))
   refused_at relative text error.Memory r t h = tt
 
-  pub refused_err : {A : Type 0} (relative text : List ℕ) (r : Result A Error) → relative ≡ relative_to_root w f.path → text ≡ f.text → IfErr r (λ e. Refuses e (w.parsed relative text) (w.spends relative text)) → IfErr r (Reports (NamesAt w f.path))
+  pub refused_err : {A : Type 0} (relative text : List ℕ) (r : Result A Error) → relative ≡ relative_to_root w f.path → text ≡ f.text → IfErr r (Refuses w.answers relative text 0) → IfErr r (Reports (NamesAt w f.path))
   refused_err relative text (Ok a) p t h = tt
   refused_err relative text (Err e) p t h = refused_at relative text e p t h
 
-  module _ (items : List Item) (parsed : w.parsed (relative_to_root w f.path) f.text ≡ Some (map bare_item items)) where
+  module _ (items : List Item) (parsed : items_said (w.answers.parsed (relative_to_root w f.path) f.text) ≡ Some (map bare_item items)) where
     said : items_of w f.path ≡ Some (map bare_item items)
-    said = ap (option_and_then (w.parsed (relative_to_root w f.path))) text_there ∙ parsed
+    said = ap (λ t. items_said (option_and_then (w.answers.parsed (relative_to_root w f.path)) t)) text_there ∙ parsed
 
     abbrev links : List Link
     links = map (link w (folder_of f.path)) items
 
     bare : map (link w (folder_of f.path)) (map bare_item items) ≡ links
-    bare = links_bare w.files w.home w.enabled (folder_of f.path) items
+    bare = links_bare w.files w.home w.answers.enabled (folder_of f.path) items
 
     -- each link is that of an item
     from_links : (l : Link) → Contains links l → (i : Item) × HasItem w f.path i × (link w (folder_of f.path) i ≡ l)
@@ -104,13 +104,13 @@ module _ (w : World) (f : SourceFile) (file : find f.path w.files ≡ Some f) wh
     leads_to path h = let i = from_links (To path) h in record { item = i.0; has = i.1; leads = i.2 }
 
     -- what is scanned has no fault
-    pub none_at : (paths : List (List ℕ)) (ts : List (Option ℕ)) → ArePlacesOf paths links ts → w.spends (relative_to_root w f.path) f.text < 2 ^ 64 → (c : Cause) → NamesAt w f.path c → ⊥
+    pub none_at : (paths : List (List ℕ)) (ts : List (Option ℕ)) → ArePlacesOf paths links ts → w.answers.spends (relative_to_root w f.path) f.text < 2 ^ 64 → (c : Cause) → NamesAt w f.path c → ⊥
     none_at paths ts places fits _ (no_grammar text there none) =
         let same : text ≡ f.text = (let e = sym there ∙ text_there in cc) in
-        let no : Some (map bare_item items) ≡ None = sym parsed ∙ ap (w.parsed (relative_to_root w f.path)) (sym same) ∙ none in cc
+        let no : Some (map bare_item items) ≡ None = sym parsed ∙ ap (λ t. items_said (w.answers.parsed (relative_to_root w f.path) t)) (sym same) ∙ ap items_said none in cc
     none_at paths ts places fits _ (no_number text there many) =
         let same : text ≡ f.text = (let e = sym there ∙ text_there in cc) in
-        let few : w.spends (relative_to_root w f.path) text < 2 ^ 64 = subst (λ t. w.spends (relative_to_root w f.path) t < 2 ^ 64) (sym same) fits in omega (arith, many, few)
+        let few : w.answers.spends (relative_to_root w f.path) text < 2 ^ 64 = subst (λ t. w.answers.spends (relative_to_root w f.path) t < 2 ^ 64) (sym same) fits in omega (arith, many, few)
     none_at paths ts places fits c (in_item i has fault) =
         let same : has.0 ≡ map bare_item items = (let e = sym has.1 ∙ said in cc) in
         let at = placed (map bare_item items) i (subst (λ is. Contains is i) same has.2) in

@@ -66,7 +66,7 @@ AreOnceKeys keys = (i j : ℕ) (k : FileKey) → slice_get keys i ≡ Some k →
 
 -- how many numbers the text of the file at a path takes
 abbrev pub spends_at : World → Text → ℕ
-spends_at w f = unwrap_or (option_map (w.spends (relative_to_root w f)) (text_at w.files f)) 0
+spends_at w f = unwrap_or (option_map (w.answers.spends (relative_to_root w f)) (text_at w.files f)) 0
 
 -- What is broken in the group of files: the root is no file, a reached file is at fault, one leads back to itself, or the texts of some keys take more numbers than there are.
 pub data NamesInFiles (w : World) : Cause → Type 0 where

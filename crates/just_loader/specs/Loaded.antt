@@ -4,7 +4,7 @@ use Rattle.std.specs.HashMap.{get}
 use Rattle.std.specs.List.{All, Contains}
 use Rattle.just_graph.specs.Unfolding.{Key, Node, KeySteps, AreFirst, IsLeastDepth, key, root_key, steps}
 use Rattle.just_graph.specs.declared.unfolding.Step.{Step}
-use Rattle.just_parts.specs.Bare.{bare_item}
+use Rattle.just_parts.specs.Bare.{bare_ast}
 use Rattle.just_parts.specs.Clean.{folder_of}
 use Rattle.just_parts.specs.Syntax.{AreRising, IsFrom, PriorsAreDependencies, components_of, numbers}
 use Rattle.just_parts.specs.declared.layers.ast.Ast.{Ast}
@@ -15,7 +15,7 @@ use Rattle.just_loader.specs.Asts.{Key as AstKey, same_key}
 use Rattle.just_loader.specs.FileCircles.{IsFileOrder}
 use Rattle.just_loader.specs.Links.{Link, Nowhere, To, Fault}
 use Rattle.just_loader.specs.Numbering.{texts_of}
-use Rattle.just_loader.specs.Reached.{World, items_of, link, relative_to_root}
+use Rattle.just_loader.specs.Reached.{World, ast_of, link, relative_to_root}
 use Rattle.just_loader.specs.Scanned.{IsScan, paths_in}
 use Rattle.just_loader.specs.declared.loaded.Loaded.{Loaded}
 use Rattle.just_loader.specs.declared.scanned.Scan.{Scan}
@@ -71,7 +71,7 @@ pub record IsAstOf (w : World) (scan : Scan) (n : Node) (ast : Ast) : Type 0 whe
   pub came : CameIn scan n source
   pub parsed : Ast
   pub from : IsFrom source parsed
-  pub said : items_of w (file_at scan n.node) ≡ Some (map bare_item parsed.items)
+  pub said : ast_of w (file_at scan n.node) ≡ Some (bare_ast parsed)
   pub items : ast.items ≡ map (with_path w (folder_of (file_at scan n.node))) parsed.items
   pub module_path : ast.module_path ≡ parsed.module_path
   pub working_directory : ast.working_directory ≡ parsed.working_directory

@@ -5,9 +5,9 @@ use Rattle.just_graph.specs.Unfolding.{Node, AreFirst, IsLeastDepth, offsets_aft
 use Rattle.just_graph.specs.Unfolded.{AllTold, IsUnfolded, unfolded_key}
 use Rattle.just_graph.specs.declared.unfolding.Step.{Step}
 use Rattle.just_graph.specs.declared.unfolding.Unfolded.{Unfolded}
-use Rattle.just_parts.specs.Bare.{bare_item}
+use Rattle.just_parts.specs.Bare.{bare_ast}
 use Rattle.just_parts.specs.Clean.{folder_of}
-use Rattle.just_parts.specs.Syntax.{IsFrom, components_of}
+use Rattle.just_parts.specs.Syntax.{SyntaxAnswers, IsFrom, components_of}
 use Rattle.just_parts.specs.declared.layers.ast.Ast.{Ast}
 use Rattle.just_parts.specs.declared.layers.ast.Item.{Item}
 use Rattle.just_parts.specs.declared.layers.ast.Item.TheVariants as item
@@ -16,18 +16,17 @@ use Rattle.just_parts.specs.declared.layers.error.Error.TheVariants as error
 use Rattle.just_parts.specs.declared.source.Source.{Source}
 use Rattle.just_loader.specs.Keys.{spends_at}
 use Rattle.just_loader.specs.Loaded.{CameIn, IsAstOf, file_at, name_at, with_path}
-use Rattle.just_loader.specs.Reached.{World, items_of}
+use Rattle.just_loader.specs.Reached.{World, ast_of}
 use Rattle.just_loader.specs.Scanned.{IsScan}
 use Rattle.just_loader.specs.declared.scanned.Scan.{Scan}
 
 abbrev Text : Type 0
 Text = List ℕ
 
--- The scan is of a world where the syntax says this of texts.
-pub record IsScanBy (w : World) (scan : Scan) (parsed : Text → Text → Option (List Item)) (spends : Text → Text → ℕ) : Type 0 where
+-- The scan is of a world where the syntax layer answers so.
+pub record IsScanBy (w : World) (scan : Scan) (answers : SyntaxAnswers) : Type 0 where
   pub is_scan : IsScan w scan
-  pub parses : w.parsed ≡ parsed
-  pub takes : w.spends ≡ spends
+  pub same : w.answers ≡ answers
 
 -- The elements tell the first node of each key with its least depth, which is below their number.
 pub record AreUnfolded (scan : Scan) (us : List Unfolded) : Type 0 where
@@ -75,7 +74,7 @@ with_absolute path (item.Recipe r) = item.Recipe r
 pub record IsSaid (w : World) (path : Text) (source : Source) (ast : Ast) : Type 0 where
   pub parsed : Ast
   pub from : IsFrom source parsed
-  pub said : items_of w path ≡ Some (map bare_item parsed.items)
+  pub said : ast_of w path ≡ Some (bare_ast parsed)
   pub items : ast.items ≡ map (with_path w (folder_of path)) parsed.items
   pub module_path : ast.module_path ≡ parsed.module_path
   pub working_directory : ast.working_directory ≡ parsed.working_directory

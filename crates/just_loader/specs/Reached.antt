@@ -1,9 +1,12 @@
 -- The files that are reached from a root, and what is at fault with them.
-use Rattle.std.specs.Prelude.{◌≡◌, ℕ, ◌^◌, ◌≤◌, Bool, List, Option, None, Some}
+use Rattle.std.specs.Prelude.{◌≡◌, ℕ, ◌^◌, ◌≤◌, List, Option, None, Some}
 use Rattle.std.specs.List.{Contains}
-use Rattle.std.specs.Option.{option_and_then}
+use Rattle.std.specs.Option.{option_and_then, option_map}
 use Rattle.just_parts.specs.Clean.{folder_of}
+use Rattle.just_parts.specs.Syntax.{SyntaxAnswers}
+use Rattle.just_parts.specs.declared.layers.ast.Ast.{Ast}
 use Rattle.just_parts.specs.declared.layers.ast.Item.{Item}
+use Rattle.just_parts.specs.declared.layers.config.Config.{Config}
 use Rattle.just_parts.specs.declared.layers.error.CompileErrorKind.TheVariants as kind
 use Rattle.just_loader.specs.Links.{Link, To, Fault, link_in}
 use Rattle.just_loader.specs.ModuleFile.{relative}
@@ -13,26 +16,35 @@ use Rattle.just_loader.specs.Sources.{Files, text_at}
 abbrev Text : Type 0
 Text = List ℕ
 
--- What a compilation reads: the files, the home folder, where it is known, what the syntax says (the items of a text under its relative path, the numbers that it takes, and which items count), and the path of the root.
+-- What a compilation reads: the files, the home folder, where it is known, what the syntax layer answers, and the path of the root.
 pub record World : Type 0 where
   pub files : Files
   pub home : Option Text
-  pub parsed : Text → Text → Option (List Item)
-  pub spends : Text → Text → ℕ
-  pub enabled : Item → Bool
+  pub answers : SyntaxAnswers
   pub root : Text
+
+abbrev pub world_of : Files → Config → SyntaxAnswers → Text → World
+world_of files config answers root = record { files = files; home = config.home; answers = answers; root = root }
 
 -- a path from the root's folder, where it lies below it
 abbrev pub relative_to_root : World → Text → Text
 relative_to_root w path = relative (folder_of w.root) path
 
+-- what the file at a path says, bare
+abbrev pub ast_of : World → Text → Option Ast
+ast_of w path = option_and_then (w.answers.parsed (relative_to_root w path)) (text_at w.files path)
+
+-- the items of what a text says
+abbrev pub items_said : Option Ast → Option (List Item)
+items_said = option_map (λ (ast : Ast). ast.items)
+
 -- the items of the file at a path
 abbrev pub items_of : World → Text → Option (List Item)
-items_of w path = option_and_then (w.parsed (relative_to_root w path)) (text_at w.files path)
+items_of w path = items_said (ast_of w path)
 
 -- what an item leads to from its file's folder
 abbrev pub link : World → Text → Item → Link
-link w folder item = link_in w.files w.home w.enabled folder item
+link w folder item = link_in w.files w.home w.answers.enabled folder item
 
 -- the file at f has the item
 abbrev pub HasItem : World → Text → Item → Type 0
@@ -51,8 +63,8 @@ pub data Reached (w : World) : Text → Type 0 where
 
 -- The text of a file does not follow the grammar or takes more numbers than there are, or an item is at fault.
 pub data NamesAt (w : World) (path : Text) : Cause → Type 0 where
-  no_grammar : (text : Text) → text_at w.files path ≡ Some text → w.parsed (relative_to_root w path) text ≡ None → NamesAt w path (Broken kind.Syntax)
-  no_number : (text : Text) → text_at w.files path ≡ Some text → 2 ^ 64 ≤ w.spends (relative_to_root w path) text → NamesAt w path NoNumber
+  no_grammar : (text : Text) → text_at w.files path ≡ Some text → w.answers.parsed (relative_to_root w path) text ≡ None → NamesAt w path (Broken kind.Syntax)
+  no_number : (text : Text) → text_at w.files path ≡ Some text → 2 ^ 64 ≤ w.answers.spends (relative_to_root w path) text → NamesAt w path NoNumber
   in_item : {c : Cause} (item : Item) → HasItem w path item → link w (folder_of path) item ≡ Fault c → NamesAt w path c
 
 -- What is at fault with a reached file.

@@ -114,8 +114,8 @@ pub(crate) fn link<'src, S: Syntax>(
     folder: &str,
     item: &Item<'src>,
 ) -> Result<Option<Text>, Error<'src>>
-    ensures path { IfOk result (λ path. link_in sources.now config.now.home (S.enabled syntax.now) folder.now item.now ≡ linked path) }
-    ensures error { IfErr result (Reports (λ c. link_in sources.now config.now.home (S.enabled syntax.now) folder.now item.now ≡ Fault c)) }
+    ensures path { IfOk result (λ path. link_in sources.now config.now.home ((S.answers syntax.now).enabled) folder.now item.now ≡ linked path) }
+    ensures error { IfErr result (Reports (λ c. link_in sources.now config.now.home ((S.answers syntax.now).enabled) folder.now item.now ≡ Fault c)) }
 {
     if !syntax.is_enabled(item) {
         return Ok(None);

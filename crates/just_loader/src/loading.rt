@@ -15,7 +15,7 @@ ghost use Rattle.just_loader.specs.Keys.{NamesInFiles, spends_at};
 ghost use Rattle.just_loader.specs.Loaded.{CameIn, IsLoaded, at_first, file_at, with_path};
 ghost use Rattle.just_loader.specs.Loading.{AreNodes, AreParsed, AreSources, AreUnfolded, CameInSoFar, ComesNext, IsSaid, IsScanBy, Stops, StopsAt, spent_by, with_absolute};
 ghost use Rattle.just_loader.specs.Parsed.{AreHeld, AreKeyed, relative_at};
-ghost use Rattle.just_loader.specs.Reached.{World, link};
+ghost use Rattle.just_loader.specs.Reached.{World, world_of, link};
 ghost use Rattle.just_loader.specs.Scanned.{ArePlacesOf, IsPlaceOf, IsScan, paths_in};
 
 use crate::circles::check_circles;
@@ -167,15 +167,15 @@ fn parse_file<'src, S: Syntax>(
     place: usize,
     source: &Source<'src>,
 ) -> Result<Ast<'src>, Error<'src>>
-    requires scan { (w : World) × IsScanBy w scan.now (S.parsed syntax.now) (S.spends syntax.now) }
+    requires scan { (w : World) × IsScanBy w scan.now (S.answers syntax.now) }
     requires place { place < length scan.now.files.items }
     requires few { numerator.old.next < 2 ^ 64 }
-    ensures said { IfOk result (λ ast. (w : World) → IsScanBy w scan.now (S.parsed syntax.now) (S.spends syntax.now) → IsSaid w (file_at scan.now place) source.now ast) }
+    ensures said { IfOk result (λ ast. (w : World) → IsScanBy w scan.now (S.answers syntax.now) → IsSaid w (file_at scan.now place) source.now ast) }
     ensures numbers { IfOk result (λ ast. AreRising numerator.old.next (numbers ast.items) numerator.new.next) }
     ensures priors { IfOk result (λ ast. All PriorsAreDependencies ast.items) }
-    ensures spent { OnOk result ((w : World) → IsScanBy w scan.now (S.parsed syntax.now) (S.spends syntax.now) → numerator.new.next ≡ numerator.old.next + spends_at w (file_at scan.now place)) }
+    ensures spent { OnOk result ((w : World) → IsScanBy w scan.now (S.answers syntax.now) → numerator.new.next ≡ numerator.old.next + spends_at w (file_at scan.now place)) }
     ensures fits { OnOk result (numerator.new.next < 2 ^ 64) }
-    ensures stopped { IfErr result (λ e. (w : World) → IsScanBy w scan.now (S.parsed syntax.now) (S.spends syntax.now) → StopsAt numerator.old.next (spends_at w (file_at scan.now place)) e) }
+    ensures stopped { IfErr result (λ e. (w : World) → IsScanBy w scan.now (S.answers syntax.now) → StopsAt numerator.old.next (spends_at w (file_at scan.now place)) e) }
 {
     let file = &scan.files[place];
     let Ast {
@@ -203,13 +203,13 @@ fn parse_all<'src, S: Syntax>(
     scan: &Scan<'src>,
     nodes: &[Unfolded],
 ) -> Result<Vec<Ast<'src>>, Error<'src>>
-    requires scan { (w : World) × IsScanBy w scan.now (S.parsed syntax.now) (S.spends syntax.now) }
+    requires scan { (w : World) × IsScanBy w scan.now (S.answers syntax.now) }
     requires nodes { AreUnfolded scan.now nodes.now }
-    ensures parsed { IfOk result (λ asts. (w : World) (ns : List Node) → IsScanBy w scan.now (S.parsed syntax.now) (S.spends syntax.now) → AreNodes scan.now nodes.now ns → AreParsed w scan.now ns asts.items) }
-    ensures numbers { IfOk result (λ asts. (w : World) → IsScanBy w scan.now (S.parsed syntax.now) (S.spends syntax.now) → AreRising 0 (flat_map (λ (ast : Ast). numbers ast.items) asts.items) (spent_by w scan.now nodes.now)) }
+    ensures parsed { IfOk result (λ asts. (w : World) (ns : List Node) → IsScanBy w scan.now (S.answers syntax.now) → AreNodes scan.now nodes.now ns → AreParsed w scan.now ns asts.items) }
+    ensures numbers { IfOk result (λ asts. (w : World) → IsScanBy w scan.now (S.answers syntax.now) → AreRising 0 (flat_map (λ (ast : Ast). numbers ast.items) asts.items) (spent_by w scan.now nodes.now)) }
     ensures priors { IfOk result (λ asts. All (λ (ast : Ast). All PriorsAreDependencies ast.items) asts.items) }
-    ensures fits { OnOk result ((w : World) → IsScanBy w scan.now (S.parsed syntax.now) (S.spends syntax.now) → spent_by w scan.now nodes.now < 2 ^ 64) }
-    ensures stopped { IfErr result (λ e. (w : World) → IsScanBy w scan.now (S.parsed syntax.now) (S.spends syntax.now) → Stops w scan.now nodes.now e) }
+    ensures fits { OnOk result ((w : World) → IsScanBy w scan.now (S.answers syntax.now) → spent_by w scan.now nodes.now < 2 ^ 64) }
+    ensures stopped { IfErr result (λ e. (w : World) → IsScanBy w scan.now (S.answers syntax.now) → Stops w scan.now nodes.now e) }
 {
     let sources = sources_of(alloc, scan, nodes)?;
     let mut numerator = Numerator::new();
@@ -273,9 +273,9 @@ pub fn load<'src, S: Syntax>(
     root: &str,
 ) -> Result<Loaded<'src>, Error<'src>>
     requires { IsClean root.now }
-    ensures kept { let w : World = record { files = sources.now; home = config.now.home; parsed = S.parsed syntax.now; spends = S.spends syntax.now; enabled = S.enabled syntax.now; root = root.now } in IfOk result (λ _. Keeps (NamesInFiles w)) }
-    ensures loaded { let w : World = record { files = sources.now; home = config.now.home; parsed = S.parsed syntax.now; spends = S.spends syntax.now; enabled = S.enabled syntax.now; root = root.now } in IfOk result (IsLoaded w) }
-    ensures named { let w : World = record { files = sources.now; home = config.now.home; parsed = S.parsed syntax.now; spends = S.spends syntax.now; enabled = S.enabled syntax.now; root = root.now } in IfErr result (Reports (NamesInFiles w)) }
+    ensures kept { IfOk result (λ _. Keeps (NamesInFiles (world_of sources.now config.now (S.answers syntax.now) root.now))) }
+    ensures loaded { IfOk result (IsLoaded (world_of sources.now config.now (S.answers syntax.now) root.now)) }
+    ensures named { IfErr result (Reports (NamesInFiles (world_of sources.now config.now (S.answers syntax.now) root.now))) }
 {
     if sources.file(root).is_none() {
         return Err(Error::Load(LoadError::Load {

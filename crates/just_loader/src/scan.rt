@@ -10,7 +10,7 @@ ghost use Rattle.just_parts.specs.Syntax.{Refuses};
 ghost use Rattle.just_loader.specs.Links.{To, Fault, link_in};
 ghost use Rattle.just_loader.specs.ModuleFile.{relative};
 ghost use Rattle.just_loader.specs.Numbering.{AreFound, AreNumbered, IsFile, paths_of, texts_of};
-ghost use Rattle.just_loader.specs.Reached.{World, LeadsTo, NamesAt, NamesInScan};
+ghost use Rattle.just_loader.specs.Reached.{LeadsTo, NamesAt, NamesInScan, items_said, world_of};
 ghost use Rattle.just_loader.specs.Causes.{Keeps, Reports};
 ghost use Rattle.just_loader.specs.Sources.{text_at};
 ghost use Rattle.just_loader.specs.Scanned.{IsPlaceOf, ArePlacesOf, IsStepOf, AreSteps, IsScanned, IsScan, Grows, Extends};
@@ -48,9 +48,9 @@ fn parse<'src, S: Syntax>(
     text: &'src str,
 ) -> Result<Sequence<Item<'src>>, Error<'src>>
     requires { IsClean path.now }
-    ensures items { IfOk result (λ items. S.parsed syntax.now relative.now text.now ≡ Some (map bare_item items)) }
-    ensures fits { OnOk result (S.spends syntax.now relative.now text.now < 2 ^ 64) }
-    ensures refused { IfErr result (λ e. Refuses e (S.parsed syntax.now relative.now text.now) (S.spends syntax.now relative.now text.now)) }
+    ensures items { IfOk result (λ items. items_said ((S.answers syntax.now).parsed relative.now text.now) ≡ Some (map bare_item items)) }
+    ensures fits { OnOk result ((S.answers syntax.now).spends relative.now text.now < 2 ^ 64) }
+    ensures refused { IfErr result (Refuses (S.answers syntax.now) relative.now text.now 0) }
 {
     let source = Source::root(alloc, path)?;
     let mut numerator = Numerator::new();
@@ -71,10 +71,10 @@ fn target<'src, S: Syntax>(
     found: &mut Found<'src>,
 ) -> Result<Option<usize>, Error<'src>>
     requires { AreFound sources.now found.old }
-    ensures place { IfOk result (IsPlaceOf (paths_of found.new.files.items) (link_in sources.now config.now.home (S.enabled syntax.now) folder.now item.now)) }
-    ensures grows { OnOk result (Grows (λ path. link_in sources.now config.now.home (S.enabled syntax.now) folder.now item.now ≡ To path) (paths_of found.old.files.items) (paths_of found.new.files.items)) }
+    ensures place { IfOk result (IsPlaceOf (paths_of found.new.files.items) (link_in sources.now config.now.home ((S.answers syntax.now).enabled) folder.now item.now)) }
+    ensures grows { OnOk result (Grows (λ path. link_in sources.now config.now.home ((S.answers syntax.now).enabled) folder.now item.now ≡ To path) (paths_of found.old.files.items) (paths_of found.new.files.items)) }
     ensures found { OnOk result (AreFound sources.now found.new) }
-    ensures error { IfErr result (Reports (λ c. link_in sources.now config.now.home (S.enabled syntax.now) folder.now item.now ≡ Fault c)) }
+    ensures error { IfErr result (Reports (λ c. link_in sources.now config.now.home ((S.answers syntax.now).enabled) folder.now item.now ≡ Fault c)) }
 {
     match link(alloc, config, syntax, sources, folder, item)? {
         Some(path) => Ok(Some(found.place(sources, path.as_str())?)),
@@ -93,10 +93,10 @@ fn targets<'src, S: Syntax>(
     found: &mut Found<'src>,
 ) -> Result<Vec<Option<usize>>, Error<'src>>
     requires { AreFound sources.now found.old }
-    ensures places { IfOk result (λ targets. ArePlacesOf (paths_of found.new.files.items) (map (link_in sources.now config.now.home (S.enabled syntax.now) folder.now) items.now) targets.items) }
-    ensures grows { OnOk result (Grows (λ path. Contains (map (link_in sources.now config.now.home (S.enabled syntax.now) folder.now) items.now) (To path)) (paths_of found.old.files.items) (paths_of found.new.files.items)) }
+    ensures places { IfOk result (λ targets. ArePlacesOf (paths_of found.new.files.items) (map (link_in sources.now config.now.home ((S.answers syntax.now).enabled) folder.now) items.now) targets.items) }
+    ensures grows { OnOk result (Grows (λ path. Contains (map (link_in sources.now config.now.home ((S.answers syntax.now).enabled) folder.now) items.now) (To path)) (paths_of found.old.files.items) (paths_of found.new.files.items)) }
     ensures found { OnOk result (AreFound sources.now found.new) }
-    ensures error { IfErr result (Reports (λ c. Contains (map (link_in sources.now config.now.home (S.enabled syntax.now) folder.now) items.now) (Fault c))) }
+    ensures error { IfErr result (Reports (λ c. Contains (map (link_in sources.now config.now.home ((S.answers syntax.now).enabled) folder.now) items.now) (Fault c))) }
 {
     let mut targets = Vec::new(alloc);
     for item in items {
@@ -177,13 +177,13 @@ fn scan_file<'src, S: Syntax>(
     requires found { AreFound sources.now found.old }
     requires numbered { AreNumbered names.old }
     ensures path { IfOk result (λ s. s.0.path ≡ file.now.path) }
-    ensures scanned { let w : World = record { files = sources.now; home = config.now.home; parsed = S.parsed syntax.now; spends = S.spends syntax.now; enabled = S.enabled syntax.now; root = root.now } in IfOk result (λ s. IsScanned w (paths_of found.new.files.items) (texts_of names.new.names.items) s.0 s.1.items) }
-    ensures kept { let w : World = record { files = sources.now; home = config.now.home; parsed = S.parsed syntax.now; spends = S.spends syntax.now; enabled = S.enabled syntax.now; root = root.now } in IfOk result (λ _. Keeps (NamesAt w file.now.path)) }
-    ensures grows { let w : World = record { files = sources.now; home = config.now.home; parsed = S.parsed syntax.now; spends = S.spends syntax.now; enabled = S.enabled syntax.now; root = root.now } in OnOk result (Grows (LeadsTo w file.now.path) (paths_of found.old.files.items) (paths_of found.new.files.items)) }
+    ensures scanned { IfOk result (λ s. IsScanned (world_of sources.now config.now (S.answers syntax.now) root.now) (paths_of found.new.files.items) (texts_of names.new.names.items) s.0 s.1.items) }
+    ensures kept { IfOk result (λ _. Keeps (NamesAt (world_of sources.now config.now (S.answers syntax.now) root.now) file.now.path)) }
+    ensures grows { OnOk result (Grows (LeadsTo (world_of sources.now config.now (S.answers syntax.now) root.now) file.now.path) (paths_of found.old.files.items) (paths_of found.new.files.items)) }
     ensures extends { OnOk result (Extends (texts_of names.old.names.items) (texts_of names.new.names.items)) }
     ensures found { OnOk result (AreFound sources.now found.new) }
     ensures numbered { OnOk result (AreNumbered names.new) }
-    ensures named { let w : World = record { files = sources.now; home = config.now.home; parsed = S.parsed syntax.now; spends = S.spends syntax.now; enabled = S.enabled syntax.now; root = root.now } in IfErr result (Reports (NamesAt w file.now.path)) }
+    ensures named { IfErr result (Reports (NamesAt (world_of sources.now config.now (S.answers syntax.now) root.now) file.now.path)) }
 {
     let path = file.path.as_str();
     let text = file.text.as_str();
@@ -220,9 +220,9 @@ pub fn scan<'src, S: Syntax>(
 ) -> Result<Scan<'src>, Error<'src>>
     requires clean { IsClean root.now }
     requires there { IsSome (text_at sources.now root.now) }
-    ensures scan { let w : World = record { files = sources.now; home = config.now.home; parsed = S.parsed syntax.now; spends = S.spends syntax.now; enabled = S.enabled syntax.now; root = root.now } in IfOk result (IsScan w) }
-    ensures kept { let w : World = record { files = sources.now; home = config.now.home; parsed = S.parsed syntax.now; spends = S.spends syntax.now; enabled = S.enabled syntax.now; root = root.now } in IfOk result (λ _. Keeps (NamesInScan w)) }
-    ensures named { let w : World = record { files = sources.now; home = config.now.home; parsed = S.parsed syntax.now; spends = S.spends syntax.now; enabled = S.enabled syntax.now; root = root.now } in IfErr result (Reports (NamesInScan w)) }
+    ensures scan { IfOk result (IsScan (world_of sources.now config.now (S.answers syntax.now) root.now)) }
+    ensures kept { IfOk result (λ _. Keeps (NamesInScan (world_of sources.now config.now (S.answers syntax.now) root.now))) }
+    ensures named { IfErr result (Reports (NamesInScan (world_of sources.now config.now (S.answers syntax.now) root.now))) }
 {
     let mut found = Found::new(alloc);
     let mut names = Names::new(alloc);

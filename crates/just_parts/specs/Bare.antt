@@ -1,9 +1,10 @@
 -- Records without their numbers, and without what the source of a text says.
-use Rattle.std.specs.Prelude.{[], map, None}
+use Rattle.std.specs.Prelude.{false, List, [], map, None}
 use Rattle.just_parts.specs.declared.layers.number.Number.{Number}
 use Rattle.just_parts.specs.declared.layers.parameter.Parameter.{Parameter}
 use Rattle.just_parts.specs.declared.layers.ast.UnresolvedDependency.{UnresolvedDependency}
 use Rattle.just_parts.specs.declared.recipe.Recipe.{Recipe}
+use Rattle.just_parts.specs.declared.layers.ast.Ast.{Ast}
 use Rattle.just_parts.specs.declared.layers.ast.Item.{Item}
 use Rattle.just_parts.specs.declared.layers.ast.Item.TheVariants as item
 
@@ -32,3 +33,11 @@ abbrev pub bare_item : Item → Item
 bare_item (item.Import relative absolute optional) = item.Import relative None optional
 bare_item (item.Module name relative absolute optional) = item.Module name relative None optional
 bare_item (item.Recipe r) = item.Recipe (bare_recipe r)
+
+-- items that came in by no way: the path of no module, and no folder
+abbrev pub ast_of_items : List Item → Ast
+ast_of_items items = record { items = items; module_path = record { components = []; spaced = false }; working_directory = [] }
+
+-- without what the way to its file gave it
+abbrev pub bare_ast : Ast → Ast
+bare_ast ast = ast_of_items (map bare_item ast.items)

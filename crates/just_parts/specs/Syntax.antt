@@ -1,5 +1,5 @@
 -- What the syntax layer keeps.
-use Rattle.std.specs.Prelude.{◌≡◌, ℕ, ◌+◌, ◌≤◌, ◌^◌, List, [], ◌∷◌, map, length, Option, Some, None, false}
+use Rattle.std.specs.Prelude.{◌≡◌, ℕ, ◌+◌, ◌≤◌, ◌^◌, Bool, List, [], ◌∷◌, map, length, Option, Some, None, false}
 use Rattle.std.specs.List.{All, flat_map}
 use Rattle.just_parts.specs.Name.{texts_of_path}
 use Rattle.just_parts.specs.declared.layers.name.Namepath.{Namepath}
@@ -13,6 +13,15 @@ use Rattle.just_parts.specs.declared.layers.ast.Item.TheVariants as item
 use Rattle.just_parts.specs.declared.layers.error.CompileErrorKind.TheVariants as kind
 use Rattle.just_parts.specs.declared.layers.error.Error.{Error}
 use Rattle.just_parts.specs.declared.layers.error.Error.TheVariants as error
+
+-- What the syntax layer answers, and which numbers it takes.
+pub record SyntaxAnswers : Type 0 where
+  -- what a text under a relative path says, bare; none where the text does not follow the grammar
+  pub parsed : List ℕ → List ℕ → Option Ast
+  -- how many numbers it takes, as far as it follows the grammar
+  pub spends : List ℕ → List ℕ → ℕ
+  -- whether a bare item counts here
+  pub enabled : Item → Bool
 
 abbrev pub parameter_numbers : List Parameter → List ℕ
 parameter_numbers = map (λ p. p.number.0)
@@ -66,11 +75,11 @@ PriorsAreDependencies (item.Import relative absolute optional) = Unit {0}
 PriorsAreDependencies (item.Module name relative absolute optional) = Unit {0}
 PriorsAreDependencies (item.Recipe r) = r.priors ≤ length r.dependencies
 
--- what a refusal says of the text, and of the numbers that are wanted, those that were given before among them
-abbrev pub Refuses : Error → Option (List Item) → ℕ → Type 0
-Refuses (error.Compile e) parsed wanted = (parsed ≡ None) × (e.kind ≡ kind.Syntax)
-Refuses error.Exhausted parsed wanted = 2 ^ 64 ≤ wanted
-Refuses error.Memory parsed wanted = Unit {0}
-Refuses (error.Load e) parsed wanted = ⊥
-Refuses (error.Invocation e) parsed wanted = ⊥
-Refuses (error.Run e) parsed wanted = ⊥
+-- what a refusal says of a text, after so many numbers were given
+abbrev pub Refuses : SyntaxAnswers → List ℕ → List ℕ → ℕ → Error → Type 0
+Refuses answers relative text given (error.Compile e) = (answers.parsed relative text ≡ None) × (e.kind ≡ kind.Syntax)
+Refuses answers relative text given error.Exhausted = 2 ^ 64 ≤ given + answers.spends relative text
+Refuses answers relative text given error.Memory = Unit {0}
+Refuses answers relative text given (error.Load e) = ⊥
+Refuses answers relative text given (error.Invocation e) = ⊥
+Refuses answers relative text given (error.Run e) = ⊥

@@ -18,24 +18,24 @@ ast_at-requires-clause-said g c =
 pub append-requires : goal.append-requires
 append-requires g c = λ number a b.
     let path_is : c.in_ok-path.path ≡ modulepath_at c.args.loaded.now.scan c.args.node.now.path.items = c.in_ok-path.ensures ∙ ap (modulepath_at c.args.loaded.now.scan) c.as_slice.ensures.value in
-    let same : recipes_in c.in_ok-definitions.definitions ≡ recipes_under (g.S.Syntax.enabled c.args.syntax.now) c.args.loaded.now (modulepath_at c.args.loaded.now.scan c.args.node.now.path.items) c.args.plan.now.files.items =
-    under_same (g.S.Syntax.enabled c.args.syntax.now) c.args.loaded.now (recipes_in c.in_ok-definitions.definitions) c.in_ok-path.path (modulepath_at c.args.loaded.now.scan c.args.node.now.path.items) c.as_slice-2.result.now c.args.plan.now.files.items c.in_ok-definitions.ensures c.as_slice-2.ensures.value path_is in
+    let same : recipes_in c.in_ok-definitions.definitions ≡ recipes_under (g.S.Syntax.answers c.args.syntax.now).enabled c.args.loaded.now (modulepath_at c.args.loaded.now.scan c.args.node.now.path.items) c.args.plan.now.files.items =
+    under_same (g.S.Syntax.answers c.args.syntax.now).enabled c.args.loaded.now (recipes_in c.in_ok-definitions.definitions) c.in_ok-path.path (modulepath_at c.args.loaded.now.scan c.args.node.now.path.items) c.as_slice-2.result.now c.args.plan.now.files.items c.in_ok-definitions.ensures c.as_slice-2.ensures.value path_is in
     let so = c.in_ok-made.ensures in
-    c.requires.apart number a (numbers_as (recipes_in c.in_ok-definitions.definitions) (recipes_under (g.S.Syntax.enabled c.args.syntax.now) c.args.loaded.now (modulepath_at c.args.loaded.now.scan c.args.node.now.path.items) c.args.plan.now.files.items) c.in_ok-path.path c.args.plan.now.order.items c.in_ok-made.made c.requires.ready.resolve.order
+    c.requires.apart number a (numbers_as (recipes_in c.in_ok-definitions.definitions) (recipes_under (g.S.Syntax.answers c.args.syntax.now).enabled c.args.loaded.now (modulepath_at c.args.loaded.now.scan c.args.node.now.path.items) c.args.plan.now.files.items) c.in_ok-path.path c.args.plan.now.order.items c.in_ok-made.made c.requires.ready.resolve.order
     (subst (λ os. Resolving (recipes_in c.in_ok-definitions.definitions) c.in_ok-path.path os (length os) c.in_ok-made.made) c.as_slice-4.ensures.value so) same number b)
 
 pub returns-clause-made : goal.returns-clause-made
 returns-clause-made g c =
     let path_is : c.in_ok-path.path ≡ modulepath_at c.args.loaded.now.scan c.args.node.now.path.items = c.in_ok-path.ensures ∙ ap (modulepath_at c.args.loaded.now.scan) c.as_slice.ensures.value in
-    let same : recipes_in c.in_ok-definitions.definitions ≡ recipes_under (g.S.Syntax.enabled c.args.syntax.now) c.args.loaded.now (modulepath_at c.args.loaded.now.scan c.args.node.now.path.items) c.args.plan.now.files.items =
-    under_same (g.S.Syntax.enabled c.args.syntax.now) c.args.loaded.now (recipes_in c.in_ok-definitions.definitions) c.in_ok-path.path (modulepath_at c.args.loaded.now.scan c.args.node.now.path.items) c.as_slice-2.result.now c.args.plan.now.files.items c.in_ok-definitions.ensures c.as_slice-2.ensures.value path_is in
-    let own_is : recipes_in c.add.new.self ≡ recipes_of (g.S.Syntax.enabled c.args.syntax.now) c.in_ok-ast.ast.now.items =
-    c.in_ok-add.ensures ∙ (ap (λ rs. rs ++ recipes_of (g.S.Syntax.enabled c.args.syntax.now) c.as_slice-5.result.now) c.new-own.ensures ∙ ap (recipes_of (g.S.Syntax.enabled c.args.syntax.now)) c.as_slice-5.ensures) in
+    let same : recipes_in c.in_ok-definitions.definitions ≡ recipes_under (g.S.Syntax.answers c.args.syntax.now).enabled c.args.loaded.now (modulepath_at c.args.loaded.now.scan c.args.node.now.path.items) c.args.plan.now.files.items =
+    under_same (g.S.Syntax.answers c.args.syntax.now).enabled c.args.loaded.now (recipes_in c.in_ok-definitions.definitions) c.in_ok-path.path (modulepath_at c.args.loaded.now.scan c.args.node.now.path.items) c.as_slice-2.result.now c.args.plan.now.files.items c.in_ok-definitions.ensures c.as_slice-2.ensures.value path_is in
+    let own_is : recipes_in c.add.new.self ≡ recipes_of (g.S.Syntax.answers c.args.syntax.now).enabled c.in_ok-ast.ast.now.items =
+    c.in_ok-add.ensures ∙ (ap (λ rs. rs ++ recipes_of (g.S.Syntax.answers c.args.syntax.now).enabled c.as_slice-5.result.now) c.new-own.ensures ∙ ap (recipes_of (g.S.Syntax.answers c.args.syntax.now).enabled) c.as_slice-5.ensures) in
     record {
       made = c.in_ok-made.made;
       appended = c.in_ok-append.ensures.ok;
-      resolved = subst (λ p. AreResolved (recipes_under (g.S.Syntax.enabled c.args.syntax.now) c.args.loaded.now (modulepath_at c.args.loaded.now.scan c.args.node.now.path.items) c.args.plan.now.files.items) p c.in_ok-made.made) path_is
-          (resolved_as (recipes_in c.in_ok-definitions.definitions) (recipes_under (g.S.Syntax.enabled c.args.syntax.now) c.args.loaded.now (modulepath_at c.args.loaded.now.scan c.args.node.now.path.items) c.args.plan.now.files.items) c.in_ok-path.path c.args.plan.now.order.items c.in_ok-made.made c.requires.ready.resolve.order
+      resolved = subst (λ p. AreResolved (recipes_under (g.S.Syntax.answers c.args.syntax.now).enabled c.args.loaded.now (modulepath_at c.args.loaded.now.scan c.args.node.now.path.items) c.args.plan.now.files.items) p c.in_ok-made.made) path_is
+          (resolved_as (recipes_in c.in_ok-definitions.definitions) (recipes_under (g.S.Syntax.answers c.args.syntax.now).enabled c.args.loaded.now (modulepath_at c.args.loaded.now.scan c.args.node.now.path.items) c.args.plan.now.files.items) c.in_ok-path.path c.args.plan.now.order.items c.in_ok-made.made c.requires.ready.resolve.order
           (subst (λ os. Resolving (recipes_in c.in_ok-definitions.definitions) c.in_ok-path.path os (length os) c.in_ok-made.made) c.as_slice-4.ensures.value c.in_ok-made.ensures) same);
       own = c.in_ok-ast.ast.now;
       own_said = subst (λ p. ast_of c.args.loaded.now p c.args.node.now.node ≡ Some c.in_ok-ast.ast.now) path_is c.in_ok-ast.ensures;

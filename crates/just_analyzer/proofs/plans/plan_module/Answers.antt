@@ -35,7 +35,7 @@ returns-clause-within g c =
 
 pub returns-in_err-check_modules-clause-named : goal.returns-in_err-check_modules-clause-named
 returns-in_err-check_modules-clause-named g c =
-    let enabled = g.S.Syntax.enabled c.args.syntax.now in
+    let enabled = (g.S.Syntax.answers c.args.syntax.now).enabled in
     let scan = c.args.scan.now in
     let join = is_join scan c.args.imports.now c.requires.imports c.args.own c.in_ok-files.files.items c.in_ok-files.ensures.levels in
     let are_names = c.in_ok-names.ensures ∙ ap (flat_map (names_at scan)) c.as_slice.ensures.value in
@@ -47,7 +47,7 @@ returns-in_err-check_modules-clause-named g c =
 
 pub returns-in_err-index-clause-named : goal.returns-in_err-index-clause-named
 returns-in_err-index-clause-named g c =
-    let enabled = g.S.Syntax.enabled c.args.syntax.now in
+    let enabled = (g.S.Syntax.answers c.args.syntax.now).enabled in
     let scan = c.args.scan.now in
     let join = is_join scan c.args.imports.now c.requires.imports c.args.own c.in_ok-files.files.items c.in_ok-files.ensures.levels in
     let are_names = c.in_ok-names.ensures ∙ ap (flat_map (names_at scan)) c.as_slice.ensures.value in
@@ -58,7 +58,7 @@ returns-in_err-index-clause-named g c =
 
 pub returns-in_err-rows-clause-named : goal.returns-in_err-rows-clause-named
 returns-in_err-rows-clause-named g c =
-    let enabled = g.S.Syntax.enabled c.args.syntax.now in
+    let enabled = (g.S.Syntax.answers c.args.syntax.now).enabled in
     let scan = c.args.scan.now in
     let join = is_join scan c.args.imports.now c.requires.imports c.args.own c.in_ok-files.files.items c.in_ok-files.ensures.levels in
     let are_names = c.in_ok-names.ensures ∙ ap (flat_map (names_at scan)) c.as_slice.ensures.value in
@@ -71,7 +71,7 @@ returns-in_err-rows-clause-named g c =
 
 pub returns-clause-kept : goal.returns-clause-kept
 returns-clause-kept g c =
-    let enabled = g.S.Syntax.enabled c.args.syntax.now in
+    let enabled = (g.S.Syntax.answers c.args.syntax.now).enabled in
     let scan = c.args.scan.now in
     let os = outlines_in c.in_ok-definitions.definitions in
     let join = is_join scan c.args.imports.now c.requires.imports c.args.own c.in_ok-files.files.items c.in_ok-files.ensures.levels in

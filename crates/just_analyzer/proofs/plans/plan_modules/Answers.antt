@@ -13,7 +13,7 @@ use Rattle.just_analyzer.proofs.plans.plan_modules.Goals as goal
 pub loop-place-init : goal.loop-place-init
 loop-place-init g c =
     let count : c.len.result ≡ length c.args.loaded.now.scan.rows.items = grind (arith, common_steps) in
-    planned_none (g.S.Syntax.enabled c.args.syntax.now) c.args.loaded.now.scan c.args.loaded.now.order.items c.in_ok-plans.plans (c.in_ok-plans.ensures.count ∙ count) (c.in_ok-plans.ensures.rows ∙ count) c.in_ok-plans.ensures.no_plans c.in_ok-plans.ensures.no_entries
+    planned_none (g.S.Syntax.answers c.args.syntax.now).enabled c.args.loaded.now.scan c.args.loaded.now.order.items c.in_ok-plans.plans (c.in_ok-plans.ensures.count ∙ count) (c.in_ok-plans.ensures.rows ∙ count) c.in_ok-plans.ensures.no_plans c.in_ok-plans.ensures.no_entries
 
 pub loop-place-preserved-then-not-index : goal.loop-place-preserved-then-not-index
 loop-place-preserved-then-not-index g c =
@@ -25,12 +25,12 @@ loop-place-preserved-then-not-index g c =
     let inside : slice_index order n < length scan.rows.items = c.requires.order.2.below n 0 listed in
     let in_own : slice_index c.deref-place-items.result.now n < length c.in_ok-own.own.items = omega (arith, at, inside, c.in_ok-own.ensures.room) in
     let unmarked = is_read c.in_ok-own.own.items _ c.index.result.now in_own c.index.ensures ∙ c.if-not-index.true in
-    planned_skip (g.S.Syntax.enabled c.args.syntax.now) scan order n c.loop-place.plans c.loop-place.invariant
+    planned_skip (g.S.Syntax.answers c.args.syntax.now).enabled scan order n c.loop-place.plans c.loop-place.invariant
     (λ own. false≢true (sym (subst (λ x. get_or c.in_ok-own.own.items x false ≡ false) at unmarked) ∙ (c.in_ok-own.ensures.own (slice_index order n)).1 own))
 
 pub loop-place-preserved : goal.loop-place-preserved
 loop-place-preserved g c =
-    let enabled = g.S.Syntax.enabled c.args.syntax.now in
+    let enabled = (g.S.Syntax.answers c.args.syntax.now).enabled in
     let scan = c.args.loaded.now.scan in
     let order = c.args.loaded.now.order.items in
     let n = c.loop-place.place-index in
@@ -41,7 +41,7 @@ loop-place-preserved g c =
 
 pub returns-in_err-add_plan-clause-named : goal.returns-in_err-add_plan-clause-named
 returns-in_err-add_plan-clause-named g c =
-    let enabled = g.S.Syntax.enabled c.args.syntax.now in
+    let enabled = (g.S.Syntax.answers c.args.syntax.now).enabled in
     let scan = c.args.loaded.now.scan in
     let order = c.args.loaded.now.order.items in
     let n = c.loop-place.place-index in
@@ -59,10 +59,10 @@ pub returns-clause-kept : goal.returns-clause-kept
 returns-clause-kept g c = λ w en loaded keeps.
     let order = c.args.loaded.now.order.items in
     let all : length order ≤ c.loop-place.place-index = omega (arith, c.deref-place-items.ensures.len) in
-    names_kept w c.args.loaded.now.scan loaded.scan c.requires.rows (g.S.Syntax.enabled c.args.syntax.now) en order c.requires.order c.loop-place.place-index c.loop-place.plans c.loop-place.invariant all keeps
+    names_kept w c.args.loaded.now.scan loaded.scan c.requires.rows (g.S.Syntax.answers c.args.syntax.now).enabled en order c.requires.order c.loop-place.place-index c.loop-place.plans c.loop-place.invariant all keeps
 
 pub returns-clause-plans : goal.returns-clause-plans
 returns-clause-plans g c = λ w en loaded.
     let order = c.args.loaded.now.order.items in
     let all : length order ≤ c.loop-place.place-index = omega (arith, c.deref-place-items.ensures.len) in
-    all_planned w c.args.loaded.now.scan loaded.scan c.requires.rows (g.S.Syntax.enabled c.args.syntax.now) en order c.requires.order c.loop-place.place-index c.loop-place.plans c.loop-place.invariant all
+    all_planned w c.args.loaded.now.scan loaded.scan c.requires.rows (g.S.Syntax.answers c.args.syntax.now).enabled en order c.requires.order c.loop-place.place-index c.loop-place.plans c.loop-place.invariant all

@@ -11,7 +11,7 @@ use Rattle.just_loader.specs.Causes.{Reports}
 use Rattle.just_loader.specs.Loaded.{at_first}
 use Rattle.just_loader.specs.Loading.{AreParsed, IsScanBy, spent_by}
 use Rattle.just_loader.specs.Parsed.{AreHeld, AreKeyed, relative_at}
-use Rattle.just_loader.specs.Reached.{World, NamesInScan}
+use Rattle.just_loader.specs.Reached.{World, world_of, NamesInScan}
 use Rattle.just_loader.proofs.ComingIn.{are_unfolded}
 use Rattle.just_loader.proofs.Lifts.{lifted}
 use Rattle.just_loader.proofs.WholeLoads.{IsWhole, whole_lent, are_keyed, are_kept, is_loaded, nodes_inside, stop_named}
@@ -22,19 +22,19 @@ returns-then-is_none-clause-named g c = no_root (search rules) (sym c.in_ok-from
 
 pub returns-in_err-scan-clause-named : goal.returns-in_err-scan-clause-named
 returns-in_err-scan-clause-named g c =
-    let w : World = record { files = c.args.sources.now; home = c.args.config.now.home; parsed = g.S.Syntax.parsed c.args.syntax.now; spends = g.S.Syntax.spends c.args.syntax.now; enabled = g.S.Syntax.enabled c.args.syntax.now; root = c.args.root.now } in
+    let w : World = world_of c.args.sources.now c.args.config.now (g.S.Syntax.answers c.args.syntax.now) c.args.root.now in
     lifted (NamesInScan w) (NamesInFiles w) (λ k n. at_fault n) c.from_residual-in_err-scan.result (search rules)
 
 pub returns-in_err-order-clause-named : goal.returns-in_err-order-clause-named
 returns-in_err-order-clause-named g c =
-    let w : World = record { files = c.args.sources.now; home = c.args.config.now.home; parsed = g.S.Syntax.parsed c.args.syntax.now; spends = g.S.Syntax.spends c.args.syntax.now; enabled = g.S.Syntax.enabled c.args.syntax.now; root = c.args.root.now } in
+    let w : World = world_of c.args.sources.now c.args.config.now (g.S.Syntax.answers c.args.syntax.now) c.args.root.now in
     let here : Reports (NamesCircle w) c.in_err-order.field-0.0 = c.in_err-order.ensures.named w c.in_ok-scan.ensures.scan in
     lifted (NamesCircle w) (NamesInFiles w) (λ k n. in_circle n) c.from_residual-in_err-order.result (search (rules, here))
 
 pub parse_all-requires-clause-scan : goal.parse_all-requires-clause-scan
 parse_all-requires-clause-scan g c =
-    let w : World = record { files = c.args.sources.now; home = c.args.config.now.home; parsed = g.S.Syntax.parsed c.args.syntax.now; spends = g.S.Syntax.spends c.args.syntax.now; enabled = g.S.Syntax.enabled c.args.syntax.now; root = c.args.root.now } in
-    let by : IsScanBy w c.in_ok-scan.scan (g.S.Syntax.parsed c.args.syntax.now) (g.S.Syntax.spends c.args.syntax.now) = record { is_scan = c.in_ok-scan.ensures.scan; parses = refl; takes = refl } in
+    let w : World = world_of c.args.sources.now c.args.config.now (g.S.Syntax.answers c.args.syntax.now) c.args.root.now in
+    let by : IsScanBy w c.in_ok-scan.scan (g.S.Syntax.answers c.args.syntax.now) = record { is_scan = c.in_ok-scan.ensures.scan; same = refl } in
     (w, by)
 
 pub parse_all-requires-clause-nodes : goal.parse_all-requires-clause-nodes
@@ -43,8 +43,8 @@ parse_all-requires-clause-nodes g c =
 
 pub returns-in_err-asts-clause-named : goal.returns-in_err-asts-clause-named
 returns-in_err-asts-clause-named g c =
-    let w : World = record { files = c.args.sources.now; home = c.args.config.now.home; parsed = g.S.Syntax.parsed c.args.syntax.now; spends = g.S.Syntax.spends c.args.syntax.now; enabled = g.S.Syntax.enabled c.args.syntax.now; root = c.args.root.now } in
-    let by : IsScanBy w c.in_ok-scan.scan (g.S.Syntax.parsed c.args.syntax.now) (g.S.Syntax.spends c.args.syntax.now) = record { is_scan = c.in_ok-scan.ensures.scan; parses = refl; takes = refl } in
+    let w : World = world_of c.args.sources.now c.args.config.now (g.S.Syntax.answers c.args.syntax.now) c.args.root.now in
+    let by : IsScanBy w c.in_ok-scan.scan (g.S.Syntax.answers c.args.syntax.now) = record { is_scan = c.in_ok-scan.ensures.scan; same = refl } in
     let whole : IsWhole c.in_ok-scan.scan.rows.items c.as_slice-2.result.now =
     whole_lent c.as_slice.ensures.value c.as_slice-2.ensures.value (record { first = c.in_ok-nodes.ensures.first; keys = c.in_ok-nodes.ensures.keys; once = c.in_ok-nodes.ensures.once }) in
     let here : Reports (NamesInFiles w) c.in_err-asts.field-0.0 = stop_named w c.in_ok-scan.scan c.in_ok-scan.ensures.scan c.as_slice-2.result.now whole c.in_err-asts.field-0.0 (c.in_err-asts.ensures.stopped w by) in
@@ -52,8 +52,8 @@ returns-in_err-asts-clause-named g c =
 
 pub hold-requires : goal.hold-requires
 hold-requires g c =
-    let w : World = record { files = c.args.sources.now; home = c.args.config.now.home; parsed = g.S.Syntax.parsed c.args.syntax.now; spends = g.S.Syntax.spends c.args.syntax.now; enabled = g.S.Syntax.enabled c.args.syntax.now; root = c.args.root.now } in
-    let by : IsScanBy w c.in_ok-scan.scan (g.S.Syntax.parsed c.args.syntax.now) (g.S.Syntax.spends c.args.syntax.now) = record { is_scan = c.in_ok-scan.ensures.scan; parses = refl; takes = refl } in
+    let w : World = world_of c.args.sources.now c.args.config.now (g.S.Syntax.answers c.args.syntax.now) c.args.root.now in
+    let by : IsScanBy w c.in_ok-scan.scan (g.S.Syntax.answers c.args.syntax.now) = record { is_scan = c.in_ok-scan.ensures.scan; same = refl } in
     let whole : IsWhole c.in_ok-scan.scan.rows.items c.in_ok-nodes.nodes.items = whole_lent c.as_slice.ensures.value refl (record { first = c.in_ok-nodes.ensures.first; keys = c.in_ok-nodes.ensures.keys; once = c.in_ok-nodes.ensures.once }) in
     let told : AllTold (steps c.in_ok-scan.scan.rows.items) c.as_slice-2.result.now whole.first.0 = subst (λ us. AllTold (steps c.in_ok-scan.scan.rows.items) us whole.first.0) (sym c.as_slice-2.ensures.value) whole.first.2 in
     let parsed : AreParsed w c.in_ok-scan.scan whole.first.0 c.in_ok-asts.asts.items = c.in_ok-asts.ensures.parsed w whole.first.0 by (whole.first.1, told) in
@@ -61,22 +61,22 @@ hold-requires g c =
 
 pub loaded_paths-requires : goal.loaded_paths-requires
 loaded_paths-requires g c =
-    let w : World = record { files = c.args.sources.now; home = c.args.config.now.home; parsed = g.S.Syntax.parsed c.args.syntax.now; spends = g.S.Syntax.spends c.args.syntax.now; enabled = g.S.Syntax.enabled c.args.syntax.now; root = c.args.root.now } in
+    let w : World = world_of c.args.sources.now c.args.config.now (g.S.Syntax.answers c.args.syntax.now) c.args.root.now in
     let whole : IsWhole c.in_ok-scan.scan.rows.items c.in_ok-nodes.nodes.items = whole_lent c.as_slice.ensures.value refl (record { first = c.in_ok-nodes.ensures.first; keys = c.in_ok-nodes.ensures.keys; once = c.in_ok-nodes.ensures.once }) in
     λ k u e. nodes_inside w c.in_ok-scan.scan c.in_ok-scan.ensures.scan c.in_ok-nodes.nodes.items whole k u (subst (λ us. slice_get us k ≡ Some u) c.as_slice-4.ensures.value e)
 
 pub returns-clause-kept : goal.returns-clause-kept
 returns-clause-kept g c =
-    let w : World = record { files = c.args.sources.now; home = c.args.config.now.home; parsed = g.S.Syntax.parsed c.args.syntax.now; spends = g.S.Syntax.spends c.args.syntax.now; enabled = g.S.Syntax.enabled c.args.syntax.now; root = c.args.root.now } in
-    let by : IsScanBy w c.in_ok-scan.scan (g.S.Syntax.parsed c.args.syntax.now) (g.S.Syntax.spends c.args.syntax.now) = record { is_scan = c.in_ok-scan.ensures.scan; parses = refl; takes = refl } in
+    let w : World = world_of c.args.sources.now c.args.config.now (g.S.Syntax.answers c.args.syntax.now) c.args.root.now in
+    let by : IsScanBy w c.in_ok-scan.scan (g.S.Syntax.answers c.args.syntax.now) = record { is_scan = c.in_ok-scan.ensures.scan; same = refl } in
     let whole : IsWhole c.in_ok-scan.scan.rows.items c.in_ok-nodes.nodes.items = whole_lent c.as_slice.ensures.value refl (record { first = c.in_ok-nodes.ensures.first; keys = c.in_ok-nodes.ensures.keys; once = c.in_ok-nodes.ensures.once }) in
     are_kept w c.in_ok-scan.scan c.in_ok-scan.ensures.scan c.in_ok-nodes.nodes.items whole (search rules) c.in_ok-scan.ensures.kept (c.in_ok-order.ensures.none w c.in_ok-scan.ensures.scan)
     (subst (λ us. spent_by w c.in_ok-scan.scan us < 2 ^ 64) c.as_slice-2.ensures.value (c.in_ok-asts.ensures.fits w by))
 
 pub returns-clause-loaded : goal.returns-clause-loaded
 returns-clause-loaded g c =
-    let w : World = record { files = c.args.sources.now; home = c.args.config.now.home; parsed = g.S.Syntax.parsed c.args.syntax.now; spends = g.S.Syntax.spends c.args.syntax.now; enabled = g.S.Syntax.enabled c.args.syntax.now; root = c.args.root.now } in
-    let by : IsScanBy w c.in_ok-scan.scan (g.S.Syntax.parsed c.args.syntax.now) (g.S.Syntax.spends c.args.syntax.now) = record { is_scan = c.in_ok-scan.ensures.scan; parses = refl; takes = refl } in
+    let w : World = world_of c.args.sources.now c.args.config.now (g.S.Syntax.answers c.args.syntax.now) c.args.root.now in
+    let by : IsScanBy w c.in_ok-scan.scan (g.S.Syntax.answers c.args.syntax.now) = record { is_scan = c.in_ok-scan.ensures.scan; same = refl } in
     let whole : IsWhole c.in_ok-scan.scan.rows.items c.in_ok-nodes.nodes.items = whole_lent c.as_slice.ensures.value refl (record { first = c.in_ok-nodes.ensures.first; keys = c.in_ok-nodes.ensures.keys; once = c.in_ok-nodes.ensures.once }) in
     let told : AllTold (steps c.in_ok-scan.scan.rows.items) c.as_slice-2.result.now whole.first.0 = subst (λ us. AllTold (steps c.in_ok-scan.scan.rows.items) us whole.first.0) (sym c.as_slice-2.ensures.value) whole.first.2 in
     let parsed : AreParsed w c.in_ok-scan.scan whole.first.0 c.in_ok-asts.asts.items = c.in_ok-asts.ensures.parsed w whole.first.0 by (whole.first.1, told) in

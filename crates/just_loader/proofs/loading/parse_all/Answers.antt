@@ -38,7 +38,7 @@ parse_file-requires-clause-few g c =
 pub returns-in_err-parse_file-clause-stopped : goal.returns-in_err-parse_file-clause-stopped
 returns-in_err-parse_file-clause-stopped g c =
     let same : IfErr c.from_residual-in_err-parse_file.result (λ (e : Error). e ≡ c.in_err-parse_file.field-0.0) = search rules in
-    err_by (λ (e : Error). e ≡ c.in_err-parse_file.field-0.0) (λ (e : Error). (w : World) → IsScanBy w c.args.scan.now (g.S.Syntax.parsed c.args.syntax.now) (g.S.Syntax.spends c.args.syntax.now) → Stops w c.args.scan.now c.args.nodes.now e)
+    err_by (λ (e : Error). e ≡ c.in_err-parse_file.field-0.0) (λ (e : Error). (w : World) → IsScanBy w c.args.scan.now (g.S.Syntax.answers c.args.syntax.now) → Stops w c.args.scan.now c.args.nodes.now e)
     c.from_residual-in_err-parse_file.result same (λ e is w by.
     let stopped = subst (StopsAt c.loop-place.numerator.next (spends_at w (file_at c.args.scan.now (get_or c.args.nodes.now c.loop-place.place c.index-nodes-place.result).node))) (sym is) (c.in_err-parse_file.ensures.stopped w by) in
     stops_at_last w c.args.scan.now c.args.nodes.now c.loop-place.place c.index-nodes-place.result c.loop-place.numerator.next e c.loop-place-test.true (c.loop-place.invariant.spent w by) stopped)

@@ -10,8 +10,8 @@ use Rattle.just_loader.proofs.loading.parse_all.Given as goal
 abbrev pub invariant-loop-place : goal.invariant-loop-place
 invariant-loop-place g l = record {
   count : length l.asts.items ≡ l.place;
-  parsed : (w : World) (ns : List Node) → IsScanBy w l.scan (g.S.Syntax.parsed l.syntax) (g.S.Syntax.spends l.syntax) → AreNodes l.scan l.nodes ns → AreParsedSoFar w l.scan ns l.asts.items;
-  spent : (w : World) → IsScanBy w l.scan (g.S.Syntax.parsed l.syntax) (g.S.Syntax.spends l.syntax) → l.numerator.next ≡ spent_by w l.scan (take l.place l.nodes);
+  parsed : (w : World) (ns : List Node) → IsScanBy w l.scan (g.S.Syntax.answers l.syntax) → AreNodes l.scan l.nodes ns → AreParsedSoFar w l.scan ns l.asts.items;
+  spent : (w : World) → IsScanBy w l.scan (g.S.Syntax.answers l.syntax) → l.numerator.next ≡ spent_by w l.scan (take l.place l.nodes);
   numbers : AreRising 0 (flat_map (λ (ast : Ast). numbers ast.items) l.asts.items) l.numerator.next;
   priors : All (λ (ast : Ast). All PriorsAreDependencies ast.items) l.asts.items;
   few : l.numerator.next < 2 ^ 64;

@@ -7,7 +7,7 @@ use Rattle.std.proofs.lemmas.List.{length-map, length_push}
 use Rattle.std.proofs.lemmas.Option.{slice_get_read}
 use Rattle.just_parts.specs.Entries.{find}
 use Rattle.just_loader.specs.Numbering.{paths_of, texts_of}
-use Rattle.just_loader.specs.Reached.{World, NamesAt, NamesInScan}
+use Rattle.just_loader.specs.Reached.{World, world_of, NamesAt, NamesInScan}
 use Rattle.just_loader.specs.declared.sources.SourceFile.{SourceFile}
 use Rattle.just_loader.proofs.Lifts.{lifted}
 use Rattle.just_loader.proofs.Numberings.{got, map_get, once}
@@ -22,7 +22,7 @@ place-requires-clause-there g c = text_file (find c.args.root.now c.args.sources
 
 pub loop-alloc-init : goal.loop-alloc-init
 loop-alloc-init g c =
-    let w : World = record { files = c.args.sources.now; home = c.args.config.now.home; parsed = g.S.Syntax.parsed c.args.syntax.now; spends = g.S.Syntax.spends c.args.syntax.now; enabled = g.S.Syntax.enabled c.args.syntax.now; root = c.args.root.now } in
+    let w : World = world_of c.args.sources.now c.args.config.now (g.S.Syntax.answers c.args.syntax.now) c.args.root.now in
     record {
       found = c.in_ok-place.ensures.found;
       numbered = c.new-names.ensures.numbered;
@@ -41,7 +41,7 @@ scan_file-requires-clause-file g c =
 
 pub returns-in_err-scanned-clause-named : goal.returns-in_err-scanned-clause-named
 returns-in_err-scanned-clause-named g c =
-    let w : World = record { files = c.args.sources.now; home = c.args.config.now.home; parsed = g.S.Syntax.parsed c.args.syntax.now; spends = g.S.Syntax.spends c.args.syntax.now; enabled = g.S.Syntax.enabled c.args.syntax.now; root = c.args.root.now } in
+    let w : World = world_of c.args.sources.now c.args.config.now (g.S.Syntax.answers c.args.syntax.now) c.args.root.now in
     let inside : length c.loop-alloc.files.items < length c.loop-alloc.found.files.items = grind (arith, common_steps) in
     let place : c.len-in-loop-alloc-2.result ≡ length c.loop-alloc.files.items = grind (arith, common_steps) in
     let here : slice_get c.loop-alloc.found.files.items c.len-in-loop-alloc-2.result ≡ Some c.index.result.now =
@@ -60,7 +60,7 @@ loop-alloc-smaller g c =
 
 pub loop-alloc-preserved : goal.loop-alloc-preserved
 loop-alloc-preserved g c =
-    let w : World = record { files = c.args.sources.now; home = c.args.config.now.home; parsed = g.S.Syntax.parsed c.args.syntax.now; spends = g.S.Syntax.spends c.args.syntax.now; enabled = g.S.Syntax.enabled c.args.syntax.now; root = c.args.root.now } in
+    let w : World = world_of c.args.sources.now c.args.config.now (g.S.Syntax.answers c.args.syntax.now) c.args.root.now in
     let inside : length c.loop-alloc.files.items < length c.loop-alloc.found.files.items = grind (arith, common_steps) in
     let place : c.len-in-loop-alloc-2.result ≡ length c.loop-alloc.files.items = grind (arith, common_steps) in
     let here : slice_get c.loop-alloc.found.files.items c.len-in-loop-alloc-2.result ≡ Some c.index.result.now =
@@ -77,7 +77,7 @@ loop-alloc-preserved g c =
 
 pub returns-clause-scan : goal.returns-clause-scan
 returns-clause-scan g c =
-    let w : World = record { files = c.args.sources.now; home = c.args.config.now.home; parsed = g.S.Syntax.parsed c.args.syntax.now; spends = g.S.Syntax.spends c.args.syntax.now; enabled = g.S.Syntax.enabled c.args.syntax.now; root = c.args.root.now } in
+    let w : World = world_of c.args.sources.now c.args.config.now (g.S.Syntax.answers c.args.syntax.now) c.args.root.now in
     let found : length c.loop-alloc.found.files.items ≤ length c.loop-alloc.files.items = grind (arith, common_steps) in
     let all : length (paths_of c.loop-alloc.found.files.items) ≤ length c.loop-alloc.files.items = omega (arith, found, length-map c.loop-alloc.found.files.items (λ (f : SourceFile). f.path)) in
     is_scan w (paths_of c.loop-alloc.found.files.items) (texts_of c.loop-alloc.names.names.items) c.loop-alloc.files.items c.loop-alloc.rows.items c.loop-alloc.invariant.so_far all c.loop-alloc.names.names.items
@@ -87,7 +87,7 @@ returns-clause-scan g c =
 
 pub returns-clause-kept : goal.returns-clause-kept
 returns-clause-kept g c =
-    let w : World = record { files = c.args.sources.now; home = c.args.config.now.home; parsed = g.S.Syntax.parsed c.args.syntax.now; spends = g.S.Syntax.spends c.args.syntax.now; enabled = g.S.Syntax.enabled c.args.syntax.now; root = c.args.root.now } in
+    let w : World = world_of c.args.sources.now c.args.config.now (g.S.Syntax.answers c.args.syntax.now) c.args.root.now in
     let found : length c.loop-alloc.found.files.items ≤ length c.loop-alloc.files.items = grind (arith, common_steps) in
     let all : length (paths_of c.loop-alloc.found.files.items) ≤ length c.loop-alloc.files.items = omega (arith, found, length-map c.loop-alloc.found.files.items (λ (f : SourceFile). f.path)) in
     none_in_scan w (paths_of c.loop-alloc.found.files.items) (texts_of c.loop-alloc.names.names.items) c.loop-alloc.files.items c.loop-alloc.rows.items c.loop-alloc.invariant.so_far all

@@ -1,6 +1,7 @@
 use Rattle.std.proofs.Common.{◌-◌, length}
 use Rattle.std.specs.Map.{keys_of}
 use Rattle.just_loader.specs.Numbering.{AreFound, AreNumbered, paths_of, texts_of}
+use Rattle.just_loader.specs.Reached.{world_of}
 use Rattle.just_loader.proofs.WholeScans.{ScannedSoFar}
 use Rattle.just_loader.proofs.scan.scan.Given as goal
 
@@ -8,7 +9,7 @@ abbrev pub invariant-loop-alloc : goal.invariant-loop-alloc
 invariant-loop-alloc g l = record {
   found : AreFound l.sources l.found;
   numbered : AreNumbered l.names;
-  so_far : ScannedSoFar (record { files = l.sources; home = l.config.home; parsed = g.S.Syntax.parsed l.syntax; spends = g.S.Syntax.spends l.syntax; enabled = g.S.Syntax.enabled l.syntax; root = l.root })
+  so_far : ScannedSoFar (world_of l.sources l.config (g.S.Syntax.answers l.syntax) l.root)
       (paths_of l.found.files.items) (texts_of l.names.names.items) l.files.items l.rows.items;
 }
 

@@ -5,4 +5,4 @@ use Rattle.just_analyzer.proofs.definitions.Definitions.add.Given as goal
 
 abbrev pub invariant-loop-item : goal.invariant-loop-item
 invariant-loop-item g l =
-    recipes_in l.initial.self ++ recipes_of (g.S.Syntax.enabled l.syntax) l.items ≡ recipes_in l.self ++ recipes_of (g.S.Syntax.enabled l.syntax) (drop l.item-index l.items)
+    recipes_in l.initial.self ++ recipes_of (g.S.Syntax.answers l.syntax).enabled l.items ≡ recipes_in l.self ++ recipes_of (g.S.Syntax.answers l.syntax).enabled (drop l.item-index l.items)
