@@ -75,13 +75,12 @@ once_if false r rs fresh once = once
 -- recipes of rising items have no number twice
 pub once_recipes : (enabled : Item → Bool) (low : ℕ) (is : List Item) (high : ℕ) → AreRising low (numbers is) high → Once (unresolved_numbers (recipes_of enabled is))
 once_recipes enabled low [] high r = tt
-once_recipes enabled low (item.Import relative absolute optional ∷ is) high r = once_recipes enabled low is high r
-once_recipes enabled low (item.Module name relative absolute optional ∷ is) high r = once_recipes enabled low is high r
 once_recipes enabled low (item.Recipe q ∷ is) high r =
     let after = rising_after (q.number.0 + 1) (parameter_numbers q.parameters) (numbers is) high r.1 in
     once_if (enabled (bare_item (item.Recipe q))) q (recipes_of enabled is)
     (λ h. let l : after.0 ≤ q.number.0 = rising_from after.0 (numbers is) high q.number.0 after.2 (recipe_number_in enabled q.number.0 is h) in absurd (omega (arith, l, after.1)))
     (once_recipes enabled after.0 is high after.2)
+once_recipes enabled low (_ ∷ is) high r = once_recipes enabled low is high r
 
 module _ (w : World) (loaded : Loaded) (is : IsLoaded w loaded) where
   -- asts under different keys have no number in common

@@ -24,7 +24,7 @@ use Rattle.just_loader.proofs.Numberings.{some_same}
 use Rattle.just_analyzer.specs.Outline.{outline_of, outlines_of, recipes_of}
 use Rattle.just_analyzer.specs.Planned.{contents_at}
 use Rattle.just_analyzer.specs.Resolved.{HasPriors}
-use Rattle.just_analyzer.proofs.Files.{outlines_bare}
+use Rattle.just_analyzer.proofs.Files.{outlines_bare, recipes_append}
 use Rattle.just_analyzer.proofs.ModuleKeys.{HasAst}
 use Rattle.just_analyzer.proofs.ModuleLists.{from_joined}
 
@@ -55,22 +55,11 @@ held_at found at (x ∷ xs) [] are a h = absurd are
 held_at found at (x ∷ xs) (g ∷ gs) are a (inl e) = (g, inl refl, are.0 ∙ ap Some (sym e))
 held_at found at (x ∷ xs) (g ∷ gs) are a (inr h) = let r = held_at found at xs gs are.1 a h in (r.0, inr r.1, r.2)
 
-recipes_if : (b : Bool) (r : Recipe UnresolvedDependency) (rs qs zs : List (Recipe UnresolvedDependency)) → zs ≡ rs ++ qs → (if b then r ∷ zs else zs) ≡ (if b then r ∷ rs else rs) ++ qs
-recipes_if true r rs qs zs e = ap (λ xs. r ∷ xs) e
-recipes_if false r rs qs zs e = e
-
-pub recipes_append : (enabled : Item → Bool) (is js : List Item) → recipes_of enabled (is ++ js) ≡ recipes_of enabled is ++ recipes_of enabled js
-recipes_append enabled [] js = refl
-recipes_append enabled (item.Import relative absolute optional ∷ is) js = recipes_append enabled is js
-recipes_append enabled (item.Module name relative absolute optional ∷ is) js = recipes_append enabled is js
-recipes_append enabled (item.Recipe r ∷ is) js = recipes_if (enabled (bare_item (item.Recipe r))) r (recipes_of enabled is) (recipes_of enabled js) (recipes_of enabled (is ++ js)) (recipes_append enabled is js)
-
 -- the paths of imports and modules are nothing to recipes
 recipes_with_paths : (enabled : Item → Bool) (w : World) (folder : List ℕ) (is : List Item) → recipes_of enabled (map (with_path w folder) is) ≡ recipes_of enabled is
 recipes_with_paths enabled w folder [] = refl
-recipes_with_paths enabled w folder (item.Import relative absolute optional ∷ is) = recipes_with_paths enabled w folder is
-recipes_with_paths enabled w folder (item.Module name relative absolute optional ∷ is) = recipes_with_paths enabled w folder is
 recipes_with_paths enabled w folder (item.Recipe r ∷ is) = ap (λ rs. if enabled (bare_item (item.Recipe r)) then r ∷ rs else rs) (recipes_with_paths enabled w folder is)
+recipes_with_paths enabled w folder (_ ∷ is) = recipes_with_paths enabled w folder is
 
 module _ (w : World) (loaded : Loaded) (nodes : List Node) where
   -- what is held of a file has the outlines of its text
@@ -116,9 +105,8 @@ from_if false q r rs h = inr h
 -- a recipe of items is one of them
 pub recipe_item : (enabled : Item → Bool) (r : Recipe UnresolvedDependency) (is : List Item) → In r (recipes_of enabled is) → In (item.Recipe r) is
 recipe_item enabled r [] h = absurd h
-recipe_item enabled r (item.Import relative absolute optional ∷ is) h = inr (recipe_item enabled r is h)
-recipe_item enabled r (item.Module name relative absolute optional ∷ is) h = inr (recipe_item enabled r is h)
 recipe_item enabled r (item.Recipe q ∷ is) h = elim (from_if (enabled (bare_item (item.Recipe q))) q r (recipes_of enabled is) h) [ inl e ↦ inl (ap item.Recipe e) | inr i ↦ inr (recipe_item enabled r is i) ]
+recipe_item enabled r (_ ∷ is) h = inr (recipe_item enabled r is h)
 
 all_by : {A : Type 0} (P : A → Type 0) (xs : List A) → ((x : A) → In x xs → P x) → All P xs
 all_by P xs f = λ k d h. f (get_or xs k d) (is_in (get_or xs k d) xs (Contains-get_or xs k d h))

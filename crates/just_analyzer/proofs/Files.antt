@@ -1,5 +1,5 @@
 -- A file that is found, and what it says.
-use Rattle.std.proofs.Common.{◌≡◌, ℕ, ◌+◌, cond, List, [], ◌∷◌, map, Bool, true, false, refl, ap}
+use Rattle.std.proofs.Common.{◌≡◌, ℕ, ◌+◌, cond, List, [], ◌∷◌, ◌++◌, map, Bool, true, false, refl, ap}
 use Rattle.std.specs.Prelude.{if◌then◌else◌}
 use Rattle.std.specs.List.{list_any, fold}
 use Rattle.std.proofs.lemmas.List.{length-map}
@@ -11,11 +11,8 @@ use Rattle.just_parts.specs.declared.layers.ast.UnresolvedDependency.{Unresolved
 use Rattle.just_parts.specs.declared.layers.ast.Item.{Item}
 use Rattle.just_parts.specs.declared.layers.ast.Item.TheVariants as item
 use Rattle.just_parts.specs.declared.recipe.Recipe.{Recipe}
+use Rattle.just_parts.proofs.Edges.{bare_twice}
 use Rattle.just_analyzer.specs.Outline.{outline_of, outlines_of, recipes_of}
-
-bare_twice : (ps : List Parameter) → map bare_parameter (map bare_parameter ps) ≡ map bare_parameter ps
-bare_twice [] = refl
-bare_twice (p ∷ ps) = ap (λ qs. bare_parameter p ∷ qs) (bare_twice ps)
 
 names_bare : (ps : List Parameter) → map (λ (p : Parameter). text_of_name p.name) (map bare_parameter ps) ≡ map (λ (p : Parameter). text_of_name p.name) ps
 names_bare [] = refl
@@ -52,8 +49,15 @@ outline_if a false r rs qs e same = rw e same
 -- items without their numbers have recipes of the same outlines
 pub outlines_bare : (enabled : Item → Bool) (items : List Item) → outlines_of (recipes_of enabled (map bare_item items)) ≡ outlines_of (recipes_of enabled items)
 outlines_bare enabled [] = refl
-outlines_bare enabled (item.Import relative absolute optional ∷ items) = outlines_bare enabled items
-outlines_bare enabled (item.Module name relative absolute optional ∷ items) = outlines_bare enabled items
 outlines_bare enabled (item.Recipe r ∷ items) =
-    let again : bare_item (bare_item (item.Recipe r)) ≡ bare_item (item.Recipe r) = ap (λ (ps : List Parameter). item.Recipe (record (bare_recipe r) { parameters = ps })) (bare_twice r.parameters) in
-    outline_if (enabled (bare_item (bare_item (item.Recipe r)))) (enabled (bare_item (item.Recipe r))) r (recipes_of enabled (map bare_item items)) (recipes_of enabled items) (ap enabled again) (outlines_bare enabled items)
+    outline_if (enabled (bare_item (bare_item (item.Recipe r)))) (enabled (bare_item (item.Recipe r))) r (recipes_of enabled (map bare_item items)) (recipes_of enabled items) (ap enabled (bare_twice (item.Recipe r))) (outlines_bare enabled items)
+outlines_bare enabled (_ ∷ items) = outlines_bare enabled items
+
+recipes_if : (b : Bool) (r : Recipe UnresolvedDependency) (rs qs zs : List (Recipe UnresolvedDependency)) → zs ≡ rs ++ qs → (if b then r ∷ zs else zs) ≡ (if b then r ∷ rs else rs) ++ qs
+recipes_if true r rs qs zs e = ap (λ xs. r ∷ xs) e
+recipes_if false r rs qs zs e = e
+
+pub recipes_append : (enabled : Item → Bool) (is js : List Item) → recipes_of enabled (is ++ js) ≡ recipes_of enabled is ++ recipes_of enabled js
+recipes_append enabled [] js = refl
+recipes_append enabled (item.Recipe r ∷ is) js = recipes_if (enabled (bare_item (item.Recipe r))) r (recipes_of enabled is) (recipes_of enabled js) (recipes_of enabled (is ++ js)) (recipes_append enabled is js)
+recipes_append enabled (_ ∷ is) js = recipes_append enabled is js

@@ -13,6 +13,7 @@ use Rattle.just_graph.specs.Unfolding.{Key, KeySteps, stay, move, path_after, ro
 use Rattle.just_graph.specs.declared.unfolding.Step.{Step}
 use Rattle.just_graph.proofs.Members.{In, contained, is_in, in_cases, in_map}
 use Rattle.just_parts.specs.contracts.modulepath.ModulepathPartialEq.TheImpl as path_eq
+use Rattle.just_parts.specs.Edge.{edge_of}
 use Rattle.just_parts.specs.declared.layers.ast.Item.{Item}
 use Rattle.just_parts.specs.declared.layers.ast.Item.TheVariants as item
 use Rattle.just_loader.specs.Asts.{Key as AstKey, same_key}
@@ -48,13 +49,13 @@ numbers_on scan [] ms a b = b
 numbers_on scan (n ∷ ns) ms a b = (a.0, numbers_on scan ns ms a.1 b)
 
 -- a step enters a number of a name
-step_enters : (names : List (List ℕ)) (place : ℕ) (i : Item) (row : List Step) (s : Step) (number : ℕ) → IsStepTo names place i row → In s row → s.enters ≡ Some number → (text : List ℕ) × (slice_get names number ≡ Some text)
+step_enters : (names : List (List ℕ)) (place : ℕ) (i : Item) (row : List Step) (s : Step) (number : ℕ) → IsStepTo names place (edge_of i) row → In s row → s.enters ≡ Some number → (text : List ℕ) × (slice_get names number ≡ Some text)
 step_enters names place (item.Import literal absolute optional) row s number is h e = elim (subst (In s) is h) [ inl same ↦ (let wrong : None ≡ Some number = sym (ap (λ (x : Step). x.enters) same) ∙ e in cc) | inr k ↦ absurd k ]
 step_enters names place (item.Module name literal absolute optional) row s number is h e = elim (subst (In s) is.2 h) [
   | inl same ↦ (let n : is.0 ≡ number = some_same (sym (ap (λ (x : Step). x.enters) same) ∙ e) in (_, ap (slice_get names) (sym n) ∙ is.1))
   | inr k ↦ absurd k
 ]
-step_enters names place (item.Recipe r) row s number is h e = absurd (subst (In s) is h)
+step_enters names place _ row s number is h e = absurd (subst (In s) is h)
 
 steps_enter : (names : List (List ℕ)) (is : List Item) (ts : List (Option ℕ)) (row : List Step) (s : Step) (number : ℕ) → AreSteps names is ts row → In s row → s.enters ≡ Some number → (text : List ℕ) × (slice_get names number ≡ Some text)
 steps_enter names [] [] row s number are h e = absurd (subst (In s) are h)

@@ -31,7 +31,7 @@ use Rattle.just_analyzer.specs.Contents.{contents}
 use Rattle.just_analyzer.specs.Outline.{outlines_of, recipes_of}
 use Rattle.just_analyzer.specs.Places.{imports_in, name_if, named_in, names_at, recipes_at, heading_named}
 use Rattle.just_analyzer.specs.Planned.{enters, imports_at, entries_at}
-use Rattle.just_analyzer.proofs.Files.{outlines_bare}
+use Rattle.just_analyzer.proofs.Files.{outlines_bare, recipes_append}
 
 abbrev Text : Type 0
 Text = List ℕ
@@ -100,8 +100,8 @@ module _ (w : World) (folder : Text) (names paths : List Text) where
   import_one (item.Import literal absolute optional) (Some place) row p s = ap (λ r. map path (imports_in r)) s ∙ sym (one_end paths (link w folder (item.Import literal absolute optional)) place p)
   import_one (item.Module name literal absolute optional) None row p s = ap (λ r. map path (imports_in r)) s
   import_one (item.Module name literal absolute optional) (Some place) row p s = ap (λ r. map path (imports_in r)) s.2
-  import_one (item.Recipe r) None row p s = ap (λ r. map path (imports_in r)) s
-  import_one (item.Recipe r) (Some place) row p s = ap (λ r. map path (imports_in r)) s
+  import_one _ None row p s = ap (λ r. map path (imports_in r)) s
+  import_one _ (Some place) row p s = ap (λ r. map path (imports_in r)) s
 
   entry_one : (i : Item) (t : Option ℕ) (row : List Step) → IsPlaceOf paths (link w folder i) t → IsStepOf names i t row → map (entry_at names paths) (filter enters row) ≡ map entry_of (declared w folder i)
   entry_one (item.Import literal absolute optional) None row p s = ap (λ r. map (entry_at names paths) (filter enters r)) s
@@ -113,16 +113,16 @@ module _ (w : World) (folder : Text) (names paths : List Text) where
       let is = one_end paths (link w folder (item.Module name literal absolute optional)) place p in
       ap (λ r. map (entry_at names paths) (filter enters r)) s.2 ∙ ap (λ t. (t, path place) ∷ []) (get_or_from_slice_get names s.0 (text_of_name name) [] s.1)
       ∙ ap (λ ends. map entry_of (map (λ path. record { name = name; path = path }) ends)) (sym is)
-  entry_one (item.Recipe r) None row p s = ap (λ r. map (entry_at names paths) (filter enters r)) s
-  entry_one (item.Recipe r) (Some place) row p s = ap (λ r. map (entry_at names paths) (filter enters r)) s
+  entry_one _ None row p s = ap (λ r. map (entry_at names paths) (filter enters r)) s
+  entry_one _ (Some place) row p s = ap (λ r. map (entry_at names paths) (filter enters r)) s
 
   name_one : (i : Item) (t : Option ℕ) → IsPlaceOf paths (link w folder (bare_item i)) t → name_if i t ≡ map (λ (m : Submodule). m.name) (declared w folder (bare_item i))
   name_one (item.Import literal absolute optional) None p = refl
   name_one (item.Import literal absolute optional) (Some place) p = refl
   name_one (item.Module name literal absolute optional) None p = ap (λ ends. map (λ (m : Submodule). m.name) (map (λ path. record { name = name; path = path }) ends)) (sym (no_end paths (link w folder (item.Module name literal None optional)) p))
   name_one (item.Module name literal absolute optional) (Some place) p = ap (λ ends. map (λ (m : Submodule). m.name) (map (λ path. record { name = name; path = path }) ends)) (sym (one_end paths (link w folder (item.Module name literal None optional)) place p))
-  name_one (item.Recipe r) None p = refl
-  name_one (item.Recipe r) (Some place) p = refl
+  name_one _ None p = refl
+  name_one _ (Some place) p = refl
 
   imports_same : (is : List Item) (ts : List (Option ℕ)) (row : List Step) → ArePlacesOf paths (map (link w folder) is) ts → AreSteps names is ts row → map path (imports_in row) ≡ flat_map (imported w folder) is
   imports_same [] [] row ps ss = ap (λ r. map path (imports_in r)) ss
@@ -167,17 +167,6 @@ steps_read (r ∷ rows) (suc a) row h e = steps_read rows a row (omega arith) e
 -- one more of a list
 pub flat_more : {B : Type 0} (f : ℕ → List B) (xs : List ℕ) (n : ℕ) → n < length xs → flat_map f (take (n + 1) xs) ≡ flat_map f (take n xs) ++ f (slice_index xs n)
 flat_more f xs n h = ap (flat_map f) (take_more xs n 0 h) ∙ flat_append f (take n xs) (slice_index xs n ∷ []) ∙ ap (λ ys. flat_map f (take n xs) ++ ys) (append-nil (f (slice_index xs n)))
-
-recipes_append : (enabled : Item → Bool) (xs ys : List Item) → recipes_of enabled (xs ++ ys) ≡ recipes_of enabled xs ++ recipes_of enabled ys
-recipes_append enabled [] ys = refl
-recipes_append enabled (item.Import relative absolute optional ∷ xs) ys = recipes_append enabled xs ys
-recipes_append enabled (item.Module name relative absolute optional ∷ xs) ys = recipes_append enabled xs ys
-recipes_append enabled (item.Recipe r ∷ xs) ys = one (enabled (bare_item (item.Recipe r))) (recipes_append enabled xs ys)
-  where
-    one : (b : Bool) → recipes_of enabled (xs ++ ys) ≡ recipes_of enabled xs ++ recipes_of enabled ys
-        → (if b then r ∷ recipes_of enabled (xs ++ ys) else recipes_of enabled (xs ++ ys)) ≡ (if b then r ∷ recipes_of enabled xs else recipes_of enabled xs) ++ recipes_of enabled ys
-    one true e = ap (λ zs. r ∷ zs) e
-    one false e = e
 
 outlines_flat : (enabled : Item → Bool) (f : ℕ → List (Recipe UnresolvedDependency)) (g : ℕ → List Item) (xs : List ℕ) → ((x : ℕ) → In x xs → outlines_of (f x) ≡ outlines_of (recipes_of enabled (g x)))
     → outlines_of (flat_map f xs) ≡ outlines_of (recipes_of enabled (flat_map g xs))

@@ -32,9 +32,8 @@ outline_of recipe = record {
 -- the recipes of the enabled items, in the order of the text, without those of other files
 abbrev pub recipes_of : (Item → Bool) → List Item → List (Recipe UnresolvedDependency)
 recipes_of enabled [] = []
-recipes_of enabled (item.Import relative absolute optional ∷ items) = recipes_of enabled items
-recipes_of enabled (item.Module name relative absolute optional ∷ items) = recipes_of enabled items
 recipes_of enabled (item.Recipe r ∷ items) = if enabled (bare_item (item.Recipe r)) then r ∷ recipes_of enabled items else recipes_of enabled items
+recipes_of enabled (_ ∷ items) = recipes_of enabled items
 
 abbrev pub outlines_of : List (Recipe UnresolvedDependency) → List Outline
 outlines_of = map outline_of

@@ -32,9 +32,8 @@ entered_in row = map (λ (s : Step). s.target) (filter enters row)
 -- the name of the module that an item declares, where it has a file
 abbrev pub name_if : Item → Option ℕ → List Name
 name_if i None = []
-name_if (item.Import literal absolute optional) (Some place) = []
 name_if (item.Module name literal absolute optional) (Some place) = name ∷ []
-name_if (item.Recipe r) (Some place) = []
+name_if _ (Some place) = []
 
 -- the names of the modules that items declare and that have a file, in order
 abbrev pub named_in : List Item → List (Option ℕ) → List Name

@@ -1,7 +1,6 @@
-ghost use Rattle.std.specs.Prelude.{◌≡◌, ◌<◌, ◌⊎◌, length, map, option_map, option_to_list, IfOk, IfErr};
+ghost use Rattle.std.specs.Prelude.{◌≡◌, option_to_list, IfOk, IfErr};
 ghost use Rattle.just_parts.specs.Clean.{IsClean};
-ghost use Rattle.just_parts.specs.Token.{lexeme};
-ghost use Rattle.just_loader.specs.ModuleFile.{relative, candidates};
+ghost use Rattle.just_loader.specs.ModuleFile.{TellsSeveral, module_files};
 ghost use Rattle.just_loader.specs.Reached.{world_of};
 ghost use Rattle.just_analyzer.specs.Compiled.{Compiles};
 
@@ -27,9 +26,8 @@ impl Compiler {
         module: &Name<'src>,
         path: Option<&str>,
     ) -> Result<Option<Text>, Error<'src>>
-        ensures found { IfOk result (λ file. option_to_list file ≡ candidates sources.now parent.now (lexeme «module».now.token) (option_map (λ p. p.now) path.entry)) }
-        ensures error { let found = candidates sources.now parent.now (lexeme «module».now.token) (option_map (λ p. p.now) path.entry) in
-            IfErr result (λ e. (e ≡ Error.Memory) ⊎ ((1 < length found) × (e ≡ Error.Load (LoadError.AmbiguousModuleFile «module».now (map (relative parent.now) found))))) }
+        ensures found { IfOk result (λ file. option_to_list file ≡ module_files sources.now parent.now «module».now path.entry) }
+        ensures error { IfErr result (TellsSeveral parent.now «module».now (module_files sources.now parent.now «module».now path.entry)) }
     {
         just_loader::find_module_file(alloc, sources, parent, module, path)
     }

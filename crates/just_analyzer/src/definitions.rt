@@ -25,7 +25,7 @@ impl<'a, 'src> Definitions<'a, 'src> {
         }
     }
 
-    /// Adds the recipes of the enabled items, in the order of the text. Imports and modules are not looked at.
+    /// Adds the recipes of the enabled items, in the order of the text. Other items are not looked at.
     pub fn add<S: Syntax>(&mut self, syntax: &S, items: &'a [Item<'src>]) -> Result<(), AllocError>
         ensures { OnOk result (recipes_in self.new ≡ recipes_in self.old ++ recipes_of (S.answers syntax.now).enabled items.now) }
     {
@@ -34,8 +34,8 @@ impl<'a, 'src> Definitions<'a, 'src> {
                 continue;
             }
             match item {
-                Item::Import { .. } | Item::Module { .. } => continue,
                 Item::Recipe(recipe) => self.recipes.push(recipe)?,
+                _ => continue,
             }
         }
         Ok(())

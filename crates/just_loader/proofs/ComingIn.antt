@@ -17,7 +17,7 @@ use Rattle.just_parts.specs.Clean.{IsClean, folder_of}
 use Rattle.just_parts.specs.Name.{names_of_path, submodule_path, text_of_name}
 use Rattle.just_parts.specs.Syntax.{components_of}
 use Rattle.just_parts.specs.declared.layers.ast.Item.{Item}
-use Rattle.just_parts.specs.declared.layers.ast.Item.TheVariants as item
+use Rattle.just_parts.specs.Edge.{Edge, Imports, Declares, edge_of}
 use Rattle.just_parts.specs.declared.layers.error.Error.{Error}
 use Rattle.just_parts.specs.declared.layers.name.Name.{Name}
 use Rattle.just_parts.specs.declared.layers.name.Namepath.{Namepath}
@@ -133,14 +133,14 @@ one_step row x s e h = elim (subst (In s) e h) [ inl same ↦ sym same | inr z �
 abbrev HasName : List (List ℕ) → Step → Type 0
 HasName names s = IfSome s.enters (λ number. number < length names)
 
-step_to_name : (names : List (List ℕ)) (place : ℕ) (i : Item) (row : List Step) (s : Step) → IsStepTo names place i row → In s row → HasName names s
-step_to_name names place (item.Import literal absolute optional) row s is h = subst (HasName names) (one_step row _ s is h) tt
-step_to_name names place (item.Module name literal absolute optional) row s is h = subst (HasName names) (one_step row _ s is.2 h) (slice_get_within names is.0 (text_of_name name) is.1)
-step_to_name names place (item.Recipe r) row s is h = absurd (subst (In s) is h)
+step_to_name : (names : List (List ℕ)) (place : ℕ) (e : Option Edge) (row : List Step) (s : Step) → IsStepTo names place e row → In s row → HasName names s
+step_to_name names place (Some (Imports literal optional)) row s is h = subst (HasName names) (one_step row _ s is h) tt
+step_to_name names place (Some (Declares name literal optional)) row s is h = subst (HasName names) (one_step row _ s is.2 h) (slice_get_within names is.0 (text_of_name name) is.1)
+step_to_name names place None row s is h = absurd (subst (In s) is h)
 
 step_name : (names : List (List ℕ)) (i : Item) (t : Option ℕ) (row : List Step) (s : Step) → IsStepOf names i t row → In s row → HasName names s
 step_name names i None row s is h = absurd (subst (In s) is h)
-step_name names i (Some place) row s is h = step_to_name names place i row s is h
+step_name names i (Some place) row s is h = step_to_name names place (edge_of i) row s is h
 
 steps_name : (names : List (List ℕ)) (is : List Item) (ts : List (Option ℕ)) (row : List Step) (s : Step) → AreSteps names is ts row → In s row → HasName names s
 steps_name names [] [] row s are h = absurd (subst (In s) are h)

@@ -16,9 +16,10 @@ use Rattle.just_graph.proofs.Members.{In, contained, is_in, in_left, in_right, i
 use Rattle.just_graph.proofs.Trails.{of_reverse}
 use Rattle.just_parts.specs.Clean.{folder_of}
 use Rattle.just_parts.specs.declared.layers.ast.Item.{Item}
-use Rattle.just_parts.specs.declared.layers.ast.Item.TheVariants as item
+use Rattle.just_parts.specs.Bare.{bare_item}
+use Rattle.just_parts.specs.Edge.{Edge, Imports, Declares, edge_of}
 use Rattle.just_loader.specs.FileCircles.{HasRows, LeadsOn, by_edge, by_edges, ChainTo, at_root, and_next, NamesCircle, leads_back}
-use Rattle.just_loader.specs.Links.{Link, Nowhere, To, Fault}
+use Rattle.just_loader.specs.Links.{Link, Nowhere, To, Fault, edge_link}
 use Rattle.just_loader.specs.Numbering.{texts_of}
 use Rattle.just_loader.specs.Reached.{World, Reached, from_root, from_file, items_of, link, LeadsTo}
 use Rattle.just_loader.specs.Causes.{LeadsBack}
@@ -60,17 +61,17 @@ no_link false path e = cc
 
 -- an item that leads to a file has a step
 module _ (w : World) (folder path : List ℕ) (names : List (List ℕ)) where
-  one_step : (place : ℕ) (i : Item) (row : List Step) → link w folder i ≡ To path → IsStepTo names place i row → (s : Step) × In s row × (s.target ≡ place)
-  one_step place (item.Import literal absolute optional) row l is = (record { target = place; offset = literal.token.offset; enters = None }, subst (In _) (sym is) (inl refl), refl)
-  one_step place (item.Module name literal absolute optional) row l is = (record { target = place; offset = 0; enters = Some is.0 }, subst (In _) (sym is.2) (inl refl), refl)
-  one_step place (item.Recipe r) row l is = absurd (no_link _ path l)
+  one_step : (b : Bool) (place : ℕ) (e : Option Edge) (row : List Step) → (if b then edge_link w.files w.home folder e else Nowhere) ≡ To path → IsStepTo names place e row → (s : Step) × In s row × (s.target ≡ place)
+  one_step b place (Some (Imports literal optional)) row l is = (record { target = place; offset = literal.token.offset; enters = None }, subst (In _) (sym is) (inl refl), refl)
+  one_step b place (Some (Declares name literal optional)) row l is = (record { target = place; offset = 0; enters = Some is.0 }, subst (In _) (sym is.2) (inl refl), refl)
+  one_step b place None row l is = absurd (no_link b path l)
 
   step_of_place : (is : List Item) (ts : List (Option ℕ)) (row : List Step) (k place : ℕ) (i : Item) → link w folder i ≡ To path → AreSteps names is ts row → slice_get is k ≡ Some i → slice_get ts k ≡ Some (Some place) → (s : Step) × In s row × (s.target ≡ place)
   step_of_place [] ts row k place i l are e t = absurd (none_some e)
   step_of_place (x ∷ xs) [] row k place i l are e t = absurd are
   step_of_place (x ∷ xs) (None ∷ ts) row zero place i l are e t = absurd (none_some (some_same t))
   step_of_place (x ∷ xs) (Some p ∷ ts) row zero place i l are e t =
-      let r = one_step p x are.0 (ap (link w folder) (some_same e) ∙ l) are.2 in
+      let r = one_step (w.answers.enabled (bare_item x)) p (edge_of x) are.0 (ap (link w folder) (some_same e) ∙ l) are.2 in
       (r.0, subst (In r.0) (sym are.4) (in_left r.0 are.0 are.1 r.1), r.2 ∙ some_same (some_same t))
   step_of_place (x ∷ xs) (t' ∷ ts) row (suc k) place i l are e t =
       let r = step_of_place xs ts are.1 k place i l are.3 e t in

@@ -10,10 +10,10 @@ use Rattle.just_graph.specs.Unfolding.{Key, KeySteps, stay, move, key_child, pat
 use Rattle.just_graph.specs.declared.unfolding.Step.{Step}
 use Rattle.just_graph.proofs.Members.{In, contained, is_in, in_left, in_right, in_cases, from_map}
 use Rattle.just_parts.specs.Clean.{folder_of}
+use Rattle.just_parts.specs.Edge.{Edge, Imports, Declares, edge_of}
 use Rattle.just_parts.specs.Name.{text_of_name}
 use Rattle.just_parts.specs.declared.layers.ast.Item.{Item}
-use Rattle.just_parts.specs.declared.layers.ast.Item.TheVariants as item
-use Rattle.just_loader.specs.Keys.{Submodule, IsKey, of_root, by_import, by_module, items_at, end_of, imported, declared, imports_of, modules_of}
+use Rattle.just_loader.specs.Keys.{Submodule, IsKey, of_root, by_import, by_module, items_at, end_of, imported, imported_by, declared, declared_by, imports_of, modules_of}
 use Rattle.just_loader.specs.Links.{Link, Nowhere, To, Fault}
 use Rattle.just_loader.specs.Loaded.{file_at, name_at}
 use Rattle.just_loader.specs.Numbering.{texts_of}
@@ -53,25 +53,28 @@ only_step steps x s e h = elim (subst (In s) e h) [ inl same ↦ same | inr none
 
 module _ (w : World) (folder : Text) (paths names : List Text) where
   -- what a step to a path says of the item that it is of
+  abbrev SaysBy : Option Edge → Link → Text → Option ℕ → Type 0
+  SaysBy e l path None = In path (imported_by e l)
+  SaysBy e l path (Some number) = (m : Submodule) × In m (declared_by e l) × (m.path ≡ path) × (slice_get names number ≡ Some (text_of_name m.name))
+
   abbrev Says : Item → Text → Option ℕ → Type 0
-  Says i path None = In path (imported w folder i)
-  Says i path (Some number) = (m : Submodule) × In m (declared w folder i) × (m.path ≡ path) × (slice_get names number ≡ Some (text_of_name m.name))
+  Says i = SaysBy (edge_of i) (link w folder i)
 
   place_says : (l : Link) (place : ℕ) → IsPlaceOf paths l (Some place) → (path : Text) × (l ≡ To path) × (slice_get paths place ≡ Some path)
   place_says Nowhere place p = absurd p
   place_says (To path) place p = (path, refl, p)
   place_says (Fault c) place p = absurd p
 
-  step_says : (i : Item) (place : ℕ) (path : Text) (steps : List Step) (s : Step) → link w folder i ≡ To path → IsStepTo names place i steps → In s steps → (s.target ≡ place) × Says i path s.enters
-  step_says (item.Import literal absolute optional) place path steps s l is h =
+  step_says : (e : Option Edge) (l : Link) (place : ℕ) (path : Text) (steps : List Step) (s : Step) → l ≡ To path → IsStepTo names place e steps → In s steps → (s.target ≡ place) × SaysBy e l path s.enters
+  step_says (Some (Imports literal optional)) l place path steps s to is h =
       let e = only_step steps _ s is h in
-      (ap (λ (x : Step). x.target) e, subst (λ (x : Step). Says (item.Import literal absolute optional) path x.enters) (sym e) (subst (λ x. In path (end_of x)) (sym l) (inl refl)))
-  step_says (item.Module name literal absolute optional) place path steps s l is h =
+      (ap (λ (x : Step). x.target) e, subst (λ (x : Step). SaysBy (Some (Imports literal optional)) l path x.enters) (sym e) (subst (λ x. In path (end_of x)) (sym to) (inl refl)))
+  step_says (Some (Declares name literal optional)) l place path steps s to is h =
       let e = only_step steps _ s is.2 h in
       let m : Submodule = record { name = name; path = path } in
-      let there : In m (declared w folder (item.Module name literal absolute optional)) = subst (λ x. In m (map (λ (p : Text). let v : Submodule = record { name = name; path = p } in v) (end_of x))) (sym l) (inl refl) in
-      (ap (λ (x : Step). x.target) e, subst (λ (x : Step). Says (item.Module name literal absolute optional) path x.enters) (sym e) (m, there, refl, is.1))
-  step_says (item.Recipe r) place path steps s l is h = absurd (subst (In s) is h)
+      let there : In m (declared_by (Some (Declares name literal optional)) l) = subst (λ x. In m (map (λ (p : Text). let v : Submodule = record { name = name; path = p } in v) (end_of x))) (sym to) (inl refl) in
+      (ap (λ (x : Step). x.target) e, subst (λ (x : Step). SaysBy (Some (Declares name literal optional)) l path x.enters) (sym e) (m, there, refl, is.1))
+  step_says None l place path steps s to is h = absurd (subst (In s) is h)
 
   -- each step of a row says something of one of the items
   row_says : (is : List Item) (ts : List (Option ℕ)) (row : List Step) (s : Step) → ArePlacesOf paths (map (link w folder) is) ts → AreSteps names is ts row → In s row → (path : Text) × (slice_get paths s.target ≡ Some path) × (i : Item) × In i is × Says i path s.enters
@@ -85,7 +88,7 @@ module _ (w : World) (folder : Text) (paths names : List Text) where
   row_says (i ∷ is) (Some place ∷ ts) row s ps are h = elim (in_cases s are.0 are.1 (subst (In s) are.4 h)) [
     | inl a ↦
         (let l = place_says (link w folder i) place ps.0 in
-        let r = step_says i place l.0 are.0 s l.1 are.2 a in
+        let r = step_says (edge_of i) (link w folder i) place l.0 are.0 s l.1 are.2 a in
         (l.0, ap (slice_get paths) r.0 ∙ l.2, i, inl refl, r.1))
     | inr b ↦ (let r = row_says is ts are.1 s ps.1 are.3 b in (r.0, r.1, r.2, inr r.3, r.4))
   ]
@@ -106,33 +109,45 @@ module _ (w : World) (folder : Text) (paths names : List Text) where
       let r = item_steps is ts are.1 i ps.1 are.3 h in
       (r.0, r.1, r.2, r.3, λ s g. subst (In s) (sym are.4) (in_right s are.0 are.1 (r.4 s g)))
 
+  edge_imports_to : (e : Option Edge) (l : Link) (path : Text) → In path (imported_by e l) → l ≡ To path
+  edge_imports_to (Some (Imports literal optional)) l path h = end_is l path h
+  edge_imports_to (Some (Declares name literal optional)) l path h = absurd h
+  edge_imports_to None l path h = absurd h
+
   imports_to : (i : Item) (path : Text) → In path (imported w folder i) → link w folder i ≡ To path
-  imports_to (item.Import literal absolute optional) path h = end_is (link w folder (item.Import literal absolute optional)) path h
-  imports_to (item.Module name literal absolute optional) path h = absurd h
-  imports_to (item.Recipe r) path h = absurd h
+  imports_to i = edge_imports_to (edge_of i) (link w folder i)
+
+  edge_import : (e : Option Edge) (l : Link) (place : ℕ) (path : Text) (steps : List Step) → slice_get paths place ≡ Some path → IsStepTo names place e steps → In path (imported_by e l) → (s : Step) × In s steps × (slice_get paths s.target ≡ Some path) × (s.enters ≡ None)
+  edge_import (Some (Imports literal optional)) l place path steps p is h = (record { target = place; offset = literal.token.offset; enters = None }, subst (In _) (sym is) (inl refl), p, refl)
+  edge_import (Some (Declares name literal optional)) l place path steps p is h = absurd h
+  edge_import None l place path steps p is h = absurd h
 
   import_step : (i : Item) (t : Option ℕ) (path : Text) (steps : List Step) → IsPlaceOf paths (To path) t → IsStepOf names i t steps → In path (imported w folder i) → (s : Step) × In s steps × (slice_get paths s.target ≡ Some path) × (s.enters ≡ None)
   import_step i None path steps p is h = absurd p
-  import_step (item.Import literal absolute optional) (Some place) path steps p is h = (record { target = place; offset = literal.token.offset; enters = None }, subst (In _) (sym is) (inl refl), p, refl)
-  import_step (item.Module name literal absolute optional) (Some place) path steps p is h = absurd h
-  import_step (item.Recipe r) (Some place) path steps p is h = absurd h
+  import_step i (Some place) path steps p is h = edge_import (edge_of i) (link w folder i) place path steps p is h
 
-  declares_to : (i : Item) (m : Submodule) → In m (declared w folder i) → link w folder i ≡ To m.path
-  declares_to (item.Import literal absolute optional) m h = absurd h
-  declares_to (item.Module name literal absolute optional) m h =
-      let l = link w folder (item.Module name literal absolute optional) in
+  edge_declares_to : (e : Option Edge) (l : Link) (m : Submodule) → In m (declared_by e l) → l ≡ To m.path
+  edge_declares_to (Some (Imports literal optional)) l m h = absurd h
+  edge_declares_to (Some (Declares name literal optional)) l m h =
       let x = from_map (λ (p : Text). let v : Submodule = record { name = name; path = p } in v) m (end_of l) h in
       end_is l x.0 x.1 ∙ ap (λ (v : Submodule). To v.path) (sym x.2)
-  declares_to (item.Recipe r) m h = absurd h
+  edge_declares_to None l m h = absurd h
+
+  declares_to : (i : Item) (m : Submodule) → In m (declared w folder i) → link w folder i ≡ To m.path
+  declares_to i = edge_declares_to (edge_of i) (link w folder i)
+
+  edge_module : (e : Option Edge) (l : Link) (place : ℕ) (m : Submodule) (steps : List Step) → slice_get paths place ≡ Some m.path → IsStepTo names place e steps → In m (declared_by e l)
+      → (s : Step) × In s steps × (slice_get paths s.target ≡ Some m.path) × (number : ℕ) × (s.enters ≡ Some number) × (slice_get names number ≡ Some (text_of_name m.name))
+  edge_module (Some (Imports literal optional)) l place m steps p is h = absurd h
+  edge_module (Some (Declares name literal optional)) l place m steps p is h =
+      let x = from_map (λ (p : Text). let v : Submodule = record { name = name; path = p } in v) m (end_of l) h in
+      (record { target = place; offset = 0; enters = Some is.0 }, subst (In _) (sym is.2) (inl refl), p, is.0, refl, is.1 ∙ ap (λ (v : Submodule). Some (text_of_name v.name)) (sym x.2))
+  edge_module None l place m steps p is h = absurd h
 
   module_step : (i : Item) (t : Option ℕ) (m : Submodule) (steps : List Step) → IsPlaceOf paths (To m.path) t → IsStepOf names i t steps → In m (declared w folder i)
       → (s : Step) × In s steps × (slice_get paths s.target ≡ Some m.path) × (number : ℕ) × (s.enters ≡ Some number) × (slice_get names number ≡ Some (text_of_name m.name))
   module_step i None m steps p is h = absurd p
-  module_step (item.Import literal absolute optional) (Some place) m steps p is h = absurd h
-  module_step (item.Module name literal absolute optional) (Some place) m steps p is h =
-      let x = from_map (λ (p : Text). let v : Submodule = record { name = name; path = p } in v) m (end_of (link w folder (item.Module name literal absolute optional))) h in
-      (record { target = place; offset = 0; enters = Some is.0 }, subst (In _) (sym is.2) (inl refl), p, is.0, refl, is.1 ∙ ap (λ (v : Submodule). Some (text_of_name v.name)) (sym x.2))
-  module_step (item.Recipe r) (Some place) m steps p is h = absurd h
+  module_step i (Some place) m steps p is h = edge_module (edge_of i) (link w folder i) place m steps p is h
 
 -- one more step
 steps_more : (S : ℕ → List Step) {k l : Key} {d : ℕ} → KeySteps S k l d → (s : Step) → Contains (S l.node) s → KeySteps S k (key_child l s) (suc d)

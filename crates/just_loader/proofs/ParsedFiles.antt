@@ -12,11 +12,11 @@ use Rattle.just_parts.specs.Clean.{folder_of}
 use Rattle.just_parts.specs.Syntax.{SyntaxAnswers, PriorsAreDependencies, Refuses}
 use Rattle.just_parts.specs.declared.layers.ast.Ast.{Ast}
 use Rattle.just_parts.specs.declared.layers.ast.Item.{Item}
-use Rattle.just_parts.specs.declared.layers.ast.Item.TheVariants as item
 use Rattle.just_parts.specs.declared.layers.error.Error.{Error}
 use Rattle.just_parts.specs.declared.layers.error.Error.TheVariants as error
+use Rattle.just_parts.proofs.Edges.{same_priors}
 use Rattle.just_loader.specs.Keys.{spends_at}
-use Rattle.just_loader.specs.Loaded.{file_at, with_path}
+use Rattle.just_loader.specs.Loaded.{file_at, path_of_link, with_path}
 use Rattle.just_loader.specs.Loading.{IsScanBy, StopsAt}
 use Rattle.just_loader.specs.Numbering.{texts_of}
 use Rattle.just_loader.specs.Reached.{World, ast_of, items_said, link, relative_to_root}
@@ -28,16 +28,11 @@ use Rattle.just_loader.proofs.Numberings.{get_map, got, some_same}
 use Rattle.just_loader.proofs.Scans.{links_bare}
 use Rattle.just_loader.proofs.WholeScans.{all_at, read_at}
 
--- what an item runs before is no more with its path
-prior_kept : (w : World) (folder : List ℕ) (i : Item) → PriorsAreDependencies i → PriorsAreDependencies (with_path w folder i)
-prior_kept w folder (item.Import literal absolute optional) h = h
-prior_kept w folder (item.Module name literal absolute optional) h = h
-prior_kept w folder (item.Recipe r) h = h
-
+-- what items run before is no more with their paths
 pub priors_kept : (w : World) (folder : List ℕ) (items : List Item) → All PriorsAreDependencies items → All PriorsAreDependencies (map (with_path w folder) items)
 priors_kept w folder items all = all_at PriorsAreDependencies (map (with_path w folder) items) (λ k y e.
     let x = get_map (with_path w folder) items k y e in
-    subst PriorsAreDependencies x.2 (prior_kept w folder x.0 (All-contains PriorsAreDependencies items x.0 all (got items k x.0 x.1))))
+    subst PriorsAreDependencies x.2 (same_priors (path_of_link (link w folder x.0)) x.0 (All-contains PriorsAreDependencies items x.0 all (got items k x.0 x.1))))
 
 module _ (w : World) (scan : Scan) (answers : SyntaxAnswers) (by : IsScanBy w scan answers) (place : ℕ) (file : ScannedFile) (inside : place < length scan.files.items) (is : file ≡ get_or scan.files.items place file) where
   row : (row : Vec Step Global) × (slice_get scan.rows.items place ≡ Some row)

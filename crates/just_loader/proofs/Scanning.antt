@@ -5,7 +5,7 @@ use Rattle.std.proofs.lemmas.List.{append_assoc, append-nil, map-append, take_mo
 use Rattle.std.proofs.lemmas.List.Elements.{Contains-append_cases}
 use Rattle.just_graph.specs.declared.unfolding.Step.{Step}
 use Rattle.just_parts.specs.declared.layers.ast.Item.{Item}
-use Rattle.just_parts.specs.declared.layers.ast.Item.TheVariants as item
+use Rattle.just_parts.specs.Edge.{Edge, Imports, Declares, edge_of}
 use Rattle.just_loader.specs.Links.{Link, Nowhere, To, Fault}
 use Rattle.just_loader.specs.Scanned.{IsPlaceOf, ArePlacesOf, IsStepTo, IsStepOf, AreSteps, Grows, Extends}
 use Rattle.just_loader.proofs.Numberings.{get_more, map_get, got}
@@ -39,14 +39,14 @@ places_count paths (l ∷ ls) [] p = absurd p
 places_count paths (l ∷ ls) (t ∷ ts) p = omega (arith, places_count paths ls ts p.1)
 
 -- more names are numbered
-step_to_more : (old more : List (List ℕ)) (place : ℕ) (i : Item) (steps : List Step) → IsStepTo old place i steps → IsStepTo (old ++ more) place i steps
-step_to_more old more place (item.Import literal absolute optional) steps s = s
-step_to_more old more place (item.Module name literal absolute optional) steps s = (s.0, get_more old more s.0 _ s.1, s.2)
-step_to_more old more place (item.Recipe r) steps s = s
+step_to_more : (old more : List (List ℕ)) (place : ℕ) (e : Option Edge) (steps : List Step) → IsStepTo old place e steps → IsStepTo (old ++ more) place e steps
+step_to_more old more place (Some (Imports literal optional)) steps s = s
+step_to_more old more place (Some (Declares name literal optional)) steps s = (s.0, get_more old more s.0 _ s.1, s.2)
+step_to_more old more place None steps s = s
 
 pub step_more : (old more : List (List ℕ)) (i : Item) (t : Option ℕ) (steps : List Step) → IsStepOf old i t steps → IsStepOf (old ++ more) i t steps
 step_more old more i None steps s = s
-step_more old more i (Some place) steps s = step_to_more old more place i steps s
+step_more old more i (Some place) steps s = step_to_more old more place (edge_of i) steps s
 
 pub steps_more : (old more : List (List ℕ)) (is : List Item) (ts : List (Option ℕ)) (row : List Step) → AreSteps old is ts row → AreSteps (old ++ more) is ts row
 steps_more old more [] [] row s = s

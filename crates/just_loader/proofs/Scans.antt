@@ -9,29 +9,21 @@ use Rattle.just_parts.specs.Clean.{folder_of}
 use Rattle.just_parts.specs.Entries.{find}
 use Rattle.just_parts.specs.Syntax.{Refuses}
 use Rattle.just_parts.specs.declared.layers.ast.Item.{Item}
-use Rattle.just_parts.specs.declared.layers.ast.Item.TheVariants as item
 use Rattle.just_parts.specs.declared.layers.error.Error.{Error}
 use Rattle.just_parts.specs.declared.layers.error.Error.TheVariants as error
-use Rattle.just_loader.specs.Links.{Link, Nowhere, To, Fault, link_in}
+use Rattle.just_loader.specs.Links.{Link, Nowhere, To, Fault, edge_link, link_in}
 use Rattle.just_loader.specs.Reached.{World, relative_to_root, items_of, items_said, link, HasItem, LeadsTo, NamesAt, no_grammar, no_number, in_item}
 use Rattle.just_loader.specs.Causes.{Cause, Broken, Reports}
-use Rattle.just_loader.specs.Scanned.{ArePlacesOf, IsStepOf, AreSteps, IsScanned}
+use Rattle.just_loader.specs.Scanned.{ArePlacesOf, IsStepTo, IsStepOf, AreSteps, IsScanned}
 use Rattle.just_loader.specs.Sources.{Files, text_at}
 use Rattle.just_loader.specs.declared.scanned.ScannedFile.{ScannedFile}
 use Rattle.just_loader.specs.declared.sources.SourceFile.{SourceFile}
+use Rattle.just_parts.proofs.Edges.{bare_twice, edge_bare}
 use Rattle.just_loader.proofs.Numberings.{got, placed, get_map, map_get}
-
-either : (a b : Bool) → (if a then Nowhere else Nowhere) ≡ (if b then Nowhere else Nowhere)
-either true true = refl
-either true false = refl
-either false true = refl
-either false false = refl
 
 -- a bare item leads where the item does
 link_bare : (files : Files) (home : Option (List ℕ)) (enabled : Item → Bool) (folder : List ℕ) (i : Item) → link_in files home enabled folder (bare_item i) ≡ link_in files home enabled folder i
-link_bare files home enabled folder (item.Import literal absolute optional) = refl
-link_bare files home enabled folder (item.Module name literal absolute optional) = refl
-link_bare files home enabled folder (item.Recipe r) = either (enabled (bare_item (bare_item (item.Recipe r)))) (enabled (bare_item (item.Recipe r)))
+link_bare files home enabled folder i = λ j. if enabled (bare_twice i j) then edge_link files home folder (edge_bare i j) else Nowhere
 
 pub links_bare : (files : Files) (home : Option (List ℕ)) (enabled : Item → Bool) (folder : List ℕ) (items : List Item) → map (link_in files home enabled folder) (map bare_item items) ≡ map (link_in files home enabled folder) items
 links_bare files home enabled folder [] = refl
@@ -39,9 +31,7 @@ links_bare files home enabled folder (i ∷ is) = λ j. link_bare files home ena
 
 step_bare : (names : List (List ℕ)) (i : Item) (t : Option ℕ) (steps : List Step) → IsStepOf names i t steps → IsStepOf names (bare_item i) t steps
 step_bare names i None steps s = s
-step_bare names (item.Import literal absolute optional) (Some place) steps s = s
-step_bare names (item.Module name literal absolute optional) (Some place) steps s = s
-step_bare names (item.Recipe r) (Some place) steps s = s
+step_bare names i (Some place) steps s = subst (λ e. IsStepTo names place e steps) (sym (edge_bare i)) s
 
 -- so are its steps
 steps_bare : (names : List (List ℕ)) (is : List Item) (ts : List (Option ℕ)) (row : List Step) → AreSteps names is ts row → AreSteps names (map bare_item is) ts row

@@ -13,8 +13,8 @@ use Rattle.just_parts.specs.Name.{text_of_name}
 use Rattle.just_parts.specs.Token.{Place}
 use Rattle.just_parts.specs.declared.layers.name.Name.{Name}
 use Rattle.just_parts.specs.declared.layers.ast.Item.{Item}
-use Rattle.just_parts.specs.declared.layers.ast.Item.TheVariants as item
-use Rattle.just_loader.specs.Links.{Link, Nowhere, To, expanded, given, unless, import_link, choice, module_link, enabled_link, link_in}
+use Rattle.just_parts.specs.Edge.{Edge, Imports, Declares, edge_of}
+use Rattle.just_loader.specs.Links.{Link, Nowhere, To, expanded, given, unless, import_link, choice, module_link, edge_link, link_in}
 use Rattle.just_loader.specs.ModuleFile.{candidates, file_at, files_in, is_module_file, or_else}
 use Rattle.just_loader.specs.Causes.{Cause, NoImport, NoModule}
 use Rattle.just_loader.specs.Sources.{Files}
@@ -67,10 +67,10 @@ module _ (files : Files) where
       go true q e = let same : clean_join folder text ≡ path = cc in subst IsThere same q
       go false q e = absurd (unless_not optional (NoImport token) path e)
 
-  enabled_there : (home : Option (List ℕ)) (folder : List ℕ) (i : Item) (path : List ℕ) → enabled_link files home folder i ≡ To path → IsThere path
-  enabled_there home folder (item.Import literal absolute optional) path e = import_there folder literal.token optional (expanded home literal.cooked) path e
-  enabled_there home folder (item.Module name literal absolute optional) path e = module_there folder name optional (given home literal) path e
-  enabled_there home folder (item.Recipe r) path e = cc
+  edge_there : (home : Option (List ℕ)) (folder : List ℕ) (e : Option Edge) (path : List ℕ) → edge_link files home folder e ≡ To path → IsThere path
+  edge_there home folder (Some (Imports literal optional)) path e = import_there folder literal.token optional (expanded home literal.cooked) path e
+  edge_there home folder (Some (Declares name literal optional)) path e = module_there folder name optional (given home literal) path e
+  edge_there home folder None path e = cc
 
   if_there : (b : Bool) (link : Link) (path : List ℕ) → (link ≡ To path → IsThere path) → (if b then link else Nowhere) ≡ To path → IsThere path
   if_there true link path f e = f e
@@ -78,4 +78,4 @@ module _ (files : Files) where
 
   -- what an item leads to is a key
   pub link_there : (home : Option (List ℕ)) (enabled : Item → Bool) (folder : List ℕ) (i : Item) (path : List ℕ) → link_in files home enabled folder i ≡ To path → IsThere path
-  link_there home enabled folder i path e = if_there (enabled (bare_item i)) (enabled_link files home folder i) path (enabled_there home folder i path) e
+  link_there home enabled folder i path e = if_there (enabled (bare_item i)) (edge_link files home folder (edge_of i)) path (edge_there home folder (edge_of i) path) e

@@ -17,7 +17,7 @@ use Rattle.just_graph.proofs.Index.{same_lists}
 use Rattle.just_parts.specs.Clean.{IsClean, folder_of}
 use Rattle.just_parts.specs.Entries.{find}
 use Rattle.just_parts.specs.declared.layers.ast.Item.{Item}
-use Rattle.just_parts.specs.declared.layers.ast.Item.TheVariants as item
+use Rattle.just_parts.specs.Edge.{Edge, Imports, Declares, edge_of}
 use Rattle.just_parts.specs.declared.layers.name.Name.{Name}
 use Rattle.just_loader.specs.Links.{Link, Nowhere, To, Fault}
 use Rattle.just_loader.specs.Numbering.{AreFound, AreOnce, paths_of, texts_of}
@@ -148,14 +148,14 @@ places_inside paths (l ∷ ls) (t ∷ ts) place ps (inr h) = places_inside paths
 one_target : (steps : List Step) (x s : Step) → steps ≡ x ∷ [] → In s steps → s ≡ x
 one_target steps x s e h = elim (subst (In s) e h) [ inl same ↦ same | inr none ↦ absurd none ]
 
-step_to_target : (names : List (List ℕ)) (place : ℕ) (i : Item) (steps : List Step) (s : Step) → IsStepTo names place i steps → In s steps → s.target ≡ place
-step_to_target names place (item.Import literal absolute optional) steps s is h = ap (λ (x : Step). x.target) (one_target steps _ s is h)
-step_to_target names place (item.Module name literal absolute optional) steps s is h = ap (λ (x : Step). x.target) (one_target steps _ s is.2 h)
-step_to_target names place (item.Recipe r) steps s is h = absurd (subst (In s) is h)
+step_to_target : (names : List (List ℕ)) (place : ℕ) (e : Option Edge) (steps : List Step) (s : Step) → IsStepTo names place e steps → In s steps → s.target ≡ place
+step_to_target names place (Some (Imports literal optional)) steps s is h = ap (λ (x : Step). x.target) (one_target steps _ s is h)
+step_to_target names place (Some (Declares name literal optional)) steps s is h = ap (λ (x : Step). x.target) (one_target steps _ s is.2 h)
+step_to_target names place None steps s is h = absurd (subst (In s) is h)
 
 step_target : (names : List (List ℕ)) (i : Item) (t : Option ℕ) (steps : List Step) (s : Step) → IsStepOf names i t steps → In s steps → Some s.target ≡ t
 step_target names i None steps s is h = absurd (subst (In s) is h)
-step_target names i (Some place) steps s is h = ap Some (step_to_target names place i steps s is h)
+step_target names i (Some place) steps s is h = ap Some (step_to_target names place (edge_of i) steps s is h)
 
 pub steps_target : (names : List (List ℕ)) (is : List Item) (ts : List (Option ℕ)) (row : List Step) (s : Step) → AreSteps names is ts row → In s row → In (Some s.target) ts
 steps_target names [] [] row s are h = subst (In s) are h

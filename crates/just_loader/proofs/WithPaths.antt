@@ -3,12 +3,12 @@ use Rattle.std.proofs.Common.{◌≡◌, ℕ, ◌<◌, List, [], ◌∷◌, ◌+
 use Rattle.std.specs.Option.{option_map}
 use Rattle.std.proofs.lemmas.List.{length-map, map-append}
 use Rattle.std.proofs.lemmas.Option.{get_or_from_slice_get, slice_get_within}
+use Rattle.just_parts.specs.Edge.{with_absolute}
 use Rattle.just_parts.specs.Syntax.{item_numbers, numbers}
+use Rattle.just_parts.proofs.Edges.{same_numbers}
 use Rattle.just_parts.specs.declared.layers.ast.Item.{Item}
-use Rattle.just_parts.specs.declared.layers.ast.Item.TheVariants as item
 use Rattle.just_loader.specs.Links.{Link, Nowhere, To, Fault}
 use Rattle.just_loader.specs.Loaded.{file_at, path_of_link, with_path}
-use Rattle.just_loader.specs.Loading.{with_absolute}
 use Rattle.just_loader.specs.Reached.{World, link}
 use Rattle.just_loader.specs.Scanned.{ArePlacesOf, IsPlaceOf, paths_in}
 use Rattle.just_loader.specs.declared.scanned.Scan.{Scan}
@@ -23,9 +23,7 @@ shown scan (To path) (Some k) p = ap Some (get_or_from_slice_get (paths_in scan.
 shown scan (Fault c) t p = absurd p
 
 pub path_shown : (w : World) (scan : Scan) (folder : List ℕ) (i : Item) (t : Option ℕ) → IsPlaceOf (paths_in scan.files.items) (link w folder i) t → with_absolute (option_map (file_at scan) t) i ≡ with_path w folder i
-path_shown w scan folder (item.Import literal absolute optional) t p = ap (λ o. item.Import literal o optional) (shown scan (link w folder (item.Import literal absolute optional)) t p)
-path_shown w scan folder (item.Module name literal absolute optional) t p = ap (λ o. item.Module name literal o optional) (shown scan (link w folder (item.Module name literal absolute optional)) t p)
-path_shown w scan folder (item.Recipe r) t p = refl
+path_shown w scan folder i t p = ap (λ o. with_absolute o i) (shown scan (link w folder i) t p)
 
 -- the place beside an item
 pub place_here : (paths : List (List ℕ)) (L : Item → Link) (before after : List Item) (i : Item) (ts : List (Option ℕ)) → ArePlacesOf paths (map L (before ++ i ∷ after)) ts → (length before < length ts) × IsPlaceOf paths (L i) (get_or ts (length before) None)
@@ -50,11 +48,6 @@ paths_more w scan folder items before after i made ts k path old new places all 
     is ∙ ap (λ xs. xs ++ made ∷ []) was ∙ ap (λ x. map (with_path w folder) before ++ x ∷ []) one ∙ sym (map-append (with_path w folder) before (i ∷ []))
 
 -- paths change no numbers
-with_path_numbers : (w : World) (folder : List ℕ) (i : Item) → item_numbers (with_path w folder i) ≡ item_numbers i
-with_path_numbers w folder (item.Import literal absolute optional) = refl
-with_path_numbers w folder (item.Module name literal absolute optional) = refl
-with_path_numbers w folder (item.Recipe r) = refl
-
 pub with_paths_numbers : (w : World) (folder : List ℕ) (items : List Item) → numbers (map (with_path w folder) items) ≡ numbers items
 with_paths_numbers w folder [] = refl
-with_paths_numbers w folder (i ∷ is) = ap (λ ns. ns ++ numbers (map (with_path w folder) is)) (with_path_numbers w folder i) ∙ ap (λ ns. item_numbers i ++ ns) (with_paths_numbers w folder is)
+with_paths_numbers w folder (i ∷ is) = ap (λ ns. ns ++ numbers (map (with_path w folder) is)) (same_numbers (path_of_link (link w folder i)) i) ∙ ap (λ ns. item_numbers i ++ ns) (with_paths_numbers w folder is)

@@ -1,12 +1,12 @@
 -- What a file imports and which modules it declares, and the keys of files: the path of a module, and a file of it.
-use Rattle.std.specs.Prelude.{◌≡◌, ℕ, List, [], ◌∷◌, ◌++◌, map, unwrap_or, ◌≤◌, ◌^◌, slice_get, None, Some}
+use Rattle.std.specs.Prelude.{◌≡◌, ℕ, List, [], ◌∷◌, ◌++◌, map, unwrap_or, ◌≤◌, ◌^◌, slice_get, Option, None, Some}
 use Rattle.std.specs.List.{Contains, flat_map, sum_by}
 use Rattle.std.specs.Option.{option_map}
 use Rattle.just_parts.specs.Clean.{folder_of}
+use Rattle.just_parts.specs.Edge.{Edge, Imports, Declares, edge_of}
 use Rattle.just_parts.specs.Name.{text_of_name}
 use Rattle.just_parts.specs.declared.layers.name.Name.{Name}
 use Rattle.just_parts.specs.declared.layers.ast.Item.{Item}
-use Rattle.just_parts.specs.declared.layers.ast.Item.TheVariants as item
 use Rattle.just_loader.specs.Causes.{Cause, NoFile, NoNumber}
 use Rattle.just_loader.specs.FileCircles.{NamesCircle}
 use Rattle.just_loader.specs.Links.{Link, Nowhere, To, Fault}
@@ -26,22 +26,28 @@ end_of Nowhere = []
 end_of (To path) = path ∷ []
 end_of (Fault cause) = []
 
+-- what an item imports, by where it leads
+abbrev pub imported_by : Option Edge → Link → List Text
+imported_by (Some (Imports literal optional)) l = end_of l
+imported_by _ l = []
+
 -- what an item of a folder's file imports
 abbrev pub imported : World → Text → Item → List Text
-imported w folder (item.Import literal absolute optional) = end_of (link w folder (item.Import literal absolute optional))
-imported w folder (item.Module name literal absolute optional) = []
-imported w folder (item.Recipe r) = []
+imported w folder i = imported_by (edge_of i) (link w folder i)
 
 -- a module that a file declares and that has a file: its name, and that file
 pub record Submodule : Type 0 where
   pub name : Name
   pub path : Text
 
+-- the module that an item declares, by where it leads
+abbrev pub declared_by : Option Edge → Link → List Submodule
+declared_by (Some (Declares name literal optional)) l = map (λ path. record { name = name; path = path }) (end_of l)
+declared_by _ l = []
+
 -- the module that an item of a folder's file declares
 abbrev pub declared : World → Text → Item → List Submodule
-declared w folder (item.Import literal absolute optional) = []
-declared w folder (item.Module name literal absolute optional) = map (λ path. record { name = name; path = path }) (end_of (link w folder (item.Module name literal absolute optional)))
-declared w folder (item.Recipe r) = []
+declared w folder i = declared_by (edge_of i) (link w folder i)
 
 -- what the items of a file import, in order
 abbrev pub imports_of : World → Text → List Text

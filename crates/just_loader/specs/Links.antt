@@ -2,14 +2,16 @@
 use Rattle.std.specs.Prelude.{ℕ, ◌==◌, Bool, List, [], ◌∷◌, ◌++◌, map, is_some, Option, None, Some, codes, if◌then◌else◌}
 use Rattle.std.specs.Option.{option_map}
 use Rattle.just_parts.specs.Bare.{bare_item}
+use Rattle.just_parts.specs.Edge.{Edge, Imports, Declares, edge_of}
 use Rattle.just_parts.specs.Entries.{find}
 use Rattle.just_parts.specs.Join.{clean_join}
 use Rattle.just_parts.specs.Name.{text_of_name}
+use Rattle.just_parts.specs.Syntax.{SyntaxAnswers}
 use Rattle.just_parts.specs.Token.{Place}
 use Rattle.just_parts.specs.declared.layers.name.Name.{Name}
 use Rattle.just_parts.specs.declared.layers.ast.Item.{Item}
-use Rattle.just_parts.specs.declared.layers.ast.Item.TheVariants as item
 use Rattle.just_parts.specs.declared.layers.ast.StringLiteral.{StringLiteral}
+use Rattle.just_parts.specs.declared.layers.config.Config.{Config}
 use Rattle.just_loader.specs.ModuleFile.{after, candidates, relative}
 use Rattle.just_loader.specs.Causes.{Cause, NoHome, NoImport, NoModule, SeveralFiles}
 use Rattle.just_loader.specs.Sources.{Files}
@@ -67,15 +69,22 @@ abbrev pub module_link : Files → Text → Name → Bool → Option (Option Tex
 module_link files folder name optional None = Fault NoHome
 module_link files folder name optional (Some path) = choice folder name optional (candidates files folder (text_of_name name) path)
 
--- what an enabled item leads to from its file's folder
-abbrev pub enabled_link : Files → Option Text → Text → Item → Link
-enabled_link files home folder (item.Import literal absolute optional) = import_link files folder literal.token optional (expanded home literal.cooked)
-enabled_link files home folder (item.Module name literal absolute optional) = module_link files folder name optional (given home literal)
-enabled_link files home folder (item.Recipe r) = Nowhere
+-- what leads to a file leads to from its own folder
+abbrev pub edge_link : Files → Option Text → Text → Option Edge → Link
+edge_link files home folder None = Nowhere
+edge_link files home folder (Some (Imports literal optional)) = import_link files folder literal.token optional (expanded home literal.cooked)
+edge_link files home folder (Some (Declares name literal optional)) = module_link files folder name optional (given home literal)
 
--- the same of any item
+-- the same of an item, where it is enabled
 abbrev pub link_in : Files → Option Text → (Item → Bool) → Text → Item → Link
-link_in files home enabled folder i = if enabled (bare_item i) then enabled_link files home folder i else Nowhere
+link_in files home enabled folder i = if enabled (bare_item i) then edge_link files home folder (edge_of i) else Nowhere
+
+-- the same, by what is configured and what the syntax layer answers
+abbrev pub link_by : Files → Config → SyntaxAnswers → Text → Item → Link
+link_by files config answers = link_in files config.home answers.enabled
+
+abbrev pub links_by : Files → Config → SyntaxAnswers → Text → List Item → List Link
+links_by files config answers folder = map (link_by files config answers folder)
 
 -- a path that may be there
 abbrev pub linked : Option Text → Link

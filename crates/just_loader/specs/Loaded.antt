@@ -6,10 +6,10 @@ use Rattle.just_graph.specs.Unfolding.{Key, Node, KeySteps, AreFirst, IsLeastDep
 use Rattle.just_graph.specs.declared.unfolding.Step.{Step}
 use Rattle.just_parts.specs.Bare.{bare_ast}
 use Rattle.just_parts.specs.Clean.{folder_of}
+use Rattle.just_parts.specs.Edge.{with_absolute}
 use Rattle.just_parts.specs.Syntax.{AreRising, IsFrom, PriorsAreDependencies, components_of, numbers}
 use Rattle.just_parts.specs.declared.layers.ast.Ast.{Ast}
 use Rattle.just_parts.specs.declared.layers.ast.Item.{Item}
-use Rattle.just_parts.specs.declared.layers.ast.Item.TheVariants as item
 use Rattle.just_parts.specs.declared.source.Source.{Source}
 use Rattle.just_loader.specs.Asts.{Key as AstKey, same_key}
 use Rattle.just_loader.specs.FileCircles.{IsFileOrder}
@@ -61,9 +61,7 @@ path_of_link (Fault cause) = None
 
 -- an item with the absolute path of what it leads to
 abbrev pub with_path : World → Text → Item → Item
-with_path w folder (item.Import literal absolute optional) = item.Import literal (path_of_link (link w folder (item.Import literal absolute optional))) optional
-with_path w folder (item.Module name literal absolute optional) = item.Module name literal (path_of_link (link w folder (item.Module name literal absolute optional))) optional
-with_path w folder (item.Recipe r) = item.Recipe r
+with_path w folder i = with_absolute (path_of_link (link w folder i)) i
 
 -- What a node's text says, as it came in, with the absolute paths of what it leads to.
 pub record IsAstOf (w : World) (scan : Scan) (n : Node) (ast : Ast) : Type 0 where

@@ -1,23 +1,22 @@
 -- The steps of loading: how each node's file comes in, and what its text says.
 use Rattle.std.specs.Prelude.{◌≡◌, ℕ, ◌+◌, ◌<◌, ◌≤◌, ◌^◌, List, [], ◌∷◌, ◌++◌, map, take, length, slice_get, Option, Some, None}
-use Rattle.std.specs.List.{sum_by}
+use Rattle.std.specs.List.{flat_map, sum_by}
 use Rattle.just_graph.specs.Unfolding.{Node, AreFirst, IsLeastDepth, offsets_after, steps}
 use Rattle.just_graph.specs.Unfolded.{AllTold, IsUnfolded, unfolded_key}
 use Rattle.just_graph.specs.declared.unfolding.Step.{Step}
 use Rattle.just_graph.specs.declared.unfolding.Unfolded.{Unfolded}
 use Rattle.just_parts.specs.Bare.{bare_ast}
 use Rattle.just_parts.specs.Clean.{folder_of}
-use Rattle.just_parts.specs.Syntax.{SyntaxAnswers, IsFrom, components_of}
+use Rattle.just_parts.specs.Syntax.{SyntaxAnswers, AreRising, IsFrom, components_of, numbers}
 use Rattle.just_parts.specs.declared.layers.ast.Ast.{Ast}
 use Rattle.just_parts.specs.declared.layers.ast.Item.{Item}
-use Rattle.just_parts.specs.declared.layers.ast.Item.TheVariants as item
 use Rattle.just_parts.specs.declared.layers.error.Error.{Error}
 use Rattle.just_parts.specs.declared.layers.error.Error.TheVariants as error
 use Rattle.just_parts.specs.declared.source.Source.{Source}
 use Rattle.just_loader.specs.Keys.{spends_at}
 use Rattle.just_loader.specs.Loaded.{CameIn, IsAstOf, file_at, name_at, with_path}
-use Rattle.just_loader.specs.Reached.{World, ast_of}
-use Rattle.just_loader.specs.Scanned.{IsScan}
+use Rattle.just_loader.specs.Reached.{World, ast_of, link}
+use Rattle.just_loader.specs.Scanned.{ArePlacesOf, IsScan, paths_in}
 use Rattle.just_loader.specs.declared.scanned.Scan.{Scan}
 
 abbrev Text : Type 0
@@ -33,6 +32,10 @@ pub record AreUnfolded (scan : Scan) (us : List Unfolded) : Type 0 where
   pub unfolded : IsUnfolded (steps scan.rows.items) 0 us
   pub depths : (k : ℕ) (u : Unfolded) → slice_get us k ≡ Some u → IsLeastDepth (steps scan.rows.items) 0 (unfolded_key u) u.depth
   pub shallow : (k : ℕ) (u : Unfolded) → slice_get us k ≡ Some u → u.depth < length us
+
+-- what holds in each world that the scan is of
+abbrev pub InWorlds : Scan → SyntaxAnswers → (World → Type 0) → Type 0
+InWorlds scan answers P = (w : World) → IsScanBy w scan answers → P w
 
 -- the nodes that the elements tell
 abbrev pub AreNodes : Scan → List Unfolded → List Node → Type 0
@@ -59,16 +62,14 @@ pub record ComesNext (scan : Scan) (before : Source) (s : Step) (source : Source
 abbrev pub CameInSoFar : Scan → List Node → List Source → Type 0
 CameInSoFar scan ns sources = (k : ℕ) (n : Node) (source : Source) → slice_get ns k ≡ Some n → slice_get sources k ≡ Some source → CameIn scan n source
 
+-- how the file of the node at a place came in
+abbrev pub CameInAt : Scan → List Unfolded → ℕ → Source → Type 0
+CameInAt scan us place source = (ns : List Node) (n : Node) → AreNodes scan us ns → slice_get ns place ≡ Some n → CameIn scan n source
+
 -- how the file of each node came in
 pub record AreSources (scan : Scan) (ns : List Node) (sources : List Source) : Type 0 where
   pub count : length sources ≡ length ns
   pub came : CameInSoFar scan ns sources
-
--- an item with an absolute path, where it is one of a file
-abbrev pub with_absolute : Option Text → Item → Item
-with_absolute path (item.Import literal absolute optional) = item.Import literal path optional
-with_absolute path (item.Module name literal absolute optional) = item.Module name literal path optional
-with_absolute path (item.Recipe r) = item.Recipe r
 
 -- What the text at a path says, where its file came in like that.
 pub record IsSaid (w : World) (path : Text) (source : Source) (ast : Ast) : Type 0 where
@@ -109,3 +110,14 @@ Stops w scan us (error.Invocation e) = ⊥
 Stops w scan us (error.Run e) = ⊥
 Stops w scan us error.Exhausted = (k : ℕ) × (k ≤ length us) × (2 ^ 64 ≤ spent_by w scan (take k us))
 Stops w scan us error.Memory = Unit {0}
+
+-- items with the paths of the files at the places beside them
+abbrev pub HavePaths : Scan → List (Option ℕ) → List Item → List Item → Type 0
+HavePaths scan targets items made = (w : World) (folder : Text) → ArePlacesOf (paths_in scan.files.items) (map (link w folder) items) targets → made ≡ map (with_path w folder) items
+
+-- what the text of each node says, in each world that the scan is of, and that its numbers rise
+abbrev pub AreParsedBy : SyntaxAnswers → Scan → List Unfolded → List Ast → Type 0
+AreParsedBy answers scan us asts = (w : World) (ns : List Node) → IsScanBy w scan answers → AreNodes scan us ns → AreParsed w scan ns asts
+
+abbrev pub AreNumberedBy : SyntaxAnswers → Scan → List Unfolded → List Ast → Type 0
+AreNumberedBy answers scan us asts = (w : World) → IsScanBy w scan answers → AreRising 0 (flat_map (λ (ast : Ast). numbers ast.items) asts) (spent_by w scan us)

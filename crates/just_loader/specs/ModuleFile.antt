@@ -1,10 +1,16 @@
 -- The files of a module.
-use Rattle.std.specs.Prelude.{ℕ, ◌==◌, ◌||◌, Bool, false, List, [], ◌∷◌, ◌++◌, Option, None, Some, is_some, unwrap_or, codes, if◌then◌else◌}
+use Rattle.std.specs.Prelude.{◌≡◌, ◌<◌, ◌⊎◌, ℕ, ◌==◌, ◌||◌, Bool, false, List, [], ◌∷◌, ◌++◌, map, length, Option, None, Some, is_some, option_map, unwrap_or, codes, if◌then◌else◌}
+use Rattle.std.specs.Borrow.{Bor}
 use Rattle.std.specs.List.{filter}
 use Rattle.std.specs.Map.{keys_of}
 use Rattle.std.specs.Str.{bytes_eq, str_eq_ignore_ascii_case}
 use Rattle.just_parts.specs.Entries.{find}
 use Rattle.just_parts.specs.Join.{clean_join}
+use Rattle.just_parts.specs.Name.{text_of_name}
+use Rattle.just_parts.specs.declared.layers.name.Name.{Name}
+use Rattle.just_parts.specs.declared.layers.error.Error.{Error}
+use Rattle.just_parts.specs.declared.layers.error.Error.TheVariants as error
+use Rattle.just_parts.specs.declared.layers.error.LoadError.TheVariants as load
 use Rattle.just_loader.specs.Sources.{Files}
 
 abbrev Text : Type 0
@@ -54,3 +60,11 @@ or_else (x ∷ xs) more = x ∷ xs
 abbrev pub candidates : Files → Text → Text → Option Text → List Text
 candidates files parent name (Some path) = or_else (file_at files (clean_join parent path)) (files_in files (clean_join parent path))
 candidates files parent name None = files_in files (clean_join parent name) ++ file_at files (clean_join parent (name ++ codes ".just"))
+
+-- the same of the module with a name, where a path may be lent
+abbrev pub module_files : Files → Text → Name → Option (Bor Text) → List Text
+module_files files parent name path = candidates files parent (text_of_name name) (option_map (λ p. p.now) path)
+
+-- there are several, all of which are told; or memory is refused
+abbrev pub TellsSeveral : Text → Name → List Text → Error → Type 0
+TellsSeveral parent name found e = (e ≡ error.Memory) ⊎ ((1 < length found) × (e ≡ error.Load (load.AmbiguousModuleFile name (map (relative parent) found))))

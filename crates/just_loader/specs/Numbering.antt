@@ -1,5 +1,5 @@
 -- Texts under numbers.
-use Rattle.std.specs.Prelude.{◌≡◌, ◌↔◌, ℕ, List, Option, Some, map, slice_get}
+use Rattle.std.specs.Prelude.{◌≡◌, ◌↔◌, ◌⊎◌, ℕ, List, [], ◌∷◌, ◌++◌, Option, Some, map, slice_get}
 use Rattle.std.specs.HashMap.{get}
 use Rattle.std.specs.Str.{bytes_eq}
 use Rattle.just_parts.specs.Clean.{IsClean}
@@ -19,12 +19,23 @@ AreOnce texts = (i j : ℕ) (text : List ℕ) → slice_get texts i ≡ Some tex
 abbrev pub IsNumbering : List (List ℕ) → (List ℕ → Option ℕ) → Type 0
 IsNumbering texts numbers = (text : List ℕ) (i : ℕ) → (slice_get texts i ≡ Some text) ↔ (numbers text ≡ Some i)
 
+-- a list, or one with the text behind it
+abbrev pub HasAlso : List (List ℕ) → List ℕ → List (List ℕ) → Type 0
+HasAlso old text new = (new ≡ old) ⊎ (new ≡ old ++ text ∷ [])
+
 -- the paths of files, and the texts of names
 abbrev pub paths_of : List SourceFile → List (List ℕ)
 paths_of files = map (λ (f : SourceFile). f.path) files
 
 abbrev pub texts_of : List Name → List (List ℕ)
 texts_of names = map text_of_name names
+
+-- the paths that are found, and the texts that are numbered
+abbrev pub paths_found : Found → List (List ℕ)
+paths_found found = paths_of found.files.items
+
+abbrev pub texts_numbered : Names → List (List ℕ)
+texts_numbered names = texts_of names.names.items
 
 -- a file of the source map, under a clean path
 abbrev pub IsFile : Files → SourceFile → Type 0

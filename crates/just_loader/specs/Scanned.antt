@@ -7,13 +7,15 @@ use Rattle.just_graph.specs.Unfolding.{HasStep}
 use Rattle.just_graph.specs.declared.unfolding.Step.{Step}
 use Rattle.just_parts.specs.Bare.{bare_item}
 use Rattle.just_parts.specs.Clean.{IsClean, folder_of}
+use Rattle.just_parts.specs.Edge.{Edge, Imports, Declares, edge_of}
 use Rattle.just_parts.specs.Name.{text_of_name}
 use Rattle.just_parts.specs.declared.layers.ast.Item.{Item}
-use Rattle.just_parts.specs.declared.layers.ast.Item.TheVariants as item
 use Rattle.just_loader.specs.Links.{Link, Nowhere, To, Fault}
-use Rattle.just_loader.specs.Numbering.{AreOnce, texts_of}
+use Rattle.just_loader.specs.Numbering.{AreOnce, paths_found, texts_numbered, texts_of}
 use Rattle.just_loader.specs.Reached.{World, Reached, items_of, link, relative_to_root}
 use Rattle.just_loader.specs.Sources.{text_at}
+use Rattle.just_loader.specs.declared.found.Found.{Found}
+use Rattle.just_loader.specs.declared.found.Names.{Names}
 use Rattle.just_loader.specs.declared.scanned.Scan.{Scan}
 use Rattle.just_loader.specs.declared.scanned.ScannedFile.{ScannedFile}
 
@@ -35,16 +37,16 @@ ArePlacesOf paths [] (target ∷ targets) = ⊥
 ArePlacesOf paths (link ∷ links) [] = ⊥
 ArePlacesOf paths (link ∷ links) (target ∷ targets) = IsPlaceOf paths link target × ArePlacesOf paths links targets
 
--- the step of an item to a place: that of an import has the offset of its text, and that of a module enters the number of its name
-abbrev pub IsStepTo : List Text → ℕ → Item → List Step → Type 0
-IsStepTo names place (item.Import literal absolute optional) steps = steps ≡ record { target = place; offset = literal.token.offset; enters = None } ∷ []
-IsStepTo names place (item.Module name literal absolute optional) steps = (number : ℕ) × (slice_get names number ≡ Some (text_of_name name)) × (steps ≡ record { target = place; offset = 0; enters = Some number } ∷ [])
-IsStepTo names place (item.Recipe r) steps = steps ≡ []
+-- the step to a place of what leads to a file: that of an import has the offset of its text, and that of a module enters the number of its name
+abbrev pub IsStepTo : List Text → ℕ → Option Edge → List Step → Type 0
+IsStepTo names place (Some (Imports literal optional)) steps = steps ≡ record { target = place; offset = literal.token.offset; enters = None } ∷ []
+IsStepTo names place (Some (Declares name literal optional)) steps = (number : ℕ) × (slice_get names number ≡ Some (text_of_name name)) × (steps ≡ record { target = place; offset = 0; enters = Some number } ∷ [])
+IsStepTo names place None steps = steps ≡ []
 
 -- no step where there is no place
 abbrev pub IsStepOf : List Text → Item → Option ℕ → List Step → Type 0
 IsStepOf names i None steps = steps ≡ []
-IsStepOf names i (Some place) steps = IsStepTo names place i steps
+IsStepOf names i (Some place) steps = IsStepTo names place (edge_of i) steps
 
 -- the steps of items to the places beside them, in order
 abbrev pub AreSteps : List Text → List Item → List (Option ℕ) → List Step → Type 0
@@ -89,3 +91,18 @@ Grows P old new = (more : List Text) × (new ≡ old ++ more) × ((text : Text) 
 -- a list with more behind it
 abbrev pub Extends : List Text → List Text → Type 0
 Extends old new = (more : List Text) × (new ≡ old ++ more)
+
+-- more is found, of the property
+abbrev pub Finds : (Text → Type 0) → Found → Found → Type 0
+Finds P old new = Grows P (paths_found old) (paths_found new)
+
+-- what links lead to is found, and the files have places
+abbrev pub FindsAll : List Link → Found → Found → Type 0
+FindsAll links = Finds (λ path. Contains links (To path))
+
+abbrev pub ArePlacesIn : Found → List Link → List (Option ℕ) → Type 0
+ArePlacesIn found = ArePlacesOf (paths_found found)
+
+-- the file is scanned as far as files and names are known
+abbrev pub IsScannedIn : World → Found → Names → ScannedFile → List Step → Type 0
+IsScannedIn w found names = IsScanned w (paths_found found) (texts_numbered names)

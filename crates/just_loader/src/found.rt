@@ -1,9 +1,9 @@
 //! What a scan has found: files under their places, and names under their numbers.
 
-ghost use Rattle.std.specs.Prelude.{◌≡◌, ◌⊎◌, ◌++◌, ◌∷◌, [], IsSome, Some, IfOk, OnOk, slice_get};
+ghost use Rattle.std.specs.Prelude.{◌≡◌, [], IsSome, Some, IfOk, OnOk, slice_get};
 ghost use Rattle.just_parts.specs.Entries.{find};
 ghost use Rattle.just_parts.specs.Name.{text_of_name};
-ghost use Rattle.just_loader.specs.Numbering.{AreFound, AreNumbered, paths_of, texts_of};
+ghost use Rattle.just_loader.specs.Numbering.{AreFound, AreNumbered, HasAlso, paths_found, texts_numbered};
 ghost use Rattle.just_loader.specs.Sources.{Files};
 
 use crate::sources::{SourceFile, Sources};
@@ -42,8 +42,8 @@ impl<'src> Found<'src> {
     pub(crate) fn place(&mut self, sources: &Sources<'src>, path: &str) -> Result<usize, AllocError>
         requires there { IsSome (find path.now sources.now) }
         requires found { AreFound sources.now self.old }
-        ensures place { IfOk result (λ place. slice_get (paths_of self.new.files.items) place ≡ Some path.now) }
-        ensures files { OnOk result ((paths_of self.new.files.items ≡ paths_of self.old.files.items) ⊎ (paths_of self.new.files.items ≡ paths_of self.old.files.items ++ path.now ∷ [])) }
+        ensures place { IfOk result (λ place. slice_get (paths_found self.new) place ≡ Some path.now) }
+        ensures files { OnOk result (HasAlso (paths_found self.old) path.now (paths_found self.new)) }
         ensures found { OnOk result (AreFound sources.now self.new) }
     {
         let Some(file) = sources.file(path) else {
@@ -74,8 +74,8 @@ impl<'src> Names<'src> {
     // The number of a name's text. Where it is not there the name is put last.
     pub(crate) fn number(&mut self, name: &Name<'src>) -> Result<usize, AllocError>
         requires { AreNumbered self.old }
-        ensures number { IfOk result (λ number. slice_get (texts_of self.new.names.items) number ≡ Some (text_of_name name.now)) }
-        ensures names { OnOk result ((texts_of self.new.names.items ≡ texts_of self.old.names.items) ⊎ (texts_of self.new.names.items ≡ texts_of self.old.names.items ++ text_of_name name.now ∷ [])) }
+        ensures number { IfOk result (λ number. slice_get (texts_numbered self.new) number ≡ Some (text_of_name name.now)) }
+        ensures names { OnOk result (HasAlso (texts_numbered self.old) (text_of_name name.now) (texts_numbered self.new)) }
         ensures numbered { OnOk result (AreNumbered self.new) }
     {
         let text = BorrowedText::new(name.lexeme());

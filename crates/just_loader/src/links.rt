@@ -1,16 +1,17 @@
 //! What the items of a file lead to.
 
 ghost use Rattle.std.specs.Prelude.{◌≡◌, None, Some, is_some, map, option_map, string_bytes, IfOk, IfErr};
+ghost use Rattle.just_parts.specs.Edge.{Imports};
 ghost use Rattle.just_parts.specs.Entries.{find};
 ghost use Rattle.just_parts.specs.Join.{clean_join};
-ghost use Rattle.just_loader.specs.Links.{Nowhere, To, Fault, without_slashes, expanded, given, import_link, module_link, enabled_link, link_in, linked};
+ghost use Rattle.just_loader.specs.Links.{Nowhere, To, Fault, without_slashes, expanded, given, module_link, edge_link, link_by, linked};
 ghost use Rattle.just_loader.specs.Causes.{NoHome, Reports};
 
 use crate::module_file::{after, find_module_file};
 use crate::sources::Sources;
 use just_data::Text;
 use just_parts::clean_join;
-use just_parts::layers::{Config, Error, Item, LoadError, Name, StringLiteral, Syntax};
+use just_parts::layers::{Config, Edge, Error, Item, LoadError, Name, StringLiteral, Syntax};
 use std::alloc::Global;
 
 // What a text has after its leading slashes.
@@ -50,8 +51,8 @@ fn link_import<'src>(
     literal: &StringLiteral<'src>,
     optional: bool,
 ) -> Result<Option<Text>, Error<'src>>
-    ensures path { IfOk result (λ path. import_link sources.now folder.now literal.now.token optional (expanded config.now.home literal.now.cooked) ≡ linked path) }
-    ensures error { IfErr result (Reports (λ c. import_link sources.now folder.now literal.now.token optional (expanded config.now.home literal.now.cooked) ≡ Fault c)) }
+    ensures path { IfOk result (λ path. edge_link sources.now config.now.home folder.now (Some (Imports literal.now optional)) ≡ linked path) }
+    ensures error { IfErr result (Reports (λ c. edge_link sources.now config.now.home folder.now (Some (Imports literal.now optional)) ≡ Fault c)) }
 {
     let text = expand(alloc, &config.home, literal.cooked.as_str())?;
     let path = clean_join(alloc, folder, text.as_str())?;
@@ -114,24 +115,23 @@ pub(crate) fn link<'src, S: Syntax>(
     folder: &str,
     item: &Item<'src>,
 ) -> Result<Option<Text>, Error<'src>>
-    ensures path { IfOk result (λ path. link_in sources.now config.now.home ((S.answers syntax.now).enabled) folder.now item.now ≡ linked path) }
-    ensures error { IfErr result (Reports (λ c. link_in sources.now config.now.home ((S.answers syntax.now).enabled) folder.now item.now ≡ Fault c)) }
+    ensures path { IfOk result (λ path. link_by sources.now config.now (S.answers syntax.now) folder.now item.now ≡ linked path) }
+    ensures error { IfErr result (Reports (λ c. link_by sources.now config.now (S.answers syntax.now) folder.now item.now ≡ Fault c)) }
 {
     if !syntax.is_enabled(item) {
         return Ok(None);
     }
-    match item {
-        Item::Import {
-            relative,
-            optional,
-            ..
-        } => link_import(alloc, config, sources, folder, relative, *optional),
-        Item::Module {
-            name,
-            relative,
-            optional,
-            ..
-        } => link_module(alloc, config, sources, folder, name, relative, *optional),
-        Item::Recipe(_) => Ok(None),
+    match item.edge() {
+        Some(Edge::Import { relative, optional }) => {
+            link_import(alloc, config, sources, folder, relative, optional)
+        }
+        Some(
+            Edge::Module {
+                name,
+                relative,
+                optional,
+            },
+        ) => link_module(alloc, config, sources, folder, name, relative, optional),
+        None => Ok(None),
     }
 }

@@ -2,7 +2,7 @@
 
 ghost use Rattle.std.specs.Prelude.{◌≡◌, ◌+◌, ◌^◌, ◌<◌, ℕ, List, Some, map, length, slice_get, IfSome, IfOk, IfErr, OnOk};
 ghost use Rattle.std.specs.HashMap.{get};
-ghost use Rattle.std.specs.List.{All, flat_map};
+ghost use Rattle.std.specs.List.{All};
 ghost use Rattle.std.specs.Option.{option_map};
 ghost use Rattle.just_graph.specs.Unfolding.{Node};
 ghost use Rattle.just_graph.specs.declared.unfolding.Unfolded.{Unfolded};
@@ -12,10 +12,10 @@ ghost use Rattle.just_parts.specs.declared.layers.ast.Ast.{Ast};
 ghost use Rattle.just_loader.specs.Asts.{same_key};
 ghost use Rattle.just_loader.specs.Causes.{Keeps, Reports};
 ghost use Rattle.just_loader.specs.Keys.{NamesInFiles, spends_at};
-ghost use Rattle.just_loader.specs.Loaded.{CameIn, IsLoaded, at_first, file_at, with_path};
-ghost use Rattle.just_loader.specs.Loading.{AreNodes, AreParsed, AreSources, AreUnfolded, CameInSoFar, ComesNext, IsSaid, IsScanBy, Stops, StopsAt, spent_by, with_absolute};
+ghost use Rattle.just_loader.specs.Loaded.{IsLoaded, at_first, file_at};
+ghost use Rattle.just_loader.specs.Loading.{AreNodes, AreNumberedBy, AreParsedBy, AreSources, AreUnfolded, CameInAt, CameInSoFar, ComesNext, HavePaths, InWorlds, IsSaid, IsScanBy, Stops, StopsAt, spent_by};
 ghost use Rattle.just_loader.specs.Parsed.{AreHeld, AreKeyed, relative_at};
-ghost use Rattle.just_loader.specs.Reached.{World, world_of, link};
+ghost use Rattle.just_loader.specs.Reached.{World, link, world_of};
 ghost use Rattle.just_loader.specs.Scanned.{ArePlacesOf, IsPlaceOf, IsScan, paths_in};
 
 use crate::circles::check_circles;
@@ -63,7 +63,7 @@ fn source_of<'src>(
     requires nodes { AreUnfolded scan.now nodes.now }
     requires node { slice_get nodes.now (length sources.now) ≡ Some node.now }
     requires sources { (ns : List Node) → AreNodes scan.now nodes.now ns → CameInSoFar scan.now ns sources.now }
-    ensures came { IfOk result (λ source. (ns : List Node) (n : Node) → AreNodes scan.now nodes.now ns → slice_get ns (length sources.now) ≡ Some n → CameIn scan.now n source) }
+    ensures came { IfOk result (CameInAt scan.now nodes.now (length sources.now)) }
     ensures error { IfErr result (λ e. e ≡ Error.Memory) }
 {
     let mut source = match node.origin {
@@ -111,35 +111,6 @@ fn target_path<'src>(
     Ok(Some(path))
 }
 
-// An item with an absolute path, where it is one of a file.
-fn with_absolute<'src>(item: Item<'src>, path: Option<Text>) -> Item<'src>
-    ensures { result ≡ with_absolute path item.entry }
-{
-    match item {
-        Item::Import {
-            relative,
-            absolute: _absolute,
-            optional,
-        } => Item::Import {
-            relative,
-            absolute: path,
-            optional,
-        },
-        Item::Module {
-            name,
-            relative,
-            absolute: _absolute,
-            optional,
-        } => Item::Module {
-            name,
-            relative,
-            absolute: path,
-            optional,
-        },
-        Item::Recipe(recipe) => Item::Recipe(recipe),
-    }
-}
-
 // Items with the absolute paths of the files to which they lead.
 fn with_paths<'src>(
     alloc: Global,
@@ -148,12 +119,12 @@ fn with_paths<'src>(
     targets: &[Option<usize>],
 ) -> Result<Sequence<Item<'src>>, AllocError>
     requires { (w : World) × (folder : List ℕ) × ArePlacesOf (paths_in scan.now.files.items) (map (link w folder) items) targets.now }
-    ensures { IfOk result (λ made. (w : World) (folder : List ℕ) → ArePlacesOf (paths_in scan.now.files.items) (map (link w folder) items.entry) targets.now → made ≡ map (with_path w folder) items.entry) }
+    ensures { IfOk result (HavePaths scan.now targets.now items.entry) }
 {
     let mut linked = Vec::new(alloc);
     for item in items.into_vec() {
         let path = target_path(alloc, scan, targets[linked.len()])?;
-        linked.push(with_absolute(item, path))?;
+        linked.push(item.with_absolute(path))?;
     }
     Ok(Sequence::from_vec(linked))
 }
@@ -170,12 +141,12 @@ fn parse_file<'src, S: Syntax>(
     requires scan { (w : World) × IsScanBy w scan.now (S.answers syntax.now) }
     requires place { place < length scan.now.files.items }
     requires few { numerator.old.next < 2 ^ 64 }
-    ensures said { IfOk result (λ ast. (w : World) → IsScanBy w scan.now (S.answers syntax.now) → IsSaid w (file_at scan.now place) source.now ast) }
+    ensures said { IfOk result (λ ast. InWorlds scan.now (S.answers syntax.now) (λ w. IsSaid w (file_at scan.now place) source.now ast)) }
     ensures numbers { IfOk result (λ ast. AreRising numerator.old.next (numbers ast.items) numerator.new.next) }
     ensures priors { IfOk result (λ ast. All PriorsAreDependencies ast.items) }
-    ensures spent { OnOk result ((w : World) → IsScanBy w scan.now (S.answers syntax.now) → numerator.new.next ≡ numerator.old.next + spends_at w (file_at scan.now place)) }
+    ensures spent { OnOk result (InWorlds scan.now (S.answers syntax.now) (λ w. numerator.new.next ≡ numerator.old.next + spends_at w (file_at scan.now place))) }
     ensures fits { OnOk result (numerator.new.next < 2 ^ 64) }
-    ensures stopped { IfErr result (λ e. (w : World) → IsScanBy w scan.now (S.answers syntax.now) → StopsAt numerator.old.next (spends_at w (file_at scan.now place)) e) }
+    ensures stopped { IfErr result (λ e. InWorlds scan.now (S.answers syntax.now) (λ w. StopsAt numerator.old.next (spends_at w (file_at scan.now place)) e)) }
 {
     let file = &scan.files[place];
     let Ast {
@@ -205,11 +176,11 @@ fn parse_all<'src, S: Syntax>(
 ) -> Result<Vec<Ast<'src>>, Error<'src>>
     requires scan { (w : World) × IsScanBy w scan.now (S.answers syntax.now) }
     requires nodes { AreUnfolded scan.now nodes.now }
-    ensures parsed { IfOk result (λ asts. (w : World) (ns : List Node) → IsScanBy w scan.now (S.answers syntax.now) → AreNodes scan.now nodes.now ns → AreParsed w scan.now ns asts.items) }
-    ensures numbers { IfOk result (λ asts. (w : World) → IsScanBy w scan.now (S.answers syntax.now) → AreRising 0 (flat_map (λ (ast : Ast). numbers ast.items) asts.items) (spent_by w scan.now nodes.now)) }
+    ensures parsed { IfOk result (λ asts. AreParsedBy (S.answers syntax.now) scan.now nodes.now asts.items) }
+    ensures numbers { IfOk result (λ asts. AreNumberedBy (S.answers syntax.now) scan.now nodes.now asts.items) }
     ensures priors { IfOk result (λ asts. All (λ (ast : Ast). All PriorsAreDependencies ast.items) asts.items) }
-    ensures fits { OnOk result ((w : World) → IsScanBy w scan.now (S.answers syntax.now) → spent_by w scan.now nodes.now < 2 ^ 64) }
-    ensures stopped { IfErr result (λ e. (w : World) → IsScanBy w scan.now (S.answers syntax.now) → Stops w scan.now nodes.now e) }
+    ensures fits { OnOk result (InWorlds scan.now (S.answers syntax.now) (λ w. spent_by w scan.now nodes.now < 2 ^ 64)) }
+    ensures stopped { IfErr result (λ e. InWorlds scan.now (S.answers syntax.now) (λ w. Stops w scan.now nodes.now e)) }
 {
     let sources = sources_of(alloc, scan, nodes)?;
     let mut numerator = Numerator::new();

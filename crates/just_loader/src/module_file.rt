@@ -1,7 +1,6 @@
-ghost use Rattle.std.specs.Prelude.{◌≡◌, ◌⊎◌, ◌<◌, [], Some, None, length, map, string_bytes, option_map, option_to_list, IfOk, IfErr};
+ghost use Rattle.std.specs.Prelude.{◌≡◌, [], Some, None, map, string_bytes, option_map, option_to_list, IfOk, IfErr};
 ghost use Rattle.just_parts.specs.Modulepath.{texts};
-ghost use Rattle.just_parts.specs.Token.{lexeme};
-ghost use Rattle.just_loader.specs.ModuleFile.{after, slashed, relative, is_module_name, file_at, candidates};
+ghost use Rattle.just_loader.specs.ModuleFile.{after, slashed, relative, is_module_name, file_at, candidates, module_files, TellsSeveral};
 
 use crate::sources::Sources;
 use just_data::{Sequence, Text};
@@ -109,7 +108,7 @@ fn choose<'src>(
     found: &[&str],
 ) -> Result<Option<Text>, Error<'src>>
     ensures found { IfOk result (λ file. option_to_list file ≡ texts found.now) }
-    ensures error { IfErr result (λ e. (e ≡ Error.Memory) ⊎ ((1 < length found.now) × (e ≡ Error.Load (LoadError.AmbiguousModuleFile «module».now (map (relative parent.now) (texts found.now)))))) }
+    ensures error { IfErr result (TellsSeveral parent.now «module».now (texts found.now)) }
 {
     match found {
         [] => Ok(None),
@@ -130,9 +129,8 @@ pub fn find_module_file<'src>(
     module: &Name<'src>,
     path: Option<&str>,
 ) -> Result<Option<Text>, Error<'src>>
-    ensures found { IfOk result (λ file. option_to_list file ≡ candidates sources.now parent.now (lexeme «module».now.token) (option_map (λ p. p.now) path.entry)) }
-    ensures error { let found = candidates sources.now parent.now (lexeme «module».now.token) (option_map (λ p. p.now) path.entry) in
-        IfErr result (λ e. (e ≡ Error.Memory) ⊎ ((1 < length found) × (e ≡ Error.Load (LoadError.AmbiguousModuleFile «module».now (map (relative parent.now) found))))) }
+    ensures found { IfOk result (λ file. option_to_list file ≡ module_files sources.now parent.now «module».now path.entry) }
+    ensures error { IfErr result (TellsSeveral parent.now «module».now (module_files sources.now parent.now «module».now path.entry)) }
 {
     let found = match path {
         Some(path) => find_at_path(alloc, sources, parent, path)?,

@@ -7,13 +7,13 @@ ghost use Rattle.just_parts.specs.Bare.{bare_item};
 ghost use Rattle.just_parts.specs.Clean.{IsClean};
 ghost use Rattle.just_parts.specs.Entries.{find};
 ghost use Rattle.just_parts.specs.Syntax.{Refuses};
-ghost use Rattle.just_loader.specs.Links.{To, Fault, link_in};
+ghost use Rattle.just_loader.specs.Links.{To, Fault, link_by, links_by};
 ghost use Rattle.just_loader.specs.ModuleFile.{relative};
-ghost use Rattle.just_loader.specs.Numbering.{AreFound, AreNumbered, IsFile, paths_of, texts_of};
+ghost use Rattle.just_loader.specs.Numbering.{AreFound, AreNumbered, IsFile, paths_found, texts_numbered};
 ghost use Rattle.just_loader.specs.Reached.{LeadsTo, NamesAt, NamesInScan, items_said, world_of};
 ghost use Rattle.just_loader.specs.Causes.{Keeps, Reports};
 ghost use Rattle.just_loader.specs.Sources.{text_at};
-ghost use Rattle.just_loader.specs.Scanned.{IsPlaceOf, ArePlacesOf, IsStepOf, AreSteps, IsScanned, IsScan, Grows, Extends};
+ghost use Rattle.just_loader.specs.Scanned.{ArePlacesIn, IsPlaceOf, IsStepOf, AreSteps, IsScannedIn, IsScan, Finds, FindsAll, Extends};
 
 use crate::found::{Found, Names};
 use crate::links::link;
@@ -23,7 +23,7 @@ use crate::sources::{SourceFile, Sources};
 use just_data::{BorrowedText, Sequence};
 use just_graph::unfolding::Step;
 use just_parts::Source;
-use just_parts::layers::{Config, Error, Item, Numerator, Syntax};
+use just_parts::layers::{Config, Edge, Error, Item, Numerator, Syntax};
 use just_parts::source::folder_of;
 use std::alloc::{AllocError, Global};
 
@@ -71,10 +71,10 @@ fn target<'src, S: Syntax>(
     found: &mut Found<'src>,
 ) -> Result<Option<usize>, Error<'src>>
     requires { AreFound sources.now found.old }
-    ensures place { IfOk result (IsPlaceOf (paths_of found.new.files.items) (link_in sources.now config.now.home ((S.answers syntax.now).enabled) folder.now item.now)) }
-    ensures grows { OnOk result (Grows (λ path. link_in sources.now config.now.home ((S.answers syntax.now).enabled) folder.now item.now ≡ To path) (paths_of found.old.files.items) (paths_of found.new.files.items)) }
+    ensures place { IfOk result (IsPlaceOf (paths_found found.new) (link_by sources.now config.now (S.answers syntax.now) folder.now item.now)) }
+    ensures grows { OnOk result (Finds (λ path. link_by sources.now config.now (S.answers syntax.now) folder.now item.now ≡ To path) found.old found.new) }
     ensures found { OnOk result (AreFound sources.now found.new) }
-    ensures error { IfErr result (Reports (λ c. link_in sources.now config.now.home ((S.answers syntax.now).enabled) folder.now item.now ≡ Fault c)) }
+    ensures error { IfErr result (Reports (λ c. link_by sources.now config.now (S.answers syntax.now) folder.now item.now ≡ Fault c)) }
 {
     match link(alloc, config, syntax, sources, folder, item)? {
         Some(path) => Ok(Some(found.place(sources, path.as_str())?)),
@@ -93,10 +93,10 @@ fn targets<'src, S: Syntax>(
     found: &mut Found<'src>,
 ) -> Result<Vec<Option<usize>>, Error<'src>>
     requires { AreFound sources.now found.old }
-    ensures places { IfOk result (λ targets. ArePlacesOf (paths_of found.new.files.items) (map (link_in sources.now config.now.home ((S.answers syntax.now).enabled) folder.now) items.now) targets.items) }
-    ensures grows { OnOk result (Grows (λ path. Contains (map (link_in sources.now config.now.home ((S.answers syntax.now).enabled) folder.now) items.now) (To path)) (paths_of found.old.files.items) (paths_of found.new.files.items)) }
+    ensures places { IfOk result (λ targets. ArePlacesIn found.new (links_by sources.now config.now (S.answers syntax.now) folder.now items.now) targets.items) }
+    ensures grows { OnOk result (FindsAll (links_by sources.now config.now (S.answers syntax.now) folder.now items.now) found.old found.new) }
     ensures found { OnOk result (AreFound sources.now found.new) }
-    ensures error { IfErr result (Reports (λ c. Contains (map (link_in sources.now config.now.home ((S.answers syntax.now).enabled) folder.now) items.now) (Fault c))) }
+    ensures error { IfErr result (Reports (λ c. Contains (links_by sources.now config.now (S.answers syntax.now) folder.now items.now) (Fault c))) }
 {
     let mut targets = Vec::new(alloc);
     for item in items {
@@ -113,22 +113,22 @@ fn push_step<'src>(
     row: &mut Vec<Step>,
 ) -> Result<(), AllocError>
     requires { AreNumbered names.old }
-    ensures pushed { OnOk result ((steps : List Step) × IsStepOf (texts_of names.new.names.items) item.now target steps × (row.new.items ≡ row.old.items ++ steps)) }
-    ensures extends { OnOk result (Extends (texts_of names.old.names.items) (texts_of names.new.names.items)) }
+    ensures pushed { OnOk result ((steps : List Step) × IsStepOf (texts_numbered names.new) item.now target steps × (row.new.items ≡ row.old.items ++ steps)) }
+    ensures extends { OnOk result (Extends (texts_numbered names.old) (texts_numbered names.new)) }
     ensures numbered { OnOk result (AreNumbered names.new) }
 {
     let Some(place) = target else {
         return Ok(());
     };
-    match item {
-        Item::Import { relative, .. } => {
+    match item.edge() {
+        Some(Edge::Import { relative, .. }) => {
             row.push(Step {
                 target: place,
                 offset: relative.token.offset(),
                 enters: None,
             })?;
         }
-        Item::Module { name, .. } => {
+        Some(Edge::Module { name, .. }) => {
             let number = names.number(name)?;
             row.push(Step {
                 target: place,
@@ -136,7 +136,7 @@ fn push_step<'src>(
                 enters: Some(number),
             })?;
         }
-        Item::Recipe(_) => {}
+        None => {}
     }
     Ok(())
 }
@@ -150,8 +150,8 @@ fn row<'src>(
 ) -> Result<Vec<Step>, AllocError>
     requires count { length targets.now ≡ length items.now }
     requires numbered { AreNumbered names.old }
-    ensures steps { IfOk result (λ row. AreSteps (texts_of names.new.names.items) items.now targets.now row.items) }
-    ensures extends { OnOk result (Extends (texts_of names.old.names.items) (texts_of names.new.names.items)) }
+    ensures steps { IfOk result (λ row. AreSteps (texts_numbered names.new) items.now targets.now row.items) }
+    ensures extends { OnOk result (Extends (texts_numbered names.old) (texts_numbered names.new)) }
     ensures numbered { OnOk result (AreNumbered names.new) }
 {
     let mut row = Vec::new(alloc);
@@ -177,10 +177,10 @@ fn scan_file<'src, S: Syntax>(
     requires found { AreFound sources.now found.old }
     requires numbered { AreNumbered names.old }
     ensures path { IfOk result (λ s. s.0.path ≡ file.now.path) }
-    ensures scanned { IfOk result (λ s. IsScanned (world_of sources.now config.now (S.answers syntax.now) root.now) (paths_of found.new.files.items) (texts_of names.new.names.items) s.0 s.1.items) }
+    ensures scanned { IfOk result (λ s. IsScannedIn (world_of sources.now config.now (S.answers syntax.now) root.now) found.new names.new s.0 s.1.items) }
     ensures kept { IfOk result (λ _. Keeps (NamesAt (world_of sources.now config.now (S.answers syntax.now) root.now) file.now.path)) }
-    ensures grows { OnOk result (Grows (LeadsTo (world_of sources.now config.now (S.answers syntax.now) root.now) file.now.path) (paths_of found.old.files.items) (paths_of found.new.files.items)) }
-    ensures extends { OnOk result (Extends (texts_of names.old.names.items) (texts_of names.new.names.items)) }
+    ensures grows { OnOk result (Finds (LeadsTo (world_of sources.now config.now (S.answers syntax.now) root.now) file.now.path) found.old found.new) }
+    ensures extends { OnOk result (Extends (texts_numbered names.old) (texts_numbered names.new)) }
     ensures found { OnOk result (AreFound sources.now found.new) }
     ensures numbered { OnOk result (AreNumbered names.new) }
     ensures named { IfErr result (Reports (NamesAt (world_of sources.now config.now (S.answers syntax.now) root.now) file.now.path)) }

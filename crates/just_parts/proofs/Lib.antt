@@ -1,3 +1,4 @@
+pub mod Edges
 pub mod Joins
 pub mod ModulepathLemmas
 pub mod Shown

@@ -1,5 +1,6 @@
 pub mod Bare
 pub mod Clean
+pub mod Edge
 pub mod Entries
 pub mod Host
 pub mod Identifier

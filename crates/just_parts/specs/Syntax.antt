@@ -30,11 +30,10 @@ parameter_numbers = map (λ p. p.number.0)
 abbrev pub recipe_numbers : Recipe UnresolvedDependency → List ℕ
 recipe_numbers r = r.number.0 ∷ parameter_numbers r.parameters
 
--- imports and modules have none
+-- another item has none
 abbrev pub item_numbers : Item → List ℕ
-item_numbers (item.Import relative absolute optional) = []
-item_numbers (item.Module name relative absolute optional) = []
 item_numbers (item.Recipe r) = recipe_numbers r
+item_numbers _ = []
 
 -- the numbers that items were given, in the order of the text
 abbrev pub numbers : List Item → List ℕ
@@ -71,9 +70,8 @@ pub record IsFrom (source : Source) (ast : Ast) : Type 0 where
 
 -- no more dependencies run before a recipe than it has
 abbrev pub PriorsAreDependencies : Item → Type 0
-PriorsAreDependencies (item.Import relative absolute optional) = Unit {0}
-PriorsAreDependencies (item.Module name relative absolute optional) = Unit {0}
 PriorsAreDependencies (item.Recipe r) = r.priors ≤ length r.dependencies
+PriorsAreDependencies _ = Unit {0}
 
 -- what a refusal says of a text, after so many numbers were given
 abbrev pub Refuses : SyntaxAnswers → List ℕ → List ℕ → ℕ → Error → Type 0

@@ -2,6 +2,7 @@
 
 pub mod ast;
 pub mod config;
+pub mod edge;
 pub mod error;
 pub mod evaluation;
 pub mod host;
@@ -14,6 +15,7 @@ pub mod token;
 
 pub use ast::{Ast, Item, StringLiteral, UnresolvedDependency};
 pub use config::Config;
+pub use edge::Edge;
 pub use error::{
     CompileError, CompileErrorKind, Error, InvocationError, LoadError, RunError, SourceError,
 };

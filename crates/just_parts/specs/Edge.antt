@@ -1,0 +1,29 @@
+-- How an item leads to a file.
+use Rattle.std.specs.Prelude.{ℕ, Bool, List, Option, None, Some}
+use Rattle.just_parts.specs.declared.layers.name.Name.{Name}
+use Rattle.just_parts.specs.declared.layers.ast.StringLiteral.{StringLiteral}
+use Rattle.just_parts.specs.declared.layers.ast.Item.{Item}
+use Rattle.just_parts.specs.declared.layers.ast.Item.TheVariants as item
+use Rattle.just_parts.specs.declared.layers.edge.Edge.{Edge as LentEdge}
+use Rattle.just_parts.specs.declared.layers.edge.Edge.TheVariants as lent
+
+-- It imports the file of a quoted text, or declares a module by its name, whose file may have one. Where it is optional, the file may be missing.
+pub data Edge : Type 0 where
+  Imports : StringLiteral → Bool → Edge
+  Declares : Name → Option StringLiteral → Bool → Edge
+
+abbrev pub edge_of : Item → Option Edge
+edge_of (item.Import relative absolute optional) = Some (Imports relative optional)
+edge_of (item.Module name relative absolute optional) = Some (Declares name relative optional)
+edge_of _ = None
+
+-- the same where it borrows from the item
+abbrev pub lent_edge : LentEdge → Edge
+lent_edge (lent.Import relative optional) = Imports relative.now optional
+lent_edge (lent.Module name relative optional) = Declares name.now relative.now optional
+
+-- an item with the absolute path of the file to which it leads, where it leads to files
+abbrev pub with_absolute : Option (List ℕ) → Item → Item
+with_absolute path (item.Import relative absolute optional) = item.Import relative path optional
+with_absolute path (item.Module name relative absolute optional) = item.Module name relative path optional
+with_absolute path i = i
