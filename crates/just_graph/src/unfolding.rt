@@ -292,10 +292,7 @@ mod tests {
                 listed.push(unfolded.depth)?;
             }
         }
-        assert_eq!(rt;
-            listed.as_slice(),
-            [0, 0, 0, 1, 1, 1, 1, 0, 1].as_slice()
-        );
+        assert_eq!(rt; listed.as_slice(), [0, 0, 0, 1, 1, 1, 1, 0, 1].as_slice());
         Ok(())
     }
 }
