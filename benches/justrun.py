@@ -97,6 +97,8 @@ INPUTS = {
     "100,000 lines": lines(100_000),
     "2,000 files": files(2_000),
     "2,000 files that import each other in a chain": import_chain(2_000),
+    "20,000 files that import each other in a chain": import_chain(20_000),
+    "100,000 files that import each other in a chain": import_chain(100_000),
     "one file that 2,000 import": imported_by_many(2_000),
     "2,000 modules": modules(2_000),
     "2,000 modules of one file": module_names(2_000),

@@ -3,15 +3,12 @@ use Rattle.std.proofs.Common.{◌≡◌, ◌≢◌, ℕ, ◌+◌, ◌<◌, false
 use Rattle.std.proofs.lemmas.Bool.{cases_lt, false_from_ne_true}
 use Rattle.std.proofs.lemmas.List.{get_or_default}
 use Rattle.std.proofs.lemmas.Slice.Eq.{bytes_eq-Decides}
-use Rattle.std.proofs.lemmas.Map.Text.{is_eq-slice_cmp}
 use Rattle.std.specs.Str.{bytes_eq}
-use Rattle.std.specs.Ordering.{nat_cmp, is_eq}
-use Rattle.std.specs.Cmp.Lexicographic.{slice_cmp}
 use Rattle.just_loader.proofs.Lists.{same_or_not}
 use Rattle.just_analyzer.specs.Index.{name_at, Repeats, IsLast}
 
-pub texts_apart : (a b : List ℕ) → a ≢ b → is_eq (slice_cmp nat_cmp a b) ≡ false
-texts_apart a b ne = is_eq-slice_cmp a b ∙ false_from_ne_true (bytes_eq a b) (λ t. ne ((bytes_eq-Decides a b).0 t))
+pub texts_apart : (a b : List ℕ) → a ≢ b → bytes_eq a b ≡ false
+texts_apart a b ne = false_from_ne_true (bytes_eq a b) (λ t. ne ((bytes_eq-Decides a b).0 t))
 
 last_more : (names : List (List ℕ)) (n : ℕ) (name : List ℕ) (o : Option ℕ) → IsLast names n name o → name_at names n ≢ name → IsLast names (n + 1) name o
 last_more names n name None s ne = λ k h. elim (cases_lt k n) [

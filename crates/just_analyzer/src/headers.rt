@@ -1,7 +1,6 @@
 ghost use Rattle.std.specs.Prelude.{◌≡◌, ◌<◌, ℕ, length, min, IfOk, IfErr, OnOk, map};
-ghost use Rattle.std.specs.Ordering.{nat_cmp};
-ghost use Rattle.std.specs.Cmp.Lexicographic.{slice_cmp};
-ghost use Rattle.std.specs.BTreeMap.{get};
+ghost use Rattle.std.specs.Str.{bytes_eq};
+ghost use Rattle.std.specs.HashMap.{get};
 ghost use Rattle.just_parts.specs.Name.{text_of_name};
 ghost use Rattle.just_parts.specs.declared.layers.parameter.Parameter.{Parameter};
 ghost use Rattle.just_parts.specs.declared.layers.error.CompileErrorKind.TheVariants as kind;
@@ -20,7 +19,7 @@ use just_parts::UnresolvedRecipe;
 use just_parts::layers::error::Definition;
 use just_parts::layers::{CompileError, CompileErrorKind, Error, Name, Parameter};
 use std::alloc::{AllocError, Global};
-use std::collections::BTreeMap;
+use std::collections::HashMap;
 
 fn recipe_names<'a, 'src>(
     alloc: Global,
@@ -114,10 +113,10 @@ fn redefinition<'src>(
 pub fn check_headers<'a, 'src>(
     alloc: Global,
     definitions: &Definitions<'a, 'src>,
-) -> Result<BTreeMap<BorrowedText<'src>, usize>, Error<'src>>
+) -> Result<HashMap<BorrowedText<'src>, usize>, Error<'src>>
     ensures kept { IfOk result (λ _. Keeps (RecipeHeaders (outlines_in definitions.now))) }
     ensures different { IfOk result (λ _. AreDifferent (names_of (outlines_in definitions.now))) }
-    ensures index { IfOk result (λ index. IsIndex (names_of (outlines_in definitions.now)) (get (slice_cmp nat_cmp) index)) }
+    ensures index { IfOk result (λ index. IsIndex (names_of (outlines_in definitions.now)) (get bytes_eq index)) }
     ensures named { IfErr result (Reports (RecipeHeaders (outlines_in definitions.now))) }
 {
     check_all_parameters(alloc, definitions)?;

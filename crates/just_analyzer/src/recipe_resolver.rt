@@ -1,7 +1,6 @@
 ghost use Rattle.std.specs.Prelude.{◌≡◌, ◌<◌, ℕ, [], length, get_or, slice_index, map, IfOk, IfErr};
-ghost use Rattle.std.specs.Ordering.{nat_cmp};
-ghost use Rattle.std.specs.Cmp.Lexicographic.{slice_cmp};
-ghost use Rattle.std.specs.BTreeMap.{get};
+ghost use Rattle.std.specs.Str.{bytes_eq};
+ghost use Rattle.std.specs.HashMap.{get};
 ghost use Rattle.std.specs.List.{All};
 ghost use Rattle.just_parts.specs.Name.{texts_of_path};
 ghost use Rattle.just_graph.specs.Building.{EachRow};
@@ -22,14 +21,14 @@ use just_invoke::Recipes;
 use just_parts::Modulepath;
 use just_parts::layers::{CompileError, CompileErrorKind, Error, Namepath};
 use std::alloc::{AllocError, Global};
-use std::collections::BTreeMap;
+use std::collections::HashMap;
 
 // The place of the recipe that a path names.
 fn place_of_path<'src>(
-    index: &BTreeMap<BorrowedText<'src>, usize>,
+    index: &HashMap<BorrowedText<'src>, usize>,
     path: &Namepath<'src>,
 ) -> Option<usize>
-    ensures { result ≡ place_in (get (slice_cmp nat_cmp) index.now) (texts_of_path path.now) }
+    ensures { result ≡ place_in (get bytes_eq index.now) (texts_of_path path.now) }
 {
     if !path.front.is_empty() {
         return None;
@@ -40,11 +39,11 @@ fn place_of_path<'src>(
 // The place of the recipe that a dependency names, which takes as many arguments as it gives: none.
 fn target<'a, 'src>(
     definitions: &Definitions<'a, 'src>,
-    index: &BTreeMap<BorrowedText<'src>, usize>,
+    index: &HashMap<BorrowedText<'src>, usize>,
     place: usize,
     at: usize,
 ) -> Result<usize, Error<'src>>
-    requires index { IsIndex (names_of (outlines_in definitions.now)) (get (slice_cmp nat_cmp) index.now) }
+    requires index { IsIndex (names_of (outlines_in definitions.now)) (get bytes_eq index.now) }
     requires place { place < length definitions.now.recipes.items }
     requires at { at < length (outline_at (outlines_in definitions.now) place).dependencies }
     ensures target { IfOk result (IsTarget (outlines_in definitions.now) (get_or (outline_at (outlines_in definitions.now) place).dependencies at [])) }
@@ -81,10 +80,10 @@ fn target<'a, 'src>(
 fn row<'a, 'src>(
     alloc: Global,
     definitions: &Definitions<'a, 'src>,
-    index: &BTreeMap<BorrowedText<'src>, usize>,
+    index: &HashMap<BorrowedText<'src>, usize>,
     place: usize,
 ) -> Result<Vec<usize>, Error<'src>>
-    requires index { IsIndex (names_of (outlines_in definitions.now)) (get (slice_cmp nat_cmp) index.now) }
+    requires index { IsIndex (names_of (outlines_in definitions.now)) (get bytes_eq index.now) }
     requires place { place < length definitions.now.recipes.items }
     ensures row { IfOk result (λ row. IsRow (outlines_in definitions.now) place row.items) }
     ensures named { IfErr result (Reports (Dependencies (outlines_in definitions.now))) }
@@ -100,9 +99,9 @@ fn row<'a, 'src>(
 fn rows<'a, 'src>(
     alloc: Global,
     definitions: &Definitions<'a, 'src>,
-    index: &BTreeMap<BorrowedText<'src>, usize>,
+    index: &HashMap<BorrowedText<'src>, usize>,
 ) -> Result<Vec<Vec<usize>>, Error<'src>>
-    requires index { IsIndex (names_of (outlines_in definitions.now)) (get (slice_cmp nat_cmp) index.now) }
+    requires index { IsIndex (names_of (outlines_in definitions.now)) (get bytes_eq index.now) }
     ensures rows { IfOk result (λ rows. EachRow (IsRow (outlines_in definitions.now)) (length definitions.now.recipes.items) rows.items) }
     ensures named { IfErr result (Reports (Dependencies (outlines_in definitions.now))) }
 {
@@ -209,10 +208,10 @@ pub fn resolve_in_order<'a, 'src>(
 pub fn order_recipes<'a, 'src>(
     alloc: Global,
     definitions: &Definitions<'a, 'src>,
-    index: &BTreeMap<BorrowedText<'src>, usize>,
+    index: &HashMap<BorrowedText<'src>, usize>,
 ) -> Result<(Vec<Vec<usize>>, Vec<usize>), Error<'src>>
     requires different { AreDifferent (names_of (outlines_in definitions.now)) }
-    requires index { IsIndex (names_of (outlines_in definitions.now)) (get (slice_cmp nat_cmp) index.now) }
+    requires index { IsIndex (names_of (outlines_in definitions.now)) (get bytes_eq index.now) }
     ensures kept { IfOk result (λ _. Keeps (Dependencies (outlines_in definitions.now))) }
     ensures rows { IfOk result (λ made. EachRow (IsRow (outlines_in definitions.now)) (length definitions.now.recipes.items) made.0.items) }
     ensures ordered { IfOk result (λ made. IsOrderOf (outlines_in definitions.now) made.1.items) }

@@ -21,14 +21,14 @@ fn link<'a, 'src>(
     requires places { All (λ place. place < length definitions.now.recipes.items) places.now }
     ensures { IfOk result (λ made. made ≡ linked (recipes_in definitions.now) dependencies.now places.now) }
 {
-    let mut made = Sequence::new(alloc);
+    let mut made = Vec::with_capacity(alloc, places.len())?;
     for at in 0..places.len() {
         made.push(Dependency {
             path: dependencies[at].recipe.clone()?,
             recipe: recipe_at(definitions, places[at]).number,
         })?;
     }
-    Ok(made)
+    Ok(Sequence::from_vec(made))
 }
 
 /// The resolved form of a recipe of the module at `module_path`, whose dependencies lead to the recipes at `places`.

@@ -94,11 +94,12 @@ fn make_parameters<'src>(
 // Puts the dependencies of these names at the end.
 fn add_dependencies<'src>(
     alloc: Global,
-    made: &mut Sequence<UnresolvedDependency<'src>>,
+    made: &mut Vec<UnresolvedDependency<'src>>,
     names: &[Name<'src>],
 ) -> Result<(), AllocError>
-    ensures { OnOk result (made.new ≡ made.old ++ map spec.dependency names.now) }
+    ensures { OnOk result (made.new.items ≡ made.old.items ++ map spec.dependency names.now) }
 {
+    made.reserve_exact(names.len())?;
     for name in names {
         made.push(UnresolvedDependency {
             recipe: Namepath {
@@ -136,11 +137,11 @@ fn make_recipe<'src>(
 {
     let number = numerator.give()?;
     let parameters = make_parameters(alloc, numerator, heading.parameters.as_slice())?;
-    let mut dependencies = Sequence::new(alloc);
+    let mut dependencies = Vec::new(alloc);
     add_dependencies(alloc, &mut dependencies, heading.priors.as_slice())?;
     add_dependencies(alloc, &mut dependencies, heading.subsequents.as_slice())?;
     Ok(Recipe {
-        dependencies,
+        dependencies: Sequence::from_vec(dependencies),
         file_depth: source.file_depth,
         import_offsets: source.import_offsets.clone()?,
         name: heading.name.copied(),
@@ -201,6 +202,15 @@ fn make_module<'src>(
     })
 }
 
+// The items, with no more room than they take.
+fn fitted<'src>(items: Sequence<Item<'src>>) -> Sequence<Item<'src>>
+    ensures { result ≡ items.entry }
+{
+    let mut items = items.into_vec();
+    items.shrink_to_fit();
+    Sequence::from_vec(items)
+}
+
 // The items of a text, or the first line that does not follow the grammar.
 #[tactic(auto, unfolding(crate::specs::Items::items_of, crate::specs::Items::spends))]
 fn parse<'src>(
@@ -248,5 +258,5 @@ fn parse<'src>(
             }
         }
     }
-    Ok(items)
+    Ok(fitted(items))
 }

@@ -1,7 +1,6 @@
 -- Recipes in order, and the index of their places.
-use Rattle.std.proofs.Common.{◌≡◌, ◌≢◌, ℕ, zero, suc, ◌+◌, ◌-◌, ◌<◌, ◌≤◌, Bool, true, false, cond, List, [], ◌∷◌, ◌++◌, length, get_or, slice_index, Option, Some, None, refl, sym, ◌∙◌, ap, subst, arith, inl, inr, eq-eqb}
+use Rattle.std.proofs.Common.{nat_eq, ◌≡◌, ◌≢◌, ℕ, zero, suc, ◌+◌, ◌-◌, ◌<◌, ◌≤◌, Bool, true, false, cond, List, [], ◌∷◌, ◌++◌, length, get_or, slice_index, Option, Some, None, refl, sym, ◌∙◌, ap, subst, arith, inl, inr, eq-eqb}
 use Rattle.std.specs.List.{slice_get}
-use Rattle.std.specs.Ordering.{nat_cmp, is_eq}
 use Rattle.std.proofs.lemmas.Grind.{common_steps}
 use Rattle.std.proofs.lemmas.Option.{slice_get-get_or}
 use Rattle.std.proofs.lemmas.Bool.{cases_lt, ne_eqb}
@@ -101,7 +100,7 @@ found_in inside rs place_of n p r same index at read =
     let equal : i ≡ p = once rs place_of index_rs i p in_i at.0 (e ∙ sym at.1) in
     omega arith))
 
-pub numbers_apart : (a b : ℕ) → a ≢ b → is_eq (nat_cmp a b) ≡ false
+pub numbers_apart : (a b : ℕ) → a ≢ b → nat_eq a b ≡ false
 numbers_apart a b ne = grind (arith, common_steps)
 
 -- one more recipe, whether it was put in or refused

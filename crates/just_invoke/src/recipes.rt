@@ -1,8 +1,7 @@
-ghost use Rattle.std.specs.Prelude.{◌≡◌, ◌≢◌, ◌+◌, ◌^◌, ◌<◌, ℕ, ◌++◌, ◌∷◌, [], ◌↔◌, length, map, slice_get, slice_index, IsTrue, IfSome, IfNone, IfErr, OnOk, OnErr, Some};
+ghost use Rattle.std.specs.Prelude.{◌≡◌, ◌≢◌, ◌+◌, ◌^◌, ◌<◌, ℕ, ◌++◌, ◌∷◌, [], ◌↔◌, length, map, slice_get, slice_index, nat_eq, IsTrue, IfSome, IfNone, IfErr, OnOk, OnErr, Some};
 ghost use Rattle.std.specs.List.{All, Contains};
 ghost use Rattle.std.specs.Option.{option_copied};
-ghost use Rattle.std.specs.Ordering.{nat_cmp};
-ghost use Rattle.std.specs.BTreeMap.{get};
+ghost use Rattle.std.specs.HashMap.{get};
 ghost use Rattle.just_parts.specs.declared.dependency.Dependency.{Dependency};
 ghost use Rattle.just_invoke.specs.Closed.{IsResolved};
 ghost use Rattle.just_invoke.specs.Pairs.{place_of, pair_of, needed, prior_dependencies, subsequent_dependencies, AllBelow};
@@ -11,21 +10,21 @@ ghost use Rattle.just_invoke.specs.Recipes.{numbers, needs, find_number, IsOrder
 use just_parts::layers::Number;
 use just_parts::{Dependency, Recipe};
 use std::alloc::{AllocError, AllocFailed, Global};
-use std::collections::BTreeMap;
+use std::collections::HashMap;
 use std::marker::Model;
+use std::mem::swap;
 
 /// The recipes of a compilation, under their numbers: a list in which each stands after those that it depends on.
 #[derive(Drop)]
 pub struct Recipes<'src> {
     recipes: Vec<Recipe<'src>>,
     // The place of each recipe, by its number. A number that no recipe has may have a place too.
-    places: BTreeMap<u64, usize>,
+    places: HashMap<u64, usize>,
 }
 
 impl<'src> Model for Recipes<'src> {
-    ghost use Rattle.std.specs.Prelude.{List};
-    ghost use Rattle.std.specs.Ordering.{nat_cmp};
-    ghost use Rattle.std.specs.BTreeMap.{get};
+    ghost use Rattle.std.specs.Prelude.{List, nat_eq};
+    ghost use Rattle.std.specs.HashMap.{get};
     ghost use Rattle.just_parts.specs.declared.dependency.Dependency.{Dependency};
     ghost use Rattle.just_parts.specs.declared.recipe.Recipe.{Recipe};
     ghost use Rattle.just_invoke.specs.Recipes.{IsOrdered, IsIndex};
@@ -34,7 +33,7 @@ impl<'src> Model for Recipes<'src> {
 
     ghost view = { λ r. r.recipes.items };
 
-    ghost invariant = { λ r. IsOrdered r.recipes.items × IsIndex r.recipes.items (get nat_cmp r.places) };
+    ghost invariant = { λ r. IsOrdered r.recipes.items × IsIndex r.recipes.items (get nat_eq r.places) };
 }
 
 impl<'src> Recipes<'src> {
@@ -44,7 +43,7 @@ impl<'src> Recipes<'src> {
     {
         Recipes {
             recipes: Vec::new(alloc),
-            places: BTreeMap::new(alloc),
+            places: HashMap::new(alloc),
         }
     }
 
@@ -164,6 +163,10 @@ impl<'src> Recipes<'src> {
         ensures err { OnErr result (self.new ≡ self.old) }
         ensures other_stands { OnErr result (other.new ≡ other.old) }
     {
+        if self.recipes.is_empty() {
+            swap(self, other);
+            return Ok(());
+        }
         let start = self.recipes.len();
         index_all(&mut self.places, other.recipes.as_slice(), start)?;
         self.recipes.append(&mut other.recipes)
@@ -172,14 +175,14 @@ impl<'src> Recipes<'src> {
 
 // Puts the places of recipes, which begin at `start`, under their numbers. No other number has another place then.
 fn index_all(
-    places: &mut BTreeMap<u64, usize>,
+    places: &mut HashMap<u64, usize>,
     recipes: &[Recipe],
     start: usize,
 ) -> Result<(), AllocError>
     requires once { (i j : ℕ) → i < j → j < length recipes.now → slice_index (numbers recipes.now) i ≢ slice_index (numbers recipes.now) j }
     requires fits { start + length recipes.now < 2 ^ 64 }
-    ensures placed { OnOk result ((k : ℕ) → k < length recipes.now → get nat_cmp places.new (slice_index (numbers recipes.now) k) ≡ Some (start + k)) }
-    ensures kept { (n : ℕ) → IsNew recipes.now n → get nat_cmp places.new n ≡ get nat_cmp places.old n }
+    ensures placed { OnOk result ((k : ℕ) → k < length recipes.now → get nat_eq places.new (slice_index (numbers recipes.now) k) ≡ Some (start + k)) }
+    ensures kept { (n : ℕ) → IsNew recipes.now n → get nat_eq places.new n ≡ get nat_eq places.old n }
 {
     for (place, recipe) in recipes.iter().enumerate() {
         places.insert(recipe.number.0, start + place)?;

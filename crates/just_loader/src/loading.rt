@@ -121,7 +121,8 @@ fn with_paths<'src>(
     requires { (w : World) × (folder : List ℕ) × ArePlacesOf (paths_in scan.now.files.items) (map (link w folder) items) targets.now }
     ensures { IfOk result (HavePaths scan.now targets.now items.entry) }
 {
-    let mut linked = Vec::new(alloc);
+    let count = items.len();
+    let mut linked = Vec::with_capacity(alloc, count)?;
     for item in items.into_vec() {
         let path = target_path(alloc, scan, targets[linked.len()])?;
         linked.push(item.with_absolute(path))?;

@@ -4,4 +4,4 @@ use Rattle.just_analyzer.specs.Resolved.{linked}
 use Rattle.just_analyzer.proofs.unresolved_recipe.link.Given as goal
 
 abbrev pub invariant-loop-at : goal.invariant-loop-at
-invariant-loop-at l = l.made ≡ linked (recipes_in l.definitions) (take l.at l.dependencies) (take l.at l.places)
+invariant-loop-at l = l.made.items ≡ linked (recipes_in l.definitions) (take l.at l.dependencies) (take l.at l.places)

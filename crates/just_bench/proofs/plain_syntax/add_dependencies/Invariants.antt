@@ -3,4 +3,4 @@ use Rattle.just_bench.specs.Items.{dependency}
 use Rattle.just_bench.proofs.plain_syntax.add_dependencies.Given as goal
 
 abbrev pub invariant-loop-name : goal.invariant-loop-name
-invariant-loop-name l = l.made ≡ l.initial.made ++ map dependency (take l.name-index l.names)
+invariant-loop-name l = l.made.items ≡ l.initial.made.items ++ map dependency (take l.name-index l.names)

@@ -10,8 +10,8 @@ use Rattle.just_loader.proofs.loading.with_paths.Goals as goal
 pub loop-item-init : goal.loop-item-init
 loop-item-init c = record {
   all = c.into_iter-item-iterator.ensures.into_iter_gives.0 ∙ c.into_vec-item-items.ensures;
-  count = ap length c.new-linked.ensures.items;
-  made = λ w folder places. c.new-linked.ensures.items;
+  count = ap length c.in_ok-linked.ensures.items;
+  made = λ w folder places. c.in_ok-linked.ensures.items;
 }
 
 pub offset_bounds-targets-len : goal.offset_bounds-targets-len
