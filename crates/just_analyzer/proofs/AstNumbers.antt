@@ -9,7 +9,7 @@ use Rattle.just_graph.specs.Unfolding.{Key, root_key, steps}
 use Rattle.just_graph.proofs.Last.{bool_cases}
 use Rattle.just_graph.proofs.Least.{before_level, one_level}
 use Rattle.just_graph.proofs.Leveling.{Once, once_append, once_at_last, is_once}
-use Rattle.just_graph.proofs.Members.{In, contained, in_cases, from_map}
+use Rattle.just_graph.proofs.Members.{In, in_flat, contained, in_cases, from_map}
 use Rattle.just_parts.specs.Bare.{bare_item}
 use Rattle.just_parts.specs.Syntax.{AreRising, item_numbers, parameter_numbers, numbers}
 use Rattle.just_parts.specs.declared.layers.ast.Ast.{Ast}
@@ -28,7 +28,6 @@ use Rattle.just_analyzer.specs.Resolved.{unresolved_numbers}
 use Rattle.just_analyzer.proofs.AstRecipes.{AreHeld, are_held, held_at, recipes_in, recipe_item}
 use Rattle.just_analyzer.proofs.KeysApart.{one_key}
 use Rattle.just_analyzer.proofs.ModuleKeys.{Way}
-use Rattle.just_analyzer.proofs.ModuleLists.{in_joined}
 
 -- levels have no number twice
 once_level : (next : ℕ → List ℕ) (start n : ℕ) → Once (level next start n)
@@ -61,7 +60,7 @@ rising_after low (n ∷ ns) ms high r = let m = rising_after (n + 1) ns ms high 
 
 -- a recipe's number is one of the items' numbers
 pub number_in : (enabled : Item → Bool) (r : Recipe UnresolvedDependency) (is : List Item) → In r (recipes_of enabled is) → In r.number.0 (numbers is)
-number_in enabled r is h = in_joined item_numbers r.number.0 is (item.Recipe r) (recipe_item enabled r is h) (inl refl)
+number_in enabled r is h = in_flat item_numbers r.number.0 (item.Recipe r) is (recipe_item enabled r is h) (inl refl)
 
 pub recipe_number_in : (enabled : Item → Bool) (x : ℕ) (is : List Item) → In x (unresolved_numbers (recipes_of enabled is)) → In x (numbers is)
 recipe_number_in enabled x is h =

@@ -6,7 +6,7 @@ use Rattle.std.specs.List.{All}
 use Rattle.std.proofs.lemmas.List.{map-append}
 use Rattle.std.proofs.lemmas.List.Elements.{All-contains, Contains-get_or}
 use Rattle.just_graph.specs.Unfolding.{Node}
-use Rattle.just_graph.proofs.Members.{In, contained, is_in}
+use Rattle.just_graph.proofs.Members.{In, from_flat, contained, is_in}
 use Rattle.just_parts.specs.Bare.{bare_item}
 use Rattle.just_parts.specs.Clean.{folder_of}
 use Rattle.just_parts.specs.Syntax.{PriorsAreDependencies}
@@ -26,7 +26,6 @@ use Rattle.just_analyzer.specs.Planned.{contents_at}
 use Rattle.just_analyzer.specs.Resolved.{HasPriors}
 use Rattle.just_analyzer.proofs.Files.{outlines_bare, recipes_append}
 use Rattle.just_analyzer.proofs.ModuleKeys.{HasAst}
-use Rattle.just_analyzer.proofs.ModuleLists.{from_joined}
 
 -- the recipes of asts, one after another
 abbrev pub recipes_in : (Item → Bool) → List Ast → List (Recipe UnresolvedDependency)
@@ -114,6 +113,6 @@ all_by P xs f = λ k d h. f (get_or xs k d) (is_in (get_or xs k d) xs (Contains-
 -- the recipes of what is held have no more priors than dependencies
 pub priors_of_asts : (w : World) (loaded : Loaded) → IsLoaded w loaded → (at : ℕ → AstKey) (asts : List Ast) (files : List ℕ) → map Some asts ≡ map (λ g. get same_key loaded.asts (at g)) files → All HasPriors (recipes_in w.answers.enabled asts)
 priors_of_asts w loaded is at asts files e = all_by HasPriors (recipes_in w.answers.enabled asts) (λ r h.
-    let a = from_joined (λ (ast : Ast). recipes_of w.answers.enabled ast.items) r asts h in
+    let a = from_flat (λ (ast : Ast). recipes_of w.answers.enabled ast.items) r asts h in
     let g = held_at (get same_key loaded.asts) at asts files (are_held (get same_key loaded.asts) at asts files e) a.0 a.1 in
     All-contains PriorsAreDependencies a.0.items (item.Recipe r) (is.priors (at g.0) a.0 g.2) (contained (item.Recipe r) a.0.items (recipe_item w.answers.enabled r a.0.items a.2)))

@@ -15,7 +15,7 @@ use Rattle.just_graph.specs.Unfolded.{unfolded_key}
 use Rattle.just_graph.specs.declared.unfolding.Origin.{Origin}
 use Rattle.just_graph.specs.declared.unfolding.Step.{Step}
 use Rattle.just_graph.specs.declared.unfolding.Unfolded.{Unfolded}
-use Rattle.just_graph.proofs.Members.{In, contained, is_in, in_left, in_right, in_cases, in_map, from_map}
+use Rattle.just_graph.proofs.Members.{In, from_flat, contained, is_in, in_left, in_right, in_cases, in_map, from_map}
 use Rattle.just_graph.proofs.Index.{get_map, map_get, some_same, got_in}
 use Rattle.just_graph.proofs.Told.{get_old, get_last, get_push_cases}
 use Rattle.just_parts.specs.Entries.{put, IsKeyed, IsSorted}
@@ -33,7 +33,6 @@ use Rattle.just_invoke.specs.declared.justfile.Justfile.{Justfile, out-Justfile}
 use Rattle.just_loader.specs.Loaded.{file_at, name_at}
 use Rattle.just_loader.specs.Reached.{World}
 use Rattle.just_loader.specs.declared.loaded.Loaded.{Loaded}
-use Rattle.just_loader.proofs.FileKeys.{from_flat}
 use Rattle.just_analyzer.specs.Analysis.{IsOf}
 use Rattle.just_analyzer.specs.Compiling.{IsMade, ast_of, modulepath_at, recipes_under, IsNameOf}
 use Rattle.just_analyzer.specs.Modules.{Built, ComeAfter, IsCompiledFrom, IsJustfileOf, IsModuleKey, IsTree, tree, AreCompiled, recipes_said, entries_in, last_name}

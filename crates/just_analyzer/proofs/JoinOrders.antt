@@ -8,9 +8,9 @@ use Rattle.std.proofs.lemmas.List.{append-nil, map-append}
 use Rattle.std.proofs.lemmas.Slice.Eq.{bytes_eq-Decides}
 use Rattle.std.proofs.lemmas.Bool.{false_from_ne_true}
 use Rattle.just_graph.specs.Levels as numbers
-use Rattle.just_graph.proofs.Members.{In, in_cases}
+use Rattle.just_graph.proofs.Members.{In, from_flat, in_cases}
 use Rattle.just_graph.proofs.Last.{from_at_last}
-use Rattle.just_graph.proofs.Leveling.{from_flat_map, from_unlisted}
+use Rattle.just_graph.proofs.Leveling.{from_unlisted}
 use Rattle.just_analyzer.specs.JoinOrder as texts
 
 abbrev Text : Type 0
@@ -85,12 +85,12 @@ module _ (f : ℕ → Text) (P : ℕ → Type 0) (N : ℕ → List ℕ) (T : Tex
   every_next : (listed now : List ℕ) → Every now → Every (numbers.at_last (numbers.unlisted_targets N listed now))
   every_next listed now all = λ x h.
       let r = from_unlisted listed x (flat_map N now) (from_at_last x (numbers.unlisted_targets N listed now) h) in
-      let s = from_flat_map N x now r.0 in
+      let s = from_flat N x now r.0 in
       closed s.0 x (all s.0 s.1) s.2
 
   next_level : (listed now : List ℕ) → Every listed → Every now → map f (numbers.at_last (numbers.unlisted_targets N listed now)) ≡ texts.at_last (texts.unlisted T (map f listed) (map f now))
   next_level listed now old all =
-      let found : Every (flat_map N now) = λ x h. let s = from_flat_map N x now h in closed s.0 x (all s.0 s.1) s.2 in
+      let found : Every (flat_map N now) = λ x h. let s = from_flat N x now h in closed s.0 x (all s.0 s.1) s.2 in
       last_same (numbers.unlisted_targets N listed now) (λ x h. found x (from_unlisted listed x (flat_map N now) h).0)
       ∙ ap texts.at_last (kept_same listed (flat_map N now) old found ∙ ap (filter (λ x. not (texts.has x (map f listed)))) (next_same now all))
 

@@ -9,7 +9,7 @@ use Rattle.just_graph.specs.Unfolded.{unfolded_key, AllTold, AreApart, CameFrom,
 use Rattle.just_graph.specs.declared.unfolding.Origin.{Origin}
 use Rattle.just_graph.specs.declared.unfolding.Step.{Step}
 use Rattle.just_graph.specs.declared.unfolding.Unfolded.{Unfolded}
-use Rattle.just_graph.proofs.Members.{In, contained, is_in, in_left, in_cases}
+use Rattle.just_graph.proofs.Members.{In, from_flat, contained, is_in, in_left, in_cases}
 use Rattle.just_graph.proofs.Index.{get_map, map_get, some_same, got_in}
 use Rattle.just_graph.proofs.Told.{at_least, told_key}
 use Rattle.just_graph.proofs.Trails.{trails}
@@ -22,7 +22,6 @@ use Rattle.just_parts.specs.declared.recipe.Recipe.{Recipe}
 use Rattle.just_loader.specs.Loaded.{IsLoaded}
 use Rattle.just_loader.specs.Reached.{World}
 use Rattle.just_loader.specs.declared.loaded.Loaded.{Loaded}
-use Rattle.just_loader.proofs.FileKeys.{from_flat}
 use Rattle.just_analyzer.specs.Compiling.{CanResolve, IsReady, HasPlan, ast_of, modulepath_at}
 use Rattle.just_analyzer.specs.Index.{AreDifferent}
 use Rattle.just_analyzer.specs.Modules.{recipes_said, entries_in, IsModuleKey, of_root, of_entry}

@@ -10,7 +10,7 @@ use Rattle.just_graph.specs.Steps.{Leads, by_step, by_steps, leads_before}
 use Rattle.just_graph.specs.Unfolding.{HasStep, IsOrdered, steps}
 use Rattle.just_graph.specs.declared.unfolding.Step.{Step}
 use Rattle.just_graph.proofs.Least.{before_level, level_steps}
-use Rattle.just_graph.proofs.Members.{In, contained, is_in, in_map, from_map}
+use Rattle.just_graph.proofs.Members.{In, from_flat, contained, is_in, in_map, from_map}
 use Rattle.just_loader.specs.FileCircles.{IsFileOrder}
 use Rattle.just_loader.specs.Loaded.{IsLoaded}
 use Rattle.just_loader.specs.Reached.{World}
@@ -20,7 +20,7 @@ use Rattle.just_loader.proofs.WholeScans.{row_at, read_at}
 use Rattle.just_analyzer.specs.Planned.{enters, imports_at, entries_at, IsJoin, IsPlan, ArePlans}
 use Rattle.just_analyzer.specs.declared.plans.Plan.{Plan}
 use Rattle.just_analyzer.specs.declared.plans.Plans.{Plans}
-use Rattle.just_analyzer.proofs.ModuleLists.{from_joined, from_filter}
+use Rattle.just_analyzer.proofs.ModuleLists.{from_filter}
 
 -- one walk after another
 pub leads_on : {R : ℕ → ℕ → Type 0} {a b c : ℕ} → Leads R a b → Leads R b c → Leads R a c
@@ -85,7 +85,7 @@ module _ (w : World) (scan : Scan) (plans : Plans) (are : ArePlans w scan plans)
       by None e = absurd (subst (In s) (are.others a e) h)
       by (Some plan) e =
           let is = are.planned a plan e in
-          let g = from_joined (entries_at scan) s plan.files.items (subst (In s) is.1 h) in
+          let g = from_flat (entries_at scan) s plan.files.items (subst (In s) is.1 h) in
           let k = from_filter enters s (steps scan.rows.items g.0) g.2 in
           record { plan = plan; at = e; is = is.0; file = g.0; listed = g.1; step = k.0; enters = k.1; entry = g.2 }
 

@@ -6,7 +6,7 @@ use Rattle.std.proofs.lemmas.List.{length-map, get_or_default}
 use Rattle.std.proofs.lemmas.List.Elements.{All-contains, Contains-get_or}
 use Rattle.just_graph.specs.Levels.{level, before}
 use Rattle.just_graph.specs.Unfolding.{Key}
-use Rattle.just_graph.proofs.Members.{In, contained, is_in, in_left, in_map, from_map}
+use Rattle.just_graph.proofs.Members.{In, in_flat, from_flat, contained, is_in, in_left, in_map, from_map}
 use Rattle.just_graph.proofs.Index.{get_map, map_get, some_same, got_in}
 use Rattle.just_loader.proofs.Numberings.{placed}
 use Rattle.just_parts.specs.Entries.{find}
@@ -25,7 +25,6 @@ use Rattle.just_loader.specs.Asts.{same_key}
 use Rattle.just_loader.specs.Loaded.{file_at, key_at}
 use Rattle.just_loader.specs.Reached.{World}
 use Rattle.just_loader.specs.declared.loaded.Loaded.{Loaded}
-use Rattle.just_loader.proofs.FileKeys.{in_flat, from_flat}
 use Rattle.just_analyzer.specs.Analysis.{IsDefaultOf, IsKeyOf, IsOf}
 use Rattle.just_analyzer.specs.Modules.{Built, IsCompiledFrom, IsJustfileOf, IsTree, tree, AreCompiled, recipes_said}
 use Rattle.just_analyzer.specs.Outline.{recipes_of}

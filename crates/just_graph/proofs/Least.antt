@@ -3,17 +3,17 @@ use Rattle.std.proofs.Common.{◌≡◌, ℕ, suc, zero, ◌+◌, ◌-◌, ◌<�
 use Rattle.std.specs.Prelude.{flat_map}
 use Rattle.std.proofs.lemmas.Bool.{cases_lt}
 use Rattle.std.proofs.lemmas.List.{append-nil}
-use Rattle.just_graph.proofs.Members.{In, contained, is_in}
+use Rattle.just_graph.proofs.Members.{In, contained, from_flat, in_flat, is_in}
 use Rattle.just_graph.specs.Levels.{unlisted_targets, level, before, InSteps, none, further, IsLeast}
 use Rattle.just_graph.proofs.Members.{in_left, in_right, in_cases}
 use Rattle.just_graph.proofs.Last.{at_last_in, from_at_last}
 use Rattle.just_graph.specs.Levels.{at_last}
-use Rattle.just_graph.proofs.Leveling.{from_unlisted, in_unlisted, from_flat_map, in_flat_map}
+use Rattle.just_graph.proofs.Leveling.{from_unlisted, in_unlisted}
 
 module _ (next : ℕ → List ℕ) (f : ℕ) where
   in_level : (n g h : ℕ) → In g (level next f n) → In h (next g) → In h (before next f (suc n)) ⊎ In h (level next f (suc n))
   unfolding level before
-  in_level n g h i k = elim (in_unlisted (before next f (suc n)) h (flat_map next (level next f n)) (in_flat_map next h (level next f n) g i k)) [
+  in_level n g h i k = elim (in_unlisted (before next f (suc n)) h (flat_map next (level next f n)) (in_flat next h g (level next f n) i k)) [
     | inl l ↦ inl l
     | inr l ↦ inr (at_last_in h (unlisted_targets next (before next f (suc n)) (level next f n)) l)
   ]
@@ -22,7 +22,7 @@ module _ (next : ℕ → List ℕ) (f : ℕ) where
   unfolding level before
   from_level n h i =
       let r = from_unlisted (before next f (suc n)) h (flat_map next (level next f n)) (from_at_last h (unlisted_targets next (before next f (suc n)) (level next f n)) i) in
-      (from_flat_map next h (level next f n) r.0, r.1)
+      (from_flat next h (level next f n) r.0, r.1)
 
   before_cases : (n g : ℕ) → In g (before next f (suc n)) → In g (before next f n) ⊎ In g (level next f n)
   unfolding before

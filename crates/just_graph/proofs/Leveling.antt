@@ -6,7 +6,7 @@ use Rattle.std.proofs.lemmas.List.{append-nil}
 use Rattle.std.proofs.lemmas.List.Elements.{Contains-get_or}
 use Rattle.just_graph.specs.Steps.{IsOnce, Reached, from_start, from_member}
 use Rattle.just_graph.specs.Levels.{has, at_last, unlisted_targets, level, before}
-use Rattle.just_graph.proofs.Members.{In, contained, is_in, in_left, in_right, in_cases}
+use Rattle.just_graph.proofs.Members.{In, contained, from_flat, in_flat, is_in, in_left, in_right, in_cases}
 use Rattle.just_graph.proofs.Last.{no_member, bool_cases, in_has, at_last_in, from_at_last, unlisted}
 
 -- no element stands twice
@@ -57,18 +57,6 @@ in_unlisted listed x (y ∷ ys) h = elim (bool_cases (has y listed)) [
   ]
 ]
 
-pub from_flat_map : (f : ℕ → List ℕ) (x : ℕ) (ys : List ℕ) → In x (flat_map f ys) → (y : ℕ) × In y ys × In x (f y)
-from_flat_map f x [] h = absurd h
-from_flat_map f x (y ∷ ys) h = elim (in_cases x (f y) (flat_map f ys) h) [
-  | inl i ↦ (y, inl refl, i)
-  | inr i ↦ (let r = from_flat_map f x ys i in (r.0, inr r.1, r.2))
-]
-
-pub in_flat_map : (f : ℕ → List ℕ) (x : ℕ) (ys : List ℕ) (y : ℕ) → In y ys → In x (f y) → In x (flat_map f ys)
-in_flat_map f x [] y h i = absurd h
-in_flat_map f x (z ∷ ys) y (inl e) i = in_left x (f z) (flat_map f ys) (subst (λ w. In x (f w)) e i)
-in_flat_map f x (z ∷ ys) y (inr h) i = in_right x (f z) (flat_map f ys) (in_flat_map f x ys y h i)
-
 -- steps lead there from the start
 abbrev pub Along : (ℕ → List ℕ) → ℕ → ℕ → Type 0
 Along N f g = Reached (λ a b. Contains (N a) b) (f ∷ []) [] g
@@ -96,7 +84,7 @@ leveling_at N f row now e k = subst (λ (p : List ℕ × List ℕ). Leveling N f
 in_next : (N : ℕ → List ℕ) (row now : List ℕ) (x : ℕ) → In x (at_last (unlisted_targets N row now)) → ((y : ℕ) × In y now × In x (N y)) × (In x row → ⊥)
 in_next N row now x h =
     let r = from_unlisted row x (flat_map N now) (from_at_last x (unlisted_targets N row now) h) in
-    (from_flat_map N x now r.0, r.1)
+    (from_flat N x now r.0, r.1)
 
 pub leveling_step : (N : ℕ → List ℕ) (f : ℕ) (row now : List ℕ) → Leveling N f row now → Leveling N f (row ++ at_last (unlisted_targets N row now)) (at_last (unlisted_targets N row now))
 unfolding level before
@@ -116,7 +104,7 @@ leveling_step N f row now j =
         | inr i ↦ inl i
         | inl i ↦ inr (λ x k. elim (j.closed g i) [
           | inr all ↦ in_left x row next (all x k)
-          | inl here ↦ elim (in_unlisted row x (flat_map N now) (in_flat_map N x now g here k)) [
+          | inl here ↦ elim (in_unlisted row x (flat_map N now) (in_flat N x g now here k)) [
             | inl l ↦ in_left x row next l
             | inr l ↦ in_right x row next (at_last_in x (unlisted_targets N row now) l)
           ]

@@ -1,7 +1,7 @@
 -- Membership, by recursion on the list.
 use Rattle.std.proofs.Common.{◌≡◌, ℕ, zero, suc, ◌<◌, List, [], ◌∷◌, ◌++◌, map, reverse, length, get_or, ◌⊎◌, inl, inr, refl, sym, ap, subst, arith}
 use Rattle.std.proofs.lemmas.List.Elements.{Contains-append_right}
-use Rattle.std.specs.List.{Contains}
+use Rattle.std.specs.List.{Contains, flat_map}
 use Rattle.std.proofs.lemmas.List.{reverse-append}
 
 -- x is an element
@@ -48,6 +48,19 @@ pub from_map : {A B : Type 0} (f : A → B) (y : B) (xs : List A) → In y (map 
 from_map f y [] h = absurd h
 from_map f y (x ∷ xs) (inl e) = (x, inl refl, e)
 from_map f y (x ∷ xs) (inr h) = let r = from_map f y xs h in (r.0, inr r.1, r.2)
+
+-- members of a flattened list
+pub in_flat : {A B : Type 0} (f : A → List B) (y : B) (x : A) (xs : List A) → In x xs → In y (f x) → In y (flat_map f xs)
+in_flat f y x [] h g = absurd h
+in_flat f y x (z ∷ xs) (inl e) g = in_left y (f z) (flat_map f xs) (subst (λ v. In y (f v)) e g)
+in_flat f y x (z ∷ xs) (inr h) g = in_right y (f z) (flat_map f xs) (in_flat f y x xs h g)
+
+pub from_flat : {A B : Type 0} (f : A → List B) (y : B) (xs : List A) → In y (flat_map f xs) → (x : A) × In x xs × In y (f x)
+from_flat f y [] h = absurd h
+from_flat f y (z ∷ xs) h = elim (in_cases y (f z) (flat_map f xs) h) [
+  | inl a ↦ (z, inl refl, a)
+  | inr b ↦ (let r = from_flat f y xs b in (r.0, inr r.1, r.2))
+]
 
 reverse_cons : {A : Type 0} (x : A) (xs : List A) → reverse (x ∷ xs) ≡ reverse xs ++ (x ∷ [])
 reverse_cons x xs = reverse-append (x ∷ []) xs

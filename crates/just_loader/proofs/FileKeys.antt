@@ -1,14 +1,14 @@
 -- Keys of the unfolding of a scan, and the keys of files.
 use Rattle.std.proofs.Common.{◌≡◌, ℕ, suc, List, [], ◌∷◌, ◌++◌, map, Option, None, Some, refl, sym, ap, subst, ◌∙◌, arith, inl, inr}
 use Rattle.std.specs.Prelude.{unwrap_or}
-use Rattle.std.specs.List.{Contains, slice_get, flat_map}
+use Rattle.std.specs.List.{Contains, slice_get}
 use Rattle.std.specs.declared.vec.Vec.{Vec}
 use Rattle.std.specs.declared.alloc.Global.{Global}
 use Rattle.std.proofs.lemmas.List.{map-append}
 use Rattle.std.proofs.lemmas.Option.{slice_get_within, get_or_from_slice_get}
 use Rattle.just_graph.specs.Unfolding.{Key, KeySteps, stay, move, key_child, path_after, root_key, steps}
 use Rattle.just_graph.specs.declared.unfolding.Step.{Step}
-use Rattle.just_graph.proofs.Members.{In, contained, is_in, in_left, in_right, in_cases, from_map}
+use Rattle.just_graph.proofs.Members.{In, contained, is_in, in_flat, in_left, in_right, in_cases, from_flat, from_map}
 use Rattle.just_parts.specs.Clean.{folder_of}
 use Rattle.just_parts.specs.Edge.{Edge, Imports, Declares, edge_of}
 use Rattle.just_parts.specs.Name.{text_of_name}
@@ -27,19 +27,6 @@ use Rattle.just_loader.proofs.WholeScans.{row_at, read_at}
 
 abbrev Text : Type 0
 Text = List ℕ
-
--- members of a flattened list
-pub in_flat : {A B : Type 0} (f : A → List B) (y : B) (x : A) (xs : List A) → In x xs → In y (f x) → In y (flat_map f xs)
-in_flat f y x [] h g = absurd h
-in_flat f y x (z ∷ xs) (inl e) g = in_left y (f z) (flat_map f xs) (subst (λ v. In y (f v)) e g)
-in_flat f y x (z ∷ xs) (inr h) g = in_right y (f z) (flat_map f xs) (in_flat f y x xs h g)
-
-pub from_flat : {A B : Type 0} (f : A → List B) (y : B) (xs : List A) → In y (flat_map f xs) → (x : A) × In x xs × In y (f x)
-from_flat f y [] h = absurd h
-from_flat f y (z ∷ xs) h = elim (in_cases y (f z) (flat_map f xs) h) [
-  | inl a ↦ (z, inl refl, a)
-  | inr b ↦ (let r = from_flat f y xs b in (r.0, inr r.1, r.2))
-]
 
 -- a link with an end leads there
 end_is : (l : Link) (path : Text) → In path (end_of l) → l ≡ To path

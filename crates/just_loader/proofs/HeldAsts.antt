@@ -12,7 +12,7 @@ use Rattle.std.proofs.lemmas.Slice.Eq.{slice_eq-Decides}
 use Rattle.just_graph.specs.Unfolding.{Key, Node, key}
 use Rattle.just_graph.specs.Unfolded.{unfolded_key}
 use Rattle.just_graph.specs.declared.unfolding.Unfolded.{Unfolded}
-use Rattle.just_graph.proofs.Members.{In, is_in}
+use Rattle.just_graph.proofs.Members.{In, in_flat, is_in}
 use Rattle.just_parts.specs.Syntax.{AreRising, numbers}
 use Rattle.just_parts.specs.contracts.modulepath.ModulepathPartialEq.TheImpl as path_eq
 use Rattle.just_parts.specs.declared.layers.ast.Ast.{Ast}
@@ -25,7 +25,6 @@ use Rattle.just_loader.specs.Reached.{World}
 use Rattle.just_loader.specs.Scanned.{paths_in}
 use Rattle.just_loader.specs.declared.scanned.Scan.{Scan}
 use Rattle.just_loader.specs.declared.scanned.ScannedFile.{ScannedFile}
-use Rattle.just_loader.proofs.FileKeys.{in_flat}
 use Rattle.just_loader.proofs.Numberings.{got, placed, get_map, map_get, get_more, get_last, some_same, none_some}
 use Rattle.just_loader.proofs.WholeScans.{read_at}
 

@@ -22,6 +22,12 @@ abbrev pub lent_edge : LentEdge → Edge
 lent_edge (lent.Import relative optional) = Imports relative.now optional
 lent_edge (lent.Module name relative optional) = Declares name.now relative.now optional
 
+-- the absolute path of the file to which an item leads, as far as it stands in the item
+abbrev pub absolute_of : Item → Option (List ℕ)
+absolute_of (item.Import relative absolute optional) = absolute
+absolute_of (item.Module name relative absolute optional) = absolute
+absolute_of _ = None
+
 -- an item with the absolute path of the file to which it leads, where it leads to files
 abbrev pub with_absolute : Option (List ℕ) → Item → Item
 with_absolute path (item.Import relative absolute optional) = item.Import relative path optional

@@ -1,6 +1,7 @@
 -- What the syntax layer keeps.
 use Rattle.std.specs.Prelude.{◌≡◌, ℕ, ◌+◌, ◌≤◌, ◌^◌, Bool, List, [], ◌∷◌, map, length, Option, Some, None, false}
 use Rattle.std.specs.List.{All, flat_map}
+use Rattle.just_parts.specs.Edge.{absolute_of}
 use Rattle.just_parts.specs.Name.{texts_of_path}
 use Rattle.just_parts.specs.declared.layers.name.Namepath.{Namepath}
 use Rattle.just_parts.specs.declared.layers.parameter.Parameter.{Parameter}
@@ -51,11 +52,10 @@ pub record CameBy (source : Source) (r : Recipe UnresolvedDependency) : Type 0 w
   pub module_path : r.module_path ≡ None
   pub recipe_path : r.recipe_path ≡ None
 
--- the absolute path of an import or a module is not there yet
+-- a recipe came by the source, and the absolute path of another item is not there yet
 abbrev pub ItemCameBy : Source → Item → Type 0
-ItemCameBy source (item.Import relative absolute optional) = absolute ≡ None
-ItemCameBy source (item.Module name relative absolute optional) = absolute ≡ None
 ItemCameBy source (item.Recipe r) = CameBy source r
+ItemCameBy source i = absolute_of i ≡ None
 
 -- the texts of the names of a module's path; the root has none
 abbrev pub components_of : Option Namepath → List (List ℕ)
