@@ -38,14 +38,16 @@ fn described(alloc: Global, found: Result<Option<Text>, Error>) -> Result<String
 }
 
 // What is found for a module of this name that a file in a folder declares.
-fn search(alloc: Global, sources: &Sources, folder: &str) -> Result<String, AllocError> {
-    match first_name(alloc, "foo:\n") {
-        Ok(Some(name)) => {
-            let found = Compiler::find_module_file(alloc, sources, folder, &name, None);
-            described(alloc, found)
-        }
-        _ => String::from_str(alloc, "no name"),
-    }
+fn search<'src>(
+    alloc: Global,
+    sources: &Sources<'src>,
+    name: &Name<'src>,
+    folder: &str,
+) -> Result<String, AllocError> {
+    described(
+        alloc,
+        Compiler::find_module_file(alloc, sources, folder, name, None),
+    )
 }
 
 #[test]
@@ -54,8 +56,9 @@ fn module_files_are_found(rt: HostRuntime) -> Result<(), Fail> {
     for path in ["/p/foo.just", "/q/foo/JUSTFILE", "/q/foo.just", "/foo"] {
         sources.insert(path, "")?;
     }
+    let name = first_name(rt.alloc(), "foo:\n")?.ok_or("no name")?;
     for (folder, want) in [("/p", "/p/foo.just"), ("/q", "2 of foo"), ("/", "none")] {
-        let text = search(rt.alloc(), &sources, folder)?;
+        let text = search(rt.alloc(), &sources, &name, folder)?;
         assert_eq!(rt; text.as_str(), want, "of {folder:?}");
     }
     assert_eq!(rt; sources.get("/foo"), Some(""));
