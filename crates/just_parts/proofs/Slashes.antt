@@ -1,15 +1,15 @@
 -- Texts as they are cut at their slashes.
-use Rattle.std.proofs.Common.{◌≡◌, ◌≢◌, ◌↔◌, ℕ, ◌+◌, ◌-◌, ◌<◌, ◌≤◌, ◌==◌, suc, Bool, true, false, not, ◌&&◌, List, [], ◌∷◌, ◌++◌, reverse, length, get_or, take, drop, refl, sym, ap, ◌∙◌, subst, arith, IsTrue, Option, None, Some, MatchOption, Bor, append_assoc, length-append, take-append-drop, take_at, drop_at, zero-add}
+use Rattle.std.proofs.Common.{◌≡◌, ◌≢◌, ◌↔◌, ℕ, ◌+◌, ◌-◌, ◌<◌, ◌≤◌, ◌==◌, suc, Bool, true, false, not, ◌&&◌, List, [], ◌∷◌, ◌++◌, reverse, length, get_or, take, drop, refl, sym, ap, ◌∙◌, subst, arith, IsTrue, Option, None, Some, MatchOption, Bor, append_assoc, length-append, take-append-drop, take_at, zero-add}
 use Rattle.std.specs.Str.Pattern.{RFindsChar}
 use Rattle.std.specs.Str.{NoCharPasses}
-use Rattle.std.specs.List.{All, list_all, slice_split, prefix_len, suffix_len, before_last, after_last}
+use Rattle.std.specs.List.{All, list_all, slice_split, prefix_len, suffix_len, before_last}
 use Rattle.std.proofs.lemmas.Bool.{cond-true, cond-false, false≢true}
 use Rattle.std.proofs.lemmas.List.{length_push, length-reverse, reverse-append}
 use Rattle.std.proofs.lemmas.List.Elements.{All-nil, All-cons, All-head, All-tail, All-append}
 use Rattle.std.proofs.lemmas.List.Splits.{slice_split_at, slice_split_none}
 use Rattle.std.proofs.lemmas.Str.Pattern.{NoCharPasses-char, drop_at_char}
 use borrow.Author.Tests.{ne_eqb}
-use Rattle.just_parts.specs.Clean.{IsClean, is_slash, is_component, folder_of, file_name_of, or_root}
+use Rattle.just_parts.specs.Clean.{IsClean, is_slash, is_component, folder_of, or_root}
 
 -- no byte is a slash
 abbrev pub LacksSlash : List ℕ → Type 0
@@ -87,15 +87,6 @@ module _ {X : Type 0} (p : X → Bool) where
 pub before_slash : (front name : List ℕ) → LacksSlash name → before_last is_slash (front ++ 47 ∷ name) ≡ front
 before_slash front name h =
     take_at front (47 ∷ name) _ (omega (arith, suffix_len_at (λ b. not (is_slash b)) front 47 name refl (all_others name h), length-append front (47 ∷ name)))
-
-after_slash : (front name : List ℕ) → LacksSlash name → after_last is_slash (front ++ 47 ∷ name) ≡ name
-after_slash front name h =
-    let n = length (front ++ 47 ∷ name) - suffix_len (λ b. not (is_slash b)) (front ++ 47 ∷ name) in
-    ap (drop n) (sym (append_assoc front (47 ∷ []) name))
-    ∙ drop_at (front ++ 47 ∷ []) name n (omega (arith, suffix_len_at (λ b. not (is_slash b)) front 47 name refl (all_others name h), length-append front (47 ∷ name), length_push front 47))
-
-pub name_is : (path front name : List ℕ) → path ≡ front ++ 47 ∷ name → LacksSlash name → name ≡ file_name_of path
-name_is path front name e h = sym (after_slash front name h) ∙ ap (after_last is_slash) (sym e)
 
 pub folder_is : (path front name : List ℕ) → path ≡ front ++ 47 ∷ name → LacksSlash name → or_root front ≡ folder_of path
 folder_is path front name e h = ap or_root (sym (before_slash front name h) ∙ ap (before_last is_slash) (sym e))

@@ -1,6 +1,6 @@
 -- Clean paths.
 use Rattle.std.specs.Prelude.{◌≡◌, ℕ, ◌==◌, ◌||◌, Bool, not, List, [], ◌∷◌, IsTrue}
-use Rattle.std.specs.List.{list_all, slice_split, before_last, after_last}
+use Rattle.std.specs.List.{list_all, slice_split, before_last}
 use Rattle.std.specs.Str.{bytes_eq}
 
 abbrev pub is_slash : ℕ → Bool
@@ -24,7 +24,3 @@ or_root (b ∷ bs) = b ∷ bs
 -- the folder that a path lies in
 abbrev pub folder_of : List ℕ → List ℕ
 folder_of path = or_root (before_last is_slash path)
-
--- the last component
-abbrev pub file_name_of : List ℕ → List ℕ
-file_name_of path = after_last is_slash path

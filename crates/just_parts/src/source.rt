@@ -1,5 +1,5 @@
 ghost use Rattle.std.specs.Prelude.{◌≡◌, ◌↔◌, ◌⊎◌, ◌+◌, [], ◌∷◌, ◌++◌, Some, None, IsTrue, IfOk, IfErr, IsErrOf, MatchResult};
-ghost use Rattle.just_parts.specs.Clean.{IsClean, is_component, folder_of, file_name_of};
+ghost use Rattle.just_parts.specs.Clean.{IsClean, is_component, folder_of};
 ghost use Rattle.just_parts.specs.Name.{submodule_path};
 
 use crate::layers::error::Error;
@@ -44,17 +44,6 @@ pub fn folder_of(path: &str) -> &str
     match path.rsplit_once('/') {
         Some((folder, _)) => { if folder.is_empty() { "/" } else { folder } }
         None => "/",
-    }
-}
-
-/// The last component of a clean path.
-pub fn file_name_of(path: &str) -> &str
-    requires { IsClean path.now }
-    ensures { result.now ≡ file_name_of path.now }
-{
-    match path.rsplit_once('/') {
-        Some((_, name)) => name,
-        None => path,
     }
 }
 
