@@ -4,13 +4,13 @@ use Rattle.std.specs.HashMap.{get}
 use Rattle.just_graph.specs.Unfolding.{Key, root_key, stay}
 use Rattle.just_parts.specs.declared.layers.error.Error.{Error}
 use Rattle.just_loader.specs.Asts.{same_key, root_key as ast_key}
-use Rattle.just_loader.specs.Causes.{Reports}
+use Rattle.just_loader.specs.Causes.{Keeps, Reports}
 use Rattle.just_loader.specs.Loaded.{IsLoaded, file_at, key_at}
 use Rattle.just_loader.specs.Reached.{World}
 use Rattle.just_loader.specs.Scanned.{paths_in}
 use Rattle.just_loader.specs.declared.loaded.Loaded.{Loaded}
 use Rattle.just_analyzer.specs.Compiled.{Compiles}
-use Rattle.just_analyzer.specs.Rules.{Names}
+use Rattle.just_analyzer.specs.Rules.{KeepsAll, Names, in_dependencies, in_files, in_headers}
 use Rattle.just_analyzer.specs.declared.compilation.Compilation.{Compilation}
 
 -- what is found in a list is what a default stands for elsewhere
@@ -30,14 +30,22 @@ module _ (w : World) (loaded : Loaded) (is : IsLoaded w loaded) where
       let same : key_at loaded.scan node.path node.node ≡ ast_key w.root = ap (λ (x : Key). key_at loaded.scan x.path x.node) k.2 ∙ ap (λ f. (record { components = []; spaced = false }, f)) root_file in
       subst (λ o. IsSome o) (sym (ap (get same_key loaded.asts) (sym same) ∙ held.1)) refl
 
+-- where no rule is broken none is named
+pub none_named : (w : World) → KeepsAll w → Keeps (Names w)
+none_named w all c (in_files names) = all.files c names
+none_named w all c (in_headers own files keeps is_own join names) = (all.modules own files is_own join).headers c names
+none_named w all c (in_dependencies own files keeps is_own below join headers names) = (all.modules own files is_own join).dependencies c names
+
 -- a refusal that is named
 pub refused : (w : World) (r : Result Compilation Error) → IfOk r (λ _. ⊥) → IfErr r (Reports (Names w)) → Compiles w r
 refused w (Ok c) none h = absurd none
 refused w (Err e) none h = record {
   kept = tt;
+  unnamed = tt;
   compiled = tt;
   closed = tt;
   all_closed = tt;
+  overrides = tt;
   root = tt;
   root_ast = tt;
   named = h;

@@ -2,6 +2,7 @@ pub mod AstNumbers
 pub mod AstRecipes
 pub mod Building
 pub mod Compilations
+pub mod Defaults
 pub mod Edges
 pub mod Files
 pub mod Held

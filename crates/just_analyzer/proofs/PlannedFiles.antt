@@ -27,7 +27,7 @@ use Rattle.just_analyzer.specs.Contents.{IsOwn, contents}
 use Rattle.just_analyzer.specs.JoinOrder.{IsJoinOrder}
 use Rattle.just_analyzer.specs.Planned.{entries_at, IsOwnAt, ArePlans}
 use Rattle.just_analyzer.specs.Places.{AddsPlan, IsKeptPlan, NamesModule, of_headers, of_dependencies}
-use Rattle.just_analyzer.specs.Rules.{KeepsBelow, KeepsModule, Names, in_files, in_headers, in_dependencies}
+use Rattle.just_analyzer.specs.Rules.{KeepsAll, KeepsBelow, KeepsModule, Names, in_headers, in_dependencies}
 use Rattle.just_analyzer.specs.declared.plans.Plan.{Plan}
 use Rattle.just_analyzer.specs.declared.plans.Plans.{Plans}
 use Rattle.just_analyzer.proofs.OwnFiles.{one_join, own_inside, own_of_place, place_of_own, joins, listed_at, path_is, PlannedSoFar}
@@ -184,10 +184,8 @@ module _ (w : World) (scan : Scan) (is : IsScan w scan) (has : HasRows scan) (en
         keeps_at k.0 (omega (arith, k.1)) (subst (IsOwnAt scan) place b.2) files (subst (λ x. IsJoinOrder w x files) (sym b.1 ∙ ap (file_at scan) place) join)
 
     -- no rule is broken
-    pub names_kept : Keeps (NamesInFiles w) → (c : Cause) → Names w c → ⊥
-    names_kept keeps c (in_files names) = keeps c names
-    names_kept keeps c (in_headers own files k is_own join names) = (keeps_own own files is_own join).headers c names
-    names_kept keeps c (in_dependencies own files k is_own below join h names) = (keeps_own own files is_own join).dependencies c names
+    pub all_kept : Keeps (NamesInFiles w) → KeepsAll w
+    all_kept keeps = record { files = keeps; modules = keeps_own }
 
     pub all_planned : ArePlans w scan plans
     all_planned = record {

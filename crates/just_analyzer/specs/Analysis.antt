@@ -1,7 +1,10 @@
 -- What a module's recipes are compiled to.
-use Rattle.std.specs.Prelude.{◌≡◌, ℕ, ◌<◌, ◌≤◌, List, [], length, Option, Some, None}
+use Rattle.std.specs.Prelude.{◌≡◌, ◌≢◌, ℕ, ◌<◌, ◌≤◌, List, [], length, Option, Some, None}
+use Rattle.std.specs.Cmp.Lexicographic.{slice_cmp}
 use Rattle.std.specs.List.{AllByRecursion}
 use Rattle.std.specs.Option.{option_map}
+use Rattle.std.specs.Ordering.{nat_cmp}
+use Rattle.std.specs.declared.cmp.Ordering.TheVariants.{Less}
 use Rattle.just_parts.specs.Entries.{find}
 use Rattle.just_parts.specs.Name.{text_of_name}
 use Rattle.just_parts.specs.declared.layers.ast.Ast.{Ast}
@@ -10,7 +13,7 @@ use Rattle.just_invoke.specs.declared.justfile.Justfile.{Justfile, out-Justfile}
 use Rattle.just_parts.specs.declared.layers.ast.UnresolvedDependency.{UnresolvedDependency}
 use Rattle.just_parts.specs.declared.recipe.Recipe.{Recipe}
 use Rattle.just_invoke.specs.declared.justfile.RecipeKey.{RecipeKey}
-use Rattle.just_analyzer.specs.Outline.{outlines_of, outline_at}
+use Rattle.just_analyzer.specs.Outline.{Outline, outlines_of, outline_at}
 use Rattle.just_analyzer.specs.Resolved.{number_at}
 
 -- a key has the number and the name of one of the first n recipes
@@ -25,10 +28,15 @@ AreKeysOf recipes n table = AllByRecursion (λ entry. IsKeyOf recipes n entry.1)
 abbrev pub HasKeysOf : List (Recipe UnresolvedDependency) → ℕ → List (List ℕ × RecipeKey) → Type 0
 HasKeysOf recipes n table = (place : ℕ) → place < n → option_map (λ (key : RecipeKey). key.number.0) (find (outline_at (outlines_of recipes) place).name table) ≡ Some (number_at recipes place)
 
--- no recipe stands on a smaller line
+-- a stands on a smaller line than b, or on the same with a name that is no less
+pub record IsBefore (a b : Outline) : Type 0 where
+  pub line : a.line ≤ b.line
+  pub name : a.line ≡ b.line → slice_cmp nat_cmp a.name b.name ≢ Less
+
+-- no recipe stands on a smaller line, and none on the same line has a greater name
 pub record IsDefault (recipes : List (Recipe UnresolvedDependency)) (place : ℕ) : Type 0 where
   pub there : place < length recipes
-  pub least : (k : ℕ) → k < length recipes → (outline_at (outlines_of recipes) place).line ≤ (outline_at (outlines_of recipes) k).line
+  pub least : (k : ℕ) → k < length recipes → IsBefore (outline_at (outlines_of recipes) place) (outline_at (outlines_of recipes) k)
 
 -- the default: none where there are no recipes, else the recipe on the least line
 abbrev pub IsDefaultOf : List (Recipe UnresolvedDependency) → Option Number → Type 0

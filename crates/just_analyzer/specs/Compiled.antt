@@ -1,6 +1,6 @@
 -- What a source map is compiled to.
 use Rattle.std.specs.Prelude.{◌≡◌, Result, IfOk, IfErr, IsSome}
-use Rattle.std.specs.HashMap.{get}
+use Rattle.std.specs.HashMap.{get, IsEmpty}
 use Rattle.just_parts.specs.declared.layers.error.Error.{Error}
 use Rattle.just_invoke.specs.Closed.{IsClosed, AreClosed}
 use Rattle.just_loader.specs.Asts.{same_key, root_key}
@@ -9,7 +9,7 @@ use Rattle.just_loader.specs.Loaded.{IsLoaded}
 use Rattle.just_loader.specs.Reached.{World}
 use Rattle.just_loader.specs.declared.loaded.Loaded.{Loaded}
 use Rattle.just_analyzer.specs.Modules.{AreCompiled}
-use Rattle.just_analyzer.specs.Rules.{Names}
+use Rattle.just_analyzer.specs.Rules.{KeepsAll, Names}
 use Rattle.just_analyzer.specs.declared.compilation.Compilation.{Compilation}
 
 -- The files are loaded, what they say is held, and their modules are compiled.
@@ -19,12 +19,14 @@ pub record IsCompilation (w : World) (c : Compilation) : Type 0 where
   pub asts : c.asts ≡ loaded.asts
   pub compiled : AreCompiled w loaded c.justfile c.recipes
 
--- What a compilation answers: no rule is broken, the files are compiled, each recipe that is named is held after those that it depends on, and the root's file is held; or a rule that is broken.
+-- What a compilation answers: no rule is broken, so that none is named, the files are compiled, each recipe that is named is held after those that it depends on, and the root's file is held, and nothing is overridden; or a rule that is broken.
 pub record Compiles (w : World) (result : Result Compilation Error) : Type 0 where
-  pub kept : IfOk result (λ _. Keeps (Names w))
+  pub kept : IfOk result (λ _. KeepsAll w)
+  pub unnamed : IfOk result (λ _. Keeps (Names w))
   pub compiled : IfOk result (IsCompilation w)
   pub closed : IfOk result (λ (c : Compilation). IsClosed c.justfile c.recipes)
   pub all_closed : IfOk result (λ (c : Compilation). AreClosed c.recipes c.justfile)
   pub root : IfOk result (λ (c : Compilation). c.root ≡ w.root)
+  pub overrides : IfOk result (λ (c : Compilation). IsEmpty c.overrides)
   pub root_ast : IfOk result (λ (c : Compilation). IsSome (get same_key c.asts (root_key c.root)))
   pub named : IfErr result (Reports (Names w))

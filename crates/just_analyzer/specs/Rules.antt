@@ -58,3 +58,8 @@ pub data Names (w : World) : Cause → Type 0 where
   in_headers : {c : Cause} (own : List ℕ) (files : List (List ℕ)) → Keeps (NamesInFiles w) → IsOwn w own → IsJoinOrder w own files → Headers (contents w files) c → Names w c
   in_dependencies : {c : Cause} (own : List ℕ) (files : List (List ℕ)) → Keeps (NamesInFiles w) → IsOwn w own → KeepsBelow w own → IsJoinOrder w own files → Keeps (Headers (contents w files))
       → Dependencies (contents w files).recipes c → Names w c
+
+-- No rule is broken: those of files are kept, and each module keeps all its groups.
+pub record KeepsAll (w : World) : Type 0 where
+  pub files : Keeps (NamesInFiles w)
+  pub modules : (own : List ℕ) (files : List (List ℕ)) → IsOwn w own → IsJoinOrder w own files → KeepsModule (contents w files)

@@ -1,9 +1,9 @@
-ghost use Rattle.std.specs.Prelude.{◌≡◌, ◌<◌, ◌≤◌, ℕ, [], false, IsTrue, IfOk, IfSome, IfNone, length};
+ghost use Rattle.std.specs.Prelude.{◌≡◌, ◌<◌, ℕ, [], false, IsTrue, IfOk, IfSome, IfNone, length};
 ghost use Rattle.just_invoke.specs.declared.justfile.Justfile.{out-Justfile};
-ghost use Rattle.just_analyzer.specs.Analysis.{AreKeysOf, HasKeysOf, IsDefault, IsOf};
+ghost use Rattle.just_analyzer.specs.Analysis.{AreKeysOf, HasKeysOf, IsBefore, IsDefault, IsOf};
 ghost use Rattle.just_analyzer.specs.Definitions.{recipes_in, outlines_in};
 ghost use Rattle.just_analyzer.specs.Index.{AreDifferent};
-ghost use Rattle.just_analyzer.specs.Outline.{names_of};
+ghost use Rattle.just_analyzer.specs.Outline.{names_of, outline_of};
 
 use crate::definitions::{Definitions, recipe_at};
 use just_data::{Sequence, Shared, Text};
@@ -35,8 +35,8 @@ fn recipe_keys<'a, 'src>(
 
 // Whether a recipe is the default before another: by line, and on equal lines by the greater name.
 fn comes_before<'src>(recipe: &UnresolvedRecipe<'src>, other: &UnresolvedRecipe<'src>) -> bool
-    ensures yes { IsTrue result → recipe.now.name.token.line ≤ other.now.name.token.line }
-    ensures no { result ≡ false → other.now.name.token.line ≤ recipe.now.name.token.line }
+    ensures yes { IsTrue result → IsBefore (outline_of recipe.now) (outline_of other.now) }
+    ensures no { result ≡ false → IsBefore (outline_of other.now) (outline_of recipe.now) }
 {
     if recipe.name.line() == other.name.line() {
         return other.name.lexeme() < recipe.name.lexeme();
@@ -44,7 +44,7 @@ fn comes_before<'src>(recipe: &UnresolvedRecipe<'src>, other: &UnresolvedRecipe<
     recipe.name.line() < other.name.line()
 }
 
-// The place of the recipe on the least line.
+// The place of the recipe on the least line, and of those there of the greatest name.
 fn default_place<'a, 'src>(definitions: &Definitions<'a, 'src>) -> Option<usize>
     ensures found { IfSome result (IsDefault (recipes_in definitions.now)) }
     ensures missing { IfNone result (recipes_in definitions.now ≡ []) }

@@ -63,7 +63,7 @@ fn check_parameters<'a, 'src>(
     match index_names(alloc, names.as_slice())? {
         Ok(_) => Ok(()),
         Err((_, second)) => Err(Error::Compile(CompileError {
-            token: recipe.name.token.copied(),
+            token: parameters[second].name.token.copied(),
             kind: CompileErrorKind::DuplicateParameter {
                 recipe: BorrowedText::new(recipe.name.lexeme()),
                 parameter: names[second].copied(),

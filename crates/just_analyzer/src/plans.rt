@@ -16,7 +16,7 @@ ghost use Rattle.just_loader.specs.Scanned.{IsScan};
 ghost use Rattle.just_analyzer.specs.Definitions.{recipes_in};
 ghost use Rattle.just_analyzer.specs.Places.{imports_in, entered_in, name_if, named_in, names_at, recipes_at, NamesModule, IsKeptPlan, AddsPlan};
 ghost use Rattle.just_analyzer.specs.Planned.{ArePlans, enters, entries_at, imports_at, IsJoin, IsOwnAt};
-ghost use Rattle.just_analyzer.specs.Rules.{Names};
+ghost use Rattle.just_analyzer.specs.Rules.{KeepsAll, Names};
 
 use crate::definitions::Definitions;
 use crate::headers::{check_headers, check_modules};
@@ -264,7 +264,7 @@ pub fn plan_modules<'src, S: Syntax>(
 ) -> Result<Plans<'src>, Error<'src>>
     requires rows { HasRows loaded.now.scan }
     requires order { IsFileOrder loaded.now.scan.rows.items loaded.now.order.items }
-    ensures kept { IfOk result (λ _. (w : World) → w.answers.enabled ≡ (S.answers syntax.now).enabled → IsLoaded w loaded.now → Keeps (NamesInFiles w) → Keeps (Names w)) }
+    ensures kept { IfOk result (λ _. (w : World) → w.answers.enabled ≡ (S.answers syntax.now).enabled → IsLoaded w loaded.now → Keeps (NamesInFiles w) → KeepsAll w) }
     ensures plans { IfOk result (λ plans. (w : World) → w.answers.enabled ≡ (S.answers syntax.now).enabled → IsLoaded w loaded.now → ArePlans w loaded.now.scan plans) }
     ensures named { IfErr result (λ e. (w : World) → w.answers.enabled ≡ (S.answers syntax.now).enabled → IsLoaded w loaded.now → Keeps (NamesInFiles w) → Reports (Names w) e) }
 {

@@ -19,7 +19,7 @@ use crate::unresolved_recipe::resolve;
 use just_data::{BorrowedText, Sequence};
 use just_invoke::Recipes;
 use just_parts::Modulepath;
-use just_parts::layers::{CompileError, CompileErrorKind, Error, Namepath};
+use just_parts::layers::{CompileError, CompileErrorKind, Error, Namepath, Token};
 use std::alloc::{AllocError, Global};
 use std::collections::HashMap;
 
@@ -140,6 +140,27 @@ fn names_at<'a, 'src>(
     Ok(names)
 }
 
+// The token of a recipe's first dependency that is the recipe at a place, or of its name where there is none.
+fn dependency_token<'a, 'src>(
+    definitions: &Definitions<'a, 'src>,
+    rows: &[Vec<usize>],
+    dependent: usize,
+    place: usize,
+) -> Token<'src>
+    requires { dependent < length definitions.now.recipes.items }
+{
+    let recipe = recipe_at(definitions, dependent);
+    let Some(row) = rows.get(dependent) else {
+        return recipe.name.token.copied();
+    };
+    for (target, dependency) in row.iter().zip(recipe.dependencies.as_slice()) {
+        if *target == place {
+            return dependency.recipe.last.token.copied();
+        }
+    }
+    recipe.name.token.copied()
+}
+
 // Lists the places of all recipes, each after those that it depends on.
 fn ordered<'a, 'src>(
     alloc: Global,
@@ -156,10 +177,11 @@ fn ordered<'a, 'src>(
     match just_graph::order(alloc, rows, roots.as_slice())? {
         Ok(order) => Ok(order),
         Err(circle) => {
-            let last = recipe_at(definitions, circle[circle.len() - 2]);
+            let closing = circle[circle.len() - 2];
+            let last = recipe_at(definitions, closing);
             let names = names_at(alloc, definitions, circle.as_slice())?;
             Err(Error::Compile(CompileError {
-                token: last.name.token.copied(),
+                token: dependency_token(definitions, rows, closing, circle[circle.len() - 1]),
                 kind: CompileErrorKind::CircularRecipeDependency {
                     recipe: BorrowedText::new(last.name.lexeme()),
                     circle: names,

@@ -1,4 +1,5 @@
-use Rattle.std.proofs.Common.{ℕ, ◌<◌, ◌≤◌, length}
+use Rattle.std.proofs.Common.{ℕ, ◌<◌, length}
+use Rattle.just_analyzer.specs.Analysis.{IsBefore}
 use Rattle.just_analyzer.specs.Definitions.{outlines_in}
 use Rattle.just_analyzer.specs.Outline.{outline_at}
 use Rattle.just_analyzer.proofs.analyzer.default_place.Given as goal
@@ -6,5 +7,5 @@ use Rattle.just_analyzer.proofs.analyzer.default_place.Given as goal
 abbrev pub invariant-loop-place : goal.invariant-loop-place
 invariant-loop-place l = record {
   there : l.best < length l.definitions.recipes.items;
-  least : (k : ℕ) → k < l.place → (outline_at (outlines_in l.definitions) l.best).line ≤ (outline_at (outlines_in l.definitions) k).line;
+  least : (k : ℕ) → k < l.place → IsBefore (outline_at (outlines_in l.definitions) l.best) (outline_at (outlines_in l.definitions) k);
 }

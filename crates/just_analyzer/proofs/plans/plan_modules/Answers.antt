@@ -7,7 +7,7 @@ use Rattle.just_loader.proofs.Lifts.{reports_by}
 use Rattle.just_analyzer.specs.Places.{AddsPlan, NamesModule}
 use Rattle.just_analyzer.specs.Planned.{IsOwnAt}
 use Rattle.just_analyzer.specs.Rules.{Names}
-use Rattle.just_analyzer.proofs.PlannedFiles.{all_planned, by_error, names_kept, names_next, planned_more, planned_none, planned_skip}
+use Rattle.just_analyzer.proofs.PlannedFiles.{all_kept, all_planned, by_error, names_next, planned_more, planned_none, planned_skip}
 use Rattle.just_analyzer.proofs.plans.plan_modules.Goals as goal
 
 pub loop-place-init : goal.loop-place-init
@@ -59,7 +59,7 @@ pub returns-clause-kept : goal.returns-clause-kept
 returns-clause-kept g c = λ w en loaded keeps.
     let order = c.args.loaded.now.order.items in
     let all : length order ≤ c.loop-place.place-index = omega (arith, c.deref-place-items.ensures.len) in
-    names_kept w c.args.loaded.now.scan loaded.scan c.requires.rows (g.S.Syntax.answers c.args.syntax.now).enabled en order c.requires.order c.loop-place.place-index c.loop-place.plans c.loop-place.invariant all keeps
+    all_kept w c.args.loaded.now.scan loaded.scan c.requires.rows (g.S.Syntax.answers c.args.syntax.now).enabled en order c.requires.order c.loop-place.place-index c.loop-place.plans c.loop-place.invariant all keeps
 
 pub returns-clause-plans : goal.returns-clause-plans
 returns-clause-plans g c = λ w en loaded.

@@ -68,7 +68,7 @@ recipe_at-last-requires c =
     let edge : IsCircle (HasEdge c.args.rows.now) c.in-Err.circle.items = rw c.in-Err.is at c.in_ok-order.ensures.circle in
     let circle : IsCircle (Depends (outlines_in c.args.definitions.now)) c.in-Err.circle.items = circle_by (λ a b. (edges (outlines_in c.args.definitions.now) c.requires.different c.args.rows.now rows a b).0) c.in-Err.circle.items edge in
     let len : c.len-in-Err.result ≡ length c.in-Err.circle.items = grind (arith, common_steps) in
-    let last : c.index.result.now ≡ slice_index c.in-Err.circle.items (length c.in-Err.circle.items - 2) = closing_read _ _ _ len edge.steps c.index.ensures in
+    let last : c.index-closing.result.now ≡ slice_index c.in-Err.circle.items (length c.in-Err.circle.items - 2) = closing_read _ _ _ len edge.steps c.index-closing.ensures in
     let l : slice_index c.in-Err.circle.items (length c.in-Err.circle.items - 2) < length (outlines_in c.args.definitions.now) = circle_below (outlines_in c.args.definitions.now) c.in-Err.circle.items circle (length c.in-Err.circle.items - 2) (omega (arith, edge.steps)) in
     omega arith
 
@@ -78,7 +78,7 @@ returns-clause-named c =
     let edge : IsCircle (HasEdge c.args.rows.now) c.in-Err.circle.items = rw c.in-Err.is at c.in_ok-order.ensures.circle in
     let circle : IsCircle (Depends (outlines_in c.args.definitions.now)) c.in-Err.circle.items = circle_by (λ a b. (edges (outlines_in c.args.definitions.now) c.requires.different c.args.rows.now rows a b).0) c.in-Err.circle.items edge in
     let len : c.len-in-Err.result ≡ length c.in-Err.circle.items = grind (arith, common_steps) in
-    let last : c.index.result.now ≡ slice_index c.in-Err.circle.items (length c.in-Err.circle.items - 2) = closing_read _ _ _ len edge.steps c.index.ensures in
+    let last : c.index-closing.result.now ≡ slice_index c.in-Err.circle.items (length c.in-Err.circle.items - 2) = closing_read _ _ _ len edge.steps c.index-closing.ensures in
     circular (circle_of (outlines_in c.args.definitions.now) c.in-Err.circle.items circle _ _
     (c.in_ok-names-in-Err.ensures ∙ ap (map (λ a. (outline_at (outlines_in c.args.definitions.now) a).name)) c.as_slice-in-Err.ensures.value)
     (c.new.ensures ∙ (c.lexeme.ensures ∙ (ap (λ (o : Outline). o.name) c.recipe_at-last.ensures.outline ∙ ap (λ x. (outline_at (outlines_in c.args.definitions.now) x).name) last))))

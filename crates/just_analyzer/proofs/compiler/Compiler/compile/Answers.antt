@@ -6,8 +6,8 @@ use Rattle.just_loader.specs.Keys.{NamesInFiles}
 use Rattle.just_loader.specs.Reached.{World, world_of}
 use Rattle.just_loader.proofs.FileCircles.{has_rows}
 use Rattle.just_loader.proofs.Lifts.{lifted}
-use Rattle.just_analyzer.specs.Rules.{Names, in_files}
-use Rattle.just_analyzer.proofs.Compilations.{refused, root_there}
+use Rattle.just_analyzer.specs.Rules.{KeepsAll, Names, in_files}
+use Rattle.just_analyzer.proofs.Compilations.{none_named, refused, root_there}
 use Rattle.just_analyzer.proofs.compiler.Compiler.compile.Goals as goal
 
 pub plan_modules-requires-clause-rows : goal.plan_modules-requires-clause-rows
@@ -36,8 +36,10 @@ returns-in_err-justfile g c =
 pub returns : goal.returns
 returns g c =
     let w : World = world_of c.args.sources.now c.args.config.now (g.S.Syntax.answers c.args.syntax.now) c.args.root.now in
+    let kept : KeepsAll w = c.in_ok-plans.ensures.kept w refl c.in_ok-loaded.ensures.loaded c.in_ok-loaded.ensures.kept in
     record {
-      kept = search rules;
+      kept = kept;
+      unnamed = none_named w kept;
       compiled = record {
         loaded = c.in_ok-loaded.loaded;
         is_loaded = c.in_ok-loaded.ensures.loaded;
@@ -47,6 +49,7 @@ returns g c =
       closed = is_closed c.in_ok-justfile.ensures.closed;
       all_closed = search rules;
       root = c.in_ok-path.ensures;
+      overrides = search rules;
       root_ast = subst (λ r. IsSome (get same_key c.in_ok-loaded.loaded.asts (root_key r))) (sym c.in_ok-path.ensures) (root_there w c.in_ok-loaded.loaded c.in_ok-loaded.ensures.loaded);
       named = tt;
     }
