@@ -1,5 +1,5 @@
 -- The numbers of the recipes of asts tell these apart.
-use Rattle.std.proofs.Common.{◌≡◌, ℕ, zero, suc, ◌+◌, ◌≤◌, Bool, true, false, List, [], ◌∷◌, ◌++◌, map, Some, inl, inr, refl, sym, ap, subst, arith}
+use Rattle.std.proofs.Common.{nat_eq, ◌≡◌, ℕ, zero, suc, ◌+◌, ◌≤◌, Bool, true, false, List, [], ◌∷◌, ◌++◌, map, Some, inl, inr, refl, sym, ap, subst, arith}
 use Rattle.std.specs.Prelude.{if◌then◌else◌}
 use Rattle.std.specs.HashMap.{get}
 use Rattle.std.proofs.lemmas.List.{map-append}
@@ -30,15 +30,15 @@ use Rattle.just_analyzer.proofs.KeysApart.{one_key}
 use Rattle.just_analyzer.proofs.ModuleKeys.{Way}
 
 -- levels have no number twice
-once_level : (next : ℕ → List ℕ) (start n : ℕ) → Once (level next start n)
+once_level : (next : ℕ → List ℕ) (start n : ℕ) → Once (level nat_eq next start n)
 unfolding level
 once_level next start zero = (λ h. h, tt)
-once_level next start (suc n) = once_at_last (unlisted_targets next (before next start n ++ level next start n) (level next start n))
+once_level next start (suc n) = once_at_last (unlisted_targets nat_eq next (before nat_eq next start n ++ level nat_eq next start n) (level nat_eq next start n))
 
-once_before : (next : ℕ → List ℕ) (start n : ℕ) → Once (before next start n)
+once_before : (next : ℕ → List ℕ) (start n : ℕ) → Once (before nat_eq next start n)
 unfolding before
 once_before next start zero = tt
-once_before next start (suc n) = once_append (before next start n) (level next start n) (once_before next start n) (once_level next start n) (λ g i j.
+once_before next start (suc n) = once_append (before nat_eq next start n) (level nat_eq next start n) (once_before next start n) (once_level next start n) (λ g i j.
     let r = before_level next start n g i in
     let same : r.0 ≡ n = one_level next start r.0 n g r.2 j in
     absurd (omega (arith, r.1, same)))

@@ -1,9 +1,10 @@
 -- What is known of the keys of the modules.
-use Rattle.std.proofs.Common.{◌≡◌, ℕ, ◌<◌, List, [], ◌∷◌, map, length, get_or, Some, inl, inr, sym, ap, subst, ◌∙◌, arith}
+use Rattle.std.proofs.Common.{nat_eq, ◌≡◌, ℕ, ◌<◌, List, [], ◌∷◌, map, length, get_or, Some, inl, inr, sym, ap, subst, ◌∙◌, arith}
 use Rattle.std.specs.Prelude.{flat_map}
 use Rattle.std.proofs.lemmas.List.Elements.{Contains-get_or}
 use Rattle.std.proofs.lemmas.List.{length-map}
 use Rattle.std.proofs.lemmas.Option.{slice_get_within}
+use Rattle.just_graph.proofs.Ended.{one_list}
 use Rattle.just_graph.proofs.Members.{In, is_in}
 use Rattle.just_loader.specs.Numbering.{texts_of}
 use Rattle.std.specs.HashMap.{get}
@@ -20,14 +21,14 @@ use Rattle.just_loader.specs.declared.scanned.Scan.{Scan}
 use Rattle.just_analyzer.specs.Index.{AreDifferent}
 use Rattle.just_analyzer.specs.Modules.{recipes_said}
 use Rattle.just_analyzer.specs.Outline.{outlines_of}
-use Rattle.just_analyzer.specs.Planned.{ArePlans, IsJoin, contents_at, entries_at}
+use Rattle.just_analyzer.specs.Planned.{imports_at, ArePlans, IsJoin, contents_at, entries_at}
 use Rattle.just_analyzer.specs.Resolved.{unresolved_numbers, HasPriors}
 use Rattle.just_analyzer.specs.declared.plans.Plan.{Plan}
 use Rattle.just_analyzer.specs.declared.plans.Plans.{Plans}
 use Rattle.just_analyzer.proofs.KeysApart.{AreNumbers, IsNumber, key_numbers}
 use Rattle.just_analyzer.proofs.ModuleAsts.{IsModule, AreAstsAt, ast_path, module_ast, module_numbers_apart, module_numbers_once, module_outlines, module_priors}
 use Rattle.just_analyzer.proofs.ModuleKeys.{module_keys, plan_of}
-use Rattle.just_analyzer.proofs.ModulePlans.{module_join, module_of, one_join}
+use Rattle.just_analyzer.proofs.ModulePlans.{module_join, module_of}
 use Rattle.just_analyzer.proofs.ModuleSteps.{module_order}
 use Rattle.just_analyzer.proofs.OnePath.{entries_differ, files_inside, one_path, plan_names}
 use Rattle.just_analyzer.proofs.Placed.{name_entered}
@@ -70,7 +71,7 @@ module _ (w : World) (loaded : Loaded) (plans : Plans) (is : IsLoaded w loaded) 
     of_key = module_of w loaded plans are r.1
 
     same_files : of_key.0.files.items ≡ files
-    same_files = one_join loaded.scan k.node of_key.0.files.items files (module_join w loaded plans are k of_key.0 of_key.1) join
+    same_files = one_list nat_eq (imports_at loaded.scan) k.node of_key.0.files.items files (module_join w loaded plans are k of_key.0 of_key.1) join
 
     pub key_files : All (λ file. file < length loaded.scan.files.items) files
     key_files = all_in (λ file. file < length loaded.scan.files.items) files

@@ -6,7 +6,6 @@ pub mod Edges
 pub mod Files
 pub mod Held
 pub mod Indexing
-pub mod JoinOrders
 pub mod Keys
 pub mod KeysApart
 pub mod KnownKeys

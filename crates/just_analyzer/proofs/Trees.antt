@@ -1,5 +1,5 @@
 -- Trees of justfiles: they stay while more is compiled, and they are closed.
-use Rattle.std.proofs.Common.{◌≡◌, ◌∙◌, ℕ, zero, suc, ◌<◌, Bool, List, [], ◌∷◌, map, flat_map, length, get_or, Option, Some, None, IsSome, inl, inr, refl, sym, ap, subst, arith}
+use Rattle.std.proofs.Common.{nat_eq, ◌≡◌, ◌∙◌, ℕ, zero, suc, ◌<◌, Bool, List, [], ◌∷◌, map, flat_map, length, get_or, Option, Some, None, IsSome, inl, inr, refl, sym, ap, subst, arith}
 use Rattle.std.specs.List.{All, Contains, slice_get}
 use Rattle.std.proofs.lemmas.Bool.Decides.{eqb_tells}
 use Rattle.std.proofs.lemmas.List.{length-map, get_or_default}
@@ -74,12 +74,12 @@ module _ (w v : World) (same : w.answers.enabled ≡ v.answers.enabled) (loaded 
   }
 
 -- the start stands in what is joined
-start_in : (next : ℕ → List ℕ) (start n : ℕ) → In start (before next start (suc n))
+start_in : (next : ℕ → List ℕ) (start n : ℕ) → In start (before nat_eq next start (suc n))
 unfolding level before
 start_in next start zero = inl refl
-start_in next start (suc n) = in_left start (before next start (suc n)) (level next start (suc n)) (start_in next start n)
+start_in next start (suc n) = in_left start (before nat_eq next start (suc n)) (level nat_eq next start (suc n)) (start_in next start n)
 
-some_start : (next : ℕ → List ℕ) (start count : ℕ) → level next start count ≡ [] → In start (before next start count)
+some_start : (next : ℕ → List ℕ) (start count : ℕ) → level nat_eq next start count ≡ [] → In start (before nat_eq next start count)
 unfolding level before
 some_start next start zero e = cc
 some_start next start (suc n) e = start_in next start n

@@ -8,6 +8,8 @@ pub mod Members
 pub mod Last
 pub mod Leveling
 pub mod Least
+pub mod Ended
+pub mod Mapped
 pub mod Places
 pub mod MarkedLevels
 pub mod Walks
