@@ -7,7 +7,6 @@ pub mod Files
 pub mod Held
 pub mod Indexing
 pub mod Keys
-pub mod KeysApart
 pub mod KnownKeys
 pub mod Makings
 pub mod Marks

@@ -20,6 +20,7 @@ use Rattle.just_loader.specs.Reached.{World, Reached}
 use Rattle.just_loader.specs.Scanned.{IsScan, paths_in}
 use Rattle.just_loader.specs.declared.scanned.Scan.{Scan}
 use Rattle.just_loader.proofs.FileCircles.{place_in_order}
+use Rattle.just_loader.proofs.FileRows.{at}
 use Rattle.just_loader.proofs.Numberings.{got, placed}
 use Rattle.just_loader.proofs.WholeScans.{row_at}
 use Rattle.just_analyzer.specs.Contents.{IsOwn}
@@ -29,7 +30,7 @@ use Rattle.just_analyzer.specs.Planned.{enters, imports_at, entries_at, IsJoin, 
 use Rattle.just_analyzer.specs.Places.{IsKeptPlan}
 use Rattle.just_analyzer.specs.declared.plans.Plan.{Plan}
 use Rattle.just_analyzer.specs.declared.plans.Plans.{Plans}
-use Rattle.just_analyzer.proofs.Placed.{at, imports_here, targets_here}
+use Rattle.just_analyzer.proofs.Placed.{imports_here, targets_here}
 
 abbrev Text : Type 0
 Text = List ℕ

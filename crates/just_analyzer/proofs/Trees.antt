@@ -21,7 +21,7 @@ use Rattle.just_invoke.specs.Recipes.{numbers, find_number}
 use Rattle.just_invoke.specs.declared.justfile.Justfile.{Justfile, out-Justfile}
 use Rattle.just_invoke.specs.declared.justfile.RecipeKey.{RecipeKey}
 use Rattle.std.specs.HashMap.{get}
-use Rattle.just_loader.specs.Asts.{same_key}
+use Rattle.just_loader.specs.Asts.{same_ast_key}
 use Rattle.just_loader.specs.Loaded.{file_at, key_at}
 use Rattle.just_loader.specs.Reached.{World}
 use Rattle.just_loader.specs.declared.loaded.Loaded.{Loaded}
@@ -135,7 +135,7 @@ module _ (w : World) (loaded : Loaded) (built : List Built) (recipes : List (Rec
     key_held (Some key) f some = let at = f key refl in subst (λ n. IsSome (find_number recipes n)) at.2 (place_held at.0 at.1)
 
     own_in : Contains is.from.asts is.from.own
-    own_in = said_one (λ file. get same_key loaded.asts (key_at loaded.scan k.path file)) is.from.files is.from.asts k.node is.from.own is.from.said (own_joined loaded k.node is.from.files is.from.join) is.from.own_said
+    own_in = said_one (λ file. get same_ast_key loaded.asts (key_at loaded.scan k.path file)) is.from.files is.from.asts k.node is.from.own is.from.said (own_joined loaded k.node is.from.files is.from.join) is.from.own_said
 
     own_held : (n : ℕ) → In n (unresolved_numbers own_rs) → IsSome (find_number recipes n)
     own_held n h =

@@ -9,6 +9,7 @@ pub mod Last
 pub mod Leveling
 pub mod Least
 pub mod Ended
+pub mod KeySteps
 pub mod Mapped
 pub mod Places
 pub mod MarkedLevels
