@@ -1,5 +1,5 @@
 -- The numbers of the recipes of asts tell these apart.
-use Rattle.std.proofs.Common.{◌≡◌, ℕ, zero, suc, ◌+◌, ◌≤◌, Bool, true, false, List, [], ◌∷◌, ◌++◌, map, Some, inl, inr, refl, sym, ap, subst, arith}
+use Rattle.std.proofs.Common.{nat_eq, ◌≡◌, ℕ, zero, suc, ◌+◌, ◌≤◌, Bool, true, false, List, [], ◌∷◌, ◌++◌, map, Some, inl, inr, refl, sym, ap, subst, arith}
 use Rattle.std.specs.Prelude.{if◌then◌else◌}
 use Rattle.std.specs.HashMap.{get}
 use Rattle.std.proofs.lemmas.List.{map-append}
@@ -17,28 +17,30 @@ use Rattle.just_parts.specs.declared.layers.ast.Item.{Item}
 use Rattle.just_parts.specs.declared.layers.ast.Item.TheVariants as item
 use Rattle.just_parts.specs.declared.layers.ast.UnresolvedDependency.{UnresolvedDependency}
 use Rattle.just_parts.specs.declared.recipe.Recipe.{Recipe}
-use Rattle.just_loader.specs.Asts.{same_key}
+use Rattle.just_loader.specs.Asts.{AstKey, same_ast_key}
+use Rattle.just_loader.specs.Keys.{FileKey}
 use Rattle.just_loader.specs.Loaded.{IsLoaded, key_at}
 use Rattle.just_loader.specs.Reached.{World}
 use Rattle.just_loader.specs.declared.loaded.Loaded.{Loaded}
 use Rattle.just_loader.specs.declared.scanned.Scan.{Scan}
+use Rattle.just_loader.proofs.FileKeys.{same_keys}
+use Rattle.just_loader.proofs.HeldAsts.{key_same}
 use Rattle.just_analyzer.specs.Outline.{recipes_of}
 use Rattle.just_analyzer.specs.Planned.{imports_at, IsJoin}
 use Rattle.just_analyzer.specs.Resolved.{unresolved_numbers}
 use Rattle.just_analyzer.proofs.AstRecipes.{AreHeld, are_held, held_at, recipes_in, recipe_item}
-use Rattle.just_analyzer.proofs.KeysApart.{one_key}
 use Rattle.just_analyzer.proofs.ModuleKeys.{Way}
 
 -- levels have no number twice
-once_level : (next : ℕ → List ℕ) (start n : ℕ) → Once (level next start n)
+once_level : (next : ℕ → List ℕ) (start n : ℕ) → Once (level nat_eq next start n)
 unfolding level
 once_level next start zero = (λ h. h, tt)
-once_level next start (suc n) = once_at_last (unlisted_targets next (before next start n ++ level next start n) (level next start n))
+once_level next start (suc n) = once_at_last (unlisted_targets nat_eq next (before nat_eq next start n ++ level nat_eq next start n) (level nat_eq next start n))
 
-once_before : (next : ℕ → List ℕ) (start n : ℕ) → Once (before next start n)
+once_before : (next : ℕ → List ℕ) (start n : ℕ) → Once (before nat_eq next start n)
 unfolding before
 once_before next start zero = tt
-once_before next start (suc n) = once_append (before next start n) (level next start n) (once_before next start n) (once_level next start n) (λ g i j.
+once_before next start (suc n) = once_append (before nat_eq next start n) (level nat_eq next start n) (once_before next start n) (once_level next start n) (λ g i j.
     let r = before_level next start n g i in
     let same : r.0 ≡ n = one_level next start r.0 n g r.2 j in
     absurd (omega (arith, r.1, same)))
@@ -83,10 +85,12 @@ once_recipes enabled low (_ ∷ is) high r = once_recipes enabled low is high r
 
 module _ (w : World) (loaded : Loaded) (is : IsLoaded w loaded) where
   -- asts under different keys have no number in common
-  pub numbers_differ : (k l : Key) → Way (steps loaded.scan.rows.items) (root_key 0) k → Way (steps loaded.scan.rows.items) (root_key 0) l → (k ≡ l → ⊥) → (a b : Ast) → get same_key loaded.asts (key_at loaded.scan k.path k.node) ≡ Some a → get same_key loaded.asts (key_at loaded.scan l.path l.node) ≡ Some b
+  pub numbers_differ : (k l : Key) → Way (steps loaded.scan.rows.items) (root_key 0) k → Way (steps loaded.scan.rows.items) (root_key 0) l → (k ≡ l → ⊥) → (a b : Ast) → get same_ast_key loaded.asts (key_at loaded.scan k.path k.node) ≡ Some a → get same_ast_key loaded.asts (key_at loaded.scan l.path l.node) ≡ Some b
       → (x : ℕ) → In x (unresolved_numbers (recipes_of w.answers.enabled a.items)) → In x (unresolved_numbers (recipes_of w.answers.enabled b.items)) → ⊥
-  numbers_differ k l to_k to_l apart a b held_a held_b x in_a in_b = elim (bool_cases (same_key (key_at loaded.scan k.path k.node) (key_at loaded.scan l.path l.node))) [
-    | inl t ↦ apart (one_key w loaded.scan is.scan to_k.1 to_l.1 t)
+  numbers_differ k l to_k to_l apart a b held_a held_b x in_a in_b = elim (bool_cases (same_ast_key (key_at loaded.scan k.path k.node) (key_at loaded.scan l.path l.node))) [
+    | inl t ↦
+        let same = (key_same (key_at loaded.scan k.path k.node) (key_at loaded.scan l.path l.node)).0 t in
+        apart (same_keys w loaded.scan is.scan k l to_k to_l (ap (λ (x : AstKey). let y : FileKey = record { path = x.0.components; node = x.1 } in y) same))
     | inr f ↦ is.numbers.apart (key_at loaded.scan k.path k.node) (key_at loaded.scan l.path l.node) a b x held_a held_b f (contained x (numbers a.items) (recipe_number_in w.answers.enabled x a.items in_a)) (contained x (numbers b.items) (recipe_number_in w.answers.enabled x b.items in_b))
   ]
 
@@ -99,7 +103,7 @@ module _ (w : World) (loaded : Loaded) (is : IsLoaded w loaded) where
   ]
 
   module _ (path : List ℕ) where
-    once_each : (asts : List Ast) (files : List ℕ) → Once files → AreHeld (get same_key loaded.asts) (key_at loaded.scan path) asts files → ((g : ℕ) → In g files → Way (steps loaded.scan.rows.items) (root_key 0) (record { path = path; node = g })) → Once (unresolved_numbers (recipes_in w.answers.enabled asts))
+    once_each : (asts : List Ast) (files : List ℕ) → Once files → AreHeld (get same_ast_key loaded.asts) (key_at loaded.scan path) asts files → ((g : ℕ) → In g files → Way (steps loaded.scan.rows.items) (root_key 0) (record { path = path; node = g })) → Once (unresolved_numbers (recipes_in w.answers.enabled asts))
     once_each [] [] once held ways = tt
     once_each [] (g ∷ gs) once held ways = absurd held
     once_each (a ∷ more) [] once held ways = absurd held
@@ -107,12 +111,12 @@ module _ (w : World) (loaded : Loaded) (is : IsLoaded w loaded) where
         let r = is.numbers.rising (key_at loaded.scan path g) a held.0 in
         let apart : (x : ℕ) → In x (unresolved_numbers (recipes_of w.answers.enabled a.items)) → In x (unresolved_numbers (recipes_in w.answers.enabled more)) → ⊥ = λ x i j.
         let b = number_of_ast x more j in
-        let h = held_at (get same_key loaded.asts) (key_at loaded.scan path) more gs held.1 b.0 b.1 in
+        let h = held_at (get same_ast_key loaded.asts) (key_at loaded.scan path) more gs held.1 b.0 b.1 in
         numbers_differ (record { path = path; node = g }) (record { path = path; node = h.0 }) (ways g (inl refl)) (ways h.0 (inr h.1)) (λ e. once.0 (subst (λ y. In y gs) (sym (ap (λ (y : Key). y.node) e)) h.1)) a b.0 held.0 h.2 x i b.2 in
         subst Once (sym (map-append (λ (q : Recipe UnresolvedDependency). q.number.0) (recipes_of w.answers.enabled a.items) (recipes_in w.answers.enabled more)))
         (once_append (unresolved_numbers (recipes_of w.answers.enabled a.items)) (unresolved_numbers (recipes_in w.answers.enabled more)) (once_recipes w.answers.enabled r.0 a.items r.1 r.2) (once_each more gs once.1 held.1 (λ x i. ways x (inr i))) apart)
 
     -- the recipes of a module's asts have no number twice
-    pub numbers_once : (asts : List Ast) (files : List ℕ) → Once files → map Some asts ≡ map (λ g. get same_key loaded.asts (key_at loaded.scan path g)) files → ((g : ℕ) → In g files → Way (steps loaded.scan.rows.items) (root_key 0) (record { path = path; node = g }))
+    pub numbers_once : (asts : List Ast) (files : List ℕ) → Once files → map Some asts ≡ map (λ g. get same_ast_key loaded.asts (key_at loaded.scan path g)) files → ((g : ℕ) → In g files → Way (steps loaded.scan.rows.items) (root_key 0) (record { path = path; node = g }))
         → IsOnce (unresolved_numbers (recipes_in w.answers.enabled asts))
-    numbers_once asts files once e ways = is_once (unresolved_numbers (recipes_in w.answers.enabled asts)) (once_each asts files once (are_held (get same_key loaded.asts) (key_at loaded.scan path) asts files e) ways)
+    numbers_once asts files once e ways = is_once (unresolved_numbers (recipes_in w.answers.enabled asts)) (once_each asts files once (are_held (get same_ast_key loaded.asts) (key_at loaded.scan path) asts files e) ways)

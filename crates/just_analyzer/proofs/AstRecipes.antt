@@ -15,7 +15,7 @@ use Rattle.just_parts.specs.declared.layers.ast.Item.{Item}
 use Rattle.just_parts.specs.declared.layers.ast.Item.TheVariants as item
 use Rattle.just_parts.specs.declared.layers.ast.UnresolvedDependency.{UnresolvedDependency}
 use Rattle.just_parts.specs.declared.recipe.Recipe.{Recipe}
-use Rattle.just_loader.specs.Asts.{Key as AstKey, same_key}
+use Rattle.just_loader.specs.Asts.{AstKey, same_ast_key}
 use Rattle.just_loader.specs.Keys.{items_at}
 use Rattle.just_loader.specs.Loaded.{IsLoaded, file_at, key_at, with_path}
 use Rattle.just_loader.specs.Reached.{World, items_said}
@@ -75,7 +75,7 @@ module _ (w : World) (loaded : Loaded) (nodes : List Node) where
   module _ (path : List ℕ) where
     -- asts that are held of files under a path
     abbrev pub Asts : List Ast → List ℕ → Type 0
-    Asts asts files = AreHeld (get same_key loaded.asts) (key_at loaded.scan path) asts files
+    Asts asts files = AreHeld (get same_ast_key loaded.asts) (key_at loaded.scan path) asts files
 
     outlines_each : (asts : List Ast) (files : List ℕ) → ((g : ℕ) → In g files → HasAst w loaded nodes path g) → Asts asts files → outlines_of (recipes_in w.answers.enabled asts) ≡ (contents_at w loaded.scan files).recipes
     outlines_each [] [] has are = refl
@@ -93,9 +93,9 @@ module _ (w : World) (loaded : Loaded) (nodes : List Node) where
         ∙ ap outlines_of (sym (recipes_append w.answers.enabled (items_at w (file_at loaded.scan g)) others))
 
     -- a module's asts have the outlines of its files
-    pub outlines_of_asts : (asts : List Ast) (files : List ℕ) → ((g : ℕ) → In g files → HasAst w loaded nodes path g) → map Some asts ≡ map (λ g. get same_key loaded.asts (key_at loaded.scan path g)) files
+    pub outlines_of_asts : (asts : List Ast) (files : List ℕ) → ((g : ℕ) → In g files → HasAst w loaded nodes path g) → map Some asts ≡ map (λ g. get same_ast_key loaded.asts (key_at loaded.scan path g)) files
         → outlines_of (recipes_in w.answers.enabled asts) ≡ (contents_at w loaded.scan files).recipes
-    outlines_of_asts asts files has e = outlines_each asts files has (are_held (get same_key loaded.asts) (key_at loaded.scan path) asts files e)
+    outlines_of_asts asts files has e = outlines_each asts files has (are_held (get same_ast_key loaded.asts) (key_at loaded.scan path) asts files e)
 
 from_if : (b : Bool) (q r : Recipe UnresolvedDependency) (rs : List (Recipe UnresolvedDependency)) → In r (if b then q ∷ rs else rs) → (r ≡ q) ⊎ In r rs
 from_if true q r rs h = h
@@ -111,8 +111,8 @@ all_by : {A : Type 0} (P : A → Type 0) (xs : List A) → ((x : A) → In x xs 
 all_by P xs f = λ k d h. f (get_or xs k d) (is_in (get_or xs k d) xs (Contains-get_or xs k d h))
 
 -- the recipes of what is held have no more priors than dependencies
-pub priors_of_asts : (w : World) (loaded : Loaded) → IsLoaded w loaded → (at : ℕ → AstKey) (asts : List Ast) (files : List ℕ) → map Some asts ≡ map (λ g. get same_key loaded.asts (at g)) files → All HasPriors (recipes_in w.answers.enabled asts)
+pub priors_of_asts : (w : World) (loaded : Loaded) → IsLoaded w loaded → (at : ℕ → AstKey) (asts : List Ast) (files : List ℕ) → map Some asts ≡ map (λ g. get same_ast_key loaded.asts (at g)) files → All HasPriors (recipes_in w.answers.enabled asts)
 priors_of_asts w loaded is at asts files e = all_by HasPriors (recipes_in w.answers.enabled asts) (λ r h.
     let a = from_flat (λ (ast : Ast). recipes_of w.answers.enabled ast.items) r asts h in
-    let g = held_at (get same_key loaded.asts) at asts files (are_held (get same_key loaded.asts) at asts files e) a.0 a.1 in
+    let g = held_at (get same_ast_key loaded.asts) at asts files (are_held (get same_ast_key loaded.asts) at asts files e) a.0 a.1 in
     All-contains PriorsAreDependencies a.0.items (item.Recipe r) (is.priors (at g.0) a.0 g.2) (contained (item.Recipe r) a.0.items (recipe_item w.answers.enabled r a.0.items a.2)))

@@ -3,7 +3,7 @@ use Rattle.std.proofs.Common.{◌≡◌, false, ℕ, List, [], ◌∷◌, slice_
 use Rattle.std.specs.HashMap.{get}
 use Rattle.just_graph.specs.Unfolding.{Key, root_key, stay}
 use Rattle.just_parts.specs.declared.layers.error.Error.{Error}
-use Rattle.just_loader.specs.Asts.{same_key, root_key as ast_key}
+use Rattle.just_loader.specs.Asts.{same_ast_key, root_ast_key}
 use Rattle.just_loader.specs.Causes.{Keeps, Reports}
 use Rattle.just_loader.specs.Loaded.{IsLoaded, file_at, key_at}
 use Rattle.just_loader.specs.Reached.{World}
@@ -22,13 +22,13 @@ module _ (w : World) (loaded : Loaded) (is : IsLoaded w loaded) where
   root_file : file_at loaded.scan 0 ≡ w.root
   root_file = read_first (paths_in loaded.scan.files.items) w.root is.scan.root
 
-  pub root_there : IsSome (get same_key loaded.asts (ast_key w.root))
+  pub root_there : IsSome (get same_ast_key loaded.asts (root_ast_key w.root))
   root_there =
       let k = is.keys (root_key 0) 0 stay in
       let node = k.0 in
       let held = is.asts.held node k.1 in
-      let same : key_at loaded.scan node.path node.node ≡ ast_key w.root = ap (λ (x : Key). key_at loaded.scan x.path x.node) k.2 ∙ ap (λ f. (record { components = []; spaced = false }, f)) root_file in
-      subst (λ o. IsSome o) (sym (ap (get same_key loaded.asts) (sym same) ∙ held.1)) refl
+      let same : key_at loaded.scan node.path node.node ≡ root_ast_key w.root = ap (λ (x : Key). key_at loaded.scan x.path x.node) k.2 ∙ ap (λ f. (record { components = []; spaced = false }, f)) root_file in
+      subst (λ o. IsSome o) (sym (ap (get same_ast_key loaded.asts) (sym same) ∙ held.1)) refl
 
 -- where no rule is broken none is named
 pub none_named : (w : World) → KeepsAll w → Keeps (Names w)

@@ -1,9 +1,10 @@
 -- What is known of the keys of the modules.
-use Rattle.std.proofs.Common.{◌≡◌, ℕ, ◌<◌, List, [], ◌∷◌, map, length, get_or, Some, inl, inr, sym, ap, subst, ◌∙◌, arith}
+use Rattle.std.proofs.Common.{nat_eq, ◌≡◌, ℕ, ◌<◌, List, [], ◌∷◌, map, length, get_or, Some, inl, inr, sym, ap, subst, ◌∙◌, arith}
 use Rattle.std.specs.Prelude.{flat_map}
 use Rattle.std.proofs.lemmas.List.Elements.{Contains-get_or}
 use Rattle.std.proofs.lemmas.List.{length-map}
 use Rattle.std.proofs.lemmas.Option.{slice_get_within}
+use Rattle.just_graph.proofs.Ended.{one_list}
 use Rattle.just_graph.proofs.Members.{In, is_in}
 use Rattle.just_loader.specs.Numbering.{texts_of}
 use Rattle.std.specs.HashMap.{get}
@@ -12,37 +13,29 @@ use Rattle.just_graph.specs.Steps.{IsOnce}
 use Rattle.just_graph.specs.Unfolding.{steps, IsOrdered, Key, KeySteps, root_key}
 use Rattle.just_parts.specs.Name.{text_of_name}
 use Rattle.just_parts.specs.declared.layers.ast.Ast.{Ast}
-use Rattle.just_loader.specs.Asts.{same_key}
-use Rattle.just_loader.specs.Loaded.{IsLoaded, key_at}
+use Rattle.just_loader.specs.Asts.{same_ast_key}
+use Rattle.just_loader.specs.Loaded.{IsLoaded, key_at, name_at}
 use Rattle.just_loader.specs.Reached.{World}
 use Rattle.just_loader.specs.declared.loaded.Loaded.{Loaded}
 use Rattle.just_loader.specs.declared.scanned.Scan.{Scan}
+use Rattle.just_loader.proofs.FileKeys.{stands}
 use Rattle.just_analyzer.specs.Index.{AreDifferent}
 use Rattle.just_analyzer.specs.Modules.{recipes_said}
 use Rattle.just_analyzer.specs.Outline.{outlines_of}
-use Rattle.just_analyzer.specs.Planned.{ArePlans, IsJoin, contents_at, entries_at}
+use Rattle.just_analyzer.specs.Planned.{imports_at, ArePlans, IsJoin, contents_at, entries_at}
 use Rattle.just_analyzer.specs.Resolved.{unresolved_numbers, HasPriors}
 use Rattle.just_analyzer.specs.declared.plans.Plan.{Plan}
 use Rattle.just_analyzer.specs.declared.plans.Plans.{Plans}
-use Rattle.just_analyzer.proofs.KeysApart.{AreNumbers, IsNumber, key_numbers}
 use Rattle.just_analyzer.proofs.ModuleAsts.{IsModule, AreAstsAt, ast_path, module_ast, module_numbers_apart, module_numbers_once, module_outlines, module_priors}
 use Rattle.just_analyzer.proofs.ModuleKeys.{module_keys, plan_of}
-use Rattle.just_analyzer.proofs.ModulePlans.{module_join, module_of, one_join}
+use Rattle.just_analyzer.proofs.ModulePlans.{module_join, module_of}
 use Rattle.just_analyzer.proofs.ModuleSteps.{module_order}
 use Rattle.just_analyzer.proofs.OnePath.{entries_differ, files_inside, one_path, plan_names}
 use Rattle.just_analyzer.proofs.Placed.{name_entered}
 
 -- the texts of a key's files at places
 abbrev pub AreSaid : Loaded → Key → List ℕ → List Ast → Type 0
-AreSaid loaded k files asts = map Some asts ≡ map (λ file. get same_key loaded.asts (key_at loaded.scan k.path file)) files
-
-in_numbers : (scan : Scan) (path : List ℕ) → AreNumbers scan path → (x : ℕ) → In x path → IsNumber scan x
-in_numbers scan [] a x h = absurd h
-in_numbers scan (n ∷ ns) a x (inl e) = subst (IsNumber scan) (sym e) a.0
-in_numbers scan (n ∷ ns) a x (inr h) = in_numbers scan ns a.1 x h
-
-number_inside : (scan : Scan) (x : ℕ) → IsNumber scan x → x < length scan.names.items
-number_inside scan x n = omega (arith, slice_get_within (texts_of scan.names.items) x n.0 n.1, length-map scan.names.items text_of_name)
+AreSaid loaded k files asts = map Some asts ≡ map (λ file. get same_ast_key loaded.asts (key_at loaded.scan k.path file)) files
 
 all_in : {X : Type 0} (P : X → Type 0) (xs : List X) → ((x : X) → In x xs → P x) → All P xs
 all_in P xs f = λ k d h. f (get_or xs k d) (is_in (get_or xs k d) xs (Contains-get_or xs k d h))
@@ -61,8 +54,9 @@ module _ (w : World) (loaded : Loaded) (plans : Plans) (is : IsLoaded w loaded) 
   -- each name of a path has its number
   pub key_names : (k : Key) → IsReachedKey k → All (λ name. name < length loaded.scan.names.items) k.path
   key_names k r =
-      let way = module_keys w loaded is plans are r.1 in
-      all_in (λ name. name < length loaded.scan.names.items) k.path (λ x h. number_inside loaded.scan x (in_numbers loaded.scan k.path (key_numbers w loaded.scan is.scan tt way.1) x h))
+      let at = stands w loaded.scan is.scan (module_keys w loaded is plans are r.1).1 in
+      all_in (λ name. name < length loaded.scan.names.items) k.path
+      (λ x h. omega (arith, slice_get_within (texts_of loaded.scan.names.items) x (name_at loaded.scan x) (at.known x h), length-map loaded.scan.names.items text_of_name))
 
   -- the plan of a key, with the files of any join
   module _ (k : Key) (r : IsReachedKey k) (files : List ℕ) (join : IsJoin loaded.scan k.node files) where
@@ -70,13 +64,13 @@ module _ (w : World) (loaded : Loaded) (plans : Plans) (is : IsLoaded w loaded) 
     of_key = module_of w loaded plans are r.1
 
     same_files : of_key.0.files.items ≡ files
-    same_files = one_join loaded.scan k.node of_key.0.files.items files (module_join w loaded plans are k of_key.0 of_key.1) join
+    same_files = one_list nat_eq (imports_at loaded.scan) k.node of_key.0.files.items files (module_join w loaded plans are k of_key.0 of_key.1) join
 
     pub key_files : All (λ file. file < length loaded.scan.files.items) files
     key_files = all_in (λ file. file < length loaded.scan.files.items) files
         (λ g h. files_inside w loaded.scan is.scan plans are k.node of_key.0 of_key.1.at g (subst (In g) (sym same_files) h))
 
-    pub key_said : (file : ℕ) → Contains files file → (ast : Ast) × (get same_key loaded.asts (key_at loaded.scan k.path file) ≡ Some ast) × (ast.module_path ≡ (key_at loaded.scan k.path file).0)
+    pub key_said : (file : ℕ) → Contains files file → (ast : Ast) × (get same_ast_key loaded.asts (key_at loaded.scan k.path file) ≡ Some ast) × (ast.module_path ≡ (key_at loaded.scan k.path file).0)
     key_said file c =
         let h = module_ast w loaded is plans are k of_key.0 of_key.1 file (subst (In file) (sym same_files) (is_in file files c)) in
         (h.ast, h.held, ast_path w loaded is.nodes k.path file h)

@@ -7,9 +7,7 @@ pub mod Edges
 pub mod Files
 pub mod Held
 pub mod Indexing
-pub mod JoinOrders
 pub mod Keys
-pub mod KeysApart
 pub mod KnownKeys
 pub mod Makings
 pub mod Marks

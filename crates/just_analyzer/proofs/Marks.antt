@@ -1,5 +1,5 @@
 -- The marks of own files, and what rows of steps tell, step by step.
-use Rattle.std.proofs.Common.{◌≡◌, ℕ, zero, suc, ◌+◌, ◌<◌, Bool, true, false, cond, ◌||◌, List, [], ◌∷◌, ◌++◌, map, set, take, length, get_or, ◌⊎◌, inl, inr, refl, sym, ap, subst, ◌∙◌, arith, ◌↔◌}
+use Rattle.std.proofs.Common.{nat_eq, ◌≡◌, ℕ, zero, suc, ◌+◌, ◌<◌, Bool, true, false, cond, ◌||◌, List, [], ◌∷◌, ◌++◌, map, set, take, length, get_or, ◌⊎◌, inl, inr, refl, sym, ap, subst, ◌∙◌, arith, ◌↔◌}
 use Rattle.std.specs.Prelude.{◌==◌, replicate, slice_set, filter, flat_map, if◌then◌else◌}
 use Rattle.std.specs.List.{All}
 use Rattle.std.specs.declared.vec.Vec.{Vec}
@@ -11,6 +11,7 @@ use Rattle.just_graph.specs.Levels.{has}
 use Rattle.just_graph.specs.Unfolding.{steps}
 use Rattle.just_graph.specs.declared.unfolding.Step.{Step}
 use Rattle.just_graph.proofs.Last.{bool_cases, in_has, has_in}
+use Rattle.just_graph.proofs.MarkedLevels.{has_append}
 use Rattle.just_graph.proofs.Members.{In, contained, is_in, in_cases, in_left, in_right, in_map, from_map}
 use Rattle.just_loader.specs.declared.scanned.Scan.{Scan}
 use Rattle.just_analyzer.specs.Planned.{enters, entries_at, IsOwnAt, of_root, of_step}
@@ -30,13 +31,6 @@ entry_same row n s h is stays =
     ∙ ap (λ b. filter enters (take n row) ++ (if b then s ∷ [] else [])) stays
     ∙ append-nil (filter enters (take n row))
 
-has_append : (x : ℕ) (xs ys : List ℕ) → has x (xs ++ ys) ≡ (has x xs || has x ys)
-has_append x [] ys = refl
-has_append x (y ∷ xs) ys = elim (eqb_tells x y) [
-  | inl t ↦ ap (λ b. cond b true (has x (xs ++ ys))) t.0 ∙ sym (ap (λ b. cond b true (has x xs) || has x ys) t.0)
-  | inr t ↦ ap (λ b. cond b true (has x (xs ++ ys))) t.0 ∙ has_append x xs ys ∙ sym (ap (λ b. cond b true (has x xs) || has x ys) t.0)
-]
-
 turn : (b t o : Bool) → cond t true (b || o) ≡ ((b || cond t true false) || o)
 turn true true o = refl
 turn true false o = refl
@@ -45,8 +39,8 @@ turn false false o = refl
 
 -- one more mark
 pub mark_more : (row : List Step) (n : ℕ) (s : Step) (old now : List Bool) → n < length row → s ≡ get_or row n s → enters s ≡ true → s.target < length now
-    → ((a : ℕ) → get_or now a false ≡ (has a (entered_in (take n row)) || get_or old a false))
-    → (a : ℕ) → get_or (set now s.target true) a false ≡ (has a (entered_in (take (n + 1) row)) || get_or old a false)
+    → ((a : ℕ) → get_or now a false ≡ (has nat_eq a (entered_in (take n row)) || get_or old a false))
+    → (a : ℕ) → get_or (set now s.target true) a false ≡ (has nat_eq a (entered_in (take (n + 1) row)) || get_or old a false)
 mark_more row n s old now h is stays inside so a =
     let xs = entered_in (take n row) in
     let more : entered_in (take (n + 1) row) ≡ xs ++ s.target ∷ [] = ap (map (λ (s : Step). s.target)) (entry_more row n s h is stays) ∙ map-append (λ (s : Step). s.target) (filter enters (take n row)) (s ∷ []) in
@@ -54,16 +48,16 @@ mark_more row n s old now h is stays inside so a =
       | inl t ↦ ap (get_or (set now s.target true) a) refl ∙ (subst (λ i. get_or (set now s.target true) i false ≡ true) (sym t.1) (get_or-set_same now s.target true false inside)) ∙ ap (λ b. cond b true (get_or now a false)) (sym t.0)
       | inr t ↦ get_or-set_other now s.target a true false t.1 ∙ ap (λ b. cond b true (get_or now a false)) (sym t.0)
     ] in
-    marked ∙ ap (cond (a == s.target) true) (so a) ∙ turn (has a xs) (a == s.target) (get_or old a false)
-    ∙ ap (λ b. b || get_or old a false) (sym (ap (has a) more ∙ has_append a xs (s.target ∷ [])))
+    marked ∙ ap (cond (a == s.target) true) (so a) ∙ turn (has nat_eq a xs) (a == s.target) (get_or old a false)
+    ∙ ap (λ b. b || get_or old a false) (sym (ap (has nat_eq a) more ∙ has_append a xs (s.target ∷ [])))
 
 pub mark_same : (row : List Step) (n : ℕ) (s : Step) (old now : List Bool) → n < length row → s ≡ get_or row n s → enters s ≡ false
-    → ((a : ℕ) → get_or now a false ≡ (has a (entered_in (take n row)) || get_or old a false)) → (a : ℕ) → get_or now a false ≡ (has a (entered_in (take (n + 1) row)) || get_or old a false)
-mark_same row n s old now h is stays so a = so a ∙ ap (λ ss. has a (map (λ (s : Step). s.target) ss) || get_or old a false) (sym (entry_same row n s h is stays))
+    → ((a : ℕ) → get_or now a false ≡ (has nat_eq a (entered_in (take n row)) || get_or old a false)) → (a : ℕ) → get_or now a false ≡ (has nat_eq a (entered_in (take (n + 1) row)) || get_or old a false)
+mark_same row n s old now h is stays so a = so a ∙ ap (λ ss. has nat_eq a (map (λ (s : Step). s.target) ss) || get_or old a false) (sym (entry_same row n s h is stays))
 
 -- one more step that may mark
 pub mark_next : (row : List Step) (n : ℕ) (s : Step) (old now new : List Bool) → n < length row → s ≡ get_or row n s → s.target < length now → new ≡ cond (enters s) (set now s.target true) now
-    → ((a : ℕ) → get_or now a false ≡ (has a (entered_in (take n row)) || get_or old a false)) → (a : ℕ) → get_or new a false ≡ (has a (entered_in (take (n + 1) row)) || get_or old a false)
+    → ((a : ℕ) → get_or now a false ≡ (has nat_eq a (entered_in (take n row)) || get_or old a false)) → (a : ℕ) → get_or new a false ≡ (has nat_eq a (entered_in (take (n + 1) row)) || get_or old a false)
 mark_next row n s old now new h is inside e so a = elim (bool_cases (enters s)) [
   | inl t ↦ ap (λ xs. get_or xs a false) (e ∙ ap (λ b. cond b (set now s.target true) now) t) ∙ mark_more row n s old now h is t inside so a
   | inr f ↦ ap (λ xs. get_or xs a false) (e ∙ ap (λ b. cond b (set now s.target true) now) f) ∙ mark_same row n s old now h is f so a
@@ -100,13 +94,13 @@ or_assoc false true c = refl
 or_assoc false false c = refl
 
 pub marks_more : (rows : List (Vec Step Global)) (n : ℕ) (row : Vec Step Global) (old now new : List Bool) → n < length rows → row ≡ get_or rows n row
-    → ((a : ℕ) → get_or now a false ≡ (has a (entered_by (take n rows)) || get_or old a false)) → ((a : ℕ) → get_or new a false ≡ (has a (entered_in row.items) || get_or now a false))
-    → (a : ℕ) → get_or new a false ≡ (has a (entered_by (take (n + 1) rows)) || get_or old a false)
+    → ((a : ℕ) → get_or now a false ≡ (has nat_eq a (entered_by (take n rows)) || get_or old a false)) → ((a : ℕ) → get_or new a false ≡ (has nat_eq a (entered_in row.items) || get_or now a false))
+    → (a : ℕ) → get_or new a false ≡ (has nat_eq a (entered_by (take (n + 1) rows)) || get_or old a false)
 marks_more rows n row old now new h is so more a =
     let all : entered_by (take (n + 1) rows) ≡ entered_by (take n rows) ++ entered_in row.items =
     ap entered_by (take_more rows n row h ∙ ap (λ x. take n rows ++ x ∷ []) (sym is)) ∙ flat_append (λ (r : Vec Step Global). entered_in r.items) (take n rows) (row ∷ []) ∙ ap (λ xs. entered_by (take n rows) ++ xs) (append-nil (entered_in row.items)) in
-    more a ∙ ap (λ b. has a (entered_in row.items) || b) (so a) ∙ or_assoc (has a (entered_by (take n rows))) (has a (entered_in row.items)) (get_or old a false)
-    ∙ ap (λ b. b || get_or old a false) (sym (ap (has a) all ∙ has_append a (entered_by (take n rows)) (entered_in row.items)))
+    more a ∙ ap (λ b. has nat_eq a (entered_in row.items) || b) (so a) ∙ or_assoc (has nat_eq a (entered_by (take n rows))) (has nat_eq a (entered_in row.items)) (get_or old a false)
+    ∙ ap (λ b. b || get_or old a false) (sym (ap (has nat_eq a) all ∙ has_append a (entered_by (take n rows)) (entered_in row.items)))
 
 from_rows : (rows : List (Vec Step Global)) (x : ℕ) → In x (entered_by rows) → (k : ℕ) × In x (entered_in (steps rows k))
 from_rows [] x h = absurd h
@@ -132,9 +126,9 @@ or_right true b e = refl
 or_right false b e = e
 
 -- the files that are marked are own files
-pub marked_own : (scan : Scan) (old own : List Bool) → ((a : ℕ) → (get_or old a false ≡ true) ↔ (a ≡ 0)) → ((a : ℕ) → get_or own a false ≡ (has a (entered_by scan.rows.items) || get_or old a false)) → (a : ℕ) → (get_or own a false ≡ true) ↔ IsOwnAt scan a
+pub marked_own : (scan : Scan) (old own : List Bool) → ((a : ℕ) → (get_or old a false ≡ true) ↔ (a ≡ 0)) → ((a : ℕ) → get_or own a false ≡ (has nat_eq a (entered_by scan.rows.items) || get_or old a false)) → (a : ℕ) → (get_or own a false ≡ true) ↔ IsOwnAt scan a
 marked_own scan old own first so a = (
-  λ e. elim (or_cases (has a (entered_by scan.rows.items)) (get_or old a false) (sym (so a) ∙ e)) [
+  λ e. elim (or_cases (has nat_eq a (entered_by scan.rows.items)) (get_or old a false) (sym (so a) ∙ e)) [
     | inl h ↦
         let r = from_rows scan.rows.items a (in_has a (entered_by scan.rows.items) h) in
         let s = from_map (λ (s : Step). s.target) a (entries_at scan r.0) r.1 in
@@ -144,15 +138,15 @@ marked_own scan old own first so a = (
   λ own. so a ∙ here a own,
 )
   where
-    here : (a : ℕ) → IsOwnAt scan a → (has a (entered_by scan.rows.items) || get_or old a false) ≡ true
-    here _ of_root = or_right (has 0 (entered_by scan.rows.items)) (get_or old 0 false) ((first 0).1 refl)
+    here : (a : ℕ) → IsOwnAt scan a → (has nat_eq a (entered_by scan.rows.items) || get_or old a false) ≡ true
+    here _ of_root = or_right (has nat_eq 0 (entered_by scan.rows.items)) (get_or old 0 false) ((first 0).1 refl)
     here _ (of_step k s c) =
-        or_left (has s.target (entered_by scan.rows.items)) (get_or old s.target false)
+        or_left (has nat_eq s.target (entered_by scan.rows.items)) (get_or old s.target false)
         (has_in s.target (entered_by scan.rows.items) (in_rows scan.rows.items k s.target (in_map (λ (s : Step). s.target) s (entries_at scan k) (is_in s (entries_at scan k) c))))
 
 -- the same of a read
 pub mark_at : (row : List Step) (n : ℕ) (d : Step) (old now new : List Bool) → n < length row → All (λ (s : Step). s.target < length old) row → length now ≡ length old → new ≡ cond (enters (get_or row n d)) (set now (get_or row n d).target true) now
-    → ((a : ℕ) → get_or now a false ≡ (has a (entered_in (take n row)) || get_or old a false)) → (a : ℕ) → get_or new a false ≡ (has a (entered_in (take (n + 1) row)) || get_or old a false)
+    → ((a : ℕ) → get_or now a false ≡ (has nat_eq a (entered_in (take n row)) || get_or old a false)) → (a : ℕ) → get_or new a false ≡ (has nat_eq a (entered_in (take (n + 1) row)) || get_or old a false)
 mark_at row n d old now new h inside room e so =
     let l = inside n d h in
     mark_next row n (get_or row n d) old now new h (get_or_default row n d (get_or row n d) h) (omega (arith, l, room)) e so

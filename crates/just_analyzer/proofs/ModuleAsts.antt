@@ -8,7 +8,7 @@ use Rattle.just_graph.specs.Steps.{IsOnce}
 use Rattle.just_graph.specs.Unfolding.{Key, Node, KeySteps, root_key, steps}
 use Rattle.just_graph.proofs.Members.{In, is_in}
 use Rattle.just_parts.specs.declared.layers.ast.Ast.{Ast}
-use Rattle.just_loader.specs.Asts.{same_key}
+use Rattle.just_loader.specs.Asts.{same_ast_key}
 use Rattle.just_loader.specs.Loaded.{IsLoaded, name_at, key_at}
 use Rattle.just_loader.specs.Reached.{World}
 use Rattle.just_loader.specs.declared.loaded.Loaded.{Loaded}
@@ -31,7 +31,7 @@ ast_path w loaded nodes path g h =
 
 -- asts that are held of files
 abbrev pub AreAstsAt : Loaded → List ℕ → List ℕ → List Ast → Type 0
-AreAstsAt loaded path files asts = map Some asts ≡ map (λ g. get same_key loaded.asts (key_at loaded.scan path g)) files
+AreAstsAt loaded path files asts = map Some asts ≡ map (λ g. get same_ast_key loaded.asts (key_at loaded.scan path g)) files
 
 -- the key of a module, and its plan
 pub record IsModule (plans : Plans) (k : Key) (plan : Plan) : Type 0 where
@@ -66,7 +66,7 @@ module _ (w : World) (loaded : Loaded) (is : IsLoaded w loaded) (plans : Plans) 
     module_numbers_apart l other n asts_l f apart x c d =
         let a = number_of_ast w loaded is x asts (is_in x _ c) in
         let b = number_of_ast w loaded is x asts_l (is_in x _ d) in
-        let g = held_at (get same_key loaded.asts) (key_at loaded.scan k.path) asts plan.files.items (are_held (get same_key loaded.asts) (key_at loaded.scan k.path) asts plan.files.items e) a.0 a.1 in
-        let h = held_at (get same_key loaded.asts) (key_at loaded.scan l.path) asts_l other.files.items (are_held (get same_key loaded.asts) (key_at loaded.scan l.path) asts_l other.files.items f) b.0 b.1 in
+        let g = held_at (get same_ast_key loaded.asts) (key_at loaded.scan k.path) asts plan.files.items (are_held (get same_ast_key loaded.asts) (key_at loaded.scan k.path) asts plan.files.items e) a.0 a.1 in
+        let h = held_at (get same_ast_key loaded.asts) (key_at loaded.scan l.path) asts_l other.files.items (are_held (get same_ast_key loaded.asts) (key_at loaded.scan l.path) asts_l other.files.items f) b.0 b.1 in
         numbers_differ w loaded is (record { path = k.path; node = g.0 }) (record { path = l.path; node = h.0 }) (file_way k plan m g.0 g.1) (file_way l other n h.0 h.1)
         (λ same. apart (one_path w loaded.scan is.scan plans are m.way n.way (ap (λ (y : Key). y.path) same))) a.0 b.0 g.2 h.2 x a.2 b.2

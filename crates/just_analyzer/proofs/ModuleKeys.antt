@@ -7,9 +7,10 @@ use Rattle.std.proofs.lemmas.Bool.{false≢true}
 use Rattle.just_graph.specs.Levels.{InSteps, none, further}
 use Rattle.just_graph.specs.Unfolding.{Key, Node, KeySteps, stay, move, key_child, path_after, root_key, steps}
 use Rattle.just_graph.specs.declared.unfolding.Step.{Step}
+use Rattle.just_graph.proofs.KeySteps.{steps_keep, steps_more}
 use Rattle.just_graph.proofs.Members.{In, contained, is_in}
 use Rattle.just_parts.specs.declared.layers.ast.Ast.{Ast}
-use Rattle.just_loader.specs.Asts.{same_key}
+use Rattle.just_loader.specs.Asts.{same_ast_key}
 use Rattle.just_loader.specs.Loaded.{IsLoaded, IsAstOf, key_at}
 use Rattle.just_loader.specs.Reached.{World}
 use Rattle.just_loader.specs.declared.loaded.Loaded.{Loaded}
@@ -27,10 +28,6 @@ pub way_on : {S : ℕ → List Step} {k l j : Key} {n m : ℕ} → KeySteps S k 
 way_on stay m = (_, m)
 way_on (move s c w) m = let r = way_on w m in (suc r.0, move s c r.1)
 
--- one more step
-pub way_step : {S : ℕ → List Step} {k l : Key} {n : ℕ} → KeySteps S k l n → (s : Step) → Contains (S l.node) s → Way S k (key_child l s)
-way_step w s c = way_on w (move s c stay)
-
 -- a step that enters nothing stays in its group
 stays : (path : List ℕ) (o : Option ℕ) → not (is_some o) ≡ true → path_after path o ≡ path
 stays path None e = refl
@@ -42,9 +39,8 @@ imports_stay scan path none = (0, stay)
 imports_stay scan path {a = a} (further {a = f} {b = b} w c) =
     let s = import_step scan f b (is_in b (imports_at scan f) c) in
     let r = imports_stay scan path w in
-    let on = way_step r.1 s.0 (contained s.0 (steps scan.rows.items f) s.1) in
     let is : key_child (record { path = path; node = f }) s.0 ≡ record { path = path; node = b } = λ i. record { path = stays path s.0.enters s.2 i; node = sym s.3 i } in
-    subst (Way (steps scan.rows.items) (record { path = path; node = a })) is on
+    subst (Way (steps scan.rows.items) (record { path = path; node = a })) is (suc r.0, steps_more r.1 s.0 (contained s.0 (steps scan.rows.items f) s.1))
 
 module _ (w : World) (scan : Scan) (plans : Plans) (are : ArePlans w scan plans) where
   abbrev E : ℕ → List Step
@@ -61,7 +57,7 @@ module _ (w : World) (scan : Scan) (plans : Plans) (are : ArePlans w scan plans)
   entry_way k s h =
       let e = entry_at w scan plans are k.node s h in
       let r = file_way k e.plan e.at e.file e.listed in
-      way_step r.1 s (contained s (F e.file) e.step)
+      (suc r.0, steps_more r.1 s (contained s (F e.file) e.step))
 
   -- steps into modules are steps of files
   pub module_way : {k l : Key} {n : ℕ} → KeySteps E k l n → Way F k l
@@ -72,14 +68,8 @@ module _ (w : World) (scan : Scan) (plans : Plans) (are : ArePlans w scan plans)
       way_on one.1 more.1
 
   -- and lead from own file to own file
-  pub own_from : {k l : Key} {n : ℕ} → IsOwnAt scan k.node → KeySteps E k l n → IsOwnAt scan l.node
-  own_from own stay = own
-  own_from {k = k} own (move s c rest) =
-      let e = entry_at w scan plans are k.node s (is_in s (E k.node) c) in
-      own_from (of_step e.file s (contained s (entries_at scan e.file) e.entry)) rest
-
   pub own_of : {k : Key} {n : ℕ} → KeySteps E (root_key 0) k n → IsOwnAt scan k.node
-  own_of way = own_from of_root way
+  own_of way = steps_keep way (λ k. IsOwnAt scan k.node) (λ k s own h. let e = entry_at w scan plans are k.node s h in of_step e.file s (contained s (entries_at scan e.file) e.entry)) of_root
 
   -- each key of a module has a plan
   pub plan_of : {k : Key} {n : ℕ} → KeySteps E (root_key 0) k n → (plan : Plan) × (slice_get plans.plans.items k.node ≡ Some (Some plan))
@@ -92,7 +82,7 @@ pub record HasAst (w : World) (loaded : Loaded) (nodes : List Node) (path : List
   pub path_is : node.path ≡ path
   pub node_is : node.node ≡ g
   pub ast : Ast
-  pub held : get same_key loaded.asts (key_at loaded.scan path g) ≡ Some ast
+  pub held : get same_ast_key loaded.asts (key_at loaded.scan path g) ≡ Some ast
   pub of : IsAstOf w loaded.scan node ast
 
 module _ (w : World) (loaded : Loaded) (is : IsLoaded w loaded) where
@@ -107,7 +97,7 @@ module _ (w : World) (loaded : Loaded) (is : IsLoaded w loaded) where
         path_is = ap (λ (x : Key). x.path) node.2;
         node_is = ap (λ (x : Key). x.node) node.2;
         ast = ast.0;
-        held = ap (λ (x : Key). get same_key loaded.asts (key_at loaded.scan x.path x.node)) (sym node.2) ∙ ast.1;
+        held = ap (λ (x : Key). get same_ast_key loaded.asts (key_at loaded.scan x.path x.node)) (sym node.2) ∙ ast.1;
         of = ast.2;
       }
 

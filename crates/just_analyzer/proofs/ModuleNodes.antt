@@ -9,6 +9,7 @@ use Rattle.just_graph.specs.Unfolded.{unfolded_key, AllTold, AreApart, CameFrom,
 use Rattle.just_graph.specs.declared.unfolding.Origin.{Origin}
 use Rattle.just_graph.specs.declared.unfolding.Step.{Step}
 use Rattle.just_graph.specs.declared.unfolding.Unfolded.{Unfolded}
+use Rattle.just_graph.proofs.KeySteps.{steps_keep, steps_more}
 use Rattle.just_graph.proofs.Members.{In, from_flat, contained, is_in, in_left, in_cases}
 use Rattle.just_graph.proofs.Index.{get_map, map_get, some_same, got_in}
 use Rattle.just_graph.proofs.Told.{at_least, told_key}
@@ -82,10 +83,6 @@ stays : (S : ℕ → List Step) {k l : Key} {d : ℕ} → KeySteps S k l d → d
 stays S stay e = refl
 stays S (move s c w) e = absurd (omega arith)
 
-step_more : (S : ℕ → List Step) {k l : Key} {d : ℕ} (s : Step) → KeySteps S k l d → Contains (S l.node) s → KeySteps S k (key_child l s) (suc d)
-step_more S s stay c = move s c stay
-step_more S s (move t h w) c = move t h (step_more S s w c)
-
 firsts_from : {old xs all : List Node} → Firsts old xs all → (x : Node) → In x all → In x old ⊎ In x xs
 firsts_from none x h = inl h
 firsts_from (again k f) x h = elim (firsts_from f x h) [ inl i ↦ inl i | inr i ↦ inr (inr i) ]
@@ -125,7 +122,7 @@ module _ (w : World) (loaded : Loaded) (plans : Plans) (is : IsLoaded w loaded) 
   root_reached = (0, stay)
 
   child_reached : (k : Key) (s : Step) → Reached k → Contains (entries plans k.node) s → Reached (key_child k s)
-  child_reached k s r c = (suc r.0, step_more (entries plans) s r.1 c)
+  child_reached k s r c = (suc r.0, steps_more r.1 s c)
 
   -- the module of a key can be compiled by its plan
   module _ (k : Key) (reached : Reached k) (plan : Plan) (has : slice_get plans.plans.items k.node ≡ Some (Some plan)) where
@@ -160,12 +157,14 @@ module _ (w : World) (loaded : Loaded) (plans : Plans) (is : IsLoaded w loaded) 
           resolve = subst (λ (rs : List (Recipe UnresolvedDependency)). CanResolve rs plan) (sym same) (can_resolve asts.0 asts.1);
         }
 
-  module_key : {k l : Key} {d : ℕ} → Reached k → IsModuleKey loaded k → KeySteps (entries plans) k l d → IsModuleKey loaded l
-  module_key r m stay = m
-  module_key {k} r m (move s c steps) =
-      let plan = keys.key_planned w loaded plans is are k r in
+  module_key : {k : Key} {d : ℕ} → KeySteps (entries plans) (root_key 0) k d → IsModuleKey loaded k
+  module_key steps =
+      let all = steps_keep steps (λ k. Reached k × IsModuleKey loaded k) (λ k s at h.
+      let c = contained s (entries plans k.node) h in
+      let plan = keys.key_planned w loaded plans is are k at.0 in
       let known = are.planned k.node plan.0 plan.1 in
-      module_key (child_reached k s r c) (of_entry plan.0.files.items s m (known.0).join (subst (λ ss. Contains ss s) known.1 c)) steps
+      (child_reached k s at.0 c, of_entry plan.0.files.items s at.1 (known.0).join (subst (λ ss. Contains ss s) known.1 c))) (root_reached, of_root) in
+      all.1
 
   -- each of its steps enters a module
   entering_key : (k : Key) (s : Step) → Reached k → Contains (entries plans k.node) s → (name : ℕ) × (s.enters ≡ Some name)
@@ -274,7 +273,7 @@ module _ (w : World) (loaded : Loaded) (plans : Plans) (is : IsLoaded w loaded) 
       entering = λ i u s e c. entering_key (unfolded_key u) s (reached i u e) c;
       named = named_at;
       different = different_at;
-      keys = λ i u e. let r = reached i u e in module_key root_reached of_root r.1;
+      keys = λ i u e. let r = reached i u e in module_key r.1;
       apart = λ i j u v eu ev other files more join joined asts others said told.
           keys.numbers_apart w loaded plans is are (unfolded_key u) (unfolded_key v) (reached i u eu) (reached j v ev)
           (λ k. other (once i j (unfolded_key u) (key_at_place i u eu) (key_at_place j v ev ∙ ap Some (sym k)))) files more join joined asts others said told;

@@ -2,7 +2,6 @@
 use Rattle.std.proofs.Common.{◌≡◌, ℕ, List, sym, ◌∙◌}
 use Rattle.just_graph.specs.Unfolding.{Key, KeySteps, root_key, steps}
 use Rattle.just_graph.specs.declared.unfolding.Step.{Step}
-use Rattle.just_graph.proofs.Least.{one_end}
 use Rattle.just_loader.specs.Reached.{World}
 use Rattle.just_loader.specs.declared.loaded.Loaded.{Loaded}
 use Rattle.just_loader.specs.declared.scanned.Scan.{Scan}
@@ -11,10 +10,6 @@ use Rattle.just_analyzer.specs.declared.plans.Plan.{Plan}
 use Rattle.just_analyzer.specs.declared.plans.Plans.{Plans}
 use Rattle.just_analyzer.proofs.ModuleAsts.{IsModule}
 use Rattle.just_analyzer.proofs.ModuleKeys.{plan_of}
-
--- an own file has one join
-pub one_join : (scan : Scan) (own : ℕ) (files more : List ℕ) → IsJoin scan own files → IsJoin scan own more → files ≡ more
-one_join scan own files more a b = a.listed ∙ one_end (imports_at scan) own a.count b.count a.ended b.ended ∙ sym b.listed
 
 module _ (w : World) (loaded : Loaded) (plans : Plans) (are : ArePlans w loaded.scan plans) where
   abbrev E : ℕ → List Step

@@ -14,13 +14,13 @@ use Rattle.just_loader.specs.Loaded.{file_at}
 use Rattle.just_loader.specs.Reached.{World}
 use Rattle.just_loader.specs.Scanned.{IsScan}
 use Rattle.just_loader.specs.declared.scanned.Scan.{Scan}
+use Rattle.just_loader.proofs.FileKeys.{stands_on}
 use Rattle.just_loader.proofs.Numberings.{placed, map_get, some_same}
 use Rattle.just_analyzer.specs.Contents.{Heading, heading_of}
 use Rattle.just_analyzer.specs.Index.{AreDifferent, name_at as text_at}
 use Rattle.just_analyzer.specs.Planned.{ArePlans}
 use Rattle.just_analyzer.specs.declared.plans.Plan.{Plan}
 use Rattle.just_analyzer.specs.declared.plans.Plans.{Plans}
-use Rattle.just_analyzer.proofs.KeysApart.{key_inside}
 use Rattle.just_analyzer.proofs.ModuleKeys.{file_way}
 use Rattle.just_analyzer.proofs.ModuleSteps.{entry_at}
 use Rattle.just_analyzer.proofs.Placed.{entered_joined, map_map, name_by, name_entered}
@@ -54,8 +54,8 @@ module _ (w : World) (scan : Scan) (is : IsScan w scan) (plans : Plans) (are : A
   -- the files of a plan are those of the scan
   pub files_inside : (a : ℕ) (plan : Plan) → slice_get plans.plans.items a ≡ Some (Some plan) → (g : ℕ) → In g plan.files.items → g < length scan.files.items
   files_inside a plan at g h =
-      let inside : a < length scan.rows.items = omega (arith, slice_get_within plans.plans.items a (Some plan) at, are.count, is.count) in
-      omega (arith, key_inside w scan is inside (file_way w scan plans are (record { path = []; node = a }) plan at g h).1, is.count)
+      let inside : a < length scan.files.items = omega (arith, slice_get_within plans.plans.items a (Some plan) at, are.count) in
+      (stands_on w scan is (file_way w scan plans are (record { path = []; node = a }) plan at g h).1 (record { inside = inside; known = λ n none. absurd none })).inside
 
   module _ (a : ℕ) (plan : Plan) (at : slice_get plans.plans.items a ≡ Some (Some plan)) where
     abbrev declared : List Submodule

@@ -1,12 +1,17 @@
 -- Own files by texts and by their places, and the plans of the first files of an order.
-use Rattle.std.proofs.Common.{◌≡◌, ℕ, ◌<◌, List, [], ◌∷◌, map, length, slice_index, None, Some, Bool, true, false, inl, inr, sym, ap, subst, ◌∙◌, arith}
+use Rattle.std.proofs.Common.{nat_eq, ◌≡◌, ℕ, ◌<◌, List, [], ◌∷◌, map, length, slice_index, None, Some, Bool, true, false, inl, inr, sym, ap, subst, ◌∙◌, arith}
 use Rattle.std.specs.Prelude.{filter, flat_map, if◌then◌else◌}
+use Rattle.std.specs.Bool.{one_answer}
 use Rattle.std.specs.List.{slice_get}
+use Rattle.std.specs.Str.{bytes_eq}
+use Rattle.std.proofs.lemmas.Bool.Decides.{Decides-eqb}
+use Rattle.std.proofs.lemmas.Slice.Eq.{bytes_eq-Decides}
 use Rattle.std.proofs.lemmas.List.{get_or_default, length-map}
 use Rattle.std.proofs.lemmas.Option.{get_or_from_slice_get, slice_get_within}
 use Rattle.just_graph.specs.Unfolding.{IsOrdered, steps}
 use Rattle.just_graph.specs.declared.unfolding.Step.{Step}
-use Rattle.just_graph.proofs.Members.{In, contained, is_in, in_map, from_map}
+use Rattle.just_graph.proofs.Mapped.{levels_mapped, every_level}
+use Rattle.just_graph.proofs.Members.{In, contained, is_in, in_map, from_filter, from_map}
 use Rattle.just_parts.specs.declared.layers.ast.Item.{Item}
 use Rattle.just_loader.specs.FileCircles.{HasRows, IsFileOrder}
 use Rattle.just_loader.specs.Keys.{Submodule, imports_of, modules_of}
@@ -15,6 +20,7 @@ use Rattle.just_loader.specs.Reached.{World, Reached}
 use Rattle.just_loader.specs.Scanned.{IsScan, paths_in}
 use Rattle.just_loader.specs.declared.scanned.Scan.{Scan}
 use Rattle.just_loader.proofs.FileCircles.{place_in_order}
+use Rattle.just_loader.proofs.FileRows.{at}
 use Rattle.just_loader.proofs.Numberings.{got, placed}
 use Rattle.just_loader.proofs.WholeScans.{row_at}
 use Rattle.just_analyzer.specs.Contents.{IsOwn}
@@ -24,24 +30,10 @@ use Rattle.just_analyzer.specs.Planned.{enters, imports_at, entries_at, IsJoin, 
 use Rattle.just_analyzer.specs.Places.{IsKeptPlan}
 use Rattle.just_analyzer.specs.declared.plans.Plan.{Plan}
 use Rattle.just_analyzer.specs.declared.plans.Plans.{Plans}
-use Rattle.just_analyzer.proofs.JoinOrders.{Levels, levels, one_end}
-use Rattle.just_analyzer.proofs.Placed.{at, imports_here, targets_here}
+use Rattle.just_analyzer.proofs.Placed.{imports_here, targets_here}
 
 abbrev Text : Type 0
 Text = List ℕ
-
-in_filter : {A : Type 0} (p : A → Bool) (x : A) (xs : List A) → In x (filter p xs) → In x xs
-in_filter p x [] h = h
-in_filter p x (y ∷ ys) h = one (p y) h (in_filter p x ys)
-  where
-    one : (b : Bool) → In x (if b then y ∷ filter p ys else filter p ys) → (In x (filter p ys) → In x ys) → In x (y ∷ ys)
-    one true (inl e) rest = inl e
-    one true (inr k) rest = inr (rest k)
-    one false k rest = inr (rest k)
-
--- two joins of one own file are the same
-pub one_join : (w : World) (own : Text) (f g : List Text) → IsJoinOrder w own f → IsJoinOrder w own g → f ≡ g
-one_join w own f g a b = a.listed ∙ one_end (imports_of w) own a.count b.count a.ended b.ended ∙ sym b.listed
 
 -- own files are inside
 module _ (scan : Scan) (has : HasRows scan) where
@@ -51,12 +43,12 @@ module _ (scan : Scan) (has : HasRows scan) where
   pub import_inside : (a b : ℕ) → In b (imports_at scan a) → b < length scan.rows.items
   import_inside a b h =
       let s = from_map (λ (x : Step). x.target) b (filter _ (steps scan.rows.items a)) h in
-      let l = step_inside a s.0 (in_filter _ s.0 (steps scan.rows.items a) s.1) in
+      let l = step_inside a s.0 (from_filter _ s.0 (steps scan.rows.items a) s.1) in
       omega (arith, l, s.2)
 
   pub own_inside : (a : ℕ) → IsOwnAt scan a → a < length scan.rows.items
   own_inside _ root_at = has.some
-  own_inside _ (step_at a s c) = step_inside a s (in_filter enters s (steps scan.rows.items a) (is_in s (entries_at scan a) c))
+  own_inside _ (step_at a s c) = step_inside a s (from_filter enters s (steps scan.rows.items a) (is_in s (entries_at scan a) c))
 
 module _ (w : World) (scan : Scan) (is : IsScan w scan) (has : HasRows scan) where
   abbrev paths : List Text
@@ -74,27 +66,25 @@ module _ (w : World) (scan : Scan) (is : IsScan w scan) (has : HasRows scan) whe
   along : (a : ℕ) → a < length scan.rows.items → map (file_at scan) (imports_at scan a) ≡ imports_of w (file_at scan a)
   along a h = imports_here w scan is a (omega (arith, has.count))
 
-  inside : (a b : ℕ) → a < length scan.rows.items → In b (imports_at scan a) → b < length scan.rows.items
-  inside a b h k = import_inside scan has a b k
-
-  here : (a n : ℕ) → a < length scan.rows.items → Levels (file_at scan) (λ a. a < length scan.rows.items) (imports_at scan) (imports_of w) one_place along inside a n
-  here a n h = levels (file_at scan) (λ a. a < length scan.rows.items) (imports_at scan) (imports_of w) one_place along inside a n h
+  agree : (a b : ℕ) → a < length scan.rows.items → b < length scan.rows.items → bytes_eq (file_at scan a) (file_at scan b) ≡ nat_eq a b
+  agree a b h k = one_answer (bytes_eq (file_at scan a) (file_at scan b)) (nat_eq a b) (bytes_eq-Decides (file_at scan a) (file_at scan b)) (
+    λ t. ap (file_at scan) ((Decides-eqb a b).0 t),
+    λ e. (Decides-eqb a b).1 (one_place a b h k e),
+  )
 
   -- the join of an own file, by texts
   pub joins : (a : ℕ) (files : List ℕ) → a < length scan.rows.items → IsJoin scan a files → IsJoinOrder w (file_at scan a) (map (file_at scan) files)
-  joins a files h j =
-      let l = here a j.count h in
-      record { count = j.count; listed = ap (map (file_at scan)) j.listed ∙ l.before; ended = sym l.level ∙ ap (map (file_at scan)) j.ended }
+  joins = levels_mapped nat_eq bytes_eq (file_at scan) (λ a. a < length scan.rows.items) (imports_at scan) (imports_of w) agree along (λ a b h. import_inside scan has a b)
 
   pub joined_inside : (a : ℕ) (files : List ℕ) → a < length scan.rows.items → IsJoin scan a files → (b : ℕ) → In b files → b < length scan.rows.items
-  joined_inside a files h j b i = let l = here a j.count h in l.old b (subst (In b) j.listed i)
+  joined_inside = every_level nat_eq bytes_eq (file_at scan) (λ a. a < length scan.rows.items) (imports_at scan) (imports_of w) agree along (λ a b h. import_inside scan has a b)
 
   -- the own file at a place
   pub own_of_place : (a : ℕ) → IsOwnAt scan a → IsOwn w (file_at scan a)
   own_of_place _ root_at = subst (IsOwn w) (sym (get_or_from_slice_get paths 0 w.root [] is.root)) of_root
   own_of_place _ (step_at a s c) =
       let i = is_in s (entries_at scan a) c in
-      let row = row_at scan.rows.items a s (in_filter enters s (steps scan.rows.items a) i) in
+      let row = row_at scan.rows.items a s (from_filter enters s (steps scan.rows.items a) i) in
       let h : a < length scan.rows.items = slice_get_within scan.rows.items a row.0 row.1 in
       let listed : In (file_at scan s.target) (map (λ (m : Submodule). m.path) (modules_of w (file_at scan a))) =
       subst (In (file_at scan s.target)) (targets_here w scan is a (omega (arith, has.count))) (in_map (λ (s : Step). file_at scan s.target) s (entries_at scan a) i) in

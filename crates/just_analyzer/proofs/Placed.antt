@@ -1,6 +1,6 @@
 -- What stands at the places of a scan is what the texts say.
 use Rattle.std.proofs.Common.{◌≡◌, ℕ, zero, suc, ◌<◌, List, [], ◌∷◌, ◌++◌, ◌+◌, map, take, length, get_or, slice_index, Option, None, Some, Bool, true, false, inl, inr, refl, sym, ap, subst, ◌∙◌, arith}
-use Rattle.std.specs.Prelude.{filter, flat_map, if◌then◌else◌}
+use Rattle.std.specs.Prelude.{filter, flat_map, if◌then◌else◌, is_some, not}
 use Rattle.std.specs.List.{slice_get}
 use Rattle.std.specs.Option.{option_map, unwrap_or}
 use Rattle.std.specs.declared.vec.Vec.{Vec}
@@ -17,7 +17,7 @@ use Rattle.just_parts.specs.declared.layers.ast.Item.{Item}
 use Rattle.just_parts.specs.declared.layers.ast.Item.TheVariants as item
 use Rattle.just_parts.specs.declared.layers.ast.UnresolvedDependency.{UnresolvedDependency}
 use Rattle.just_parts.specs.declared.recipe.Recipe.{Recipe}
-use Rattle.just_loader.specs.Keys.{Submodule, declared, end_of, imported, imports_of, items_at, modules_of}
+use Rattle.just_loader.specs.Keys.{FileStep, Submodule, declared, imports_of, items_at, modules_of}
 use Rattle.just_loader.specs.Links.{Link, Nowhere, To, Fault}
 use Rattle.just_loader.specs.Loaded.{file_at, name_at}
 use Rattle.just_loader.specs.Numbering.{texts_of}
@@ -25,8 +25,8 @@ use Rattle.just_loader.specs.Reached.{World, link}
 use Rattle.just_loader.specs.Scanned.{IsPlaceOf, ArePlacesOf, IsStepOf, AreSteps, IsScan, IsScanned, paths_in}
 use Rattle.just_loader.specs.declared.scanned.Scan.{Scan}
 use Rattle.just_loader.specs.declared.scanned.ScannedFile.{ScannedFile}
+use Rattle.just_loader.proofs.FileRows.{at, no_end, one_end, said, steps_at, steps_here, text_step}
 use Rattle.just_loader.proofs.Numberings.{map_get, some_same}
-use Rattle.just_loader.proofs.WholeScans.{read_at}
 use Rattle.just_analyzer.specs.Contents.{contents}
 use Rattle.just_analyzer.specs.Outline.{outlines_of, recipes_of}
 use Rattle.just_analyzer.specs.Places.{imports_in, name_if, named_in, names_at, recipes_at, heading_named}
@@ -80,28 +80,9 @@ name_by scan o = unwrap_or (option_map (name_at scan) o) []
 abbrev pub name_entered : Scan → Step → Text
 name_entered scan s = name_by scan s.enters
 
--- where links lead
-no_end : (paths : List Text) (l : Link) → IsPlaceOf paths l None → end_of l ≡ []
-no_end paths Nowhere h = refl
-no_end paths (To p) h = absurd h
-no_end paths (Fault c) h = refl
-
-one_end : (paths : List Text) (l : Link) (place : ℕ) → IsPlaceOf paths l (Some place) → end_of l ≡ get_or paths place [] ∷ []
-one_end paths Nowhere place h = absurd h
-one_end paths (To p) place h = ap (λ x. x ∷ []) (sym (get_or_from_slice_get paths place p [] h))
-one_end paths (Fault c) place h = absurd h
-
 module _ (w : World) (folder : Text) (names paths : List Text) where
   abbrev path : ℕ → Text
   path place = get_or paths place []
-
-  import_one : (i : Item) (t : Option ℕ) (row : List Step) → IsPlaceOf paths (link w folder i) t → IsStepOf names i t row → map path (imports_in row) ≡ imported w folder i
-  import_one (item.Import literal absolute optional) None row p s = ap (λ r. map path (imports_in r)) s ∙ sym (no_end paths (link w folder (item.Import literal absolute optional)) p)
-  import_one (item.Import literal absolute optional) (Some place) row p s = ap (λ r. map path (imports_in r)) s ∙ sym (one_end paths (link w folder (item.Import literal absolute optional)) place p)
-  import_one (item.Module name literal absolute optional) None row p s = ap (λ r. map path (imports_in r)) s
-  import_one (item.Module name literal absolute optional) (Some place) row p s = ap (λ r. map path (imports_in r)) s.2
-  import_one _ None row p s = ap (λ r. map path (imports_in r)) s
-  import_one _ (Some place) row p s = ap (λ r. map path (imports_in r)) s
 
   entry_one : (i : Item) (t : Option ℕ) (row : List Step) → IsPlaceOf paths (link w folder i) t → IsStepOf names i t row → map (entry_at names paths) (filter enters row) ≡ map entry_of (declared w folder i)
   entry_one (item.Import literal absolute optional) None row p s = ap (λ r. map (entry_at names paths) (filter enters r)) s
@@ -124,17 +105,6 @@ module _ (w : World) (folder : Text) (names paths : List Text) where
   name_one _ None p = refl
   name_one _ (Some place) p = refl
 
-  imports_same : (is : List Item) (ts : List (Option ℕ)) (row : List Step) → ArePlacesOf paths (map (link w folder) is) ts → AreSteps names is ts row → map path (imports_in row) ≡ flat_map (imported w folder) is
-  imports_same [] [] row ps ss = ap (λ r. map path (imports_in r)) ss
-  imports_same [] (t ∷ ts) row ps ss = absurd ps
-  imports_same (i ∷ is) [] row ps ss = absurd ps
-  imports_same (i ∷ is) (t ∷ ts) row ps ss =
-      ap (λ r. map path (imports_in r)) ss.4
-      ∙ ap (λ r. map path (map (λ (s : Step). s.target) r)) (filter_append _ ss.0 ss.1)
-      ∙ ap (map path) (map-append (λ (s : Step). s.target) _ _)
-      ∙ map-append path (imports_in ss.0) (imports_in ss.1)
-      ∙ (λ j. import_one i t ss.0 ps.0 ss.2 j ++ imports_same is ts ss.1 ps.1 ss.3 j)
-
   entries_same : (is : List Item) (ts : List (Option ℕ)) (row : List Step) → ArePlacesOf paths (map (link w folder) is) ts → AreSteps names is ts row → map (entry_at names paths) (filter enters row) ≡ map entry_of (flat_map (declared w folder) is)
   entries_same [] [] row ps ss = ap (λ r. map (entry_at names paths) (filter enters r)) ss
   entries_same [] (t ∷ ts) row ps ss = absurd ps
@@ -153,11 +123,6 @@ module _ (w : World) (folder : Text) (names paths : List Text) where
   names_same (i ∷ is) (t ∷ ts) ps =
       (λ j. name_one i t ps.0 j ++ names_same is ts ps.1 j)
       ∙ sym (map-append (λ (m : Submodule). m.name) (declared w folder (bare_item i)) (flat_map (declared w folder) (map bare_item is)))
-
-steps_at : (rows : List (Vec Step Global)) (a : ℕ) (row : Vec Step Global) → slice_get rows a ≡ Some row → steps rows a ≡ row.items
-steps_at [] a row e = absurd (let wrong : None ≡ Some row = e in cc)
-steps_at (r ∷ rows) zero row e = ap (λ (x : Vec Step Global). x.items) (some_same e)
-steps_at (r ∷ rows) (suc a) row e = steps_at rows a row e
 
 pub steps_read : (rows : List (Vec Step Global)) (a : ℕ) (row : Vec Step Global) → a < length rows → row ≡ get_or rows a row → steps rows a ≡ row.items
 steps_read [] a row h e = absurd (omega arith)
@@ -183,50 +148,26 @@ module _ (w : World) (scan : Scan) (is : IsScan w scan) where
   abbrev names : List Text
   names = texts_of scan.names.items
 
-  -- the file at a place
-  pub record At (a : ℕ) : Type 0 where
-    pub file : ScannedFile
-    pub row : Vec Step Global
-    pub file_is : slice_get scan.files.items a ≡ Some file
-    pub row_is : slice_get scan.rows.items a ≡ Some row
-    pub path_is : slice_get paths a ≡ Some (file_at scan a)
-    pub path_at : file.path ≡ file_at scan a
-    pub scanned : IsScanned w paths names file row.items
-
-  pub at : (a : ℕ) → a < length scan.files.items → At a
-  at a h =
-      let file = read_at scan.files.items a h in
-      let row = read_at scan.rows.items a (omega (arith, is.count)) in
-      let path = map_get (λ (f : ScannedFile). f.path) scan.files.items a file.0 file.1 in
-      let same : file_at scan a ≡ file.0.path = get_or_from_slice_get paths a file.0.path [] path in
-      record {
-        file = file.0;
-        row = row.0;
-        file_is = file.1;
-        row_is = row.1;
-        path_is = path ∙ ap Some (sym same);
-        path_at = sym same;
-        scanned = is.scanned a file.0 row.0 file.1 row.1;
-      }
-
-  said : (a : ℕ) (x : At a) → items_at w (file_at scan a) ≡ x.scanned.items
-  said a x = ap (λ p. items_at w p) (sym x.path_at) ∙ ap (λ o. unwrap_or o []) x.scanned.parsed
+  imports_in_texts : (row : List Step) → map (file_at scan) (imports_in row) ≡ map (λ (s : FileStep). s.to) (filter (λ (s : FileStep). not (is_some s.enters)) (map (text_step scan) row))
+  imports_in_texts [] = refl
+  imports_in_texts (s ∷ row) = one s.enters (filter (λ s. not (enters s)) row) (filter (λ (s : FileStep). not (is_some s.enters)) (map (text_step scan) row)) (imports_in_texts row)
+    where
+      one : (o : Option ℕ) (ss : List Step) (ts : List FileStep) → map (file_at scan) (map (λ (s : Step). s.target) ss) ≡ map (λ (s : FileStep). s.to) ts
+          → map (file_at scan) (map (λ (s : Step). s.target) (if not (is_some o) then s ∷ ss else ss)) ≡ map (λ (s : FileStep). s.to) (if not (is_some (option_map (name_at scan) o)) then text_step scan s ∷ ts else ts)
+      one None ss ts e = ap (λ xs. file_at scan s.target ∷ xs) e
+      one (Some name) ss ts e = e
 
   -- what a file imports
   pub imports_here : (a : ℕ) → a < length scan.files.items → map (file_at scan) (imports_at scan a) ≡ imports_of w (file_at scan a)
-  imports_here a h =
-      let x = at a h in
-      ap (λ r. map (file_at scan) (imports_in r)) (steps_at scan.rows.items a x.row x.row_is)
-      ∙ imports_same w (folder_of x.file.path) names paths x.scanned.items x.file.targets.items x.row.items x.scanned.targets x.scanned.steps
-      ∙ (λ i. flat_map (imported w (folder_of (x.path_at i))) (sym (said a x) i))
+  imports_here a h = imports_in_texts (steps scan.rows.items a) ∙ ap (λ ss. map (λ (s : FileStep). s.to) (filter (λ (s : FileStep). not (is_some s.enters)) ss)) (steps_here w scan is a h)
 
   -- the modules that a file declares, by the steps that enter them
   pub entries_here : (a : ℕ) → a < length scan.files.items → map (entry_at names paths) (entries_at scan a) ≡ map entry_of (modules_of w (file_at scan a))
   entries_here a h =
-      let x = at a h in
+      let x = at w scan is a h in
       ap (λ r. map (entry_at names paths) (filter enters r)) (steps_at scan.rows.items a x.row x.row_is)
       ∙ entries_same w (folder_of x.file.path) names paths x.scanned.items x.file.targets.items x.row.items x.scanned.targets x.scanned.steps
-      ∙ ap (map entry_of) (λ i. flat_map (declared w (folder_of (x.path_at i))) (sym (said a x) i))
+      ∙ ap (map entry_of) (λ i. flat_map (declared w (folder_of (x.path_at i))) (sym (said w scan is a x) i))
 
   pub targets_here : (a : ℕ) → a < length scan.files.items → map (λ (s : Step). file_at scan s.target) (entries_at scan a) ≡ map (λ (m : Submodule). m.path) (modules_of w (file_at scan a))
   targets_here a h =
@@ -243,8 +184,8 @@ module _ (w : World) (scan : Scan) (is : IsScan w scan) where
   -- the names of these modules
   pub names_here : (a : ℕ) → a < length scan.files.items → names_at scan a ≡ map (λ (m : Submodule). m.name) (modules_of w (file_at scan a))
   names_here a h =
-      let x = at a h in
-      let bare : items_at w (file_at scan a) ≡ map bare_item x.file.items = said a x ∙ x.scanned.said in
+      let x = at w scan is a h in
+      let bare : items_at w (file_at scan a) ≡ map bare_item x.file.items = said w scan is a x ∙ x.scanned.said in
       let places = subst (λ is. ArePlacesOf paths (map (link w (folder_of x.file.path)) is) x.file.targets.items) x.scanned.said x.scanned.targets in
       get_or_from_slice_get (map (λ (f : ScannedFile). named_in f.items f.targets.items) scan.files.items) a (named_in x.file.items x.file.targets.items) [] (map_get (λ (f : ScannedFile). named_in f.items f.targets.items) scan.files.items a x.file x.file_is)
       ∙ names_same w (folder_of x.file.path) names paths x.file.items x.file.targets.items places
@@ -253,8 +194,8 @@ module _ (w : World) (scan : Scan) (is : IsScan w scan) where
   -- its recipes
   pub recipes_here : (enabled : Item → Bool) (a : ℕ) → a < length scan.files.items → outlines_of (recipes_at enabled scan a) ≡ outlines_of (recipes_of enabled (items_at w (file_at scan a)))
   recipes_here enabled a h =
-      let x = at a h in
-      let bare : items_at w (file_at scan a) ≡ map bare_item x.file.items = said a x ∙ x.scanned.said in
+      let x = at w scan is a h in
+      let bare : items_at w (file_at scan a) ≡ map bare_item x.file.items = said w scan is a x ∙ x.scanned.said in
       ap outlines_of (get_or_from_slice_get (map (λ (f : ScannedFile). recipes_of enabled f.items) scan.files.items) a (recipes_of enabled x.file.items) [] (map_get (λ (f : ScannedFile). recipes_of enabled f.items) scan.files.items a x.file x.file_is))
       ∙ sym (outlines_bare enabled x.file.items)
       ∙ ap (λ is. outlines_of (recipes_of enabled is)) (sym bare)

@@ -1,5 +1,5 @@
 -- What a module's checks tell of its contents.
-use Rattle.std.proofs.Common.{◌≡◌, Bool, ℕ, zero, suc, ◌<◌, ◌≤◌, List, [], ◌∷◌, map, length, get_or, min, refl, sym, ap, subst, ◌∙◌, arith, inl, inr, ◌↔◌}
+use Rattle.std.proofs.Common.{nat_eq, ◌≡◌, Bool, ℕ, zero, suc, ◌<◌, ◌≤◌, List, [], ◌∷◌, map, length, get_or, min, refl, sym, ap, subst, ◌∙◌, arith, inl, inr, ◌↔◌}
 use Rattle.std.specs.Prelude.{flat_map}
 use Rattle.std.specs.List.{All, Contains}
 use Rattle.std.specs.declared.vec.Vec.{Vec}
@@ -9,7 +9,7 @@ use Rattle.std.proofs.lemmas.List.{get_or-map, length-map}
 use Rattle.std.proofs.lemmas.List.Elements.{Contains-get_or}
 use Rattle.just_graph.specs.Building.{EachRow, targets_past}
 use Rattle.just_graph.specs.Graph.{targets, HasEdge, IsGraph}
-use Rattle.just_graph.specs.Levels.{before, level}
+use Rattle.just_graph.specs.Levels.{AreLevels}
 use Rattle.just_graph.specs.Steps.{Reached, from_start, from_member}
 use Rattle.just_graph.specs.Unfolding.{steps}
 use Rattle.just_graph.specs.declared.unfolding.Step.{Step}
@@ -75,10 +75,8 @@ module _ (scan : Scan) (imports : List (Vec ℕ Global)) (are : EachRow (λ a ro
   pub imports_graph : HasRows scan → IsGraph imports
   imports_graph has a b e = omega (arith, are.count, import_inside scan has a b (is_in b (imports_at scan a) (subst (λ row. Contains row b) (all_imports a) e)))
 
-  pub is_join : (own : ℕ) (files : List ℕ) → (n : ℕ) × (files ≡ before (targets imports) own n) × (level (targets imports) own n ≡ []) → IsJoin scan own files
-  is_join own files l =
-      let same : targets imports ≡ imports_at scan = λ i a. all_imports a i in
-      record { count = l.0; listed = l.1 ∙ ap (λ next. before next own l.0) same; ended = sym (ap (λ next. level next own l.0) same) ∙ l.2 }
+  pub is_join : (own : ℕ) (files : List ℕ) → AreLevels nat_eq (targets imports) own files → IsJoin scan own files
+  is_join own files l = subst (λ next. AreLevels nat_eq next own files) (λ i a. all_imports a i) l
 
 reached_below : (g : List (Vec ℕ Global)) (start : ℕ) → IsGraph g → start < length g → {a : ℕ} → Reached (HasEdge g) (start ∷ []) [] a → a < length g
 reached_below g start graph h (from_start {a} c) = elim (is_in a (start ∷ []) c) [ inl e ↦ omega (arith, h, e) | inr wrong ↦ absurd wrong ]

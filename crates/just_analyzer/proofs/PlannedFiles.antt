@@ -9,6 +9,8 @@ use Rattle.std.proofs.lemmas.Bool.{cases_eq, cases_lt}
 use Rattle.std.proofs.lemmas.List.{length-set}
 use Rattle.std.proofs.lemmas.List.Elements.{All-push}
 use Rattle.std.proofs.lemmas.Option.{get_or_from_slice_get, slice_get_within}
+use Rattle.std.specs.Str.{bytes_eq}
+use Rattle.just_graph.proofs.Ended.{one_list}
 use Rattle.just_graph.specs.Steps.{in_take, leads_before}
 use Rattle.just_graph.specs.Unfolding.{steps}
 use Rattle.just_graph.specs.declared.unfolding.Step.{Step}
@@ -16,7 +18,7 @@ use Rattle.just_parts.specs.declared.layers.ast.Item.{Item}
 use Rattle.just_parts.specs.declared.layers.error.Error.{Error}
 use Rattle.just_loader.specs.Causes.{Cause, Keeps}
 use Rattle.just_loader.specs.FileCircles.{HasRows, IsFileOrder}
-use Rattle.just_loader.specs.Keys.{NamesInFiles}
+use Rattle.just_loader.specs.Keys.{imports_of, NamesInFiles}
 use Rattle.just_loader.specs.Loaded.{file_at}
 use Rattle.just_loader.specs.Reached.{World}
 use Rattle.just_loader.specs.Scanned.{IsScan}
@@ -30,7 +32,7 @@ use Rattle.just_analyzer.specs.Places.{AddsPlan, IsKeptPlan, NamesModule, of_hea
 use Rattle.just_analyzer.specs.Rules.{KeepsAll, KeepsBelow, KeepsModule, Names, in_headers, in_dependencies}
 use Rattle.just_analyzer.specs.declared.plans.Plan.{Plan}
 use Rattle.just_analyzer.specs.declared.plans.Plans.{Plans}
-use Rattle.just_analyzer.proofs.OwnFiles.{one_join, own_inside, own_of_place, place_of_own, joins, listed_at, path_is, PlannedSoFar}
+use Rattle.just_analyzer.proofs.OwnFiles.{own_inside, own_of_place, place_of_own, joins, listed_at, path_is, PlannedSoFar}
 
 abbrev Text : Type 0
 Text = List ℕ
@@ -153,7 +155,7 @@ module _ (w : World) (scan : Scan) (is : IsScan w scan) (has : HasRows scan) (en
   keeps_at k h own files join =
       let plan = so.done k h own in
       let kept = (so.planned (slice_index order k) plan.0 plan.1).0 w e is in
-      let same = one_join w (file_at scan (slice_index order k)) (map (file_at scan) plan.0.files.items) files (joins w scan is has (slice_index order k) plan.0.files.items (own_inside scan has (slice_index order k) own) kept.0.join) join in
+      let same = one_list bytes_eq (imports_of w) (file_at scan (slice_index order k)) (map (file_at scan) plan.0.files.items) files (joins w scan is has (slice_index order k) plan.0.files.items (own_inside scan has (slice_index order k) own) kept.0.join) join in
       subst (λ fs. KeepsModule (contents w fs)) same kept.1
 
   -- so do the modules below the next

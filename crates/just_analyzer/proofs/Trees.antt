@@ -1,5 +1,5 @@
 -- Trees of justfiles: they stay while more is compiled, and they are closed.
-use Rattle.std.proofs.Common.{◌≡◌, ◌∙◌, ℕ, zero, suc, ◌<◌, Bool, List, [], ◌∷◌, map, flat_map, length, get_or, Option, Some, None, IsSome, inl, inr, refl, sym, ap, subst, arith}
+use Rattle.std.proofs.Common.{nat_eq, ◌≡◌, ◌∙◌, ℕ, zero, suc, ◌<◌, Bool, List, [], ◌∷◌, map, flat_map, length, get_or, Option, Some, None, IsSome, inl, inr, refl, sym, ap, subst, arith}
 use Rattle.std.specs.List.{All, Contains, slice_get}
 use Rattle.std.proofs.lemmas.Bool.Decides.{eqb_tells}
 use Rattle.std.proofs.lemmas.List.{length-map, get_or_default}
@@ -21,7 +21,7 @@ use Rattle.just_invoke.specs.Recipes.{numbers, find_number}
 use Rattle.just_invoke.specs.declared.justfile.Justfile.{Justfile, out-Justfile}
 use Rattle.just_invoke.specs.declared.justfile.RecipeKey.{RecipeKey}
 use Rattle.std.specs.HashMap.{get}
-use Rattle.just_loader.specs.Asts.{same_key}
+use Rattle.just_loader.specs.Asts.{same_ast_key}
 use Rattle.just_loader.specs.Loaded.{file_at, key_at}
 use Rattle.just_loader.specs.Reached.{World}
 use Rattle.just_loader.specs.declared.loaded.Loaded.{Loaded}
@@ -74,12 +74,12 @@ module _ (w v : World) (same : w.answers.enabled ≡ v.answers.enabled) (loaded 
   }
 
 -- the start stands in what is joined
-start_in : (next : ℕ → List ℕ) (start n : ℕ) → In start (before next start (suc n))
+start_in : (next : ℕ → List ℕ) (start n : ℕ) → In start (before nat_eq next start (suc n))
 unfolding level before
 start_in next start zero = inl refl
-start_in next start (suc n) = in_left start (before next start (suc n)) (level next start (suc n)) (start_in next start n)
+start_in next start (suc n) = in_left start (before nat_eq next start (suc n)) (level nat_eq next start (suc n)) (start_in next start n)
 
-some_start : (next : ℕ → List ℕ) (start count : ℕ) → level next start count ≡ [] → In start (before next start count)
+some_start : (next : ℕ → List ℕ) (start count : ℕ) → level nat_eq next start count ≡ [] → In start (before nat_eq next start count)
 unfolding level before
 some_start next start zero e = cc
 some_start next start (suc n) e = start_in next start n
@@ -135,7 +135,7 @@ module _ (w : World) (loaded : Loaded) (built : List Built) (recipes : List (Rec
     key_held (Some key) f some = let at = f key refl in subst (λ n. IsSome (find_number recipes n)) at.2 (place_held at.0 at.1)
 
     own_in : Contains is.from.asts is.from.own
-    own_in = said_one (λ file. get same_key loaded.asts (key_at loaded.scan k.path file)) is.from.files is.from.asts k.node is.from.own is.from.said (own_joined loaded k.node is.from.files is.from.join) is.from.own_said
+    own_in = said_one (λ file. get same_ast_key loaded.asts (key_at loaded.scan k.path file)) is.from.files is.from.asts k.node is.from.own is.from.said (own_joined loaded k.node is.from.files is.from.join) is.from.own_said
 
     own_held : (n : ℕ) → In n (unresolved_numbers own_rs) → IsSome (find_number recipes n)
     own_held n h =

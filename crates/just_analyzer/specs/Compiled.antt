@@ -3,7 +3,7 @@ use Rattle.std.specs.Prelude.{◌≡◌, Result, IfOk, IfErr, IsSome}
 use Rattle.std.specs.HashMap.{get, IsEmpty}
 use Rattle.just_parts.specs.declared.layers.error.Error.{Error}
 use Rattle.just_invoke.specs.Closed.{IsClosed, AreClosed}
-use Rattle.just_loader.specs.Asts.{same_key, root_key}
+use Rattle.just_loader.specs.Asts.{same_ast_key, root_ast_key}
 use Rattle.just_loader.specs.Causes.{Keeps, Reports}
 use Rattle.just_loader.specs.Loaded.{IsLoaded}
 use Rattle.just_loader.specs.Reached.{World}
@@ -28,5 +28,5 @@ pub record Compiles (w : World) (result : Result Compilation Error) : Type 0 whe
   pub all_closed : IfOk result (λ (c : Compilation). AreClosed c.recipes c.justfile)
   pub root : IfOk result (λ (c : Compilation). c.root ≡ w.root)
   pub overrides : IfOk result (λ (c : Compilation). IsEmpty c.overrides)
-  pub root_ast : IfOk result (λ (c : Compilation). IsSome (get same_key c.asts (root_key c.root)))
+  pub root_ast : IfOk result (λ (c : Compilation). IsSome (get same_ast_key c.asts (root_ast_key c.root)))
   pub named : IfErr result (Reports (Names w))

@@ -15,7 +15,7 @@ use Rattle.just_parts.specs.declared.layers.name.Name.{Name}
 use Rattle.just_parts.specs.declared.modulepath.Modulepath.{Modulepath}
 use Rattle.just_parts.specs.declared.recipe.Recipe.{Recipe}
 use Rattle.just_invoke.specs.declared.justfile.Justfile.{Justfile}
-use Rattle.just_loader.specs.Asts.{same_key}
+use Rattle.just_loader.specs.Asts.{same_ast_key}
 use Rattle.just_loader.specs.Loaded.{file_at, name_at, IsLoaded}
 use Rattle.just_loader.specs.Reached.{World}
 use Rattle.just_loader.specs.declared.loaded.Loaded.{Loaded}
@@ -42,7 +42,7 @@ modulepath_at scan path = record { components = map (name_at scan) path; spaced 
 
 -- what the file at a place says as one of a module
 abbrev pub ast_of : Loaded → Modulepath → ℕ → Option Ast
-ast_of loaded path file = get same_key loaded.asts (path, file_at loaded.scan file)
+ast_of loaded path file = get same_ast_key loaded.asts (path, file_at loaded.scan file)
 
 -- its recipes
 abbrev pub recipes_in_ast : (Item → Bool) → Option Ast → List (Recipe UnresolvedDependency)

@@ -15,7 +15,7 @@ use Rattle.just_parts.specs.declared.layers.ast.UnresolvedDependency.{Unresolved
 use Rattle.just_parts.specs.declared.recipe.Recipe.{Recipe}
 use Rattle.just_invoke.specs.Module.{module_name}
 use Rattle.just_invoke.specs.declared.justfile.Justfile.{Justfile, out-Justfile}
-use Rattle.just_loader.specs.Asts.{same_key}
+use Rattle.just_loader.specs.Asts.{same_ast_key}
 use Rattle.just_loader.specs.Loaded.{file_at, key_at, name_at}
 use Rattle.just_loader.specs.Reached.{World}
 use Rattle.just_loader.specs.declared.loaded.Loaded.{Loaded}
@@ -33,9 +33,9 @@ pub record IsCompiledFrom (w : World) (loaded : Loaded) (k : Key) (made : List (
   pub files : List ℕ
   pub join : IsJoin loaded.scan k.node files
   pub asts : List Ast
-  pub said : map Some asts ≡ map (λ file. get same_key loaded.asts (key_at loaded.scan k.path file)) files
+  pub said : map Some asts ≡ map (λ file. get same_ast_key loaded.asts (key_at loaded.scan k.path file)) files
   pub own : Ast
-  pub own_said : get same_key loaded.asts (key_at loaded.scan k.path k.node) ≡ Some own
+  pub own_said : get same_ast_key loaded.asts (key_at loaded.scan k.path k.node) ≡ Some own
   pub resolved : AreResolved (recipes_said w asts) (key_at loaded.scan k.path k.node).0 made
 
 -- the steps into the modules that a module declares

@@ -1,8 +1,8 @@
 -- What is worked out once for each file that is a module's own.
-use Rattle.std.specs.Prelude.{◌≡◌, ℕ, not, Bool, List, [], map, filter, flat_map, is_some, length, None, Some, slice_get}
+use Rattle.std.specs.Prelude.{◌≡◌, ℕ, not, Bool, List, [], map, filter, flat_map, is_some, length, None, Some, nat_eq, slice_get}
 use Rattle.std.specs.List.{Contains}
 use Rattle.just_graph.specs.Building.{EachRow}
-use Rattle.just_graph.specs.Levels.{level, before}
+use Rattle.just_graph.specs.Levels.{AreLevels}
 use Rattle.just_graph.specs.Unfolding.{steps}
 use Rattle.just_graph.specs.declared.unfolding.Step.{Step}
 use Rattle.just_loader.specs.Keys.{Submodule, modules_of}
@@ -29,10 +29,8 @@ abbrev pub entries_at : Scan → ℕ → List Step
 entries_at scan a = filter enters (steps scan.rows.items a)
 
 -- the places of the files of the module whose own file stands at a place, level by level, up to the first level that is empty
-pub record IsJoin (scan : Scan) (own : ℕ) (files : List ℕ) : Type 0 where
-  pub count : ℕ
-  pub listed : files ≡ before (imports_at scan) own count
-  pub ended : level (imports_at scan) own count ≡ []
+abbrev pub IsJoin : Scan → ℕ → List ℕ → Type 0
+IsJoin scan = AreLevels nat_eq (imports_at scan)
 
 -- what files at places say
 abbrev pub contents_at : World → Scan → List ℕ → Contents

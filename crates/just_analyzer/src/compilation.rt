@@ -1,6 +1,6 @@
 ghost use Rattle.std.specs.Prelude.{◌≡◌, Some, IsSome};
 ghost use Rattle.std.specs.HashMap.{get};
-ghost use Rattle.just_loader.specs.Asts.{same_key, root_key};
+ghost use Rattle.just_loader.specs.Asts.{same_ast_key, root_ast_key};
 
 use just_data::Text;
 use just_invoke::{Justfile, Recipes};
@@ -24,7 +24,7 @@ pub struct Compilation<'src> {
 
 // Whether a key is that of the root file.
 fn is_root_key(key: &(Modulepath, Text), root: &str) -> bool
-    ensures { result ≡ same_key (root_key root.now) key.now }
+    ensures { result ≡ same_ast_key (root_ast_key root.now) key.now }
 {
     key.0.components.is_empty() && !key.0.spaced && key.1.as_str() == root
 }
@@ -32,12 +32,12 @@ fn is_root_key(key: &(Modulepath, Text), root: &str) -> bool
 impl<'src> Compilation<'src> {
     ghost use Rattle.std.specs.Prelude.{Some, IsSome};
     ghost use Rattle.std.specs.HashMap.{get};
-    ghost use Rattle.just_loader.specs.Asts.{same_key, root_key};
+    ghost use Rattle.just_loader.specs.Asts.{same_ast_key, root_ast_key};
 
     /// What the root file says.
     pub fn root_ast(&self) -> &Ast<'src>
-        requires { IsSome (get same_key self.now.asts (root_key self.now.root)) }
-        ensures { get same_key self.now.asts (root_key self.now.root) ≡ Some result.now }
+        requires { IsSome (get same_ast_key self.now.asts (root_ast_key self.now.root)) }
+        ensures { get same_ast_key self.now.asts (root_ast_key self.now.root) ≡ Some result.now }
     {
         for (key, ast) in &self.asts {
             if is_root_key(key, self.root.as_str()) {

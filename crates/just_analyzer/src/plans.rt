@@ -1,6 +1,6 @@
 //! What is worked out once for each file that is a module's own: a file may be the own file of many modules.
 
-ghost use Rattle.std.specs.Prelude.{◌≡◌, ◌++◌, ◌<◌, ◌↔◌, ◌||◌, [], ℕ, Bool, List, true, false, cond, set, filter, flat_map, get_or, length, map, slice_get, Some, IfOk, IfErr, OnOk};
+ghost use Rattle.std.specs.Prelude.{nat_eq, ◌≡◌, ◌++◌, ◌<◌, ◌↔◌, ◌||◌, [], ℕ, Bool, List, true, false, cond, set, filter, flat_map, get_or, length, map, slice_get, Some, IfOk, IfErr, OnOk};
 ghost use Rattle.std.specs.List.{All};
 ghost use Rattle.std.specs.Option.{option_copied, option_to_list};
 ghost use Rattle.just_graph.specs.Building.{EachRow};
@@ -166,7 +166,7 @@ fn mark_step(step: Step, own: &mut Vec<bool>)
 fn mark(row: &[Step], own: &mut Vec<bool>)
     requires { All (λ (s : Step). s.target < length own.old.items) row.now }
     ensures room { length own.new.items ≡ length own.old.items }
-    ensures marks { (a : ℕ) → get_or own.new.items a false ≡ (has a (entered_in row.now) || get_or own.old.items a false) }
+    ensures marks { (a : ℕ) → get_or own.new.items a false ≡ (has nat_eq a (entered_in row.now) || get_or own.old.items a false) }
 {
     for step in row {
         mark_step(*step, own);

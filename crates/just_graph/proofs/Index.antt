@@ -9,8 +9,9 @@ use Rattle.std.specs.declared.alloc.Global.{Global}
 use Rattle.just_graph.specs.declared.unfolding.Step.{Step}
 use Rattle.just_graph.specs.declared.unfolding.Unfolded.{Unfolded}
 use Rattle.just_graph.specs.Steps.{Reached, from_start, from_member}
-use Rattle.just_graph.specs.Unfolding.{steps, HasStep, IsOrdered, Key, Node, key, root_key, root_node, HasKey, Unfolds, tree, Firsts, none, again, first, AreFirst, KeySteps, stay, move}
-use Rattle.just_graph.specs.Unfolded.{AllTold, HashKey, plain, unfolded_key, AreApart, IsIndex}
+use Rattle.just_graph.specs.Unfolding.{steps, HasStep, IsOrdered, Key, Node, key, root_key, root_node, HasKey, Unfolds, tree, Firsts, none, again, first, AreFirst}
+use Rattle.just_graph.specs.Unfolded.{AreReached, AllTold, HashKey, plain, unfolded_key, AreApart, IsIndex}
+use Rattle.just_graph.proofs.KeySteps.{steps_keep}
 use Rattle.just_graph.proofs.Members.{contained, is_in}
 use Rattle.just_graph.proofs.Walks.{nothing_taken}
 use Rattle.just_graph.proofs.Ranks.{goes_to}
@@ -92,11 +93,7 @@ module _ (S : ℕ → List Step) (root : ℕ) (us : List Unfolded) (ns : List No
   pub root_key_first : slice_get (map unfolded_key us) 0 ≡ Some (root_key root)
   root_key_first = subst (λ ks. slice_get ks 0 ≡ Some (root_key root)) (sym (told_same S us ns t)) (map_get key ns 0 (root_node root) (root_first S (root_node root) f.1 f.2))
 
-steps_reach : (rows : List (Vec Step Global)) (root : ℕ) {k l : Key} {d : ℕ} → KeySteps (steps rows) k l d → Reached (HasStep rows) (root ∷ []) [] k.node → Reached (HasStep rows) (root ∷ []) [] l.node
-steps_reach rows root stay r = r
-steps_reach rows root (move {k = k} s h w) r = steps_reach rows root w (from_member r refl (goes_to (steps rows) k.node s.target (s, is_in s (steps rows k.node) h, refl)))
-
-pub unfolded_inside : (rows : List (Vec Step Global)) (root : ℕ) (us : List Unfolded) → IsOrdered rows root → ((k : Key) → Contains (map unfolded_key us) k ↔ ((n : ℕ) × KeySteps (steps rows) (root_key root) k n)) → (i : ℕ) (u : Unfolded) → slice_get us i ≡ Some u → u.node < length rows
+pub unfolded_inside : (rows : List (Vec Step Global)) (root : ℕ) (us : List Unfolded) → IsOrdered rows root → AreReached (steps rows) root (map unfolded_key us) → (i : ℕ) (u : Unfolded) → slice_get us i ≡ Some u → u.node < length rows
 unfolded_inside rows root us o keys i u e =
     let w = (keys (unfolded_key u)).0 (got_in (map unfolded_key us) i (unfolded_key u) (map_get unfolded_key us i u e)) in
-    node_inside rows root o u.node (steps_reach rows root w.1 (from_start (contained root (root ∷ []) (inl refl))))
+    node_inside rows root o u.node (steps_keep w.1 (λ k. Reached (HasStep rows) (root ∷ []) [] k.node) (λ k s r h. from_member r refl (goes_to (steps rows) k.node s.target (s, h, refl))) (from_start (contained root (root ∷ []) (inl refl))))

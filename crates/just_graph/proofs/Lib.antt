@@ -8,6 +8,9 @@ pub mod Members
 pub mod Last
 pub mod Leveling
 pub mod Least
+pub mod Ended
+pub mod KeySteps
+pub mod Mapped
 pub mod Places
 pub mod MarkedLevels
 pub mod Walks

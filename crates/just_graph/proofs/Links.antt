@@ -15,7 +15,8 @@ use Rattle.just_graph.specs.Building.{EachRow, targets_past}
 use Rattle.just_graph.specs.Graph.{targets, IsGraph}
 use Rattle.just_graph.specs.Levels.{InSteps, none, further, IsLeast}
 use Rattle.just_graph.specs.Unfolding.{Key, root_key, key_child, path_after, KeySteps, stay, move, IsLeastDepth}
-use Rattle.just_graph.specs.Unfolded.{HashKey, plain, unfolded_key, AreApart, IsIndex, IsAfter, AreLinked}
+use Rattle.just_graph.specs.Unfolded.{HashKey, plain, unfolded_key, AreApart, IsIndex, IsAfter, AreLinked, EachLinked}
+use Rattle.just_graph.proofs.KeySteps.{steps_more}
 use Rattle.just_graph.proofs.Told.{at_least}
 use Rattle.just_graph.proofs.Index.{map_get, get_map, some_same, none_some}
 
@@ -43,14 +44,6 @@ module _ (row : List Step) (path : List ℕ) (places : HashKey → Option ℕ) (
       | inr e ↦ (h, subst (λ x. IsAfter path x h) e after, λ x ex. absurd (none_some (sym at ∙ ex)))
     ];
   }
-
--- the links of each element's place
-abbrev pub EachLinked : (ℕ → List Step) → List Unfolded → (HashKey → Option ℕ) → List (Vec ℕ Global) → Type 0
-EachLinked S us places links = EachRow (λ k row. (u : Unfolded) → slice_get us k ≡ Some u → AreLinked (S u.node) u.path.items places row) (length us) links
-
-steps_more : (S : ℕ → List Step) {k l : Key} {d : ℕ} → KeySteps S k l d → (s : Step) → Contains (S l.node) s → KeySteps S k (key_child l s) (suc d)
-steps_more S stay s h = move s h stay
-steps_more S (move t g w) s h = move t g (steps_more S w s h)
 
 after_key : (k : Key) (s : Step) (h : HashKey) → IsAfter k.path s h → plain h ≡ key_child k s
 after_key k s h a =
@@ -94,7 +87,7 @@ module _ (S : ℕ → List Step) (root : ℕ) (us : List Unfolded) (places : Has
         let u = source a b c in
         let r = (row_of a u.0 u.1).sound b c in
         let to : k ≡ key_child (unfolded_key u.0) r.0 = some_same (sym e ∙ index_some r.1 b r.4) ∙ after_key (unfolded_key u.0) r.0 r.1 r.3 in
-        subst (λ l. KeySteps S (root_key root) l (suc n)) (sym to) (steps_more S (link_steps w (unfolded_key u.0) (map_get unfolded_key us a u.0 u.1)) r.0 r.2)
+        subst (λ l. KeySteps S (root_key root) l (suc n)) (sym to) (steps_more (link_steps w (unfolded_key u.0) (map_get unfolded_key us a u.0 u.1)) r.0 r.2)
 
     module _ (known : (k : Key) (n : ℕ) → KeySteps S (root_key root) k n → Contains (map unfolded_key us) k) where
       place_of_key : (h : HashKey) → Contains (map unfolded_key us) (plain h) → (q : ℕ) × (places h ≡ Some q)
@@ -111,7 +104,7 @@ module _ (S : ℕ → List Step) (root : ℕ) (us : List Unfolded) (places : Has
           let u = get_map unfolded_key us p k e in
           let r = (row_of p u.0 u.1).complete s (subst (λ (x : Key). Contains (S x.node) s) u.2 c) in
           let is : plain r.0 ≡ key_child k s = after_key (unfolded_key u.0) s r.0 r.1 ∙ ap (λ x. key_child x s) (sym u.2) in
-          let there : Contains (map unfolded_key us) (plain r.0) = subst (Contains (map unfolded_key us)) (sym is) (known (key_child k s) (suc m) (steps_more S (link_steps w k e) s c)) in
+          let there : Contains (map unfolded_key us) (plain r.0) = subst (Contains (map unfolded_key us)) (sym is) (known (key_child k s) (suc m) (steps_more (link_steps w k e) s c)) in
           let q = place_of_key r.0 there in
           let t = steps_links rest q.0 (suc m) (index_some r.0 q.0 q.1 ∙ ap Some is) (further w (r.2 q.0 q.1)) in
           let sum : d + suc m ≡ suc d + m = omega arith in

@@ -1,6 +1,7 @@
 -- Membership, by recursion on the list.
 use Rattle.std.proofs.Common.{◌≡◌, ℕ, zero, suc, ◌<◌, List, [], ◌∷◌, ◌++◌, map, reverse, length, get_or, ◌⊎◌, inl, inr, refl, sym, ap, subst, arith}
 use Rattle.std.proofs.lemmas.List.Elements.{Contains-append_right}
+use Rattle.std.specs.Prelude.{Bool, true, false, if◌then◌else◌, filter}
 use Rattle.std.specs.List.{Contains, flat_map}
 use Rattle.std.proofs.lemmas.List.{reverse-append}
 
@@ -61,6 +62,15 @@ from_flat f y (z ∷ xs) h = elim (in_cases y (f z) (flat_map f xs) h) [
   | inl a ↦ (z, inl refl, a)
   | inr b ↦ (let r = from_flat f y xs b in (r.0, inr r.1, r.2))
 ]
+
+pub from_filter : {A : Type 0} (p : A → Bool) (x : A) (xs : List A) → In x (filter p xs) → In x xs
+from_filter p x [] h = h
+from_filter p x (y ∷ ys) h = one (p y) h (from_filter p x ys)
+  where
+    one : (b : Bool) → In x (if b then y ∷ filter p ys else filter p ys) → (In x (filter p ys) → In x ys) → In x (y ∷ ys)
+    one true (inl e) rest = inl e
+    one true (inr k) rest = inr (rest k)
+    one false k rest = inr (rest k)
 
 reverse_cons : {A : Type 0} (x : A) (xs : List A) → reverse (x ∷ xs) ≡ reverse xs ++ (x ∷ [])
 reverse_cons x xs = reverse-append (x ∷ []) xs

@@ -9,7 +9,7 @@ use Rattle.just_graph.specs.declared.unfolding.Step.{Step}
 use Rattle.just_graph.specs.Graph.{HasEdge, IsGraph}
 use Rattle.just_graph.specs.Building.{targets_past}
 use Rattle.just_graph.specs.Steps.{IsOrder, order_by}
-use Rattle.just_graph.specs.Unfolding.{steps, HasStep, AreEdges, IsOrdered, Key, Node, key, root_key, child, key_child, kids, Unfolds, nothing, tree, HasKey, Firsts, none, again, first, AreFirst, KeySteps, stay, move, root_node}
+use Rattle.just_graph.specs.Unfolding.{steps, Edges, HasOrder, HasStep, LeadInside, Rows, AreEdges, IsOrdered, Key, Node, key, root_key, child, key_child, kids, Unfolds, nothing, tree, HasKey, IsUnfolding, AreTrails, Firsts, none, again, first, AreFirst, KeySteps, stay, move, root_node}
 use Rattle.just_graph.proofs.Members.{In, contained, is_in, in_left, in_right, in_cases, in_reverse, from_reverse}
 use Rattle.just_graph.proofs.Walks.{child_of, child_in}
 
@@ -76,7 +76,7 @@ node_at S (tree {n = m} {below = below} {after = after} b a) n h k d s = elim h 
   ]
 ]
 
-pub trails : (S : ℕ → List Step) (root : ℕ) (pre : List Node) → Unfolds S (root_node root ∷ []) pre → (k : Key) (d : ℕ) → ((x : Node) × Contains pre x × (key x ≡ k) × (length x.trail ≡ d)) ↔ KeySteps S (root_key root) k d
+pub trails : (S : ℕ → List Step) (root : ℕ) (pre : List Node) → IsUnfolding S root pre → AreTrails S root pre
 trails S root pre u k d = (
   λ h.
       let r = steps_to S u h.0 (is_in h.0 pre h.1) in
@@ -110,10 +110,10 @@ steps_order rows edges roots order are o =
     ] in
     subst (λ n. IsOrder (HasStep rows) n roots order) are.count (order_by edge (length edges) roots order o)
 
-pub ordered_by_edges : (rows : List (Vec Step Global)) (edges : List (Vec ℕ Global)) (root : ℕ) (roots order : List ℕ) → AreEdges rows edges → IsOrder (HasEdge edges) (length edges) roots order → Contains roots root → IsOrdered rows root
-ordered_by_edges rows edges root roots order are o c = (roots, order, c, steps_order rows edges roots order are o)
+pub ordered_by_edges : (rows : Rows) (edges : Edges) (root : ℕ) → AreEdges rows edges → HasOrder (HasEdge edges) (length edges) root → IsOrdered rows root
+ordered_by_edges rows edges root are o = (o.0, o.1, o.2, steps_order rows edges o.0 o.1 are o.3)
 
-pub edges_inside : (rows : List (Vec Step Global)) (edges : List (Vec ℕ Global)) → AreEdges rows edges → ((a b : ℕ) → HasStep rows a b → b < length rows) → IsGraph edges
+pub edges_inside : (rows : Rows) (edges : Edges) → AreEdges rows edges → LeadInside rows → IsGraph edges
 edges_inside rows edges are inside a b h = elim (cases_lt a (length rows)) [
   | inl l ↦ (let below : b < length rows = inside a b (of_reverse b (map (λ (s : Step). s.target) (steps rows a)) (subst (λ row. Contains row b) (are.rows a l) h)) in omega (arith, are.count))
   | inr l ↦ absurd (is_in b [] (subst (λ row. Contains row b) (targets_past edges a (omega (arith, are.count))) h))

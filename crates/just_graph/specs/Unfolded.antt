@@ -1,5 +1,5 @@
 -- What the elements of an unfolding tell, and what its search has.
-use Rattle.std.specs.Prelude.{◌≡◌, ℕ, ◌+◌, ◌&&◌, Bool, Option, Some, None, List, [], ◌∷◌, take, length, slice_get, nat_eq, MatchOption}
+use Rattle.std.specs.Prelude.{◌≡◌, ◌↔◌, ℕ, ◌+◌, ◌&&◌, Bool, cond, Option, Some, None, List, [], ◌∷◌, take, length, slice_get, nat_eq, MatchOption}
 use Rattle.std.specs.Option.{unwrap_or}
 use Rattle.std.specs.List.{Contains}
 use Rattle.just_graph.specs.Levels.{depth_of}
@@ -10,7 +10,8 @@ use Rattle.just_graph.specs.declared.unfolding.Step.{Step}
 use Rattle.just_graph.specs.declared.unfolding.Origin.{Origin}
 use Rattle.just_graph.specs.declared.unfolding.Unfolded.{Unfolded}
 use Rattle.just_graph.specs.declared.unfolding.Frame.{Frame}
-use Rattle.just_graph.specs.Unfolding.{Key, Node, child, path_after, AreFirst}
+use Rattle.just_graph.specs.Unfolding.{Key, Node, child, path_after, AreFirst, IsLeastDepth, IsReachedKey}
+use Rattle.just_graph.specs.Building.{EachRow}
 
 abbrev pub unfolded_key : Unfolded → Key
 unfolded_key u = record { path = u.path.items; node = u.node }
@@ -62,6 +63,18 @@ AreApart ks = (i j : ℕ) (k : Key) → slice_get ks i ≡ Some k → slice_get 
 abbrev pub IsIndex : List Key → (HashKey → Option ℕ) → Type 0
 IsIndex ks places = (h : HashKey) → MatchOption (places h) (Contains ks (plain h) → ⊥) (λ i. slice_get ks i ≡ Some (plain h))
 
+-- the keys to which steps lead from the root's key, and no others
+abbrev pub AreReached : (ℕ → List Step) → ℕ → List Key → Type 0
+AreReached S root ks = (k : Key) → Contains ks k ↔ IsReachedKey S root k
+
+-- each element tells the least depth of its key
+abbrev pub AreLeast : (ℕ → List Step) → ℕ → List Unfolded → Type 0
+AreLeast S root us = (k : ℕ) (u : Unfolded) → slice_get us k ≡ Some u → IsLeastDepth S root (unfolded_key u) u.depth
+
+-- one more key has its place
+abbrev pub IsPut : Key → ℕ → (HashKey → Option ℕ) → (HashKey → Option ℕ) → Type 0
+IsPut key place old new = (h : HashKey) → new h ≡ cond (is_key key h) (Some place) (old h)
+
 -- a step from a group leads to the key
 abbrev pub IsAfter : List ℕ → Step → HashKey → Type 0
 IsAfter path s h = (h.0.items ≡ path_after path s.enters) × (h.1 ≡ s.target)
@@ -70,6 +83,10 @@ IsAfter path s h = (h.0.items ≡ path_after path s.enters) × (h.1 ≡ s.target
 pub record AreLinked (row : List Step) (path : List ℕ) (places : HashKey → Option ℕ) (links : List ℕ) : Type 0 where
   pub sound : (q : ℕ) → Contains links q → (s : Step) × (h : HashKey) × Contains row s × IsAfter path s h × (places h ≡ Some q)
   pub complete : (s : Step) → Contains row s → (h : HashKey) × IsAfter path s h × ((q : ℕ) → places h ≡ Some q → Contains links q)
+
+-- the same of each element, with the steps from its node
+abbrev pub EachLinked : (ℕ → List Step) → List Unfolded → (HashKey → Option ℕ) → List (Vec ℕ Global) → Type 0
+EachLinked S us places links = EachRow (λ k row. (u : Unfolded) → slice_get us k ≡ Some u → AreLinked (S u.node) u.path.items places row) (length us) links
 
 -- the elements have these depths, and are the same otherwise
 pub record AreNoted (depths : List (Option ℕ)) (old new : List Unfolded) : Type 0 where

@@ -1,5 +1,5 @@
 -- The unfolding of a graph: the tree of all trails of steps from the root, with nothing shared, and its first nodes.
-use Rattle.std.specs.Prelude.{◌≡◌, ℕ, zero, suc, ◌≤◌, Option, Some, None, List, [], ◌∷◌, ◌++◌, length, map, reverse}
+use Rattle.std.specs.Prelude.{◌≡◌, ◌↔◌, ℕ, zero, suc, ◌<◌, ◌≤◌, Option, Some, None, List, [], ◌∷◌, ◌++◌, length, map, reverse}
 use Rattle.std.specs.List.{Contains}
 use Rattle.std.specs.declared.vec.Vec.{Vec}
 use Rattle.std.specs.declared.alloc.Global.{Global}
@@ -7,28 +7,46 @@ use Rattle.just_graph.specs.declared.unfolding.Step.{Step}
 use Rattle.just_graph.specs.Steps.{IsOrder}
 use Rattle.just_graph.specs.Building.{EachRow}
 
+-- a row of steps for each node, and a row of targets
+abbrev pub Rows : Type 0
+Rows = List (Vec Step Global)
+
+abbrev pub Edges : Type 0
+Edges = List (Vec ℕ Global)
+
 -- the steps from node a
-abbrev pub steps : List (Vec Step Global) → ℕ → List Step
+abbrev pub steps : Rows → ℕ → List Step
 steps [] a = []
 steps (row ∷ rows) zero = row.items
 steps (row ∷ rows) (suc a) = steps rows a
 
 -- a step leads from node a to node b
-abbrev pub HasStep : List (Vec Step Global) → ℕ → ℕ → Type 0
+abbrev pub HasStep : Rows → ℕ → ℕ → Type 0
 HasStep rows a b = Contains (map (λ (s : Step). s.target) (steps rows a)) b
 
 -- the edges of the nodes are the targets of their steps, from the last step to the first
-abbrev pub AreEdges : List (Vec Step Global) → List (Vec ℕ Global) → Type 0
+abbrev pub AreEdges : Rows → Edges → Type 0
 AreEdges rows edges = EachRow (λ a row. row ≡ reverse (map (λ (s : Step). s.target) (steps rows a))) (length rows) edges
 
--- an order has the root, so that no node that it leads to leads back to itself
-abbrev pub IsOrdered : List (Vec Step Global) → ℕ → Type 0
-IsOrdered rows root = (roots order : List ℕ) × Contains roots root × IsOrder (HasStep rows) (length rows) roots order
+-- each step leads to a node with a row
+abbrev pub LeadInside : Rows → Type 0
+LeadInside rows = (a b : ℕ) → HasStep rows a b → b < length rows
 
--- the path of a group, and a node
-pub record Key : Type 0 where
-  pub path : List ℕ
-  pub node : ℕ
+-- an order has the root, so that no number below n that it leads to leads back to itself
+abbrev pub HasOrder : (ℕ → ℕ → Type 0) → ℕ → ℕ → Type 0
+HasOrder leads n root = (roots order : List ℕ) × Contains roots root × IsOrder leads n roots order
+
+abbrev pub IsOrdered : Rows → ℕ → Type 0
+IsOrdered rows = HasOrder (HasStep rows) (length rows)
+
+-- the path of a group by names of X, and a node of N
+pub record KeyOf (N X : Type 0) : Type 0 where
+  pub path : List X
+  pub node : N
+
+-- a key by numbers and places
+abbrev pub Key : Type 0
+Key = KeyOf ℕ ℕ
 
 -- a node of the unfolding: its key, the offsets since the last group was entered, and the steps that lead to it
 pub record Node : Type 0 where
@@ -47,7 +65,7 @@ abbrev pub root_node : ℕ → Node
 root_node root = record { path = []; node = root; offsets = []; trail = [] }
 
 -- a step that enters a name extends the path, and clears the offsets
-abbrev pub path_after : List ℕ → Option ℕ → List ℕ
+abbrev pub path_after : {X : Type 0} → List X → Option X → List X
 path_after path None = path
 path_after path (Some name) = path ++ name ∷ []
 
@@ -59,8 +77,12 @@ offsets_after offsets offset (Some name) = []
 abbrev pub child : Node → Step → Node
 child n s = record { path = path_after n.path s.enters; node = s.target; offsets = offsets_after n.offsets s.offset s.enters; trail = n.trail ++ s ∷ [] }
 
+-- the key to which a step leads, by what it leads to and what it enters
+abbrev pub key_child_of : {N X E : Type 0} → (E → N) → (E → Option X) → KeyOf N X → E → KeyOf N X
+key_child_of to enters k s = record { path = path_after k.path (enters s); node = to s }
+
 abbrev pub key_child : Key → Step → Key
-key_child k s = record { path = path_after k.path s.enters; node = s.target }
+key_child = key_child_of (λ (s : Step). s.target) (λ (s : Step). s.enters)
 
 abbrev pub kids : (ℕ → List Step) → Node → List Node
 kids S n = map (child n) (S n.node)
@@ -69,6 +91,10 @@ kids S n = map (child n) (S n.node)
 pub data Unfolds (S : ℕ → List Step) : List Node → List Node → Type 0 where
   nothing : Unfolds S [] []
   tree : {n : Node} {ns below after : List Node} → Unfolds S (reverse (kids S n)) below → Unfolds S ns after → Unfolds S (n ∷ ns) (n ∷ (below ++ after))
+
+-- the preorder of the root's unfolding, which is finite
+abbrev pub IsUnfolding : (ℕ → List Step) → ℕ → List Node → Type 0
+IsUnfolding S root = Unfolds S (root_node root ∷ [])
 
 -- some node has the key
 abbrev pub HasKey : List Node → Key → Type 0
@@ -80,14 +106,29 @@ pub data Firsts : List Node → List Node → List Node → Type 0 where
   again : {old ns all : List Node} {n : Node} → HasKey old (key n) → Firsts old ns all → Firsts old (n ∷ ns) all
   first : {old ns all : List Node} {n : Node} → (HasKey old (key n) → ⊥) → Firsts (old ++ n ∷ []) ns all → Firsts old (n ∷ ns) all
 
--- the first node of each key in the preorder of the root's unfolding, which is finite
+-- a node of the key has a trail of so many steps
+abbrev pub HasTrail : List Node → Key → ℕ → Type 0
+HasTrail ns k d = (n : Node) × Contains ns n × (key n ≡ k) × (length n.trail ≡ d)
+
+-- the first node of each key in the preorder of the root's unfolding
 abbrev pub AreFirst : (ℕ → List Step) → ℕ → List Node → Type 0
-AreFirst S root ns = (pre : List Node) × Unfolds S (root_node root ∷ []) pre × Firsts [] pre ns
+AreFirst S root ns = (pre : List Node) × IsUnfolding S root pre × Firsts [] pre ns
 
 -- that many steps lead from one key to another
-pub data KeySteps (S : ℕ → List Step) : Key → Key → ℕ → Type 0 where
-  stay : {k : Key} → KeySteps S k k 0
-  move : {k l : Key} {d : ℕ} (s : Step) → Contains (S k.node) s → KeySteps S (key_child k s) l d → KeySteps S k l (suc d)
+pub data KeyStepsOf {N X E : Type 0} (to : E → N) (enters : E → Option X) (S : N → List E) : KeyOf N X → KeyOf N X → ℕ → Type 0 where
+  stay : {k : KeyOf N X} → KeyStepsOf to enters S k k 0
+  move : {k l : KeyOf N X} {d : ℕ} (s : E) → Contains (S k.node) s → KeyStepsOf to enters S (key_child_of to enters k s) l d → KeyStepsOf to enters S k l (suc d)
+
+abbrev pub KeySteps : (ℕ → List Step) → Key → Key → ℕ → Type 0
+KeySteps = KeyStepsOf (λ (s : Step). s.target) (λ (s : Step). s.enters)
+
+-- steps lead from the root's key to the key
+abbrev pub IsReachedKey : (ℕ → List Step) → ℕ → Key → Type 0
+IsReachedKey S root k = (d : ℕ) × KeySteps S (root_key root) k d
+
+-- a node of a key and of so many steps is there exactly where so many steps lead to the key
+abbrev pub AreTrails : (ℕ → List Step) → ℕ → List Node → Type 0
+AreTrails S root ns = (k : Key) (d : ℕ) → HasTrail ns k d ↔ KeySteps S (root_key root) k d
 
 -- that many steps lead from the root's key to the key, and no fewer do
 abbrev pub IsLeastDepth : (ℕ → List Step) → ℕ → Key → ℕ → Type 0

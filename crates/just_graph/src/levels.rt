@@ -1,10 +1,10 @@
 //! What a node leads to, by levels: first the start, then what it has edges to, then what these have edges to.
 
-ghost use Rattle.std.specs.Prelude.{◌≡◌, ◌<◌, ◌↔◌, ◌||◌, ◌∷◌, [], ℕ, List, cond, filter, flat_map, length, nat_eq, not, IfOk, MatchOption};
+ghost use Rattle.std.specs.Prelude.{◌≡◌, ◌<◌, ◌↔◌, ◌||◌, ◌∷◌, [], ℕ, List, cond, filter, flat_map, length, nat_eq, not, IfOk};
 ghost use Rattle.std.specs.List.{All, Contains};
 ghost use Rattle.std.specs.HashSet.{contains};
 ghost use Rattle.just_graph.specs.Graph.{targets, HasEdge, IsGraph};
-ghost use Rattle.just_graph.specs.Levels.{at_last, before, depth_of, has, level, InSteps, IsLeast};
+ghost use Rattle.just_graph.specs.Levels.{at_last, depth_of, has, level, AreDepths, AreLevels, IsLeast};
 ghost use Rattle.just_graph.specs.Steps.{IsOnce, Reached};
 
 use crate::row;
@@ -29,8 +29,8 @@ fn last_places(
     found: &[usize],
     seen: &mut HashSet<usize>,
 ) -> Result<Vec<usize>, AllocError>
-    ensures places { IfOk result (λ kept. kept.items ≡ at_last (filter (λ a. not (contains nat_eq seen.old a)) found.now)) }
-    ensures seen { IfOk result (λ kept. (a : ℕ) → contains nat_eq seen.new a ≡ (contains nat_eq seen.old a || has a kept.items)) }
+    ensures places { IfOk result (λ kept. kept.items ≡ at_last nat_eq (filter (λ a. not (contains nat_eq seen.old a)) found.now)) }
+    ensures seen { IfOk result (λ kept. (a : ℕ) → contains nat_eq seen.new a ≡ (contains nat_eq seen.old a || has nat_eq a kept.items)) }
 {
     let mut kept = Vec::new(alloc);
     for place in (0..found.len()).rev() {
@@ -51,7 +51,7 @@ pub fn levels(alloc: Global, edges: &[Vec<usize>], start: usize) -> Result<Vec<u
     requires graph { IsGraph edges.now }
     requires start { start < length edges.now }
     // The levels, in order, up to the first that is empty.
-    ensures levels { IfOk result (λ found. (n : ℕ) × (found.items ≡ before (targets edges.now) start n) × (level (targets edges.now) start n ≡ [])) }
+    ensures levels { IfOk result (λ found. AreLevels nat_eq (targets edges.now) start found.items) }
     // Each node that the start leads to, once.
     ensures once { IfOk result (λ found. IsOnce found.items) }
     ensures reached { IfOk result (λ found. (a : ℕ) → Contains found.items a ↔ Reached (HasEdge edges.now) (start ∷ []) [] a) }
@@ -74,7 +74,7 @@ pub fn levels(alloc: Global, edges: &[Vec<usize>], start: usize) -> Result<Vec<u
 fn set_depths(nodes: &[usize], depth: usize, depths: &mut Vec<Option<usize>>)
     requires { All (λ a. a < length depths.old.items) nodes.now }
     ensures room { length depths.new.items ≡ length depths.old.items }
-    ensures depths { (a : ℕ) → depth_of depths.new.items a ≡ cond (has a nodes.now) (Some depth) (depth_of depths.old.items a) }
+    ensures depths { (a : ℕ) → depth_of depths.new.items a ≡ cond (has nat_eq a nodes.now) (Some depth) (depth_of depths.old.items a) }
 {
     for node in nodes {
         depths[*node] = Some(depth);
@@ -92,7 +92,7 @@ pub fn depths(
     requires graph { IsGraph edges.now }
     requires start { start < length edges.now }
     ensures room { IfOk result (λ depths. length depths.items ≡ length edges.now) }
-    ensures least { IfOk result (λ depths. (a : ℕ) → MatchOption (depth_of depths.items a) ((n : ℕ) → InSteps (targets edges.now) start a n → ⊥) (IsLeast (targets edges.now) start a)) }
+    ensures least { IfOk result (λ depths. AreDepths (targets edges.now) start depths.items) }
     // Each depth is below the number of nodes.
     ensures below { IfOk result (λ depths. (a d : ℕ) → depth_of depths.items a ≡ Some d → d < length edges.now) }
 {
@@ -114,10 +114,10 @@ pub fn depths(
 
 /// A law of the levels: a number stands in level n exactly where n is the least number of steps that lead to it.
 pub fn levels_are_least()
-    ensures { (next : ℕ → List ℕ) (start a n : ℕ) → Contains (level next start n) a ↔ IsLeast next start a n }
+    ensures { (next : ℕ → List ℕ) (start a n : ℕ) → Contains (level nat_eq next start n) a ↔ IsLeast next start a n }
 {}
 
 /// A law of the levels: an empty level has only empty ones after it, so the levels up to an empty one are one list.
 pub fn levels_end()
-    ensures { (next : ℕ → List ℕ) (start n m : ℕ) → level next start n ≡ [] → level next start m ≡ [] → before next start n ≡ before next start m }
+    ensures { (next : ℕ → List ℕ) (start : ℕ) (xs ys : List ℕ) → AreLevels nat_eq next start xs → AreLevels nat_eq next start ys → xs ≡ ys }
 {}

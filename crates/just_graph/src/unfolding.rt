@@ -8,11 +8,9 @@ ghost use Rattle.std.specs.List.{All, Contains};
 ghost use Rattle.std.specs.HashMap.{get};
 ghost use Rattle.std.specs.declared.vec.Vec.{Vec};
 ghost use Rattle.std.specs.declared.alloc.Global.{Global};
-ghost use Rattle.just_graph.specs.Unfolding.{steps, AreEdges, HasStep, AreFirst, IsOrdered, Key, KeySteps, Node, Unfolds, key, root_key, root_node, path_after, IsLeastDepth};
+ghost use Rattle.just_graph.specs.Unfolding.{steps, AreEdges, AreFirst, AreTrails, Edges, HasOrder, IsOrdered, IsUnfolding, LeadInside, Node, Rows, path_after};
 ghost use Rattle.just_graph.specs.Graph.{HasEdge, IsGraph};
-ghost use Rattle.just_graph.specs.Steps.{IsOrder};
-ghost use Rattle.just_graph.specs.Building.{EachRow};
-ghost use Rattle.just_graph.specs.Unfolded.{frames_from, HashKey, is_key, same_key, unfolded_key, AreApart, AreLinked, AreNoted, IsIndex, IsUnfolded};
+ghost use Rattle.just_graph.specs.Unfolded.{frames_from, same_key, unfolded_key, AreApart, AreLeast, AreLinked, AreNoted, AreReached, EachLinked, IsIndex, IsPut, IsUnfolded};
 ghost use Rattle.just_graph.specs.declared.unfolding.Step.{Step};
 ghost use Rattle.just_graph.specs.declared.unfolding.Unfolded.{Unfolded};
 
@@ -94,7 +92,7 @@ fn take(
 ) -> Result<(), AllocError>
     requires { unfolded.node < length rows.now }
     ensures taken { OnOk result (taken.new.items ≡ taken.old.items ++ unfolded ∷ []) }
-    ensures places { OnOk result ((k : HashKey) → get same_key places.new k ≡ cond (is_key (unfolded_key unfolded) k) (Some (length taken.old.items)) (get same_key places.old k)) }
+    ensures places { OnOk result (IsPut (unfolded_key unfolded) (length taken.old.items) (get same_key places.old) (get same_key places.new)) }
     ensures stack { OnOk result (stack.new.items ≡ stack.old.items ++ frames_from (length taken.old.items) 0 (steps rows.now unfolded.node)) }
 {
     let place = taken.len();
@@ -112,7 +110,7 @@ fn walk(
 ) -> Result<(Vec<Unfolded>, HashMap<(Vec<usize>, usize), usize>), AllocError>
     requires { IsOrdered rows.now root }
     ensures first { IfOk result (λ walked. IsUnfolded (steps rows.now) root walked.0.items) }
-    ensures keys { IfOk result (λ walked. (k : Key) → Contains (map unfolded_key walked.0.items) k ↔ ((n : ℕ) × KeySteps (steps rows.now) (root_key root) k n)) }
+    ensures keys { IfOk result (λ walked. AreReached (steps rows.now) root (map unfolded_key walked.0.items)) }
     ensures index { IfOk result (λ walked. IsIndex (map unfolded_key walked.0.items) (get same_key walked.1)) }
 {
     let mut taken = Vec::new(alloc);
@@ -170,7 +168,7 @@ fn links(
     places: &HashMap<(Vec<usize>, usize), usize>,
 ) -> Result<Vec<Vec<usize>>, AllocError>
     requires { (k : ℕ) (u : Unfolded) → slice_get nodes.now k ≡ Some u → u.node < length rows.now }
-    ensures { IfOk result (λ links. EachRow (λ k row. (u : Unfolded) → slice_get nodes.now k ≡ Some u → AreLinked (steps rows.now u.node) u.path.items (get same_key places.now) row) (length nodes.now) links.items) }
+    ensures { IfOk result (λ links. EachLinked (steps rows.now) nodes.now (get same_key places.now) links.items) }
 {
     let mut links = Vec::new(alloc);
     for unfolded in nodes {
@@ -216,8 +214,8 @@ pub fn edges(alloc: Global, rows: &[Vec<Step>]) -> Result<Vec<Vec<usize>>, Alloc
 /// A law of edges: they are a graph where each step leads to a node, and what `order` answers for them shows that its
 /// roots are ordered.
 pub fn edges_are_steps()
-    ensures inside { (rows : List (Vec Step Global)) (edges : List (Vec ℕ Global)) → AreEdges rows edges → ((a b : ℕ) → HasStep rows a b → b < length rows) → IsGraph edges }
-    ensures ordered { (rows : List (Vec Step Global)) (edges : List (Vec ℕ Global)) (root : ℕ) (roots order : List ℕ) → AreEdges rows edges → IsOrder (HasEdge edges) (length edges) roots order → Contains roots root → IsOrdered rows root }
+    ensures inside { (rows : Rows) (edges : Edges) → AreEdges rows edges → LeadInside rows → IsGraph edges }
+    ensures ordered { (rows : Rows) (edges : Edges) (root : ℕ) → AreEdges rows edges → HasOrder (HasEdge edges) (length edges) root → IsOrdered rows root }
 {}
 
 /// Lists the first node of each key in the unfolding's preorder, in which the steps of a node go from the last to the
@@ -230,10 +228,10 @@ pub fn unfold(alloc: Global, rows: &[Vec<Step>], root: usize) -> Result<Vec<Unfo
     // The first node of each key, and where it came from.
     ensures first { IfOk result (λ nodes. IsUnfolded (steps rows.now) root nodes.items) }
     // The keys that steps lead to, and no others, each once.
-    ensures keys { IfOk result (λ nodes. (k : Key) → Contains (map unfolded_key nodes.items) k ↔ ((n : ℕ) × KeySteps (steps rows.now) (root_key root) k n)) }
+    ensures keys { IfOk result (λ nodes. AreReached (steps rows.now) root (map unfolded_key nodes.items)) }
     ensures once { IfOk result (λ nodes. AreApart (map unfolded_key nodes.items)) }
     // Each depth is the least of the key's.
-    ensures depths { IfOk result (λ nodes. (k : ℕ) (u : Unfolded) → slice_get nodes.items k ≡ Some u → IsLeastDepth (steps rows.now) root (unfolded_key u) u.depth) }
+    ensures depths { IfOk result (λ nodes. AreLeast (steps rows.now) root nodes.items) }
     // Each depth is below the number of nodes, so it can be counted.
     ensures shallow { IfOk result (λ nodes. (k : ℕ) (u : Unfolded) → slice_get nodes.items k ≡ Some u → u.depth < length nodes.items) }
 {
@@ -248,6 +246,5 @@ pub fn unfold(alloc: Global, rows: &[Vec<Step>], root: usize) -> Result<Vec<Unfo
 /// steps is there exactly where so many steps lead to the key.
 pub fn unfoldings_are_trails()
     ensures one { (S : ℕ → List Step) (root : ℕ) (ns ms : List Node) → AreFirst S root ns → AreFirst S root ms → ns ≡ ms }
-    ensures trails { (S : ℕ → List Step) (root : ℕ) (pre : List Node) → Unfolds S (root_node root ∷ []) pre → (k : Key) (d : ℕ) →
-        ((x : Node) × Contains pre x × (key x ≡ k) × (length x.trail ≡ d)) ↔ KeySteps S (root_key root) k d }
+    ensures trails { (S : ℕ → List Step) (root : ℕ) (pre : List Node) → IsUnfolding S root pre → AreTrails S root pre }
 {}

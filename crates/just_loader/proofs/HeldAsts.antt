@@ -17,7 +17,7 @@ use Rattle.just_parts.specs.Syntax.{AreRising, numbers}
 use Rattle.just_parts.specs.contracts.modulepath.ModulepathPartialEq.TheImpl as path_eq
 use Rattle.just_parts.specs.declared.layers.ast.Ast.{Ast}
 use Rattle.just_parts.specs.declared.modulepath.Modulepath.{Modulepath}
-use Rattle.just_loader.specs.Asts.{Key as AstKey, same_key}
+use Rattle.just_loader.specs.Asts.{AstKey, same_ast_key}
 use Rattle.just_loader.specs.Loaded.{AreAstsOf, AreToldApart, file_at, key_at}
 use Rattle.just_loader.specs.Loading.{AreParsed}
 use Rattle.just_loader.specs.Parsed.{AreKeyed, AreHeld, text_key}
@@ -37,9 +37,9 @@ path_same a b =
     (Decides-and (pointwise (pointwise nat_eq) a.components b.components) (beq a.spaced b.spaced) (texts_same a.components b.components) (booleans_Decides a.spaced b.spaced))
 
 -- two keys are the same where they are equal
-pub key_same : (a b : AstKey) → Decides (same_key a b) (a ≡ b)
+pub key_same : (a b : AstKey) → Decides (same_ast_key a b) (a ≡ b)
 key_same a b =
-    Decides-like (same_key a b) (λ e. λ j. (e.0 j, e.1 j)) (λ e. (ap (λ (k : AstKey). k.0) e, ap (λ (k : AstKey). k.1) e))
+    Decides-like (same_ast_key a b) (λ e. λ j. (e.0 j, e.1 j)) (λ e. (ap (λ (k : AstKey). k.0) e, ap (λ (k : AstKey). k.1) e))
     (Decides-and (path_eq.ghosts.eq a.0 b.0) (pointwise nat_eq a.1 b.1) (path_same a.0 b.0) (slice_eq-Decides Decides-eqb a.1 b.1 (pointwise nat_eq a.1 b.1) refl))
 
 -- the nodes from a place on are held, and what is left are those before it
@@ -65,7 +65,7 @@ next_inside scan nodes asts left rest table last keyed held e = omega (arith, ke
 
 -- one more node is held
 held_more : (scan : Scan) (nodes : List Unfolded) (asts left rest : List Ast) (old new : AstKey → Option Ast) (here : AstKey) (u : Unfolded) (last : Ast) → AreKeyed scan nodes asts → HeldFrom scan nodes asts left old → left ≡ rest ++ last ∷ []
-    → slice_get nodes (length rest) ≡ Some u → here.0 ≡ last.module_path → here.1 ≡ file_at scan u.node → ((key : AstKey) → new key ≡ cond (same_key here key) (Some last) (old key)) → HeldFrom scan nodes asts rest new
+    → slice_get nodes (length rest) ≡ Some u → here.0 ≡ last.module_path → here.1 ≡ file_at scan u.node → ((key : AstKey) → new key ≡ cond (same_ast_key here key) (Some last) (old key)) → HeldFrom scan nodes asts rest new
 held_more scan nodes asts left rest old new here u last keyed held e at path file put =
     let front : asts ≡ (rest ++ last ∷ []) ++ held.front.0 = held.front.1 ∙ ap (λ xs. xs ++ held.front.0) e in
     let to : slice_get asts (length rest) ≡ Some last = ap (λ xs. slice_get xs (length rest)) front ∙ get_more (rest ++ last ∷ []) held.front.0 (length rest) last (get_last rest last) in
@@ -76,17 +76,17 @@ held_more scan nodes asts left rest old new here u last keyed held e at path fil
       front = (last ∷ held.front.0, front ∙ append_assoc rest (last ∷ []) held.front.0);
       found = λ k v ast h f g. elim (cases_lt (length rest) k) [
         | inl l ↦
-            (let other : same_key here (text_key scan v) ≡ false = false_from_ne_true (same_key here (text_key scan v)) (λ t.
+            (let other : same_ast_key here (text_key scan v) ≡ false = false_from_ne_true (same_ast_key here (text_key scan v)) (λ t.
             let same : length rest ≡ k = keyed.apart (length rest) k u v at f (sym is ∙ (key_same here (text_key scan v)).0 t) in absurd (omega (arith, same, l))) in
             put (text_key scan v) ∙ ap (λ b. cond b (Some last) (old (text_key scan v))) other ∙ held.found k v ast (omega (arith, size, l)) f g)
         | inr l ↦
             (let place : length rest ≡ k = omega (arith, l, h) in
             let node : u ≡ v = some_same (sym at ∙ ap (slice_get nodes) place ∙ f) in
             let what : last ≡ ast = some_same (sym to ∙ ap (slice_get asts) place ∙ g) in
-            let same : same_key here (text_key scan v) ≡ true = (key_same here (text_key scan v)).1 (is ∙ ap (text_key scan) node) in
+            let same : same_ast_key here (text_key scan v) ≡ true = (key_same here (text_key scan v)).1 (is ∙ ap (text_key scan) node) in
             put (text_key scan v) ∙ ap (λ b. cond b (Some last) (old (text_key scan v))) same ∙ ap Some what)
       ];
-      only = λ key ast g. elim (cond_some (same_key here key) last ast (old key) (sym (put key) ∙ g)) [
+      only = λ key ast g. elim (cond_some (same_ast_key here key) last ast (old key) (sym (put key) ∙ g)) [
         | inl s ↦ (length rest, u, at, to ∙ ap Some s.1, sym is ∙ (key_same here key).0 s.0)
         | inr o ↦ held.only key ast o
       ];
@@ -102,7 +102,7 @@ module _ (scan : Scan) (nodes : List Unfolded) (asts left rest : List Ast) (old 
   node_inside = keyed.within place u next_there
 
   pub held_next : (new : AstKey → Option Ast) (here : AstKey) (file : ScannedFile) → file ≡ get_or scan.files.items u.node file → here.0 ≡ last.module_path → here.1 ≡ file.path
-      → ((key : AstKey) → new key ≡ cond (same_key here key) (Some last) (old key)) → HeldFrom scan nodes asts rest new
+      → ((key : AstKey) → new key ≡ cond (same_ast_key here key) (Some last) (old key)) → HeldFrom scan nodes asts rest new
   held_next new here file at path named put =
       let files = scan.files.items in
       let there : slice_get files u.node ≡ Some file = slice_get_read files (length files) u.node file refl node_inside at in
@@ -170,7 +170,7 @@ module _ (scan : Scan) (nodes : List Unfolded) (asts : List Ast) (table : AstKey
         let s = held.only l b g in
         let place : r.0 ≡ s.0 = part_apart (λ (v : Ast). numbers v.items) 0 asts high r.0 s.0 n a b rising r.3 s.3 (is_in n (numbers a.items) x) (is_in n (numbers b.items) y) in
         let node : r.1 ≡ s.1 = some_same (sym r.2 ∙ ap (slice_get nodes) place ∙ s.2) in
-        let same : same_key k l ≡ true = (key_same k l).1 (sym r.4 ∙ ap (text_key scan) node ∙ s.4) in
+        let same : same_ast_key k l ≡ true = (key_same k l).1 (sym r.4 ∙ ap (text_key scan) node ∙ s.4) in
         let wrong : true ≡ false = sym same ∙ other in cc;
   }
 

@@ -1,20 +1,20 @@
 -- Sums over keys, and the rules of files that are kept.
-use Rattle.std.proofs.Common.{◌≡◌, ℕ, zero, suc, ◌+◌, ◌<◌, ◌≤◌, ◌^◌, List, [], ◌∷◌, map, take, ◌↔◌, Option, None, Some, IsSome, ◌⊎◌, refl, sym, ap, subst, ◌∙◌, arith, inl, inr}
+use Rattle.std.proofs.Common.{◌≡◌, ℕ, zero, suc, length, ◌+◌, ◌<◌, ◌≤◌, ◌^◌, List, [], ◌∷◌, map, take, ◌↔◌, Option, None, Some, IsSome, ◌⊎◌, refl, sym, ap, subst, ◌∙◌, arith, inl, inr}
 use Rattle.std.specs.List.{Contains, slice_get, sum_by}
 use Rattle.std.proofs.lemmas.List.Sums.{sum_by-cons}
-use Rattle.just_graph.specs.Unfolding.{Key, KeySteps, root_key, steps}
-use Rattle.just_graph.specs.Unfolded.{unfolded_key, AreApart}
+use Rattle.just_graph.specs.Unfolding.{IsReachedKey, steps}
+use Rattle.just_graph.specs.Unfolded.{unfolded_key, AreApart, AreReached}
 use Rattle.just_graph.specs.declared.unfolding.Unfolded.{Unfolded}
 use Rattle.just_graph.proofs.Members.{In, contained, is_in, in_cases, in_map}
 use Rattle.just_loader.specs.Causes.{Cause, NoNumber, Keeps}
 use Rattle.just_loader.specs.FileCircles.{LeadsOn, by_edge, by_edges, ChainTo, at_root, and_next, NamesCircle, leads_back}
 use Rattle.just_loader.specs.Keys.{IsKey, FileKey, AreOnceKeys, spends_at, NamesInFiles, no_root, at_fault, in_circle, too_many}
-use Rattle.just_loader.specs.Loaded.{file_at, name_at}
+use Rattle.just_loader.specs.Loaded.{file_at}
 use Rattle.just_loader.specs.Reached.{World, Reached, LeadsTo, NamesInScan}
 use Rattle.just_loader.specs.Scanned.{IsScan}
 use Rattle.just_loader.specs.Sources.{text_at}
 use Rattle.just_loader.specs.declared.scanned.Scan.{Scan}
-use Rattle.just_loader.proofs.FileKeys.{Stands, file_is, stands, keyed, same_keys}
+use Rattle.just_loader.proofs.FileKeys.{file_key, from_key, same_keys, stands, to_key}
 use Rattle.just_loader.proofs.Numberings.{got, placed, get_map, map_get, none_some}
 
 -- a list without one of its elements
@@ -73,58 +73,55 @@ not_there None e h = cc
 not_there (Some x) e h = cc
 
 -- the nodes of an unfolding, by the texts of their keys
-module _ (w : World) (scan : Scan) (is : IsScan w scan) (us : List Unfolded) (keys : (k : Key) → Contains (map unfolded_key us) k ↔ ((n : ℕ) × KeySteps (steps scan.rows.items) (root_key 0) k n)) (apart : AreApart (map unfolded_key us)) where
-  abbrev file_key : Unfolded → FileKey
-  file_key u = (map (name_at scan) u.path.items, file_at scan u.node)
+module _ (w : World) (scan : Scan) (is : IsScan w scan) (us : List Unfolded) (keys : AreReached (steps scan.rows.items) 0 (map unfolded_key us)) (apart : AreApart (map unfolded_key us)) where
+  abbrev key_of : Unfolded → FileKey
+  key_of u = file_key scan (unfolded_key u)
 
   abbrev takes : Unfolded → ℕ
   takes u = spends_at w (file_at scan u.node)
 
-  pub node_stands : (k : ℕ) (u : Unfolded) → slice_get us k ≡ Some u → Stands w scan (unfolded_key u)
-  node_stands k u e =
-      let s = (keys (unfolded_key u)).0 (got (map unfolded_key us) k (unfolded_key u) (map_get unfolded_key us k u e)) in
-      stands w scan is (unfolded_key u) s.0 s.1
+  reached : (k : ℕ) (u : Unfolded) → slice_get us k ≡ Some u → IsReachedKey (steps scan.rows.items) 0 (unfolded_key u)
+  reached k u e = (keys (unfolded_key u)).0 (got (map unfolded_key us) k (unfolded_key u) (map_get unfolded_key us k u e))
+
+  pub node_inside : (k : ℕ) (u : Unfolded) → slice_get us k ≡ Some u → u.node < length scan.files.items
+  node_inside k u e = (stands w scan is (reached k u e).1).inside
 
   -- two places of one key are one
-  pub one_place : (i j : ℕ) (u v : Unfolded) → slice_get us i ≡ Some u → slice_get us j ≡ Some v → map (name_at scan) u.path.items ≡ map (name_at scan) v.path.items → file_at scan u.node ≡ file_at scan v.node → i ≡ j
-  one_place i j u v e f path file =
-      let same = same_keys w scan is (unfolded_key u) (unfolded_key v) (node_stands i u e) (node_stands j v f) path file in
-      apart i j (unfolded_key u) (map_get unfolded_key us i u e) (map_get unfolded_key us j v f ∙ ap Some (sym same))
+  pub one_place : (i j : ℕ) (u v : Unfolded) → slice_get us i ≡ Some u → slice_get us j ≡ Some v → key_of u ≡ key_of v → i ≡ j
+  one_place i j u v e f same =
+      let one = same_keys w scan is (unfolded_key u) (unfolded_key v) (reached i u e) (reached j v f) same in
+      apart i j (unfolded_key u) (map_get unfolded_key us i u e) (map_get unfolded_key us j v f ∙ ap Some (sym one))
 
-  each_once : (n : ℕ) → AreOnceKeys (map file_key (take n us))
+  each_once : (n : ℕ) → AreOnceKeys (map key_of (take n us))
   each_once n i j k e f =
-      let u = get_map file_key (take n us) i k e in
-      let v = get_map file_key (take n us) j k f in
-      let same : file_key u.0 ≡ file_key v.0 = u.2 ∙ sym v.2 in
-      one_place i j u.0 v.0 (get_take us n i u.0 u.1) (get_take us n j v.0 v.1) (ap (λ (x : FileKey). x.0) same) (ap (λ (x : FileKey). x.1) same)
+      let u = get_map key_of (take n us) i k e in
+      let v = get_map key_of (take n us) j k f in
+      one_place i j u.0 v.0 (get_take us n i u.0 u.1) (get_take us n j v.0 v.1) (u.2 ∙ sym v.2)
 
-  each_key : (n : ℕ) (k : FileKey) → Contains (map file_key (take n us)) k → IsKey w k.0 k.1
+  each_key : (n : ℕ) (k : FileKey) → Contains (map key_of (take n us)) k → IsKey w k
   each_key n k c =
-      let at = placed (map file_key (take n us)) k c in
-      let u = get_map file_key (take n us) at.0 k at.1 in
-      subst (λ (x : FileKey). IsKey w x.0 x.1) u.2 (node_stands at.0 u.0 (get_take us n at.0 u.0 u.1)).is
+      let at = placed (map key_of (take n us)) k c in
+      let u = get_map key_of (take n us) at.0 k at.1 in
+      subst (IsKey w) u.2 (to_key w scan is (unfolded_key u.0) (reached at.0 u.0 (get_take us n at.0 u.0 u.1)))
 
   -- the first texts take too many numbers
   pub many : (n : ℕ) → 2 ^ 64 ≤ sum_by takes (take n us) → NamesInFiles w NoNumber
   many n h =
-      too_many (map file_key (take n us)) (each_once n) (each_key n)
-      (subst (λ m. 2 ^ 64 ≤ m) (sym (sum_map (λ (k : FileKey). spends_at w k.1) file_key (take n us))) h)
+      too_many (map key_of (take n us)) (each_once n) (each_key n)
+      (subst (λ m. 2 ^ 64 ≤ m) (sym (sum_map (λ (k : FileKey). spends_at w k.node) key_of (take n us))) h)
 
-  has_key : (k : FileKey) → IsKey w k.0 k.1 → In k (map file_key us)
+  has_key : (k : FileKey) → IsKey w k → In k (map key_of us)
   has_key k key =
-      let s = keyed w scan is key in
-      let at = placed (map unfolded_key us) s.0 ((keys s.0).1 (s.1, s.2)) in
+      let s = from_key w scan is k key in
+      let at = placed (map unfolded_key us) s.0 ((keys s.0).1 s.1) in
       let u = get_map unfolded_key us at.0 s.0 at.1 in
-      let path : map (name_at scan) u.0.path.items ≡ k.0 = ap (λ (x : Key). map (name_at scan) x.path) u.2 ∙ s.3 in
-      let file : file_at scan u.0.node ≡ k.1 = ap (λ (x : Key). file_at scan x.node) u.2 ∙ file_is w scan is s.0.node k.1 s.4 in
-      let same : file_key u.0 ≡ k = λ j. (path j, file j) in
-      subst (λ x. In x (map file_key us)) same (in_map file_key u.0 us (is_in u.0 us (got us at.0 u.0 u.1)))
+      subst (λ x. In x (map key_of us)) (ap (file_key scan) u.2 ∙ s.2) (in_map key_of u.0 us (is_in u.0 us (got us at.0 u.0 u.1)))
 
   -- no texts of keys take too many
-  few : sum_by takes us < 2 ^ 64 → (these : List FileKey) → AreOnceKeys these → ((k : FileKey) → Contains these k → IsKey w k.0 k.1) → 2 ^ 64 ≤ sum_by (λ (k : FileKey). spends_at w k.1) these → ⊥
+  few : sum_by takes us < 2 ^ 64 → (these : List FileKey) → AreOnceKeys these → ((k : FileKey) → Contains these k → IsKey w k) → 2 ^ 64 ≤ sum_by (λ (k : FileKey). spends_at w k.node) these → ⊥
   few total these once are h =
-      let less = sums (λ (k : FileKey). spends_at w k.1) these (map file_key us) once (λ k i. has_key k (are k (contained k these i))) in
-      omega (arith, total, h, less, sum_map (λ (k : FileKey). spends_at w k.1) file_key us)
+      let less = sums (λ (k : FileKey). spends_at w k.node) these (map key_of us) once (λ k i. has_key k (are k (contained k these i))) in
+      omega (arith, total, h, less, sum_map (λ (k : FileKey). spends_at w k.node) key_of us)
 
   -- the rules of files are kept
   pub files_kept : IsSome (text_at w.files w.root) → Keeps (NamesInScan w) → ((f : List ℕ) → Reached w f → LeadsOn w f f → ⊥) → sum_by takes us < 2 ^ 64 → Keeps (NamesInFiles w)

@@ -1,5 +1,6 @@
 pub mod ComingIn
 pub mod FileCircles
+pub mod FileRows
 pub mod FileKeys
 pub mod Folders
 pub mod HeldAsts

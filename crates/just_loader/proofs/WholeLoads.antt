@@ -16,10 +16,10 @@ use Rattle.just_parts.specs.Syntax.{AreRising, PriorsAreDependencies, numbers}
 use Rattle.just_parts.specs.declared.layers.ast.Ast.{Ast}
 use Rattle.just_parts.specs.declared.layers.error.Error.{Error}
 use Rattle.just_parts.specs.declared.layers.error.Error.TheVariants as error
-use Rattle.just_loader.specs.Asts.{Key as AstKey, same_key}
+use Rattle.just_loader.specs.Asts.{AstKey, same_ast_key}
 use Rattle.just_loader.specs.Causes.{Keeps, Reports}
 use Rattle.just_loader.specs.FileCircles.{IsFileOrder, LeadsOn}
-use Rattle.just_loader.specs.Keys.{NamesInFiles}
+use Rattle.just_loader.specs.Keys.{FileKey, NamesInFiles}
 use Rattle.just_loader.specs.Loaded.{IsLoaded, at_first, file_at, name_at}
 use Rattle.just_loader.specs.Loading.{AreParsed, Stops, spent_by}
 use Rattle.just_loader.specs.Parsed.{AreKeyed, AreHeld, relative_at}
@@ -30,7 +30,7 @@ use Rattle.just_loader.specs.declared.loaded.Loaded.{Loaded}
 use Rattle.just_loader.specs.declared.scanned.Scan.{Scan}
 use Rattle.just_loader.specs.declared.scanned.ScannedFile.{ScannedFile}
 use Rattle.just_loader.proofs.HeldAsts.{are_asts_of, are_told_apart, held_each}
-use Rattle.just_loader.proofs.KeySums.{node_stands, one_place, many, files_kept}
+use Rattle.just_loader.proofs.KeySums.{node_inside, one_place, many, files_kept}
 use Rattle.just_loader.proofs.LoadedPaths.{relative_paths}
 use Rattle.just_loader.proofs.Numberings.{got, placed, get_map}
 use Rattle.just_loader.proofs.WholeScans.{read_at}
@@ -63,14 +63,13 @@ module _ (w : World) (scan : Scan) (is : IsScan w scan) (us : List Unfolded) (wh
   stop_named error.Memory h = tt
 
   pub nodes_inside : (k : ℕ) (u : Unfolded) → slice_get us k ≡ Some u → u.node < length scan.files.items
-  nodes_inside k u e =
-      omega (arith, length-map scan.files.items (λ (f : ScannedFile). f.path), slice_get_within (paths_in scan.files.items) u.node (file_at scan u.node) (node_stands w scan is us whole.keys whole.once k u e).node)
+  nodes_inside = node_inside w scan is us whole.keys whole.once
 
   pub are_keyed : (asts : List Ast) → AreParsed w scan whole.first.0 asts → AreKeyed scan us asts
   are_keyed asts parsed = record {
     count = parsed.count ∙ sym whole.first.2.count;
     within = nodes_inside;
-    apart = λ i j u v e f same. one_place w scan is us whole.keys whole.once i j u v e f (ap (λ (k : AstKey). k.0.components) same) (ap (λ (k : AstKey). k.1) same);
+    apart = λ i j u v e f same. one_place w scan is us whole.keys whole.once i j u v e f (ap (λ (k : AstKey). let x : FileKey = record { path = k.0.components; node = k.1 } in x) same);
     paths = λ k u ast e f.
         let n = read_at whole.first.0 k (omega (arith, whole.first.2.count, slice_get_within us k u e)) in
         let tells = whole.first.2.tells k u n.0 e n.1 in
@@ -84,7 +83,7 @@ module _ (w : World) (scan : Scan) (is : IsScan w scan) (us : List Unfolded) (wh
   are_kept there kept none total = files_kept w scan is us whole.keys whole.once there kept none total
 
 pub is_loaded : (w : World) (loaded : Loaded) (us : List Unfolded) (asts : List Ast) → IsScan w loaded.scan → (whole : IsWhole loaded.scan.rows.items us) → IsFileOrder loaded.scan.rows.items loaded.order.items → AreParsed w loaded.scan whole.first.0 asts
-    → (high : ℕ) → AreRising 0 (flat_map (λ (ast : Ast). numbers ast.items) asts) high → All (λ (ast : Ast). All PriorsAreDependencies ast.items) asts → AreHeld loaded.scan us asts (get same_key loaded.asts) → loaded.loaded ≡ map (relative_at loaded.scan) (at_first (map (λ (u : Unfolded). u.node) us)) → IsLoaded w loaded
+    → (high : ℕ) → AreRising 0 (flat_map (λ (ast : Ast). numbers ast.items) asts) high → All (λ (ast : Ast). All PriorsAreDependencies ast.items) asts → AreHeld loaded.scan us asts (get same_ast_key loaded.asts) → loaded.loaded ≡ map (relative_at loaded.scan) (at_first (map (λ (u : Unfolded). u.node) us)) → IsLoaded w loaded
 is_loaded w loaded us asts is whole order parsed high rising priors held paths =
     let ns = whole.first.0 in
     let told : map unfolded_key us ≡ map key ns = told_same (steps loaded.scan.rows.items) us ns whole.first.2 in
@@ -98,9 +97,9 @@ is_loaded w loaded us asts is whole order parsed high rising priors held paths =
           let at = placed (map key ns) k (subst (λ ks. Contains ks k) told ((whole.keys k).1 (n, more))) in
           let node = get_map key ns at.0 k at.1 in
           (node.0, got ns at.0 node.0 node.1, node.2);
-      asts = are_asts_of loaded.scan us asts (get same_key loaded.asts) held w ns told parsed;
-      numbers = are_told_apart loaded.scan us asts (get same_key loaded.asts) held high rising;
-      priors = held_each loaded.scan us asts (get same_key loaded.asts) held (λ (ast : Ast). All PriorsAreDependencies ast.items) priors;
+      asts = are_asts_of loaded.scan us asts (get same_ast_key loaded.asts) held w ns told parsed;
+      numbers = are_told_apart loaded.scan us asts (get same_ast_key loaded.asts) held high rising;
+      priors = held_each loaded.scan us asts (get same_ast_key loaded.asts) held (λ (ast : Ast). All PriorsAreDependencies ast.items) priors;
       loaded_is = paths ∙ relative_paths w loaded.scan is (map (λ (u : Unfolded). u.node) us) (λ x i.
           let u = from_map (λ (u : Unfolded). u.node) x us i in
           let at = placed us u.0 (contained u.0 us u.1) in

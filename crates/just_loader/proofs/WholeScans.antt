@@ -145,7 +145,7 @@ places_inside paths (l ∷ ls) (t ∷ ts) place ps (inl e) = place_inside paths 
 places_inside paths (l ∷ ls) (t ∷ ts) place ps (inr h) = places_inside paths ls ts place ps.1 h
 
 -- a step leads to a target
-one_target : (steps : List Step) (x s : Step) → steps ≡ x ∷ [] → In s steps → s ≡ x
+pub one_target : (steps : List Step) (x s : Step) → steps ≡ x ∷ [] → In s steps → s ≡ x
 one_target steps x s e h = elim (subst (In s) e h) [ inl same ↦ same | inr none ↦ absurd none ]
 
 step_to_target : (names : List (List ℕ)) (place : ℕ) (e : Option Edge) (steps : List Step) (s : Step) → IsStepTo names place e steps → In s steps → s.target ≡ place

@@ -5,7 +5,7 @@ use Rattle.std.specs.declared.vec.Vec.{Vec}
 use Rattle.std.specs.declared.alloc.Global.{Global}
 use Rattle.just_graph.specs.declared.unfolding.Step.{Step}
 use Rattle.just_graph.specs.Steps.{IsOrder}
-use Rattle.just_graph.specs.Unfolding.{HasStep}
+use Rattle.just_graph.specs.Unfolding.{LeadInside, HasStep}
 use Rattle.just_loader.specs.Reached.{World, LeadsTo, Reached}
 use Rattle.just_loader.specs.Causes.{Cause, LeadsBack}
 use Rattle.just_loader.specs.declared.scanned.Scan.{Scan}
@@ -17,7 +17,7 @@ Text = List ℕ
 pub record HasRows (scan : Scan) : Type 0 where
   pub count : length scan.rows.items ≡ length scan.files.items
   pub some : 0 < length scan.rows.items
-  pub within : (a b : ℕ) → HasStep scan.rows.items a b → b < length scan.rows.items
+  pub within : LeadInside scan.rows.items
 
 -- an order of the places of files, each after those that it leads to, the root's among them
 abbrev pub IsFileOrder : List (Vec Step Global) → List ℕ → Type 0

@@ -1,7 +1,8 @@
 -- What a file imports and which modules it declares, and the keys of files: the path of a module, and a file of it.
-use Rattle.std.specs.Prelude.{◌≡◌, ℕ, List, [], ◌∷◌, ◌++◌, map, unwrap_or, ◌≤◌, ◌^◌, slice_get, Option, None, Some}
+use Rattle.std.specs.Prelude.{◌≡◌, ℕ, List, [], ◌∷◌, map, filter, not, is_some, unwrap_or, ◌≤◌, ◌^◌, slice_get, Option, None, Some}
 use Rattle.std.specs.List.{Contains, flat_map, sum_by}
 use Rattle.std.specs.Option.{option_map}
+use Rattle.just_graph.specs.Unfolding.{KeyOf, KeyStepsOf}
 use Rattle.just_parts.specs.Clean.{folder_of}
 use Rattle.just_parts.specs.Edge.{Edge, Imports, Declares, edge_of}
 use Rattle.just_parts.specs.Name.{text_of_name}
@@ -26,14 +27,24 @@ end_of Nowhere = []
 end_of (To path) = path ∷ []
 end_of (Fault cause) = []
 
--- what an item imports, by where it leads
-abbrev pub imported_by : Option Edge → Link → List Text
-imported_by (Some (Imports literal optional)) l = end_of l
-imported_by _ l = []
+-- A step from a file: where it leads, and the name of the module that it enters; an import enters none.
+pub record FileStep : Type 0 where
+  pub to : Text
+  pub enters : Option Text
 
--- what an item of a folder's file imports
-abbrev pub imported : World → Text → Item → List Text
-imported w folder i = imported_by (edge_of i) (link w folder i)
+-- the step of an item, by where it leads
+abbrev pub steps_by : Option Edge → Link → List FileStep
+steps_by (Some (Imports literal optional)) l = map (λ path. record { to = path; enters = None }) (end_of l)
+steps_by (Some (Declares name literal optional)) l = map (λ path. record { to = path; enters = Some (text_of_name name) }) (end_of l)
+steps_by None l = []
+
+-- the steps of the items of a file, in order
+abbrev pub steps_of : World → Text → List FileStep
+steps_of w f = flat_map (λ i. steps_by (edge_of i) (link w (folder_of f) i)) (items_at w f)
+
+-- what a file imports, in order
+abbrev pub imports_of : World → Text → List Text
+imports_of w f = map (λ (s : FileStep). s.to) (filter (λ (s : FileStep). not (is_some s.enters)) (steps_of w f))
 
 -- a module that a file declares and that has a file: its name, and that file
 pub record Submodule : Type 0 where
@@ -49,22 +60,25 @@ declared_by _ l = []
 abbrev pub declared : World → Text → Item → List Submodule
 declared w folder i = declared_by (edge_of i) (link w folder i)
 
--- what the items of a file import, in order
-abbrev pub imports_of : World → Text → List Text
-imports_of w f = flat_map (imported w (folder_of f)) (items_at w f)
-
 -- the modules that a file declares, in order
 abbrev pub modules_of : World → Text → List Submodule
 modules_of w f = flat_map (declared w (folder_of f)) (items_at w f)
 
--- a file belongs to a module: the root file to the root's, an imported file to that of the importing one, and the file of a declared module to that
-pub data IsKey (w : World) : List Text → Text → Type 0 where
-  of_root : IsKey w [] w.root
-  by_import : {path : List Text} {f g : Text} → IsKey w path f → Contains (imports_of w f) g → IsKey w path g
-  by_module : {path : List Text} {f : Text} (m : Submodule) → IsKey w path f → Contains (modules_of w f) m → IsKey w (path ++ text_of_name m.name ∷ []) m.path
-
+-- the path of a module, and a file of it
 abbrev pub FileKey : Type 0
-FileKey = List Text × Text
+FileKey = KeyOf Text Text
+
+-- the root file, in the root's module
+abbrev pub root_file_key : World → FileKey
+root_file_key w = record { path = []; node = w.root }
+
+-- that many steps lead from one key to another: what a file imports is of its module, and the file of a declared module of that
+abbrev pub FileKeySteps : World → FileKey → FileKey → ℕ → Type 0
+FileKeySteps w = KeyStepsOf (λ (s : FileStep). s.to) (λ (s : FileStep). s.enters) (steps_of w)
+
+-- steps lead to the key from the root's
+abbrev pub IsKey : World → FileKey → Type 0
+IsKey w k = (d : ℕ) × FileKeySteps w (root_file_key w) k d
 
 -- no key stands at two places
 abbrev pub AreOnceKeys : List FileKey → Type 0
@@ -79,4 +93,4 @@ pub data NamesInFiles (w : World) : Cause → Type 0 where
   no_root : {path : Text} → text_at w.files w.root ≡ None → w.root ≡ path → NamesInFiles w (NoFile path)
   at_fault : {c : Cause} → NamesInScan w c → NamesInFiles w c
   in_circle : {c : Cause} → NamesCircle w c → NamesInFiles w c
-  too_many : (keys : List FileKey) → AreOnceKeys keys → ((k : FileKey) → Contains keys k → IsKey w k.0 k.1) → 2 ^ 64 ≤ sum_by (λ (k : FileKey). spends_at w k.1) keys → NamesInFiles w NoNumber
+  too_many : (keys : List FileKey) → AreOnceKeys keys → ((k : FileKey) → Contains keys k → IsKey w k) → 2 ^ 64 ≤ sum_by (λ (k : FileKey). spends_at w k.node) keys → NamesInFiles w NoNumber

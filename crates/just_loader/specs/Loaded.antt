@@ -11,7 +11,7 @@ use Rattle.just_parts.specs.Syntax.{AreRising, IsFrom, PriorsAreDependencies, co
 use Rattle.just_parts.specs.declared.layers.ast.Ast.{Ast}
 use Rattle.just_parts.specs.declared.layers.ast.Item.{Item}
 use Rattle.just_parts.specs.declared.source.Source.{Source}
-use Rattle.just_loader.specs.Asts.{Key as AstKey, same_key}
+use Rattle.just_loader.specs.Asts.{AstKey, same_ast_key}
 use Rattle.just_loader.specs.FileCircles.{IsFileOrder}
 use Rattle.just_loader.specs.Links.{Link, Nowhere, To, Fault}
 use Rattle.just_loader.specs.Numbering.{texts_of}
@@ -77,12 +77,12 @@ pub record IsAstOf (w : World) (scan : Scan) (n : Node) (ast : Ast) : Type 0 whe
 -- Each node's text is held under its key, and nothing else is.
 pub record AreAstsOf (w : World) (scan : Scan) (nodes : List Node) (asts : AstKey → Option Ast) : Type 0 where
   pub held : (n : Node) → Contains nodes n → (ast : Ast) × (asts (key_at scan n.path n.node) ≡ Some ast) × IsAstOf w scan n ast
-  pub only : (k : AstKey) (ast : Ast) → asts k ≡ Some ast → (n : Node) × Contains nodes n × IsTrue (same_key (key_at scan n.path n.node) k)
+  pub only : (k : AstKey) (ast : Ast) → asts k ≡ Some ast → (n : Node) × Contains nodes n × IsTrue (same_ast_key (key_at scan n.path n.node) k)
 
 -- Numbers tell all definitions apart: those of a text rise, and no number is in two texts.
 pub record AreToldApart (asts : AstKey → Option Ast) : Type 0 where
   pub rising : (k : AstKey) (ast : Ast) → asts k ≡ Some ast → (low : ℕ) × (high : ℕ) × AreRising low (numbers ast.items) high
-  pub apart : (k l : AstKey) (a b : Ast) (n : ℕ) → asts k ≡ Some a → asts l ≡ Some b → same_key k l ≡ false → Contains (numbers a.items) n → Contains (numbers b.items) n → ⊥
+  pub apart : (k l : AstKey) (a b : Ast) (n : ℕ) → asts k ≡ Some a → asts l ≡ Some b → same_ast_key k l ≡ false → Contains (numbers a.items) n → Contains (numbers b.items) n → ⊥
 
 -- each number once, at its first place
 abbrev pub at_first : List ℕ → List ℕ
@@ -96,7 +96,7 @@ pub record IsLoaded (w : World) (loaded : Loaded) : Type 0 where
   pub nodes : List Node
   pub first : AreFirst (steps loaded.scan.rows.items) 0 nodes
   pub keys : (k : Key) (n : ℕ) → KeySteps (steps loaded.scan.rows.items) (root_key 0) k n → (node : Node) × Contains nodes node × (key node ≡ k)
-  pub asts : AreAstsOf w loaded.scan nodes (get same_key loaded.asts)
-  pub numbers : AreToldApart (get same_key loaded.asts)
-  pub priors : (k : AstKey) (ast : Ast) → get same_key loaded.asts k ≡ Some ast → All PriorsAreDependencies ast.items
+  pub asts : AreAstsOf w loaded.scan nodes (get same_ast_key loaded.asts)
+  pub numbers : AreToldApart (get same_ast_key loaded.asts)
+  pub priors : (k : AstKey) (ast : Ast) → get same_ast_key loaded.asts k ≡ Some ast → All PriorsAreDependencies ast.items
   pub loaded_is : loaded.loaded ≡ map (λ place. relative_to_root w (file_at loaded.scan place)) (at_first (map (λ (n : Node). n.node) nodes))

@@ -3,7 +3,7 @@ use Rattle.std.specs.Prelude.{◌≡◌, ◌↔◌, ℕ, ◌<◌, List, [], ◌�
 use Rattle.std.specs.List.{All, Contains}
 use Rattle.std.specs.declared.vec.Vec.{Vec}
 use Rattle.std.specs.declared.alloc.Global.{Global}
-use Rattle.just_graph.specs.Unfolding.{HasStep}
+use Rattle.just_graph.specs.Unfolding.{LeadInside}
 use Rattle.just_graph.specs.declared.unfolding.Step.{Step}
 use Rattle.just_parts.specs.Bare.{bare_item}
 use Rattle.just_parts.specs.Clean.{IsClean, folder_of}
@@ -81,7 +81,7 @@ pub record IsScan (w : World) (scan : Scan) : Type 0 where
   pub root : slice_get (paths_in scan.files.items) 0 ≡ Some w.root
   pub count : length scan.rows.items ≡ length scan.files.items
   pub scanned : AreScanned w (paths_in scan.files.items) (texts_of scan.names.items) scan.files.items scan.rows.items
-  pub within : (a b : ℕ) → HasStep scan.rows.items a b → b < length scan.rows.items
+  pub within : LeadInside scan.rows.items
   pub names : AreOnce (texts_of scan.names.items)
 
 -- a list with more behind it that has a property

@@ -9,7 +9,7 @@ ghost use Rattle.just_graph.specs.declared.unfolding.Unfolded.{Unfolded};
 ghost use Rattle.just_parts.specs.Clean.{IsClean};
 ghost use Rattle.just_parts.specs.Syntax.{AreRising, PriorsAreDependencies, numbers};
 ghost use Rattle.just_parts.specs.declared.layers.ast.Ast.{Ast};
-ghost use Rattle.just_loader.specs.Asts.{same_key};
+ghost use Rattle.just_loader.specs.Asts.{same_ast_key};
 ghost use Rattle.just_loader.specs.Causes.{Keeps, Reports};
 ghost use Rattle.just_loader.specs.Keys.{NamesInFiles, spends_at};
 ghost use Rattle.just_loader.specs.Loaded.{IsLoaded, at_first, file_at};
@@ -202,7 +202,7 @@ fn hold<'src>(
     mut asts: Vec<Ast<'src>>,
 ) -> Result<HashMap<(Modulepath, Text), Ast<'src>>, AllocError>
     requires { AreKeyed scan.now nodes.now asts.items }
-    ensures { IfOk result (λ held. AreHeld scan.now nodes.now asts.entry.items (get same_key held)) }
+    ensures { IfOk result (λ held. AreHeld scan.now nodes.now asts.entry.items (get same_ast_key held)) }
 {
     let mut held = HashMap::new(alloc);
     while let Some(ast) = asts.pop() {

@@ -1,4 +1,4 @@
-use Rattle.std.proofs.Common.{◌≡◌, ◌||◌, ◌<◌, ◌∙◌, false, true, length, get_or, slice_set, sym, ap, subst, arith}
+use Rattle.std.proofs.Common.{nat_eq, ◌≡◌, ◌||◌, ◌<◌, ◌∙◌, false, true, length, get_or, slice_set, sym, ap, subst, arith}
 use Rattle.std.specs.Prelude.{replicate}
 use Rattle.std.proofs.lemmas.Grind.{common_steps}
 use Rattle.std.proofs.lemmas.List.{length-set, take_all}
@@ -32,7 +32,7 @@ loop-row-preserved c =
     record {
       room = c.mark.ensures.room ∙ c.loop-row.invariant.room;
       marks = marks_more rows c.loop-row.row-index c.row-item.result (slice_set c.resize.new.self.items 0 true) c.loop-row.own.items c.mark.new.own.items l (c.row-item.is ∙ at) c.loop-row.invariant.marks
-          (λ a. c.mark.ensures.marks a ∙ ap (λ r. has a (entered_in r) || get_or c.loop-row.own.items a false) c.as_slice.ensures.value);
+          (λ a. c.mark.ensures.marks a ∙ ap (λ r. has nat_eq a (entered_in r) || get_or c.loop-row.own.items a false) c.as_slice.ensures.value);
     }
 
 pub returns-clause-own : goal.returns-clause-own
@@ -41,4 +41,4 @@ returns-clause-own c =
     let unmarked : c.resize.new.self.items ≡ replicate (length rows) false = grind (arith, common_steps, c.in_ok-resize.ensures.items, c.new-own.ensures.items) in
     let all = take_all c.loop-row.row-index rows (omega (arith, c.deref-row-items.ensures.len)) in
     marked_own c.args.scan.now (slice_set c.resize.new.self.items 0 true) c.loop-row.own.items (first_marked (length rows) c.resize.new.self.items unmarked c.requires.some)
-    (λ a. c.loop-row.invariant.marks a ∙ ap (λ rs. has a (entered_by rs) || get_or (slice_set c.resize.new.self.items 0 true) a false) all)
+    (λ a. c.loop-row.invariant.marks a ∙ ap (λ rs. has nat_eq a (entered_by rs) || get_or (slice_set c.resize.new.self.items 0 true) a false) all)

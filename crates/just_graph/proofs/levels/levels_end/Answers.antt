@@ -1,5 +1,6 @@
-use Rattle.just_graph.proofs.Least.{one_end}
+use Rattle.std.proofs.Common.{nat_eq}
+use Rattle.just_graph.proofs.Ended.{one_list}
 use Rattle.just_graph.proofs.levels.levels_end.Goals as goal
 
 pub returns : goal.returns
-returns c = λ next f n m e d. one_end next f n m e d
+returns c = one_list nat_eq

@@ -2,7 +2,7 @@ use Rattle.just_graph.proofs.Trails.{ordered_by_edges, edges_inside}
 use Rattle.just_graph.proofs.unfolding.edges_are_steps.Goals as goal
 
 pub returns-clause-inside : goal.returns-clause-inside
-returns-clause-inside c = λ rows edges are inside. edges_inside rows edges are inside
+returns-clause-inside c = edges_inside
 
 pub returns-clause-ordered : goal.returns-clause-ordered
-returns-clause-ordered c = λ rows edges root roots order are o h. ordered_by_edges rows edges root roots order are o h
+returns-clause-ordered c = ordered_by_edges

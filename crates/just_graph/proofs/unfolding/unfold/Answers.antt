@@ -4,11 +4,11 @@ use Rattle.std.specs.List.{Contains}
 use Rattle.std.specs.HashMap.{get}
 use Rattle.just_graph.specs.declared.unfolding.Unfolded.{Unfolded}
 use Rattle.just_graph.specs.Graph.{IsGraph, targets}
-use Rattle.just_graph.specs.Unfolding.{steps, Key, KeySteps, root_key, IsLeastDepth}
-use Rattle.just_graph.specs.Unfolded.{same_key, unfolded_key, AreApart}
-use Rattle.just_graph.specs.Levels.{depth_of, InSteps, IsLeast}
+use Rattle.just_graph.specs.Unfolding.{steps, IsLeastDepth}
+use Rattle.just_graph.specs.Unfolded.{same_key, unfolded_key, AreApart, AreReached, EachLinked}
+use Rattle.just_graph.specs.Levels.{depth_of, AreDepths}
 use Rattle.just_graph.proofs.Index.{keys_apart, root_key_first, unfolded_inside, map_get, got_in}
-use Rattle.just_graph.proofs.Links.{EachLinked, links_graph, links_some, least_depth}
+use Rattle.just_graph.proofs.Links.{links_graph, links_some, least_depth}
 use Rattle.just_graph.proofs.Noting.{was, noted_told, noted_keys, shallow}
 use Rattle.just_graph.proofs.unfolding.unfold.Goals as goal
 
@@ -37,7 +37,7 @@ returns-clause-first c =
 
 pub returns-clause-keys : goal.returns-clause-keys
 returns-clause-keys c =
-    subst (λ ks. (k : Key) → Contains ks k ↔ ((n : ℕ) × KeySteps (steps c.args.rows.now) (root_key c.args.root) k n)) (sym (noted_keys c.in_ok-depths.depths.items c.in_ok-nodes.nodes.items c.note_depths.new.nodes.items c.note_depths.ensures)) c.in_ok-nodes.ensures.keys
+    subst (AreReached (steps c.args.rows.now) c.args.root) (sym (noted_keys c.in_ok-depths.depths.items c.in_ok-nodes.nodes.items c.note_depths.new.nodes.items c.note_depths.ensures)) c.in_ok-nodes.ensures.keys
 
 pub returns-clause-once : goal.returns-clause-once
 returns-clause-once c =
@@ -55,8 +55,7 @@ returns-clause-depths c = λ k v e.
     let u = was c.in_ok-depths.depths.items us c.note_depths.new.nodes.items c.note_depths.ensures k v e in
     let at : slice_get (map unfolded_key us) k ≡ Some (unfolded_key u.0) = map_get unfolded_key us k u.0 u.1 in
     let way = (keys (unfolded_key u.0)).0 (got_in (map unfolded_key us) k (unfolded_key u.0) at) in
-    let least : MatchOption (depth_of c.in_ok-depths.depths.items k) ((m : ℕ) → InSteps (targets c.in_ok-links.links.items) 0 k m → ⊥) (IsLeast (targets c.in_ok-links.links.items) 0 k) =
-    subst (λ ls. MatchOption (depth_of c.in_ok-depths.depths.items k) ((m : ℕ) → InSteps (targets ls) 0 k m → ⊥) (IsLeast (targets ls) 0 k)) c.as_slice-2.ensures.value (c.in_ok-depths.ensures.least k) in
+    let least = subst (λ ls. AreDepths (targets ls) 0 c.in_ok-depths.depths.items) c.as_slice-2.ensures.value c.in_ok-depths.ensures.least k in
     subst (λ (x : Unfolded). IsLeastDepth S c.args.root (unfolded_key x) x.depth) (sym u.2)
     (least_depth S c.args.root us places c.in_ok-links.links.items c.in_ok-nodes.ensures.index linked (root_key_first S c.args.root us f.0 f.1 f.2) (λ l n w. (keys l).1 (n, w)) (keys_apart S c.args.root us f.0 f.1 f.2)
     (depth_of c.in_ok-depths.depths.items k) k (unfolded_key u.0) way.0 at way.1 least)

@@ -4,7 +4,7 @@ use Rattle.std.specs.List.{slice_get}
 use Rattle.just_graph.specs.Unfolded.{AllTold}
 use Rattle.just_graph.specs.Unfolding.{steps}
 use Rattle.just_graph.specs.declared.unfolding.Unfolded.{Unfolded}
-use Rattle.just_loader.specs.Asts.{same_key}
+use Rattle.just_loader.specs.Asts.{same_ast_key}
 use Rattle.just_loader.specs.Keys.{NamesInFiles, no_root, at_fault, in_circle}
 use Rattle.just_loader.specs.FileCircles.{NamesCircle}
 use Rattle.just_loader.specs.Causes.{Reports}
@@ -80,8 +80,8 @@ returns-clause-loaded g c =
     let whole : IsWhole c.in_ok-scan.scan.rows.items c.in_ok-nodes.nodes.items = whole_lent c.as_slice.ensures.value refl (record { first = c.in_ok-nodes.ensures.first; keys = c.in_ok-nodes.ensures.keys; once = c.in_ok-nodes.ensures.once }) in
     let told : AllTold (steps c.in_ok-scan.scan.rows.items) c.as_slice-2.result.now whole.first.0 = subst (λ us. AllTold (steps c.in_ok-scan.scan.rows.items) us whole.first.0) (sym c.as_slice-2.ensures.value) whole.first.2 in
     let parsed : AreParsed w c.in_ok-scan.scan whole.first.0 c.in_ok-asts.asts.items = c.in_ok-asts.ensures.parsed w whole.first.0 by (whole.first.1, told) in
-    let held : AreHeld c.in_ok-scan.scan c.in_ok-nodes.nodes.items c.in_ok-asts.asts.items (get same_key c.in_ok-asts-2.asts) =
-    subst (λ us. AreHeld c.in_ok-scan.scan us c.in_ok-asts.asts.items (get same_key c.in_ok-asts-2.asts)) c.as_slice-3.ensures.value c.in_ok-asts-2.ensures in
+    let held : AreHeld c.in_ok-scan.scan c.in_ok-nodes.nodes.items c.in_ok-asts.asts.items (get same_ast_key c.in_ok-asts-2.asts) =
+    subst (λ us. AreHeld c.in_ok-scan.scan us c.in_ok-asts.asts.items (get same_ast_key c.in_ok-asts-2.asts)) c.as_slice-3.ensures.value c.in_ok-asts-2.ensures in
     let paths : c.in_ok-loaded.loaded ≡ map (relative_at c.in_ok-scan.scan) (at_first (map (λ (u : Unfolded). u.node) c.in_ok-nodes.nodes.items)) =
     subst (λ us. c.in_ok-loaded.loaded ≡ map (relative_at c.in_ok-scan.scan) (at_first (map (λ (u : Unfolded). u.node) us))) c.as_slice-4.ensures.value c.in_ok-loaded.ensures in
     is_loaded w (record { scan = c.in_ok-scan.scan; order = c.in_ok-order.order; asts = c.in_ok-asts-2.asts; loaded = c.in_ok-loaded.loaded }) c.in_ok-nodes.nodes.items c.in_ok-asts.asts.items

@@ -1,7 +1,7 @@
 use Rattle.std.proofs.Common.{IsSome, refl, sym, subst, rules}
 use Rattle.std.specs.HashMap.{get}
 use Rattle.just_invoke.specs.Closed.{is_closed}
-use Rattle.just_loader.specs.Asts.{same_key, root_key}
+use Rattle.just_loader.specs.Asts.{same_ast_key, root_ast_key}
 use Rattle.just_loader.specs.Keys.{NamesInFiles}
 use Rattle.just_loader.specs.Reached.{World, world_of}
 use Rattle.just_loader.proofs.FileCircles.{has_rows}
@@ -50,6 +50,6 @@ returns g c =
       all_closed = search rules;
       root = c.in_ok-path.ensures;
       overrides = search rules;
-      root_ast = subst (λ r. IsSome (get same_key c.in_ok-loaded.loaded.asts (root_key r))) (sym c.in_ok-path.ensures) (root_there w c.in_ok-loaded.loaded c.in_ok-loaded.ensures.loaded);
+      root_ast = subst (λ r. IsSome (get same_ast_key c.in_ok-loaded.loaded.asts (root_ast_key r))) (sym c.in_ok-path.ensures) (root_there w c.in_ok-loaded.loaded c.in_ok-loaded.ensures.loaded);
       named = tt;
     }

@@ -1,0 +1,147 @@
+-- The rows of a scan are the steps of its files, by texts.
+use Rattle.std.proofs.Common.{◌≡◌, ℕ, zero, suc, ◌<◌, List, [], ◌∷◌, ◌++◌, map, length, get_or, Option, None, Some, inl, inr, refl, sym, ap, subst, ◌∙◌, arith}
+use Rattle.std.specs.Prelude.{unwrap_or}
+use Rattle.std.specs.List.{flat_map, slice_get}
+use Rattle.std.specs.Option.{option_map}
+use Rattle.std.specs.declared.vec.Vec.{Vec}
+use Rattle.std.specs.declared.alloc.Global.{Global}
+use Rattle.std.proofs.lemmas.List.{map-append}
+use Rattle.std.proofs.lemmas.Option.{get_or_from_slice_get, slice_get_within}
+use Rattle.just_graph.specs.Unfolding.{steps}
+use Rattle.just_graph.specs.declared.unfolding.Step.{Step}
+use Rattle.just_graph.proofs.Members.{In, in_cases}
+use Rattle.just_parts.specs.Clean.{folder_of}
+use Rattle.just_parts.specs.Edge.{Edge, Imports, Declares, edge_of}
+use Rattle.just_parts.specs.Name.{text_of_name}
+use Rattle.just_parts.specs.declared.layers.ast.Item.{Item}
+use Rattle.just_loader.specs.Keys.{FileStep, end_of, items_at, steps_by, steps_of}
+use Rattle.just_loader.specs.Links.{Link, Nowhere, To, Fault}
+use Rattle.just_loader.specs.Loaded.{file_at, name_at}
+use Rattle.just_loader.specs.Numbering.{texts_of}
+use Rattle.just_loader.specs.Reached.{World, link}
+use Rattle.just_loader.specs.Scanned.{IsPlaceOf, ArePlacesOf, IsStepTo, IsStepOf, AreSteps, IsScan, IsScanned, paths_in}
+use Rattle.just_loader.specs.declared.scanned.Scan.{Scan}
+use Rattle.just_loader.specs.declared.scanned.ScannedFile.{ScannedFile}
+use Rattle.just_loader.proofs.Numberings.{map_get, none_some, some_same}
+use Rattle.just_loader.proofs.WholeScans.{one_target, read_at, row_at}
+
+abbrev Text : Type 0
+Text = List ℕ
+
+-- where links lead
+pub no_end : (paths : List Text) (l : Link) → IsPlaceOf paths l None → end_of l ≡ []
+no_end paths Nowhere h = refl
+no_end paths (To p) h = absurd h
+no_end paths (Fault c) h = refl
+
+pub one_end : (paths : List Text) (l : Link) (place : ℕ) → IsPlaceOf paths l (Some place) → end_of l ≡ get_or paths place [] ∷ []
+one_end paths Nowhere place h = absurd h
+one_end paths (To p) place h = ap (λ x. x ∷ []) (sym (get_or_from_slice_get paths place p [] h))
+one_end paths (Fault c) place h = absurd h
+
+-- a step by texts
+abbrev pub text_step : Scan → Step → FileStep
+text_step scan s = record { to = file_at scan s.target; enters = option_map (name_at scan) s.enters }
+
+module _ (scan : Scan) where
+  abbrev paths : List Text
+  paths = paths_in scan.files.items
+
+  abbrev names : List Text
+  names = texts_of scan.names.items
+
+  -- the name that is entered has a number
+  abbrev pub IsKnown : Option ℕ → Type 0
+  IsKnown None = Unit {0}
+  IsKnown (Some number) = slice_get names number ≡ Some (name_at scan number)
+
+  known : (number : ℕ) (text : Text) → slice_get names number ≡ Some text → text ≡ name_at scan number
+  known number text e = sym (get_or_from_slice_get names number text [] e)
+
+  no_steps : (e : Option Edge) (l : Link) → end_of l ≡ [] → [] ≡ steps_by e l
+  no_steps (Some (Imports literal optional)) l at = sym (ap (map (λ path. let s : FileStep = record { to = path; enters = None } in s)) at)
+  no_steps (Some (Declares name literal optional)) l at = sym (ap (map (λ path. let s : FileStep = record { to = path; enters = Some (text_of_name name) } in s)) at)
+  no_steps None l at = refl
+
+  edge_steps : (e : Option Edge) (l : Link) (place : ℕ) (row : List Step) → end_of l ≡ file_at scan place ∷ [] → IsStepTo names place e row → map (text_step scan) row ≡ steps_by e l
+  edge_steps (Some (Imports literal optional)) l place row at is = ap (map (text_step scan)) is ∙ sym (ap (map (λ path. let s : FileStep = record { to = path; enters = None } in s)) at)
+  edge_steps (Some (Declares name literal optional)) l place row at is =
+      ap (map (text_step scan)) is.2 ∙ ap (λ text. let s : FileStep = record { to = file_at scan place; enters = Some text } in s ∷ []) (sym (known is.0 (text_of_name name) is.1))
+      ∙ sym (ap (map (λ path. let s : FileStep = record { to = path; enters = Some (text_of_name name) } in s)) at)
+  edge_steps None l place row at is = ap (map (text_step scan)) is
+
+  item_steps : (i : Item) (l : Link) (t : Option ℕ) (row : List Step) → IsPlaceOf paths l t → IsStepOf names i t row → map (text_step scan) row ≡ steps_by (edge_of i) l
+  item_steps i l None row p is = ap (map (text_step scan)) is ∙ no_steps (edge_of i) l (no_end paths l p)
+  item_steps i l (Some place) row p is = edge_steps (edge_of i) l place row (one_end paths l place p) is
+
+  row_steps : (L : Item → Link) (is : List Item) (ts : List (Option ℕ)) (row : List Step) → ArePlacesOf paths (map L is) ts → AreSteps names is ts row → map (text_step scan) row ≡ flat_map (λ i. steps_by (edge_of i) (L i)) is
+  row_steps L [] [] row ps are = ap (map (text_step scan)) are
+  row_steps L [] (t ∷ ts) row ps are = absurd ps
+  row_steps L (i ∷ is) [] row ps are = absurd ps
+  row_steps L (i ∷ is) (t ∷ ts) row ps are =
+      ap (map (text_step scan)) are.4 ∙ map-append (text_step scan) are.0 are.1
+      ∙ (λ j. item_steps i (L i) t are.0 ps.0 are.2 j ++ row_steps L is ts are.1 ps.1 are.3 j)
+
+  edge_known : (e : Option Edge) (place : ℕ) (row : List Step) (s : Step) → IsStepTo names place e row → In s row → IsKnown s.enters
+  edge_known (Some (Imports literal optional)) place row s is h = subst (λ (x : Step). IsKnown x.enters) (sym (one_target row _ s is h)) tt
+  edge_known (Some (Declares name literal optional)) place row s is h = subst (λ (x : Step). IsKnown x.enters) (sym (one_target row _ s is.2 h)) (is.1 ∙ ap Some (known is.0 (text_of_name name) is.1))
+  edge_known None place row s is h = absurd (subst (In s) is h)
+
+  item_known : (i : Item) (t : Option ℕ) (row : List Step) (s : Step) → IsStepOf names i t row → In s row → IsKnown s.enters
+  item_known i None row s is h = absurd (subst (In s) is h)
+  item_known i (Some place) row s is h = edge_known (edge_of i) place row s is h
+
+  row_known : (is : List Item) (ts : List (Option ℕ)) (row : List Step) (s : Step) → AreSteps names is ts row → In s row → IsKnown s.enters
+  row_known [] [] row s are h = absurd (subst (In s) are h)
+  row_known [] (t ∷ ts) row s are h = absurd are
+  row_known (i ∷ is) [] row s are h = absurd are
+  row_known (i ∷ is) (t ∷ ts) row s are h = elim (in_cases s are.0 are.1 (subst (In s) are.4 h)) [ inl a ↦ item_known i t are.0 s are.2 a | inr b ↦ row_known is ts are.1 s are.3 b ]
+
+pub steps_at : (rows : List (Vec Step Global)) (a : ℕ) (row : Vec Step Global) → slice_get rows a ≡ Some row → steps rows a ≡ row.items
+steps_at [] a row e = absurd (none_some e)
+steps_at (r ∷ rows) zero row e = ap (λ (x : Vec Step Global). x.items) (some_same e)
+steps_at (r ∷ rows) (suc a) row e = steps_at rows a row e
+
+module _ (w : World) (scan : Scan) (is : IsScan w scan) where
+  -- the file at a place
+  pub record At (a : ℕ) : Type 0 where
+    pub file : ScannedFile
+    pub row : Vec Step Global
+    pub file_is : slice_get scan.files.items a ≡ Some file
+    pub row_is : slice_get scan.rows.items a ≡ Some row
+    pub path_is : slice_get (paths_in scan.files.items) a ≡ Some (file_at scan a)
+    pub path_at : file.path ≡ file_at scan a
+    pub scanned : IsScanned w (paths_in scan.files.items) (texts_of scan.names.items) file row.items
+
+  pub at : (a : ℕ) → a < length scan.files.items → At a
+  at a h =
+      let file = read_at scan.files.items a h in
+      let row = read_at scan.rows.items a (omega (arith, is.count)) in
+      let path = map_get (λ (f : ScannedFile). f.path) scan.files.items a file.0 file.1 in
+      let same : file_at scan a ≡ file.0.path = get_or_from_slice_get (paths_in scan.files.items) a file.0.path [] path in
+      record {
+        file = file.0;
+        row = row.0;
+        file_is = file.1;
+        row_is = row.1;
+        path_is = path ∙ ap Some (sym same);
+        path_at = sym same;
+        scanned = is.scanned a file.0 row.0 file.1 row.1;
+      }
+
+  pub said : (a : ℕ) (x : At a) → items_at w (file_at scan a) ≡ x.scanned.items
+  said a x = ap (λ p. items_at w p) (sym x.path_at) ∙ ap (λ o. unwrap_or o []) x.scanned.parsed
+
+  -- the steps from a file
+  pub steps_here : (a : ℕ) → a < length scan.files.items → map (text_step scan) (steps scan.rows.items a) ≡ steps_of w (file_at scan a)
+  steps_here a h =
+      let x = at a h in
+      ap (map (text_step scan)) (steps_at scan.rows.items a x.row x.row_is)
+      ∙ row_steps scan (link w (folder_of x.file.path)) x.scanned.items x.file.targets.items x.row.items x.scanned.targets x.scanned.steps
+      ∙ (λ i. flat_map (λ item. steps_by (edge_of item) (link w (folder_of (x.path_at i)) item)) (sym (said a x) i))
+
+  pub known_here : (a : ℕ) (s : Step) → In s (steps scan.rows.items a) → IsKnown scan s.enters
+  known_here a s h =
+      let row = row_at scan.rows.items a s h in
+      let x = at a (omega (arith, is.count, slice_get_within scan.rows.items a row.0 row.1)) in
+      row_known scan x.scanned.items x.file.targets.items x.row.items s x.scanned.steps (subst (In s) (steps_at scan.rows.items a x.row x.row_is) h)
