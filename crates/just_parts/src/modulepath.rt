@@ -135,12 +135,12 @@ impl Modulepath {
     }
 
     /// The path that leads one name on.
-    pub fn join(&self, alloc: Global, name: &str) -> Result<Modulepath, AllocError>
+    pub fn join(&self, name: &str) -> Result<Modulepath, AllocError>
         ensures { IfOk result (λ p. (p.components ≡ self.now.components ++ name.now ∷ []) × (p.spaced ≡ self.now.spaced)) }
     {
         let mut components = self.components.clone()?.into_vec();
         components.reserve_exact(1)?;
-        components.push(Text::from_str(alloc, name)?)?;
+        components.push(Text::from_str(self.components.alloc(), name)?)?;
         let components = Sequence::from_vec(components);
         Ok(Modulepath {
             components,
