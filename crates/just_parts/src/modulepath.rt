@@ -66,13 +66,7 @@ fn split_word(alloc: Global, word: &str) -> Result<Result<Vec<Text>, ()>, AllocE
 fn without_end(word: &str) -> &str
     ensures { DropsEnd word.now result.now }
 {
-    match word.strip_suffix(':') {
-        Some(once) => match once.strip_suffix(':') {
-            Some(twice) => twice,
-            None => word,
-        },
-        None => word,
-    }
+    word.strip_suffix("::").unwrap_or(word)
 }
 
 // The components of a list of words.
