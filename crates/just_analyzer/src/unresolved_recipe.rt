@@ -53,6 +53,6 @@ pub fn resolve<'a, 'src>(
         priors: recipe.priors,
         private: recipe.private,
         module_path: Some(module_path.clone()?),
-        recipe_path: Some(module_path.join(alloc, recipe.name.lexeme())?),
+        recipe_path: Some(module_path.join(recipe.name.lexeme())?),
     })
 }

@@ -1,12 +1,13 @@
 //! The lexemes of a line, as parts of the whole text.
 ghost use Rattle.std.specs.Prelude.{◌≡◌, ◌≤◌, ◌<◌, ◌+◌, ◌-◌, length, slice_index, IfOk, IfSome};
 ghost use Rattle.std.specs.List.{prefix_len, position};
-ghost use Rattle.just_parts.specs.Identifier.{is_identifier_start, is_identifier_continue};
+ghost use Rattle.just_parts.specs.Identifier.{is_identifier_continue};
 ghost use Rattle.just_bench.specs.Lines.{IsLineOf};
 ghost use Rattle.just_bench.specs.Lexemes as spec;
 
 use crate::lines::Line;
 use just_data::{BorrowedText, Sequence};
+use just_parts::identifier::{continues_identifier, starts_identifier};
 use just_parts::layers::Token;
 use std::alloc::{AllocError, Global};
 
@@ -32,18 +33,6 @@ pub struct Lexeme<'src> {
     pub token: Token<'src>,
 }
 
-fn starts_name(byte: u8) -> bool
-    ensures { result ≡ is_identifier_start byte }
-{
-    matches!(byte, b'a'..=b'z' | b'A'..=b'Z' | b'_')
-}
-
-fn continues_name(byte: u8) -> bool
-    ensures { result ≡ is_identifier_continue byte }
-{
-    starts_name(byte) || matches!(byte, b'0'..=b'9' | b'-')
-}
-
 /// Whether a byte separates lexemes.
 pub fn is_blank(byte: u8) -> bool
     ensures { result ≡ spec.is_blank byte }
@@ -56,12 +45,10 @@ fn name_rest(bytes: &[u8]) -> usize
     ensures is { result ≡ prefix_len is_identifier_continue bytes.now }
     ensures within { result ≤ length bytes.now }
 {
-    for (i, byte) in bytes.iter().enumerate() {
-        if !continues_name(*byte) {
-            return i;
-        }
-    }
-    bytes.len()
+    bytes
+        .iter()
+        .take_while(|byte| continues_identifier(**byte))
+        .count()
 }
 
 // How many bytes stand before the first quote.
@@ -81,7 +68,7 @@ fn first(bytes: &[u8]) -> Option<(Kind, usize)>
         return None;
     };
     let byte = *byte;
-    if starts_name(byte) {
+    if starts_identifier(byte) {
         let more = name_rest(rest);
         return Some((Kind::Name, more + 1));
     }

@@ -1,9 +1,9 @@
 //! The small grammar as a syntax layer.
-ghost use Rattle.std.specs.Prelude.{◌≡◌, ◌<◌, ◌≤◌, ◌+◌, ◌^◌, ◌++◌, Ok, length, map, IfOk, IfErr, IfSome, OnOk, false};
+ghost use Rattle.std.specs.Prelude.{◌≡◌, ◌<◌, ◌≤◌, ◌+◌, ◌^◌, ◌++◌, Ok, Some, length, map, IfOk, IfErr, IfSome, OnOk, false};
 ghost use Rattle.std.specs.List.{All};
 ghost use Rattle.just_parts.specs.Token.{lexeme};
-ghost use Rattle.just_parts.specs.Bare.{bare_item, bare_recipe, bare_parameter};
-ghost use Rattle.just_parts.specs.Syntax.{CameBy, ItemCameBy, PriorsAreDependencies, components_of, parameter_numbers, recipe_numbers, numbers, AreRising};
+ghost use Rattle.just_parts.specs.Bare.{bare_ast, bare_item, bare_recipe, bare_parameter};
+ghost use Rattle.just_parts.specs.Syntax.{IsFrom, CameBy, ItemCameBy, PriorsAreDependencies, components_of, parameter_numbers, recipe_numbers, numbers, AreRising};
 ghost use Rattle.just_bench.specs.Lexemes.{IsQuoted};
 ghost use Rattle.just_bench.specs.Refusal.{Spent, RefusesLine};
 ghost use Rattle.just_bench.specs.Items as spec;
@@ -39,7 +39,16 @@ impl Syntax for PlainSyntax {
         relative: &'src str,
         source: &Source<'src>,
         text: &'src str,
-    ) -> Result<Ast<'src>, Error<'src>> {
+    ) -> Result<Ast<'src>, Error<'src>>
+        ensures items { IfOk result (λ ast. spec.answers.parsed relative.now text.now ≡ Some (bare_ast ast)) }
+        ensures source { IfOk result (IsFrom source.now) }
+        ensures numbers { IfOk result (λ ast. AreRising numerator.old.next (numbers ast.items) numerator.new.next) }
+        ensures priors { IfOk result (λ ast. All PriorsAreDependencies ast.items) }
+        ensures spent { OnOk result (numerator.new.next ≡ numerator.old.next + spec.spends relative.now text.now) }
+        ensures fits { OnOk result (numerator.old.next < 2 ^ 64 → numerator.old.next + spec.spends relative.now text.now < 2 ^ 64) }
+        ensures refused { IfErr result (λ e. RefusesLine relative.now text.now e (numerator.old.next + spec.spends relative.now text.now)) }
+        ensures onward { numerator.old.next ≤ numerator.new.next }
+    {
         let items = parse(alloc, numerator, relative, source, text)?;
         Ok(Ast {
             items,
@@ -114,10 +123,7 @@ fn add_dependencies<'src>(
 fn is_private<'src>(name: &Name<'src>) -> bool
     ensures { result ≡ spec.is_private (lexeme name.now.token) }
 {
-    match name.lexeme().as_bytes().split_first() {
-        None => false,
-        Some((first, _)) => *first == b'_',
-    }
+    name.lexeme().starts_with('_')
 }
 
 // The recipe of a heading. Its number is below those of its parameters.

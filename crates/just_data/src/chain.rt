@@ -1,4 +1,5 @@
-ghost use Rattle.std.specs.Prelude.{◌≡◌, [], ◌∷◌, ◌++◌, IfOk};
+ghost use Rattle.std.specs.Prelude.{◌≡◌, [], ◌∷◌, ◌++◌, reverse, IfOk};
+ghost use Rattle.std.specs.Iterator.{YieldsFirstRef, item_count};
 ghost use Rattle.std.specs.Cmp.Lexicographic.{pointwise, lists_per, lists_equiv};
 
 use crate::Exact;
@@ -48,6 +49,46 @@ impl<T> Chain<T> {
     {
         Chain { link: None }
     }
+
+    /// The elements, from the last to the first.
+    pub fn iter(&self) -> ChainIter<'_, T>
+        ensures { result ≡ reverse self.now }
+    {
+        ChainIter { rest: self }
+    }
+}
+
+/// The elements of a chain, from the last to the first. Contracts see it as the list of those that are left, in that
+/// order.
+#[derive(Debug, Drop)]
+pub struct ChainIter<'chain, T> {
+    rest: &'chain Chain<T>,
+}
+
+impl<'chain, T> Model for ChainIter<'chain, T> {
+    ghost use Rattle.std.specs.Prelude.{List, reverse};
+    ghost use Rattle.std.specs.Coded.{coded_list};
+
+    ghost Value = { List T };
+
+    ghost coded = { coded_list T.code };
+
+    ghost view = { λ it. reverse it.rest.now };
+}
+
+impl<'chain, T> Iterator for ChainIter<'chain, T> {
+    type Item = &'chain T;
+
+    ghost next_gives = { YieldsFirstRef (λ it. it) };
+
+    ghost remaining = { item_count (λ it. it) };
+
+    fn next(&mut self) -> Option<&'chain T> {
+        let chain = self.rest;
+        let link = chain.link.as_ref()?;
+        self.rest = &link.front;
+        Some(&link.last)
+    }
 }
 
 impl<T: Drop> Chain<T> {
@@ -71,10 +112,8 @@ impl<T: Exact + Drop> Chain<T> {
         ensures { IfOk result (λ items. items ≡ self.now) }
     {
         let mut items = Vec::new(alloc);
-        let mut chain = self;
-        while let Some(link) = &chain.link {
-            items.push(link.last.clone()?)?;
-            chain = &link.front;
+        for item in self.iter() {
+            items.push(item.clone()?)?;
         }
         items.reverse();
         Ok(Sequence::from_vec(items))

@@ -9,7 +9,7 @@ mod shared;
 mod text;
 
 pub use boxed::Boxed;
-pub use chain::Chain;
+pub use chain::{Chain, ChainIter};
 pub use exact::Exact;
 pub use sequence::Sequence;
 pub use shared::Shared;

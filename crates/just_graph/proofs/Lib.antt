@@ -3,6 +3,7 @@ pub mod Pushes
 pub mod Steps
 pub mod Frames
 pub mod Ends
+pub mod Seen
 pub mod Adding
 pub mod Members
 pub mod Last

@@ -3,13 +3,13 @@
 //! A node is a place in a list of rows, and its row lists the nodes that it has an edge to.
 #![tactic(auto)]
 
-ghost use Rattle.std.specs.Prelude.{◌≡◌, ◌≢◌, ℕ, ◌+◌, ◌<◌, ◌≤◌, ◌↔◌, ◌++◌, ◌∷◌, [], drop, length, slice_index, IfOk, IfErr, IfSome, IfNone};
+ghost use Rattle.std.specs.Prelude.{◌≡◌, ◌≢◌, ℕ, ◌+◌, ◌<◌, ◌≤◌, ◌↔◌, ◌∷◌, [], length, slice_index, IfOk, IfErr, IfSome, IfNone};
 ghost use Rattle.std.specs.List.{All, Contains};
 ghost use Rattle.just_graph.specs.Steps.{IsCircle, IsOnce, IsOrder, ListsStepsFirst, Reached};
 ghost use Rattle.just_graph.specs.Graph.{targets, IsGraph, HasEdge};
-ghost use Rattle.just_graph.specs.Search.{mark, Searching};
+ghost use Rattle.just_graph.specs.Search.{mark, IsSeenFrom, Searching};
 ghost use Rattle.just_graph.specs.Found.{Listing, Added};
-ghost use Rattle.just_graph.specs.Path.{nodes, passes};
+ghost use Rattle.just_graph.specs.Path.{nodes, passes, IsBackFrom};
 
 pub mod levels;
 pub mod unfolding;
@@ -59,7 +59,7 @@ struct Frame {
 // The path's nodes from `target` on, and `target` again.
 fn circle(alloc: Global, path: &Vec<Frame>, target: usize) -> Result<Vec<usize>, AllocError>
     requires { Contains (nodes path.now.items) target }
-    ensures { IfOk result (λ v. (i : ℕ) × (i < length (nodes path.now.items)) × (slice_index (nodes path.now.items) i ≡ target) × (v.items ≡ drop i (nodes path.now.items) ++ target ∷ [])) }
+    ensures { IfOk result (λ v. IsBackFrom (nodes path.now.items) target v.items) }
 {
     let mut start = 0;
     while path[start].node != target {
@@ -89,6 +89,8 @@ fn visit(
     ensures searching { IfOk result (λ found. IfNone found (Searching edges.now marks.new.items [] [] order.new.items)) }
     ensures root_done { IfOk result (λ found. IfNone found (mark marks.new.items root ≡ Mark.Done)) }
     ensures kept { IfOk result (λ found. IfNone found ((a : ℕ) → mark marks.old.items a ≡ Mark.Done → mark marks.new.items a ≡ Mark.Done)) }
+    ensures begun { IfOk result (λ found. IfSome found (λ c. All (Reached (HasEdge edges.now) (root ∷ []) []) c.items)) }
+    ensures seen_from { IfOk result (λ found. IfNone found (IsSeenFrom edges.now root marks.old.items marks.new.items)) }
 {
     let mut path = Vec::new(alloc);
     path.push(Frame {
@@ -121,8 +123,8 @@ fn visit(
     Ok(None)
 }
 
-/// Lists what the roots lead to, each node after whatever it has an edge to, or answers a circle: a walk along edges
-/// that ends where it began. The roots are tried in their order, and a node's edges in theirs.
+/// Lists what the roots lead to and nothing else, the roots among it, each node after whatever it has an edge to. Or
+/// answers a circle that the roots lead to: a walk along edges that ends where it began.
 ///
 /// It takes time in the number of nodes and edges, and no recursion.
 pub fn order(
@@ -134,6 +136,8 @@ pub fn order(
     requires roots { All (λ a. a < length edges.now) roots.now }
     ensures ordered { IfOk result (λ answer. IfOk answer (λ order. IsOrder (HasEdge edges.now) (length edges.now) roots.now order.items)) }
     ensures circle { IfOk result (λ answer. IfErr answer (λ circle. IsCircle (HasEdge edges.now) circle.items)) }
+    ensures reached { IfOk result (λ answer. IfOk answer (λ order. All (Reached (HasEdge edges.now) roots.now []) order.items)) }
+    ensures begun { IfOk result (λ answer. IfErr answer (λ circle. All (Reached (HasEdge edges.now) roots.now []) circle.items)) }
 {
     let mut marks = Vec::new(alloc);
     marks.resize(edges.len(), Mark::New)?;
@@ -163,8 +167,8 @@ fn add(row: &[usize], seen: &mut Vec<bool>, found: &mut Vec<usize>) -> Result<()
     Ok(())
 }
 
-/// Lists what `start` leads to, each node once, in the order in which it is found, going on from no node that `stops`
-/// marks. The start itself is in the list.
+/// Lists what `start` leads to, each node once, going on from no node that `stops` marks. The start itself is in the
+/// list.
 ///
 /// It takes time in the number of nodes and edges, and no recursion.
 pub fn reach(

@@ -1,18 +1,18 @@
 -- What a change of a map says of the entries that a table shows.
-use Rattle.std.proofs.Common.{bytes_eq, ◌∙◌, ◌≡◌, ℕ, sym, ap, refl, suc, List, [], ◌∷◌, length, map, Bool, true, false, true≢false, cond, ◌&&◌, Option, None, Some, is_some}
+use Rattle.std.proofs.Common.{bytes_eq, ◌∙◌, ◌≡◌, ℕ, arith, subst, sym, ap, refl, suc, List, [], ◌∷◌, length, map, Bool, true, false, true≢false, cond, ◌&&◌, Option, None, Some, is_some}
 use Rattle.std.specs.Borrow.{Bor}
 use Rattle.std.specs.declared.cmp.Ordering.{Ordering}
 use Rattle.std.specs.declared.cmp.Ordering.TheVariants.{Less, Equal, Greater}
 use Rattle.std.specs.Ordering.{nat_cmp, match_ordering, is_eq, is_le}
 use Rattle.std.specs.Cmp.Lexicographic.{slice_cmp}
-use Rattle.std.specs.List.{AllByRecursion, filter}
+use Rattle.std.specs.List.{All, AllByRecursion, filter}
 use Rattle.std.specs.List.Sorted.{IsStrictlySortedBy}
 use Rattle.std.specs.Map.{lookup, remove_entry, set_value, keys_of, values_of}
 use Rattle.std.specs.BTreeMap.{insert_entry}
 use Rattle.std.specs.Map.Calls.{RetainsPairs}
 use Rattle.std.proofs.lemmas.Map.Lookups.{exact_bytes}
 use Rattle.std.proofs.lemmas.Map.Text.{is_eq-slice_cmp}
-use Rattle.std.proofs.lemmas.List.Elements.{All-nil, All-cons, All-head, All-tail}
+use Rattle.std.proofs.lemmas.List.Elements.{recursion_from_All, All-nil, All-cons, All-head, All-tail}
 use Rattle.just_parts.specs.Entries.{shown, find, from_key, put, without, write, IsSorted, IsKeyed, UpdatesEach}
 
 -- what a `&str` key shows
@@ -66,6 +66,17 @@ module _ {K V : Type 0} (text : K → List ℕ) where
   unfolding IsStrictlySortedBy
   sorted_shown [] h = tt
   sorted_shown (e ∷ es) h = (below_shown e.0 es h.0, sorted_shown es h.1)
+
+  -- the first entry of a map before it was taken
+  pub sorted_first : (all : List (K × V)) (first : K × V) (rest : List (K × V)) → all ≡ first ∷ rest → All (λ y. by text first.0 y ≡ Less) (keys_of rest) → IsStrictlySortedBy (by text) (keys_of rest) → IsSorted (shown text all)
+  unfolding IsStrictlySortedBy
+  sorted_first all first rest are above sorted =
+      subst (λ es. IsSorted (shown text es)) (sym are) (sorted_shown (first ∷ rest) (recursion_from_All (λ y. by text first.0 y ≡ Less) (keys_of rest) above, sorted))
+
+  pub sorted_none : (all : List (K × V)) → length all ≡ 0 → IsSorted (shown text all)
+  unfolding IsStrictlySortedBy
+  sorted_none [] e = tt
+  sorted_none (first ∷ rest) e = absurd (omega arith)
 
   pub keys_shown : (es : List (K × V)) → map text (keys_of es) ≡ keys_of (shown text es)
   keys_shown [] = refl

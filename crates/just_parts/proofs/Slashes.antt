@@ -1,12 +1,11 @@
 -- Texts as they are cut at their slashes.
-use Rattle.std.proofs.Common.{◌≡◌, ◌≢◌, ◌↔◌, ℕ, ◌+◌, ◌-◌, ◌<◌, ◌≤◌, ◌==◌, suc, Bool, true, false, not, ◌&&◌, List, [], ◌∷◌, ◌++◌, reverse, length, get_or, take, drop, refl, sym, ap, ◌∙◌, subst, arith, IsTrue, Option, None, Some, MatchOption, Bor, append_assoc, length-append, take-append-drop, take_at, zero-add}
+use Rattle.std.proofs.Common.{◌≡◌, ◌≢◌, ◌↔◌, ℕ, ◌+◌, ◌<◌, ◌≤◌, ◌==◌, suc, Bool, true, false, not, List, [], ◌∷◌, ◌++◌, reverse, length, get_or, take, drop, refl, sym, ap, ◌∙◌, subst, arith, IsTrue, Option, None, Some, MatchOption, Bor, append_assoc, length-append, take-append-drop, take_at, zero-add}
 use Rattle.std.specs.Str.Pattern.{RFindsChar}
 use Rattle.std.specs.Str.{NoCharPasses}
 use Rattle.std.specs.List.{All, list_all, slice_split, prefix_len, suffix_len, before_last}
 use Rattle.std.proofs.lemmas.Bool.{cond-true, cond-false, false≢true}
-use Rattle.std.proofs.lemmas.List.{length_push, length-reverse, reverse-append}
+use Rattle.std.proofs.lemmas.List.{length-reverse, reverse-append}
 use Rattle.std.proofs.lemmas.List.Elements.{All-nil, All-cons, All-head, All-tail, All-append}
-use Rattle.std.proofs.lemmas.List.Splits.{slice_split_at, slice_split_none}
 use Rattle.std.proofs.lemmas.Str.Pattern.{NoCharPasses-char, drop_at_char}
 use borrow.Author.Tests.{ne_eqb}
 use Rattle.just_parts.specs.Clean.{IsClean, is_slash, is_component, folder_of, or_root}
@@ -27,26 +26,9 @@ last_parts bs (Some x) h = (
   λ i. NoCharPasses-char 47 x.1.now i (subst (NoCharPasses (λ d. d == 47)) (sym h.4) h.2.0) (omega arith),
 )
 
-all_lack : (bs : List ℕ) → LacksSlash bs → All (λ b. is_slash b ≡ false) bs
-all_lack [] h = All-nil (λ b. is_slash b ≡ false)
-all_lack (b ∷ bs) h = All-cons (λ b. is_slash b ≡ false) b bs (ne_eqb b 47 (h 0 (omega arith))) (all_lack bs (λ i l. h (suc i) (omega arith)))
-
 all_others : (bs : List ℕ) → LacksSlash bs → All (λ b. not (is_slash b) ≡ true) bs
 all_others [] h = All-nil (λ b. not (is_slash b) ≡ true)
 all_others (b ∷ bs) h = All-cons (λ b. not (is_slash b) ≡ true) b bs (ap not (ne_eqb b 47 (h 0 (omega arith)))) (all_others bs (λ i l. h (suc i) (omega arith)))
-
--- the components of a text: the one before its first slash, and those after it
-pub first_component : (bs name after : List ℕ) → bs ≡ name ++ 47 ∷ after → LacksSlash name
-    → list_all is_component (slice_split is_slash bs) ≡ (is_component name && list_all is_component (slice_split is_slash after))
-first_component bs name after e h = ap (λ l. list_all is_component (slice_split is_slash l)) e ∙ ap (list_all is_component) (slice_split_at is_slash name 47 after (all_lack name h) refl)
-
-and_true : (b : Bool) → (b && true) ≡ b
-and_true true = refl
-and_true false = refl
-
--- a text with no slash is one component
-pub only_component : (bs : List ℕ) → LacksSlash bs → list_all is_component (slice_split is_slash bs) ≡ is_component bs
-only_component bs h = ap (list_all is_component) (slice_split_none is_slash bs (all_lack bs h)) ∙ and_true (is_component bs)
 
 pub clean_by : (path rest : List ℕ) (b : Bool) → path ≡ 47 ∷ rest → list_all is_component (slice_split is_slash rest) ≡ b → IsTrue b ↔ IsClean path
 clean_by path rest b e h = (

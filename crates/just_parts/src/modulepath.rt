@@ -66,13 +66,7 @@ fn split_word(alloc: Global, word: &str) -> Result<Result<Vec<Text>, ()>, AllocE
 fn without_end(word: &str) -> &str
     ensures { DropsEnd word.now result.now }
 {
-    match word.strip_suffix(':') {
-        Some(once) => match once.strip_suffix(':') {
-            Some(twice) => twice,
-            None => word,
-        },
-        None => word,
-    }
+    word.strip_suffix("::").unwrap_or(word)
 }
 
 // The components of a list of words.
@@ -135,12 +129,12 @@ impl Modulepath {
     }
 
     /// The path that leads one name on.
-    pub fn join(&self, alloc: Global, name: &str) -> Result<Modulepath, AllocError>
+    pub fn join(&self, name: &str) -> Result<Modulepath, AllocError>
         ensures { IfOk result (λ p. (p.components ≡ self.now.components ++ name.now ∷ []) × (p.spaced ≡ self.now.spaced)) }
     {
         let mut components = self.components.clone()?.into_vec();
         components.reserve_exact(1)?;
-        components.push(Text::from_str(alloc, name)?)?;
+        components.push(Text::from_str(self.components.alloc(), name)?)?;
         let components = Sequence::from_vec(components);
         Ok(Modulepath {
             components,

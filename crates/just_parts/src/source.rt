@@ -20,19 +20,9 @@ pub(crate) fn is_component(text: &str) -> bool
 pub fn is_clean(path: &str) -> bool
     ensures { IsTrue result ↔ IsClean path.now }
 {
-    let Some(mut rest) = path.strip_prefix('/') else {
-        return false;
-    };
-    loop {
-        match rest.split_once('/') {
-            Some((component, after)) => {
-                if !is_component(component) {
-                    return false;
-                }
-                rest = after;
-            }
-            None => return is_component(rest),
-        }
+    match path.strip_prefix('/') {
+        Some(rest) => rest.split('/').all(|component| is_component(component)),
+        None => false,
     }
 }
 

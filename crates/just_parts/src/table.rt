@@ -133,7 +133,8 @@ impl<'key, V: Drop> TableOf<&'key str, V> {
 
     /// Takes the value of the least key.
     pub fn pop(&mut self) -> Option<V>
-        ensures { MatchOption result ((self.old ≡ []) × (self.new ≡ [])) (λ v. (k : List ℕ) × (self.old ≡ (k, v) ∷ self.new)) }
+        ensures sorted { IsSorted self.old }
+        ensures first { MatchOption result ((self.old ≡ []) × (self.new ≡ [])) (λ v. (k : List ℕ) × (self.old ≡ (k, v) ∷ self.new)) }
     {
         match self.map.pop_first() {
             Some((_, value)) => return Some(value),

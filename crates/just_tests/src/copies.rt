@@ -85,7 +85,7 @@ fn groups(alloc: Global, word: &str) -> Result<Groups, AllocError> {
 
 // A host that was asked to begin the root's recipe `a` with one group.
 fn asked(alloc: Global) -> Result<Recorder, AllocError> {
-    let path = Modulepath::root(alloc).join(alloc, "a")?;
+    let path = Modulepath::root(alloc).join("a")?;
     let groups = groups(alloc, "1")?;
     let mut host = Recorder::new(alloc);
     host.begin(&path, &groups)?;

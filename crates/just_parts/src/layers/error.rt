@@ -369,6 +369,50 @@ impl<'src> Error<'src> {
     }
 }
 
+impl<'src> From<LoadError<'src>> for Error<'src> {
+    ghost use Rattle.std.specs.Prelude.{◌≡◌};
+    ghost use Rattle.just_parts.specs.declared.layers.error.Error.TheVariants as variant;
+
+    ghost from_gives = { λ load error. error ≡ variant.Load load };
+
+    fn from(load: LoadError<'src>) -> Error<'src> {
+        Error::Load(load)
+    }
+}
+
+impl<'src> From<CompileError<'src>> for Error<'src> {
+    ghost use Rattle.std.specs.Prelude.{◌≡◌};
+    ghost use Rattle.just_parts.specs.declared.layers.error.Error.TheVariants as variant;
+
+    ghost from_gives = { λ compile error. error ≡ variant.Compile compile };
+
+    fn from(compile: CompileError<'src>) -> Error<'src> {
+        Error::Compile(compile)
+    }
+}
+
+impl<'src> From<InvocationError<'src>> for Error<'src> {
+    ghost use Rattle.std.specs.Prelude.{◌≡◌};
+    ghost use Rattle.just_parts.specs.declared.layers.error.Error.TheVariants as variant;
+
+    ghost from_gives = { λ invocation error. error ≡ variant.Invocation invocation };
+
+    fn from(invocation: InvocationError<'src>) -> Error<'src> {
+        Error::Invocation(invocation)
+    }
+}
+
+impl<'src> From<RunError<'src>> for Error<'src> {
+    ghost use Rattle.std.specs.Prelude.{◌≡◌};
+    ghost use Rattle.just_parts.specs.declared.layers.error.Error.TheVariants as variant;
+
+    ghost from_gives = { λ run error. error ≡ variant.Run run };
+
+    fn from(run: RunError<'src>) -> Error<'src> {
+        Error::Run(run)
+    }
+}
+
 impl<'src> From<AllocError> for Error<'src> {
     ghost use Rattle.std.specs.Prelude.{◌≡◌};
     ghost use Rattle.just_parts.specs.declared.layers.error.Error.TheVariants.{Memory};

@@ -1,4 +1,4 @@
-ghost use Rattle.std.specs.Prelude.{◌≡◌, ◌+◌, ◌^◌, ◌<◌, MatchResult};
+ghost use Rattle.std.specs.Prelude.{◌≡◌, ◌+◌, ◌^◌, ◌<◌, IfOk, OnErr};
 
 use just_data::Exact;
 
@@ -30,7 +30,8 @@ impl Numerator {
 
     /// The next number. Where there is none left, it stays as it is.
     pub fn give(&mut self) -> Result<Number, Exhausted>
-        ensures number { MatchResult result (λ n. (n.0 ≡ self.old.next) × (self.new.next ≡ self.old.next + 1)) (λ _. (self.old.next ≡ u64.MAX) × (self.new ≡ self.old)) }
+        ensures number { IfOk result (λ n. (n.0 ≡ self.old.next) × (self.new.next ≡ self.old.next + 1)) }
+        ensures exhausted { OnErr result ((self.old.next ≡ u64.MAX) × (self.new ≡ self.old)) }
         ensures fits { self.new.next < 2 ^ 64 }
     {
         if self.next == u64::MAX {

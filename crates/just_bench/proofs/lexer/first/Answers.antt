@@ -3,9 +3,9 @@ use Rattle.std.proofs.lemmas.Grind.{common_steps}
 use Rattle.just_bench.proofs.Lexing.{takes_name_of, takes_quoted}
 use Rattle.just_bench.proofs.lexer.first.Goals as goal
 
-pub returns-then-starts_name-clause-takes : goal.returns-then-starts_name-clause-takes
-returns-then-starts_name-clause-takes c =
-    takes_name_of c.args.bytes.now c.in-Some.byte.now c.in-Some.rest.now c.name_rest-more.result (grind (arith, common_steps)) (sym c.if-starts_name.ensures) c.name_rest-more.ensures.is
+pub returns-then-starts_identifier-clause-takes : goal.returns-then-starts_identifier-clause-takes
+returns-then-starts_identifier-clause-takes c =
+    takes_name_of c.args.bytes.now c.in-Some.byte.now c.in-Some.rest.now c.name_rest-more.result (grind (arith, common_steps)) (sym c.if-starts_identifier.ensures) c.name_rest-more.ensures.is
 
 pub returns-then-byte-eq39-clause-takes : goal.returns-then-byte-eq39-clause-takes
 returns-then-byte-eq39-clause-takes c =

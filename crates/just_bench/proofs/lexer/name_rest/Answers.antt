@@ -1,12 +1,13 @@
-use Rattle.std.proofs.Common.{arith}
-use Rattle.std.proofs.lemmas.List.Sums.{prefix_len_is}
+use Rattle.std.proofs.Common.{rules, tests, ◌∙◌}
+use Rattle.std.proofs.lemmas.Iterator.{YieldsList-from_slice}
+use Rattle.std.proofs.lemmas.Iterator.Search.{YieldsList-from_take_while}
+use Rattle.std.proofs.lemmas.Iterator.Consumers.{count_from_yields_List}
+use Rattle.std.proofs.lemmas.List.Folds.{length-prefix_len}
 use Rattle.just_parts.specs.Identifier.{is_identifier_continue}
 use Rattle.just_bench.proofs.lexer.name_rest.Goals as goal
 
-pub returns-then-not-continues_name-clause-is : goal.returns-then-not-continues_name-clause-is
-returns-then-not-continues_name-clause-is c =
-    let at = prefix_len_is is_identifier_continue c.args.bytes.now c.loop-i.i 0 in grind (arith, at)
-
 pub returns-clause-is : goal.returns-clause-is
 returns-clause-is c =
-    let at = prefix_len_is is_identifier_continue c.args.bytes.now c.loop-i.i 0 in grind (arith, at)
+    count_from_yields_List c.take_while.result _ c.count.ensures.ran
+    (YieldsList-from_take_while _ is_identifier_continue (YieldsList-from_slice c.args.bytes.now (cc)) c.take_while.ensures.closure c.take_while.ensures.done (λ x b q k. search (rules, tests)))
+    ∙ length-prefix_len is_identifier_continue c.args.bytes.now
