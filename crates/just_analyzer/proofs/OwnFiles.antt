@@ -13,6 +13,7 @@ use Rattle.just_graph.specs.declared.unfolding.Step.{Step}
 use Rattle.just_graph.proofs.Mapped.{levels_mapped, every_level}
 use Rattle.just_graph.proofs.Members.{In, contained, is_in, in_map, from_filter, from_map}
 use Rattle.just_parts.specs.declared.layers.ast.Item.{Item}
+use Rattle.just_parts.specs.Modulepath.{Text}
 use Rattle.just_loader.specs.FileCircles.{HasRows, IsFileOrder}
 use Rattle.just_loader.specs.Keys.{Submodule, imports_of, modules_of}
 use Rattle.just_loader.specs.Loaded.{file_at}
@@ -31,9 +32,6 @@ use Rattle.just_analyzer.specs.Places.{IsKeptPlan}
 use Rattle.just_analyzer.specs.declared.plans.Plan.{Plan}
 use Rattle.just_analyzer.specs.declared.plans.Plans.{Plans}
 use Rattle.just_analyzer.proofs.Placed.{imports_here, targets_here}
-
-abbrev Text : Type 0
-Text = List ℕ
 
 -- own files are inside
 module _ (scan : Scan) (has : HasRows scan) where

@@ -13,6 +13,7 @@ use Rattle.just_graph.proofs.Members.{In}
 use Rattle.just_parts.specs.Bare.{bare_item}
 use Rattle.just_parts.specs.Clean.{folder_of}
 use Rattle.just_parts.specs.Name.{text_of_name}
+use Rattle.just_parts.specs.Modulepath.{Text}
 use Rattle.just_parts.specs.declared.layers.ast.Item.{Item}
 use Rattle.just_parts.specs.declared.layers.ast.Item.TheVariants as item
 use Rattle.just_parts.specs.declared.layers.ast.UnresolvedDependency.{UnresolvedDependency}
@@ -32,9 +33,6 @@ use Rattle.just_analyzer.specs.Outline.{outlines_of, recipes_of}
 use Rattle.just_analyzer.specs.Places.{imports_in, name_if, named_in, names_at, recipes_at, heading_named}
 use Rattle.just_analyzer.specs.Planned.{enters, imports_at, entries_at}
 use Rattle.just_analyzer.proofs.Files.{outlines_bare, recipes_append}
-
-abbrev Text : Type 0
-Text = List ℕ
 
 -- lists of lists
 pub filter_append : {A : Type 0} (p : A → Bool) (xs ys : List A) → filter p (xs ++ ys) ≡ filter p xs ++ filter p ys

@@ -16,6 +16,7 @@ use Rattle.just_graph.specs.Unfolding.{steps}
 use Rattle.just_graph.specs.declared.unfolding.Step.{Step}
 use Rattle.just_parts.specs.declared.layers.ast.Item.{Item}
 use Rattle.just_parts.specs.declared.layers.error.Error.{Error}
+use Rattle.just_parts.specs.Modulepath.{Text}
 use Rattle.just_loader.specs.Causes.{Cause, Keeps}
 use Rattle.just_loader.specs.FileCircles.{HasRows, IsFileOrder}
 use Rattle.just_loader.specs.Keys.{imports_of, NamesInFiles}
@@ -33,9 +34,6 @@ use Rattle.just_analyzer.specs.Rules.{KeepsAll, KeepsBelow, KeepsModule, Names, 
 use Rattle.just_analyzer.specs.declared.plans.Plan.{Plan}
 use Rattle.just_analyzer.specs.declared.plans.Plans.{Plans}
 use Rattle.just_analyzer.proofs.OwnFiles.{own_inside, own_of_place, place_of_own, joins, listed_at, path_is, PlannedSoFar}
-
-abbrev Text : Type 0
-Text = List ℕ
 
 -- what holds of an error that is handed on
 pub by_error : {A : Type 0} (r : Result A Error) (error : Error) (P : Error → Type 0) → IsErrAnd r (λ e. e ≡ error) → P error → IfErr r P

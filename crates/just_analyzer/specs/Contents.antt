@@ -2,12 +2,10 @@
 use Rattle.std.specs.Prelude.{ℕ, List, [], map, flat_map, get_or}
 use Rattle.std.specs.List.{Contains}
 use Rattle.just_parts.specs.Name.{text_of_name}
+use Rattle.just_parts.specs.Modulepath.{Text}
 use Rattle.just_loader.specs.Keys.{Submodule, items_at, modules_of}
 use Rattle.just_loader.specs.Reached.{World, Reached}
 use Rattle.just_analyzer.specs.Outline.{Outline, outlines_of, recipes_of}
-
-abbrev Text : Type 0
-Text = List ℕ
 
 -- The name of a module that is declared, and its line.
 pub record Heading : Type 0 where

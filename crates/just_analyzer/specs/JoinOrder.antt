@@ -2,11 +2,9 @@
 use Rattle.std.specs.Prelude.{ℕ, List}
 use Rattle.std.specs.Str.{bytes_eq}
 use Rattle.just_graph.specs.Levels.{AreLevels}
+use Rattle.just_parts.specs.Modulepath.{Text}
 use Rattle.just_loader.specs.Keys.{imports_of}
 use Rattle.just_loader.specs.Reached.{World}
-
-abbrev Text : Type 0
-Text = List ℕ
 
 -- the files of the module whose own file this is, in join order
 abbrev pub IsJoinOrder : World → Text → List Text → Type 0

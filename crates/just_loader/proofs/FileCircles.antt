@@ -1,24 +1,27 @@
 -- Steps of a scan and edges of files.
 use Rattle.std.proofs.Common.{◌≡◌, ℕ, zero, suc, ◌+◌, ◌-◌, ◌<◌, Bool, true, false, List, [], ◌∷◌, ◌++◌, map, take, length, get_or, slice_index, Option, None, Some, refl, sym, ap, subst, ◌∙◌, arith, inl, inr}
-use Rattle.std.specs.Prelude.{if◌then◌else◌}
+use Rattle.std.specs.Prelude.{if◌then◌else◌, unwrap_or}
 use Rattle.std.specs.List.{Contains, slice_get}
 use Rattle.std.specs.declared.vec.Vec.{Vec}
 use Rattle.std.specs.declared.alloc.Global.{Global}
 use Rattle.std.proofs.lemmas.Bool.{cases_lt}
 use Rattle.std.proofs.lemmas.List.{length-map, get_or_default}
-use Rattle.std.proofs.lemmas.Option.{slice_get_within}
+use Rattle.std.proofs.lemmas.Option.{slice_get_within, get_or_from_slice_get}
 use Rattle.just_graph.specs.Building.{targets_past}
 use Rattle.just_graph.specs.Graph.{HasEdge}
 use Rattle.just_graph.specs.Steps.{Leads, by_step, by_steps, in_take, IsCircle, circle_by}
 use Rattle.just_graph.specs.Unfolding.{HasStep, AreEdges, IsOrdered, steps}
 use Rattle.just_graph.specs.declared.unfolding.Step.{Step}
-use Rattle.just_graph.proofs.Members.{In, contained, is_in, in_left, in_right, in_last, in_map, from_map}
+use Rattle.just_graph.proofs.Members.{In, contained, is_in, in_left, in_right, in_last, in_map, from_map, in_flat, from_flat}
 use Rattle.just_graph.proofs.Trails.{of_reverse}
 use Rattle.just_parts.specs.Clean.{folder_of}
+use Rattle.just_parts.specs.Name.{text_of_name}
 use Rattle.just_parts.specs.declared.layers.ast.Item.{Item}
 use Rattle.just_parts.specs.Bare.{bare_item}
 use Rattle.just_parts.specs.Edge.{Edge, Imports, Declares, edge_of}
 use Rattle.just_loader.specs.FileCircles.{HasRows, LeadsOn, by_edge, by_edges, ChainTo, at_root, and_next, NamesCircle, leads_back}
+use Rattle.just_loader.specs.Keys.{FileStep, end_of, items_at, steps_by, steps_of}
+use Rattle.just_loader.specs.Loaded.{file_at}
 use Rattle.just_loader.specs.Links.{Link, Nowhere, To, Fault, edge_link}
 use Rattle.just_loader.specs.Numbering.{texts_of}
 use Rattle.just_loader.specs.Reached.{World, Reached, from_root, from_file, items_of, link, LeadsTo}
@@ -26,6 +29,7 @@ use Rattle.just_loader.specs.Causes.{LeadsBack}
 use Rattle.just_loader.specs.Scanned.{IsPlaceOf, ArePlacesOf, IsStepTo, AreSteps, IsScan, paths_in}
 use Rattle.just_loader.specs.declared.scanned.Scan.{Scan}
 use Rattle.just_loader.specs.declared.scanned.ScannedFile.{ScannedFile}
+use Rattle.just_loader.proofs.FileRows.{at, said, steps_here, text_step}
 use Rattle.just_loader.proofs.Numberings.{got, placed, get_map, map_get, some_same, none_some}
 use Rattle.just_loader.proofs.WholeScans.{steps_target, row_at, read_at}
 
@@ -36,51 +40,27 @@ has_rows w scan is = record {
   within = is.within;
 }
 
--- what has a place is what a link leads to
-link_of_place : (paths : List (List ℕ)) (ls : List Link) (ts : List (Option ℕ)) (place : ℕ) → ArePlacesOf paths ls ts → In (Some place) ts → (path : List ℕ) × In (To path) ls × (slice_get paths place ≡ Some path)
-link_of_place paths ls [] place ps h = absurd h
-link_of_place paths [] (t ∷ ts) place ps h = absurd ps
-link_of_place paths (Nowhere ∷ ls) (t ∷ ts) place ps (inl e) = absurd (subst (IsPlaceOf paths Nowhere) (sym e) ps.0)
-link_of_place paths (To p ∷ ls) (t ∷ ts) place ps (inl e) = (p, inl refl, subst (IsPlaceOf paths (To p)) (sym e) ps.0)
-link_of_place paths (Fault c ∷ ls) (t ∷ ts) place ps (inl e) = absurd ps.0
-link_of_place paths (l ∷ ls) (t ∷ ts) place ps (inr h) = let r = link_of_place paths ls ts place ps.1 h in (r.0, inr r.1, r.2)
-
--- what a link leads to has a place
-place_of_link : (paths : List (List ℕ)) (ls : List Link) (ts : List (Option ℕ)) (k : ℕ) (path : List ℕ) → ArePlacesOf paths ls ts → slice_get ls k ≡ Some (To path) → (place : ℕ) × (slice_get ts k ≡ Some (Some place)) × (slice_get paths place ≡ Some path)
-place_of_link paths [] ts k path ps e = absurd (none_some e)
-place_of_link paths (l ∷ ls) [] k path ps e = absurd ps
-place_of_link paths (Nowhere ∷ ls) (t ∷ ts) zero path ps e = cc
-place_of_link paths (Fault c ∷ ls) (t ∷ ts) zero path ps e = cc
-place_of_link paths (To p ∷ ls) (None ∷ ts) zero path ps e = absurd ps.0
-place_of_link paths (To p ∷ ls) (Some i ∷ ts) zero path ps e = (i, refl, ps.0 ∙ (let same : p ≡ path = cc in ap Some same))
-place_of_link paths (l ∷ ls) (t ∷ ts) (suc k) path ps e = place_of_link paths ls ts k path ps.1 e
-
 no_link : (b : Bool) (path : List ℕ) → (if b then Nowhere else Nowhere) ≡ To path → ⊥
 no_link true path e = cc
 no_link false path e = cc
 
--- an item that leads to a file has a step
-module _ (w : World) (folder path : List ℕ) (names : List (List ℕ)) where
-  one_step : (b : Bool) (place : ℕ) (e : Option Edge) (row : List Step) → (if b then edge_link w.files w.home folder e else Nowhere) ≡ To path → IsStepTo names place e row → (s : Step) × In s row × (s.target ≡ place)
-  one_step b place (Some (Imports literal optional)) row l is = (record { target = place; offset = literal.token.offset; enters = None }, subst (In _) (sym is) (inl refl), refl)
-  one_step b place (Some (Declares name literal optional)) row l is = (record { target = place; offset = 0; enters = Some is.0 }, subst (In _) (sym is.2) (inl refl), refl)
-  one_step b place None row l is = absurd (no_link b path l)
+-- an item that leads to a file has a step there
+step_of_link : (w : World) (folder path : List ℕ) (b : Bool) (e : Option Edge) → (if b then edge_link w.files w.home folder e else Nowhere) ≡ To path → (s : FileStep) × In s (steps_by e (To path)) × (s.to ≡ path)
+step_of_link w folder path b (Some (Imports literal optional)) l = (record { to = path; enters = None }, inl refl, refl)
+step_of_link w folder path b (Some (Declares name literal optional)) l = (record { to = path; enters = Some (text_of_name name) }, inl refl, refl)
+step_of_link w folder path b None l = absurd (no_link b path l)
 
-  step_of_place : (is : List Item) (ts : List (Option ℕ)) (row : List Step) (k place : ℕ) (i : Item) → link w folder i ≡ To path → AreSteps names is ts row → slice_get is k ≡ Some i → slice_get ts k ≡ Some (Some place) → (s : Step) × In s row × (s.target ≡ place)
-  step_of_place [] ts row k place i l are e t = absurd (none_some e)
-  step_of_place (x ∷ xs) [] row k place i l are e t = absurd are
-  step_of_place (x ∷ xs) (None ∷ ts) row zero place i l are e t = absurd (none_some (some_same t))
-  step_of_place (x ∷ xs) (Some p ∷ ts) row zero place i l are e t =
-      let r = one_step (w.answers.enabled (bare_item x)) p (edge_of x) are.0 (ap (link w folder) (some_same e) ∙ l) are.2 in
-      (r.0, subst (In r.0) (sym are.4) (in_left r.0 are.0 are.1 r.1), r.2 ∙ some_same (some_same t))
-  step_of_place (x ∷ xs) (t' ∷ ts) row (suc k) place i l are e t =
-      let r = step_of_place xs ts are.1 k place i l are.3 e t in
-      (r.0, subst (In r.0) (sym are.4) (in_right r.0 are.0 are.1 r.1), r.2)
+-- and leads where its step does
+link_of_end : (l : Link) (path : List ℕ) → In path (end_of l) → l ≡ To path
+link_of_end Nowhere path h = absurd h
+link_of_end (To p) path (inl e) = ap To (sym e)
+link_of_end (To p) path (inr h) = absurd h
+link_of_end (Fault c) path h = absurd h
 
-pub in_steps : (rows : List (Vec Step Global)) (a : ℕ) (row : Vec Step Global) (s : Step) → slice_get rows a ≡ Some row → In s row.items → In s (steps rows a)
-in_steps [] a row s e h = absurd (none_some e)
-in_steps (r ∷ rows) zero row s e h = subst (λ (x : Vec Step Global). In s x.items) (sym (some_same e)) h
-in_steps (r ∷ rows) (suc a) row s e h = in_steps rows a row s e h
+link_of_step : (e : Option Edge) (l : Link) (s : FileStep) → In s (steps_by e l) → l ≡ To s.to
+link_of_step (Some (Imports literal optional)) l s h = let p = from_map _ s (end_of l) h in link_of_end l p.0 p.1 ∙ ap (λ (x : FileStep). To x.to) (sym p.2)
+link_of_step (Some (Declares name literal optional)) l s h = let p = from_map _ s (end_of l) h in link_of_end l p.0 p.1 ∙ ap (λ (x : FileStep). To x.to) (sym p.2)
+link_of_step None l s h = absurd h
 
 -- a file that is reached ends a chain
 chain_to : (w : World) (f : List ℕ) → Reached w f → (files : List (List ℕ)) × ChainTo w files f × Contains files f
@@ -139,36 +119,38 @@ module _ (w : World) (scan : Scan) (is : IsScan w scan) where
   abbrev rows : List (Vec Step Global)
   rows = scan.rows.items
 
+  abbrev steps_in : List ℕ → Item → List FileStep
+  steps_in p i = steps_by (edge_of i) (link w (folder_of p) i)
+
+  inside : (a : ℕ) (p : List ℕ) → slice_get paths a ≡ Some p → a < length scan.files.items
+  inside a p e = omega (arith, slice_get_within paths a p e, length-map scan.files.items (λ (f : ScannedFile). f.path))
+
+  file_is : (a : ℕ) (p : List ℕ) → slice_get paths a ≡ Some p → file_at scan a ≡ p
+  file_is a p e = get_or_from_slice_get paths a p [] e
+
   -- a step leads from file to file
   edge_of_step : (a b : ℕ) (p q : List ℕ) → slice_get paths a ≡ Some p → slice_get paths b ≡ Some q → HasStep rows a b → LeadsTo w p q
-  edge_of_step a b p q at to h =
+  edge_of_step a b p q from to h =
       let s = from_map (λ (s : Step). s.target) b (steps rows a) (is_in b (map (λ (s : Step). s.target) (steps rows a)) h) in
-      let row = row_at rows a s.0 s.1 in
-      let file = get_map (λ (f : ScannedFile). f.path) scan.files.items a p at in
-      let read = is.scanned a file.0 row.0 file.1 row.1 in
-      let target = steps_target (texts_of scan.names.items) read.items file.0.targets.items row.0.items s.0 read.steps row.2 in
-      let l = link_of_place paths (map (link w (folder_of file.0.path)) read.items) file.0.targets.items s.0.target read.targets target in
-      let i = from_map (link w (folder_of file.0.path)) (To l.0) read.items l.1 in
-      let same : l.0 ≡ q = some_same (sym l.2 ∙ ap (slice_get paths) (sym s.2) ∙ to) in
-      record {
+      let x = at w scan is a (inside a p from) in let f = file_at scan a in
+      let i = from_flat (steps_in f) (text_step scan s.0) (items_at w f) (subst (In (text_step scan s.0)) (steps_here w scan is a (inside a p from)) (in_map (text_step scan) s.0 (steps rows a) s.1)) in
+      let edge : LeadsTo w f (file_at scan s.0.target) = record {
         item = i.0;
-        has = (read.items, ap (items_of w) (sym file.2) ∙ read.parsed, contained i.0 read.items i.1);
-        leads = ap (λ x. link w (folder_of x) i.0) (sym file.2) ∙ sym i.2 ∙ ap To same;
-      }
+        has = (x.scanned.items, ap (items_of w) (sym x.path_at) ∙ x.scanned.parsed, contained i.0 x.scanned.items (subst (In i.0) (said w scan is a x) i.1));
+        leads = link_of_step (edge_of i.0) (link w (folder_of f) i.0) (text_step scan s.0) i.2;
+      } in
+      subst (λ f. LeadsTo w f q) (file_is a p from) (subst (LeadsTo w f) (ap (file_at scan) (sym s.2) ∙ file_is b q to) edge)
 
   -- an edge of a file that is there is a step
   step_of_edge : (a : ℕ) (p q : List ℕ) → slice_get paths a ≡ Some p → LeadsTo w p q → (b : ℕ) × (slice_get paths b ≡ Some q) × HasStep rows a b
-  step_of_edge a p q at l =
-      let file = get_map (λ (f : ScannedFile). f.path) scan.files.items a p at in
-      let row = read_at rows a (omega (arith, is.count, slice_get_within scan.files.items a file.0 file.1)) in
-      let read = is.scanned a file.0 row.0 file.1 row.1 in
-      let same : l.has.0 ≡ read.items = some_same (sym l.has.1 ∙ ap (items_of w) (sym file.2) ∙ read.parsed) in
-      let k = placed read.items l.item (subst (λ xs. Contains xs l.item) same l.has.2) in
-      let leads : link w (folder_of file.0.path) l.item ≡ To q = ap (λ x. link w (folder_of x) l.item) file.2 ∙ l.leads in
-      let to = place_of_link paths (map (link w (folder_of file.0.path)) read.items) file.0.targets.items k.0 q read.targets (map_get (link w (folder_of file.0.path)) read.items k.0 l.item k.1 ∙ ap Some leads) in
-      let s = step_of_place w (folder_of file.0.path) q (texts_of scan.names.items) read.items file.0.targets.items row.0.items k.0 to.0 l.item leads read.steps k.1 to.1 in
-      let target : In to.0 (map (λ (s : Step). s.target) (steps rows a)) = subst (λ x. In x (map (λ (s : Step). s.target) (steps rows a))) s.2 (in_map (λ (s : Step). s.target) s.0 (steps rows a) (in_steps rows a row.0 s.0 row.1 s.1)) in
-      (to.0, to.2, contained to.0 (map (λ (s : Step). s.target) (steps rows a)) target)
+  step_of_edge a p q from l =
+      let t = step_of_link w (folder_of p) q (w.answers.enabled (bare_item l.item)) (edge_of l.item) l.leads in
+      let listed : In l.item (items_at w p) = subst (λ o. In l.item (unwrap_or o [])) (sym l.has.1) (is_in l.item l.has.0 l.has.2) in
+      let there : In t.0 (steps_of w p) = in_flat (steps_in p) t.0 l.item (items_at w p) listed (subst (λ k. In t.0 (steps_by (edge_of l.item) k)) (sym l.leads) t.1) in
+      let s = from_map (text_step scan) t.0 (steps rows a) (subst (In t.0) (sym (steps_here w scan is a (inside a p from) ∙ ap (steps_of w) (file_is a p from))) there) in
+      let step : HasStep rows a s.0.target = contained s.0.target (map (λ (s : Step). s.target) (steps rows a)) (in_map (λ (s : Step). s.target) s.0 (steps rows a) s.1) in
+      let to = at w scan is s.0.target (omega (arith, is.count, is.within a s.0.target step)) in
+      (s.0.target, to.path_is ∙ ap Some (ap (λ (x : FileStep). x.to) (sym s.2) ∙ t.2), step)
 
   pub leads_by_steps : (a : ℕ) (p q : List ℕ) → slice_get paths a ≡ Some p → LeadsOn w p q → (b : ℕ) × (slice_get paths b ≡ Some q) × Leads (HasStep rows) a b
   leads_by_steps a _ _ at (by_edge {f} {g} l) = let s = step_of_edge a f g at l in (s.0, s.1, by_step s.2)

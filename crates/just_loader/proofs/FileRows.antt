@@ -13,6 +13,7 @@ use Rattle.just_graph.proofs.Members.{In, in_cases}
 use Rattle.just_parts.specs.Clean.{folder_of}
 use Rattle.just_parts.specs.Edge.{Edge, Imports, Declares, edge_of}
 use Rattle.just_parts.specs.Name.{text_of_name}
+use Rattle.just_parts.specs.Modulepath.{Text}
 use Rattle.just_parts.specs.declared.layers.ast.Item.{Item}
 use Rattle.just_loader.specs.Keys.{FileStep, end_of, items_at, steps_by, steps_of}
 use Rattle.just_loader.specs.Links.{Link, Nowhere, To, Fault}
@@ -24,9 +25,6 @@ use Rattle.just_loader.specs.declared.scanned.Scan.{Scan}
 use Rattle.just_loader.specs.declared.scanned.ScannedFile.{ScannedFile}
 use Rattle.just_loader.proofs.Numberings.{map_get, none_some, some_same}
 use Rattle.just_loader.proofs.WholeScans.{one_target, read_at, row_at}
-
-abbrev Text : Type 0
-Text = List ℕ
 
 -- where links lead
 pub no_end : (paths : List Text) (l : Link) → IsPlaceOf paths l None → end_of l ≡ []

@@ -6,12 +6,10 @@ use Rattle.std.specs.declared.alloc.Global.{Global}
 use Rattle.just_graph.specs.declared.unfolding.Step.{Step}
 use Rattle.just_graph.specs.Steps.{IsOrder}
 use Rattle.just_graph.specs.Unfolding.{LeadInside, HasStep}
+use Rattle.just_parts.specs.Modulepath.{Text}
 use Rattle.just_loader.specs.Reached.{World, LeadsTo, Reached}
 use Rattle.just_loader.specs.Causes.{Cause, LeadsBack}
 use Rattle.just_loader.specs.declared.scanned.Scan.{Scan}
-
-abbrev Text : Type 0
-Text = List ℕ
 
 -- a row for each file, the root among them, and steps that lead to rows
 pub record HasRows (scan : Scan) : Type 0 where

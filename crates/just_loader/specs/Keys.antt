@@ -6,6 +6,7 @@ use Rattle.just_graph.specs.Unfolding.{KeyOf, KeyStepsOf}
 use Rattle.just_parts.specs.Clean.{folder_of}
 use Rattle.just_parts.specs.Edge.{Edge, Imports, Declares, edge_of}
 use Rattle.just_parts.specs.Name.{text_of_name}
+use Rattle.just_parts.specs.Modulepath.{Text}
 use Rattle.just_parts.specs.declared.layers.name.Name.{Name}
 use Rattle.just_parts.specs.declared.layers.ast.Item.{Item}
 use Rattle.just_loader.specs.Causes.{Cause, NoFile, NoNumber}
@@ -13,9 +14,6 @@ use Rattle.just_loader.specs.FileCircles.{NamesCircle}
 use Rattle.just_loader.specs.Links.{Link, Nowhere, To, Fault}
 use Rattle.just_loader.specs.Reached.{World, items_of, link, relative_to_root, NamesInScan}
 use Rattle.just_loader.specs.Sources.{text_at}
-
-abbrev Text : Type 0
-Text = List ℕ
 
 -- the items of the file at a path
 abbrev pub items_at : World → Text → List Item

@@ -8,6 +8,7 @@ use Rattle.just_parts.specs.Join.{clean_join}
 use Rattle.just_parts.specs.Name.{text_of_name}
 use Rattle.just_parts.specs.Syntax.{SyntaxAnswers}
 use Rattle.just_parts.specs.Token.{Place}
+use Rattle.just_parts.specs.Modulepath.{Text}
 use Rattle.just_parts.specs.declared.layers.name.Name.{Name}
 use Rattle.just_parts.specs.declared.layers.ast.Item.{Item}
 use Rattle.just_parts.specs.declared.layers.ast.StringLiteral.{StringLiteral}
@@ -15,9 +16,6 @@ use Rattle.just_parts.specs.declared.layers.config.Config.{Config}
 use Rattle.just_loader.specs.ModuleFile.{after, candidates, relative}
 use Rattle.just_loader.specs.Causes.{Cause, NoHome, NoImport, NoModule, SeveralFiles}
 use Rattle.just_loader.specs.Sources.{Files}
-
-abbrev Text : Type 0
-Text = List ℕ
 
 -- nowhere, to a path, or a fault
 pub data Link : Type 0 where

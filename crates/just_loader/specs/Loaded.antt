@@ -8,6 +8,7 @@ use Rattle.just_parts.specs.Bare.{bare_ast}
 use Rattle.just_parts.specs.Clean.{folder_of}
 use Rattle.just_parts.specs.Edge.{with_absolute}
 use Rattle.just_parts.specs.Syntax.{AreRising, IsFrom, PriorsAreDependencies, components_of, numbers}
+use Rattle.just_parts.specs.Modulepath.{Text}
 use Rattle.just_parts.specs.declared.layers.ast.Ast.{Ast}
 use Rattle.just_parts.specs.declared.layers.ast.Item.{Item}
 use Rattle.just_parts.specs.declared.source.Source.{Source}
@@ -19,9 +20,6 @@ use Rattle.just_loader.specs.Reached.{World, ast_of, link, relative_to_root}
 use Rattle.just_loader.specs.Scanned.{IsScan, paths_in}
 use Rattle.just_loader.specs.declared.loaded.Loaded.{Loaded}
 use Rattle.just_loader.specs.declared.scanned.Scan.{Scan}
-
-abbrev Text : Type 0
-Text = List ℕ
 
 -- the path of the file at a place, and the text of a name under its number
 abbrev pub file_at : Scan → ℕ → Text

@@ -8,6 +8,7 @@ use Rattle.just_graph.specs.declared.unfolding.Unfolded.{Unfolded}
 use Rattle.just_parts.specs.Bare.{bare_ast}
 use Rattle.just_parts.specs.Clean.{folder_of}
 use Rattle.just_parts.specs.Syntax.{SyntaxAnswers, AreRising, IsFrom, components_of, numbers}
+use Rattle.just_parts.specs.Modulepath.{Text}
 use Rattle.just_parts.specs.declared.layers.ast.Ast.{Ast}
 use Rattle.just_parts.specs.declared.layers.ast.Item.{Item}
 use Rattle.just_parts.specs.declared.layers.error.Error.{Error}
@@ -18,9 +19,6 @@ use Rattle.just_loader.specs.Loaded.{CameIn, IsAstOf, file_at, name_at, with_pat
 use Rattle.just_loader.specs.Reached.{World, ast_of, link}
 use Rattle.just_loader.specs.Scanned.{ArePlacesOf, IsScan, paths_in}
 use Rattle.just_loader.specs.declared.scanned.Scan.{Scan}
-
-abbrev Text : Type 0
-Text = List ℕ
 
 -- The scan is of a world where the syntax layer answers so.
 pub record IsScanBy (w : World) (scan : Scan) (answers : SyntaxAnswers) : Type 0 where

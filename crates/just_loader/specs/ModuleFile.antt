@@ -7,14 +7,12 @@ use Rattle.std.specs.Str.{bytes_eq, str_eq_ignore_ascii_case}
 use Rattle.just_parts.specs.Entries.{find}
 use Rattle.just_parts.specs.Join.{clean_join}
 use Rattle.just_parts.specs.Name.{text_of_name}
+use Rattle.just_parts.specs.Modulepath.{Text}
 use Rattle.just_parts.specs.declared.layers.name.Name.{Name}
 use Rattle.just_parts.specs.declared.layers.error.Error.{Error}
 use Rattle.just_parts.specs.declared.layers.error.Error.TheVariants as error
 use Rattle.just_parts.specs.declared.layers.error.LoadError.TheVariants as load
 use Rattle.just_loader.specs.Sources.{Files}
-
-abbrev Text : Type 0
-Text = List ℕ
 
 -- what a text has after a prefix
 abbrev pub after : Text → Text → Option Text

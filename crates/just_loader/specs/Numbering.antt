@@ -9,7 +9,7 @@ use Rattle.just_parts.specs.declared.layers.name.Name.{Name}
 use Rattle.just_loader.specs.Sources.{Files}
 use Rattle.just_loader.specs.declared.sources.SourceFile.{SourceFile}
 use Rattle.just_loader.specs.declared.found.Found.{Found}
-use Rattle.just_loader.specs.declared.found.Names.{Names}
+use Rattle.just_loader.specs.declared.found.NameNumbers.{NameNumbers}
 
 -- no text stands at two places
 abbrev pub AreOnce : List (List ℕ) → Type 0
@@ -34,7 +34,7 @@ texts_of names = map text_of_name names
 abbrev pub paths_found : Found → List (List ℕ)
 paths_found found = paths_of found.files.items
 
-abbrev pub texts_numbered : Names → List (List ℕ)
+abbrev pub texts_numbered : NameNumbers → List (List ℕ)
 texts_numbered names = texts_of names.names.items
 
 -- a file of the source map, under a clean path
@@ -47,5 +47,5 @@ pub record AreFound (files : Files) (found : Found) : Type 0 where
   pub there : (k : ℕ) (f : SourceFile) → slice_get found.files.items k ≡ Some f → IsFile files f
 
 -- names under their numbers
-abbrev pub AreNumbered : Names → Type 0
+abbrev pub AreNumbered : NameNumbers → Type 0
 AreNumbered names = IsNumbering (texts_of names.names.items) (get bytes_eq names.numbers)

@@ -4,6 +4,7 @@ use Rattle.std.specs.List.{Contains}
 use Rattle.std.specs.Option.{option_and_then, option_map}
 use Rattle.just_parts.specs.Clean.{folder_of}
 use Rattle.just_parts.specs.Syntax.{SyntaxAnswers}
+use Rattle.just_parts.specs.Modulepath.{Text}
 use Rattle.just_parts.specs.declared.layers.ast.Ast.{Ast}
 use Rattle.just_parts.specs.declared.layers.ast.Item.{Item}
 use Rattle.just_parts.specs.declared.layers.config.Config.{Config}
@@ -12,9 +13,6 @@ use Rattle.just_loader.specs.Links.{Link, To, Fault, link_in}
 use Rattle.just_loader.specs.ModuleFile.{relative}
 use Rattle.just_loader.specs.Causes.{Cause, Broken, NoNumber}
 use Rattle.just_loader.specs.Sources.{Files, text_at}
-
-abbrev Text : Type 0
-Text = List ℕ
 
 -- What a compilation reads: the files, the home folder, where it is known, what the syntax layer answers, and the path of the root.
 pub record World : Type 0 where

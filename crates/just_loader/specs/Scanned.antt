@@ -9,18 +9,16 @@ use Rattle.just_parts.specs.Bare.{bare_item}
 use Rattle.just_parts.specs.Clean.{IsClean, folder_of}
 use Rattle.just_parts.specs.Edge.{Edge, Imports, Declares, edge_of}
 use Rattle.just_parts.specs.Name.{text_of_name}
+use Rattle.just_parts.specs.Modulepath.{Text}
 use Rattle.just_parts.specs.declared.layers.ast.Item.{Item}
 use Rattle.just_loader.specs.Links.{Link, Nowhere, To, Fault}
 use Rattle.just_loader.specs.Numbering.{AreOnce, paths_found, texts_numbered, texts_of}
 use Rattle.just_loader.specs.Reached.{World, Reached, items_of, link, relative_to_root}
 use Rattle.just_loader.specs.Sources.{text_at}
 use Rattle.just_loader.specs.declared.found.Found.{Found}
-use Rattle.just_loader.specs.declared.found.Names.{Names}
+use Rattle.just_loader.specs.declared.found.NameNumbers.{NameNumbers}
 use Rattle.just_loader.specs.declared.scanned.Scan.{Scan}
 use Rattle.just_loader.specs.declared.scanned.ScannedFile.{ScannedFile}
-
-abbrev Text : Type 0
-Text = List ℕ
 
 -- the place of the path to which a link leads
 abbrev pub IsPlaceOf : List Text → Link → Option ℕ → Type 0
@@ -104,5 +102,5 @@ abbrev pub ArePlacesIn : Found → List Link → List (Option ℕ) → Type 0
 ArePlacesIn found = ArePlacesOf (paths_found found)
 
 -- the file is scanned as far as files and names are known
-abbrev pub IsScannedIn : World → Found → Names → ScannedFile → List Step → Type 0
+abbrev pub IsScannedIn : World → Found → NameNumbers → ScannedFile → List Step → Type 0
 IsScannedIn w found names = IsScanned w (paths_found found) (texts_numbered names)

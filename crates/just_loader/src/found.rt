@@ -21,7 +21,7 @@ pub(crate) struct Found<'src> {
 
 /// Names in the order in which their texts first come, and the number of each text.
 #[derive(Drop)]
-pub(crate) struct Names<'src> {
+pub(crate) struct NameNumbers<'src> {
     pub(crate) names: Vec<Name<'src>>,
     numbers: HashMap<BorrowedText<'src>, usize>,
 }
@@ -59,13 +59,13 @@ impl<'src> Found<'src> {
     }
 }
 
-impl<'src> Names<'src> {
+impl<'src> NameNumbers<'src> {
     // No names.
-    pub(crate) fn new(alloc: Global) -> Names<'src>
+    pub(crate) fn new(alloc: Global) -> NameNumbers<'src>
         ensures none { result.names.items ≡ [] }
         ensures numbered { AreNumbered result }
     {
-        Names {
+        NameNumbers {
             names: Vec::new(alloc),
             numbers: HashMap::new(alloc),
         }

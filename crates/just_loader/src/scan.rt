@@ -15,7 +15,7 @@ ghost use Rattle.just_loader.specs.Causes.{Keeps, Reports};
 ghost use Rattle.just_loader.specs.Sources.{text_at};
 ghost use Rattle.just_loader.specs.Scanned.{ArePlacesIn, IsPlaceOf, IsStepOf, AreSteps, IsScannedIn, IsScan, Finds, FindsAll, Extends};
 
-use crate::found::{Found, Names};
+use crate::found::{Found, NameNumbers};
 use crate::links::link;
 use crate::module_file::{after, slashed};
 use crate::scanned::{Scan, ScannedFile};
@@ -109,7 +109,7 @@ fn targets<'src, S: Syntax>(
 fn push_step<'src>(
     item: &Item<'src>,
     target: Option<usize>,
-    names: &mut Names<'src>,
+    names: &mut NameNumbers<'src>,
     row: &mut Vec<Step>,
 ) -> Result<(), AllocError>
     requires { AreNumbered names.old }
@@ -146,7 +146,7 @@ fn row<'src>(
     alloc: Global,
     items: &[Item<'src>],
     targets: &[Option<usize>],
-    names: &mut Names<'src>,
+    names: &mut NameNumbers<'src>,
 ) -> Result<Vec<Step>, AllocError>
     requires count { length targets.now ≡ length items.now }
     requires numbered { AreNumbered names.old }
@@ -170,7 +170,7 @@ fn scan_file<'src, S: Syntax>(
     root: &str,
     file: &SourceFile<'src>,
     found: &mut Found<'src>,
-    names: &mut Names<'src>,
+    names: &mut NameNumbers<'src>,
 ) -> Result<(ScannedFile<'src>, Vec<Step>), Error<'src>>
     requires root { IsClean root.now }
     requires file { IsFile sources.now file.now }
@@ -225,7 +225,7 @@ pub fn scan<'src, S: Syntax>(
     ensures named { IfErr result (Reports (NamesInScan (world_of sources.now config.now (S.answers syntax.now) root.now))) }
 {
     let mut found = Found::new(alloc);
-    let mut names = Names::new(alloc);
+    let mut names = NameNumbers::new(alloc);
     let mut files = Vec::new(alloc);
     let mut rows = Vec::new(alloc);
     found.place(sources, root)?;

@@ -4,7 +4,7 @@ use Rattle.std.specs.HashMap.{get}
 use Rattle.std.specs.Str.{bytes_eq}
 use Rattle.std.specs.Option.{option_copied}
 use Rattle.just_loader.proofs.Numberings.{names_more}
-use Rattle.just_loader.proofs.found.Names.number.Goals as goal
+use Rattle.just_loader.proofs.found.NameNumbers.number.Goals as goal
 
 pub returns-clause-numbered : goal.returns-clause-numbered
 returns-clause-numbered c =
