@@ -1,4 +1,4 @@
-//! Compiles a source map of justfiles, or names a broken rule.
+//! Compiles a source map of justfiles, or names a broken rule. What its callers name of the crates below is here too.
 #![tactic(auto)]
 
 mod analyzer;
@@ -14,6 +14,9 @@ mod unresolved_recipe;
 
 pub use compilation::Compilation;
 pub use compiler::Compiler;
-pub use just_invoke::{Invocation, Justfile, RecipeKey, Recipes};
-pub use just_loader::{Sources, sources};
-pub use just_parts::{Modulepath, is_clean};
+pub use just_invoke::{Invocation, InvocationParser, Justfile, RecipeKey, Recipes, Report};
+pub use just_loader::Sources;
+pub use just_loader::sources::SourceError;
+pub use just_parts::{
+    Dependency, Keyed, Modulepath, Recipe, Source, Table, UnresolvedRecipe, is_clean, layers,
+};

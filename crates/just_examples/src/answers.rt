@@ -9,11 +9,12 @@ use crate::items::answer_parse;
 use crate::lists::{add_group, add_list, before};
 use crate::modules::add_compilation;
 use crate::written::unmarked;
-use just_analyzer::{Compilation, Compiler, Invocation, Modulepath, Sources, is_clean};
+use just_analyzer::layers::{Config, Entry, Error, Groups};
+use just_analyzer::{
+    Compilation, Compiler, Invocation, InvocationParser, Modulepath, Report, Sources, is_clean,
+};
 use just_bench::bundle::read_sources;
 use just_bench::{PlainEvaluation, PlainSyntax, Recorder, StopWriter};
-use just_invoke::{InvocationParser, Report};
-use just_parts::layers::{Config, Entry, Error, Groups};
 use std::alloc::{AllocError, Global};
 
 // Compiles the file at a path.

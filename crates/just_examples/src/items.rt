@@ -1,9 +1,9 @@
 //! What a text says, item by item.
 use crate::faults::add_fault;
 use crate::lists::before;
+use just_analyzer::layers::{Ast, Error, Item, Numerator, StringLiteral, Syntax};
+use just_analyzer::{Source, is_clean};
 use just_bench::PlainSyntax;
-use just_parts::layers::{Ast, Error, Item, Numerator, StringLiteral, Syntax};
-use just_parts::{Source, is_clean};
 use std::alloc::{AllocError, Global};
 
 // Adds the text of a path in brackets, its token, and how many bytes stand before it.

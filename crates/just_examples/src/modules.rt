@@ -1,8 +1,7 @@
 //! The lines that tell what a compilation has.
 use crate::lists::{add_list, next};
-use just_analyzer::{Compilation, Justfile};
-use just_parts::Recipe;
-use just_parts::layers::Number;
+use just_analyzer::layers::Number;
+use just_analyzer::{Compilation, Justfile, Recipe};
 use std::alloc::{AllocError, Global};
 use std::collections::HashSet;
 

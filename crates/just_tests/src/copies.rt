@@ -1,9 +1,8 @@
 //! Copies are equal to what they are of, and there is memory for them.
-use just_analyzer::{Compilation, Compiler, Sources, is_clean};
+use just_analyzer::layers::{Ast, Config, Error, Groups, Host, Numerator, Syntax};
+use just_analyzer::{Compilation, Compiler, Modulepath, Source, Sources, is_clean};
 use just_bench::{PlainEvaluation, PlainSyntax, Recorder};
 use just_data::{Boxed, Exact, Sequence, Text};
-use just_parts::layers::{Ast, Config, Error, Groups, Host, Numerator, Syntax};
-use just_parts::{Modulepath, Source};
 use std::alloc::{AllocError, Global};
 use std::test::Fail;
 

@@ -3,9 +3,9 @@ ghost use Rattle.std.specs.Prelude.{IfOk};
 ghost use Rattle.just_parts.specs.Clean.{IsClean};
 ghost use Rattle.just_invoke.specs.Closed.{IsClosed};
 
+use just_analyzer::layers::{Config, Entry, Error, Groups, Host};
 use just_analyzer::{Compilation, Compiler, Modulepath, Sources, is_clean};
 use just_bench::{PlainEvaluation, PlainSyntax, Recorder, StopWriter};
-use just_parts::layers::{Config, Entry, Error, Groups, Host};
 use std::alloc::{AllocError, Global};
 use std::test::Fail;
 

@@ -1,9 +1,8 @@
 //! The search for a module's file, by its own call.
-use just_analyzer::{Compiler, Sources};
+use just_analyzer::layers::{Ast, Error, Item, LoadError, Name, Numerator, Syntax};
+use just_analyzer::{Compiler, Source, Sources, is_clean};
 use just_bench::PlainSyntax;
 use just_data::Text;
-use just_parts::layers::{Ast, Error, Item, LoadError, Name, Numerator, Syntax};
-use just_parts::{Source, is_clean};
 use std::alloc::{AllocError, Global};
 use std::test::Fail;
 

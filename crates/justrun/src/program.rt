@@ -4,11 +4,11 @@ ghost use Rattle.just_parts.specs.Clean.{IsClean};
 ghost use Rattle.just_invoke.specs.Closed.{IsClosed};
 
 use crate::fault::Fault;
+use just_analyzer::layers::{Config, Entry, Error, Groups};
 use just_analyzer::{Compilation, Compiler, Sources, is_clean};
 use just_bench::bundle::{read_sources, read_text};
 use just_bench::{PlainEvaluation, PlainSyntax, Recorder, StopWriter};
 use just_data::Text;
-use just_parts::layers::{Config, Entry, Error, Groups};
 use std::alloc::Global;
 use std::io;
 use std::io::{Read, Write};
