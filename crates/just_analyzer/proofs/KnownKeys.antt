@@ -18,6 +18,7 @@ use Rattle.just_loader.specs.Loaded.{IsLoaded, key_at, name_at}
 use Rattle.just_loader.specs.Reached.{World}
 use Rattle.just_loader.specs.declared.loaded.Loaded.{Loaded}
 use Rattle.just_loader.specs.declared.scanned.Scan.{Scan}
+use Rattle.just_loader.proofs.FileRows.{numbered}
 use Rattle.just_loader.proofs.FileKeys.{stands}
 use Rattle.just_analyzer.specs.Index.{AreDifferent}
 use Rattle.just_analyzer.specs.Modules.{recipes_said}
@@ -56,7 +57,7 @@ module _ (w : World) (loaded : Loaded) (plans : Plans) (is : IsLoaded w loaded) 
   key_names k r =
       let at = stands w loaded.scan is.scan (module_keys w loaded is plans are r.1).1 in
       all_in (λ name. name < length loaded.scan.names.items) k.path
-      (λ x h. omega (arith, slice_get_within (texts_of loaded.scan.names.items) x (name_at loaded.scan x) (at.known x h), length-map loaded.scan.names.items text_of_name))
+      (λ x h. numbered loaded.scan (Some x) (at.known x h))
 
   -- the plan of a key, with the files of any join
   module _ (k : Key) (r : IsReachedKey k) (files : List ℕ) (join : IsJoin loaded.scan k.node files) where

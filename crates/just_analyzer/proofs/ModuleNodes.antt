@@ -9,11 +9,13 @@ use Rattle.just_graph.specs.Unfolded.{unfolded_key, AllTold, AreApart, CameFrom,
 use Rattle.just_graph.specs.declared.unfolding.Origin.{Origin}
 use Rattle.just_graph.specs.declared.unfolding.Step.{Step}
 use Rattle.just_graph.specs.declared.unfolding.Unfolded.{Unfolded}
+use Rattle.just_graph.proofs.Preorder.{firsts_in}
 use Rattle.just_graph.proofs.KeySteps.{steps_keep, steps_more}
 use Rattle.just_graph.proofs.Members.{In, from_flat, contained, is_in, in_left, in_cases}
 use Rattle.just_graph.proofs.Index.{get_map, map_get, some_same, got_in}
 use Rattle.just_graph.proofs.Told.{at_least, told_key}
 use Rattle.just_graph.proofs.Trails.{trails}
+use Rattle.just_loader.proofs.ComingIn.{get_take}
 use Rattle.just_loader.proofs.Numberings.{placed}
 use Rattle.just_parts.specs.Name.{text_of_name}
 use Rattle.just_parts.specs.declared.layers.ast.Ast.{Ast}
@@ -82,20 +84,6 @@ pub record AreNodes (w : World) (loaded : Loaded) (plans : Plans) (us : List Unf
 stays : (S : ℕ → List Step) {k l : Key} {d : ℕ} → KeySteps S k l d → d ≡ 0 → k ≡ l
 stays S stay e = refl
 stays S (move s c w) e = absurd (omega arith)
-
-firsts_from : {old xs all : List Node} → Firsts old xs all → (x : Node) → In x all → In x old ⊎ In x xs
-firsts_from none x h = inl h
-firsts_from (again k f) x h = elim (firsts_from f x h) [ inl i ↦ inl i | inr i ↦ inr (inr i) ]
-firsts_from {old} (first {n = n} k f) x h = elim (firsts_from f x h) [
-  | inl i ↦ elim (in_cases x old (n ∷ []) i) [ inl j ↦ inl j | inr j ↦ inr (in_left x (n ∷ []) _ j) ]
-  | inr i ↦ inr (inr i)
-]
-
-taken : {A : Type 0} (xs : List A) (k i : ℕ) (x : A) → slice_get (take k xs) i ≡ Some x → (i < k) × (slice_get xs i ≡ Some x)
-taken xs zero i x e = cc
-taken [] (suc k) i x e = cc
-taken (y ∷ xs) (suc k) zero x e = (omega arith, e)
-taken (y ∷ xs) (suc k) (suc i) x e = let r = taken xs k i x e in (omega (arith, r.0), r.1)
 
 no_origin : (o : Option Origin) → ((p : Origin) → o ≡ Some p → ⊥) → o ≡ None
 no_origin None h = refl
@@ -193,14 +181,14 @@ module _ (w : World) (loaded : Loaded) (plans : Plans) (is : IsLoaded w loaded) 
     no_steps : (n : Node) → Contains ns n → n.trail ≡ [] → root_key 0 ≡ key n
     no_steps n c e =
         let pre = (unfolded.1).0 in
-        let in_pre : In n pre = elim (firsts_from (unfolded.1).2 n (is_in n ns c)) [ inl h ↦ absurd h | inr h ↦ h ] in
+        let in_pre : In n pre = elim (firsts_in (unfolded.1).2 n (is_in n ns c)) [ inl h ↦ absurd h | inr h ↦ h ] in
         stays (entries plans) ((trails (entries plans) 0 pre (unfolded.1).1 (key n) 0).0 (n, contained n pre in_pre, refl, ap length e)) refl
 
     is_from : (i : ℕ) (u : Unfolded) (o : Origin) → slice_get us i ≡ Some u → u.origin ≡ Some o → IsFrom plans us i u o
     is_from i u o e at =
         let n = node i u e in
         let came : CameFrom (entries plans) (take i ns) n.0 (Some o) = subst (λ p. CameFrom (entries plans) (take i ns) n.0 p) at n.3 in
-        let earlier = taken ns i o.parent came.0 came.2 in
+        let earlier = get_take ns i o.parent came.0 came.2 in
         let v = at_least us o.parent (omega (arith, slice_get_within ns o.parent came.0 earlier.1, told.count)) in
         let same : unfolded_key v.0 ≡ key came.0 = told_key (entries plans) (take o.parent ns) v.0 came.0 (told.tells o.parent v.0 came.0 v.1 earlier.1) in
         let step : slice_get (entries plans (v.0).node) o.step ≡ Some came.1 = subst (λ (k : Key). slice_get (entries plans k.node) o.step ≡ Some came.1) (sym same) came.3 in

@@ -9,6 +9,7 @@ use Rattle.std.proofs.lemmas.List.{append_assoc, append-nil, map-append, take_mo
 use Rattle.std.proofs.lemmas.Option.{get_or_from_slice_get}
 use Rattle.just_graph.specs.Unfolding.{steps}
 use Rattle.just_graph.specs.declared.unfolding.Step.{Step}
+use Rattle.just_graph.proofs.StepRows.{steps_at as row_read}
 use Rattle.just_graph.proofs.Members.{In}
 use Rattle.just_parts.specs.Bare.{bare_item}
 use Rattle.just_parts.specs.Clean.{folder_of}
@@ -123,9 +124,7 @@ module _ (w : World) (folder : Text) (names paths : List Text) where
       ∙ sym (map-append (λ (m : Submodule). m.name) (declared w folder (bare_item i)) (flat_map (declared w folder) (map bare_item is)))
 
 pub steps_read : (rows : List (Vec Step Global)) (a : ℕ) (row : Vec Step Global) → a < length rows → row ≡ get_or rows a row → steps rows a ≡ row.items
-steps_read [] a row h e = absurd (omega arith)
-steps_read (r ∷ rows) zero row h e = ap (λ (x : Vec Step Global). x.items) (sym e)
-steps_read (r ∷ rows) (suc a) row h e = steps_read rows a row (omega arith) e
+steps_read rows a row h e = row_read rows a row h ∙ ap (λ (x : Vec Step Global). x.items) (sym e)
 
 -- one more of a list
 pub flat_more : {B : Type 0} (f : ℕ → List B) (xs : List ℕ) (n : ℕ) → n < length xs → flat_map f (take (n + 1) xs) ≡ flat_map f (take n xs) ++ f (slice_index xs n)

@@ -13,6 +13,7 @@ use Rattle.just_graph.specs.Levels.{AreLevels}
 use Rattle.just_graph.specs.Steps.{Reached, from_start, from_member}
 use Rattle.just_graph.specs.Unfolding.{steps}
 use Rattle.just_graph.specs.declared.unfolding.Step.{Step}
+use Rattle.just_graph.proofs.Trails.{steps_past}
 use Rattle.just_graph.proofs.Members.{is_in}
 use Rattle.just_parts.specs.Name.{text_of_name}
 use Rattle.just_parts.specs.declared.layers.ast.Item.{Item}
@@ -58,11 +59,6 @@ headers_more : (m : Contents) (names : List Name) → m.modules ≡ map heading_
 headers_more m names e _ (of_recipes (duplicate_parameter i p q h a b d)) = absurd (omega arith)
 headers_more m names e _ (of_recipes (redefinition i j r a b)) = absurd (omega (arith, r.within))
 headers_more m names e c (module_redefinition i j r a b) = subst (λ hs. Headers (record { recipes = m.recipes; modules = hs }) c) (sym e) (module_redefinition i j r a b)
-
-steps_past : (rows : List (Vec Step Global)) (a : ℕ) → length rows ≤ a → steps rows a ≡ []
-steps_past [] a h = refl
-steps_past (row ∷ rows) zero h = absurd (omega arith)
-steps_past (row ∷ rows) (suc a) h = steps_past rows a (omega arith)
 
 -- the imports by places
 module _ (scan : Scan) (imports : List (Vec ℕ Global)) (are : EachRow (λ a row. row ≡ imports_at scan a) (length scan.rows.items) imports) where

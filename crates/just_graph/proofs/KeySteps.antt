@@ -1,5 +1,5 @@
 -- Steps of keys: what they keep, one more, and the same steps along maps of nodes and names.
-use Rattle.std.proofs.Common.{◌≡◌, ℕ, suc, List, [], ◌∷◌, map, Option, None, Some, refl, sym, ap, subst, ◌∙◌}
+use Rattle.std.proofs.Common.{◌≡◌, ℕ, suc, List, [], ◌∷◌, map, Option, None, Some, ◌⊎◌, inl, inr, refl, sym, ap, subst, ◌∙◌}
 use Rattle.std.specs.List.{Contains}
 use Rattle.std.specs.Option.{option_map}
 use Rattle.std.proofs.lemmas.List.{map-append}
@@ -9,6 +9,11 @@ use Rattle.just_graph.proofs.Members.{In, contained, is_in, in_map, from_map}
 pub steps_more : {N X E : Type 0} {to : E → N} {enters : E → Option X} {S : N → List E} {k l : KeyOf N X} {d : ℕ} → KeyStepsOf to enters S k l d → (s : E) → Contains (S l.node) s → KeyStepsOf to enters S k (key_child_of to enters l s) (suc d)
 steps_more stay s h = move s h stay
 steps_more (move t g w) s h = move t g (steps_more w s h)
+
+pub steps_opened : {N X E : Type 0} {to : E → N} {enters : E → Option X} {S : N → List E} {k l : KeyOf N X} {d : ℕ} → KeyStepsOf to enters S k l d
+    → ((k ≡ l) × (d ≡ 0)) ⊎ ((s : E) × Contains (S k.node) s × (e : ℕ) × KeyStepsOf to enters S (key_child_of to enters k s) l e × (d ≡ suc e))
+steps_opened stay = inl (refl, refl)
+steps_opened (move {d = d} s h w) = inr (s, h, d, w, refl)
 
 -- what each step keeps is kept
 pub steps_keep : {N X E : Type 0} {to : E → N} {enters : E → Option X} {S : N → List E} {k l : KeyOf N X} {d : ℕ} → KeyStepsOf to enters S k l d

@@ -1,8 +1,9 @@
 -- Membership, by recursion on the list.
-use Rattle.std.proofs.Common.{◌≡◌, ℕ, zero, suc, ◌<◌, List, [], ◌∷◌, ◌++◌, map, reverse, length, get_or, ◌⊎◌, inl, inr, refl, sym, ap, subst, arith}
+use Rattle.std.proofs.Common.{◌≡◌, ℕ, zero, suc, ◌+◌, ◌<◌, ◌∙◌, List, [], ◌∷◌, ◌++◌, map, reverse, length, get_or, ◌⊎◌, inl, inr, refl, sym, ap, subst, arith}
 use Rattle.std.proofs.lemmas.List.Elements.{Contains-append_right}
 use Rattle.std.specs.Prelude.{Bool, true, false, if◌then◌else◌, filter}
-use Rattle.std.specs.List.{Contains, flat_map}
+use Rattle.std.specs.List.{Contains, flat_map, sum_by}
+use Rattle.std.proofs.lemmas.List.Sums.{sum_by-cons}
 use Rattle.std.proofs.lemmas.List.{reverse-append}
 
 -- x is an element
@@ -71,6 +72,14 @@ from_filter p x (y ∷ ys) h = one (p y) h (from_filter p x ys)
     one true (inl e) rest = inl e
     one true (inr k) rest = inr (rest k)
     one false k rest = inr (rest k)
+
+-- a list without one of its elements, in numbers and in sums
+pub without : {A : Type 0} (x : A) (ys : List A) → In x ys → (zs : List A) × (length ys ≡ suc (length zs)) × ((g : A → ℕ) → sum_by g ys ≡ g x + sum_by g zs) × ((z : A) → In z ys → (z ≡ x → ⊥) → In z zs)
+without x [] h = absurd h
+without x (y ∷ ys) (inl e) = (ys, refl, λ g. sum_by-cons g y ys ∙ ap (λ v. g v + sum_by g ys) (sym e), λ z h other. elim h [ inl k ↦ absurd (other (k ∙ sym e)) | inr i ↦ i ])
+without x (y ∷ ys) (inr h) =
+    let r = without x ys h in
+    (y ∷ r.0, ap suc r.1, λ g. omega (arith, sum_by-cons g y ys, sum_by-cons g y r.0, r.2 g), λ z i other. elim i [ inl k ↦ inl k | inr j ↦ inr (r.3 z j other) ])
 
 reverse_cons : {A : Type 0} (x : A) (xs : List A) → reverse (x ∷ xs) ≡ reverse xs ++ (x ∷ [])
 reverse_cons x xs = reverse-append (x ∷ []) xs

@@ -10,6 +10,7 @@ use Rattle.just_graph.specs.Graph.{HasEdge, IsGraph}
 use Rattle.just_graph.specs.Building.{targets_past}
 use Rattle.just_graph.specs.Steps.{IsOrder, order_by}
 use Rattle.just_graph.specs.Unfolding.{steps, Edges, HasOrder, HasStep, LeadInside, Rows, AreEdges, IsOrdered, Key, Node, key, root_key, child, key_child, kids, Unfolds, nothing, tree, HasKey, IsUnfolding, AreTrails, Firsts, none, again, first, AreFirst, KeySteps, stay, move, root_node}
+use Rattle.just_graph.proofs.KeySteps.{steps_opened}
 use Rattle.just_graph.proofs.Members.{In, contained, is_in, in_left, in_right, in_cases, in_reverse, from_reverse}
 use Rattle.just_graph.proofs.Walks.{child_of, child_in}
 
@@ -47,7 +48,7 @@ one_answer S root ns ms a b = one_list a.2 (subst (λ pre. Firsts [] pre ms) (sy
 child_longer : (n : Node) (s : Step) → length (child n s).trail ≡ suc (length n.trail)
 child_longer n s = omega (arith, length_push n.trail s)
 
-steps_to : (S : ℕ → List Step) {ns pre : List Node} → Unfolds S ns pre → (x : Node) → In x pre → (n : Node) × In n ns × (d : ℕ) × KeySteps S (key n) (key x) d × (length x.trail ≡ d + length n.trail)
+pub steps_to : (S : ℕ → List Step) {ns pre : List Node} → Unfolds S ns pre → (x : Node) → In x pre → (n : Node) × In n ns × (d : ℕ) × KeySteps S (key n) (key x) d × (length x.trail ≡ d + length n.trail)
 steps_to S nothing x h = absurd h
 steps_to S (tree {n = n} {below = below} {after = after} b a) x h = elim h [
   | inl e ↦ (n, inl refl, 0, subst (λ y. KeySteps S (key n) (key y) 0) (sym e) stay, omega (arith, ap (λ (y : Node). length y.trail) e))
@@ -60,15 +61,11 @@ steps_to S (tree {n = n} {below = below} {after = after} b a) x h = elim h [
   ]
 ]
 
-opened_steps : (S : ℕ → List Step) {k l : Key} {d : ℕ} → KeySteps S k l d → ((k ≡ l) × (d ≡ 0)) ⊎ ((s : Step) × Contains (S k.node) s × (e : ℕ) × KeySteps S (key_child k s) l e × (d ≡ suc e))
-opened_steps S stay = inl (refl, refl)
-opened_steps S (move {d = d} s h w) = inr (s, h, d, w, refl)
-
 node_at : (S : ℕ → List Step) {ns pre : List Node} → Unfolds S ns pre → (n : Node) → In n ns → (k : Key) (d : ℕ) → KeySteps S (key n) k d → (x : Node) × In x pre × (key x ≡ k) × (length x.trail ≡ d + length n.trail)
 node_at S nothing n h k d s = absurd h
 node_at S (tree {n = m} {below = below} {after = after} b a) n h k d s = elim h [
   | inr i ↦ (let r = node_at S a n i k d s in (r.0, inr (in_right r.0 below after r.1), r.2, r.3))
-  | inl e ↦ elim (opened_steps S (subst (λ y. KeySteps S (key y) k d) e s)) [
+  | inl e ↦ elim (steps_opened (subst (λ y. KeySteps S (key y) k d) e s)) [
     | inl o ↦ (m, inl refl, o.0, omega (arith, o.1, ap (λ (y : Node). length y.trail) e))
     | inr o ↦
         let r = node_at S b (child m o.0) (child_in S m o.0 (is_in o.0 (S m.node) o.1)) k o.2 o.3 in
@@ -88,7 +85,7 @@ trails S root pre u k d = (
       (r.0, contained r.0 pre r.1, r.2, omega (arith, r.3)),
 )
 
-steps_past : (rows : List (Vec Step Global)) (a : ℕ) → length rows ≤ a → steps rows a ≡ []
+pub steps_past : (rows : List (Vec Step Global)) (a : ℕ) → length rows ≤ a → steps rows a ≡ []
 steps_past [] a h = refl
 steps_past (r ∷ rows) zero h = absurd (omega arith)
 steps_past (r ∷ rows) (suc a) h = steps_past rows a (omega arith)

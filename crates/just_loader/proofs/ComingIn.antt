@@ -7,10 +7,11 @@ use Rattle.std.proofs.lemmas.List.{length-map, length_push, map-append}
 use Rattle.std.proofs.lemmas.List.Elements.{All-contains}
 use Rattle.std.proofs.lemmas.Option.{get_or_from_slice_get, slice_get_read, slice_get_within}
 use Rattle.just_graph.specs.Unfolding.{Node, AreFirst, Firsts, none, again, first, Unfolds, nothing, tree, IsLeastDepth, HasStep, child, key, offsets_after, path_after, root_node, steps}
-use Rattle.just_graph.specs.Unfolded.{CameFrom, IsUnfolded, Tells, unfolded_key}
+use Rattle.just_graph.specs.Unfolded.{AreLeast, CameFrom, IsUnfolded, Tells, unfolded_key}
 use Rattle.just_graph.specs.declared.unfolding.Origin.{Origin}
 use Rattle.just_graph.specs.declared.unfolding.Step.{Step}
 use Rattle.just_graph.specs.declared.unfolding.Unfolded.{Unfolded}
+use Rattle.just_graph.proofs.Preorder.{firsts_in}
 use Rattle.just_graph.proofs.Members.{In, contained, is_in, in_cases, in_map}
 use Rattle.just_graph.proofs.Walks.{child_of}
 use Rattle.just_parts.specs.Clean.{IsClean, folder_of}
@@ -29,6 +30,7 @@ use Rattle.just_loader.specs.Reached.{World}
 use Rattle.just_loader.specs.Scanned.{AreSteps, IsScan, IsStepOf, IsStepTo, paths_in}
 use Rattle.just_loader.specs.declared.scanned.Scan.{Scan}
 use Rattle.just_loader.specs.declared.scanned.ScannedFile.{ScannedFile}
+use Rattle.just_loader.proofs.FileRows.{known_here, numbered}
 use Rattle.just_loader.proofs.FileCircles.{has_rows}
 use Rattle.just_loader.proofs.Numberings.{get_cases, got, map_get, none_some}
 use Rattle.just_loader.proofs.WholeScans.{read_at}
@@ -105,14 +107,6 @@ rooted S (tree {n = n} {below = below} {after = after} b a) x h e = elim h [
   ]
 ]
 
-firsts_in : {old pre all : List Node} → Firsts old pre all → (x : Node) → In x all → In x old ⊎ In x pre
-firsts_in none x h = inl h
-firsts_in (again k f) x h = elim (firsts_in f x h) [ inl o ↦ inl o | inr p ↦ inr (inr p) ]
-firsts_in (first {old = old} {n = n} k f) x h = elim (firsts_in f x h) [
-  | inl o ↦ elim (in_cases x old (n ∷ []) o) [ inl a ↦ inl a | inr b ↦ elim b [ inl e ↦ inr (inl e) | inr z ↦ absurd z ] ]
-  | inr p ↦ inr (inr p)
-]
-
 pub root_first : (S : ℕ → List Step) (root : ℕ) (ns : List Node) (k : ℕ) (n : Node) → AreFirst S root ns → slice_get ns k ≡ Some n → n.trail ≡ [] → n ≡ root_node root
 root_first S root ns k n f at e = elim (firsts_in f.2 n (is_in n ns (got ns k n at))) [
   | inl h ↦ absurd h
@@ -125,34 +119,6 @@ get_take [] (suc k) i x e = absurd (none_some e)
 get_take (y ∷ xs) zero i x e = absurd (none_some e)
 get_take (y ∷ xs) (suc k) zero x e = (omega arith, e)
 get_take (y ∷ xs) (suc k) (suc i) x e = let r = get_take xs k i x e in (omega (arith, r.0), r.1)
-
--- the numbers of steps are those of names
-one_step : (row : List Step) (x s : Step) → row ≡ x ∷ [] → In s row → x ≡ s
-one_step row x s e h = elim (subst (In s) e h) [ inl same ↦ sym same | inr z ↦ absurd z ]
-
-abbrev HasName : List (List ℕ) → Step → Type 0
-HasName names s = IfSome s.enters (λ number. number < length names)
-
-step_to_name : (names : List (List ℕ)) (place : ℕ) (e : Option Edge) (row : List Step) (s : Step) → IsStepTo names place e row → In s row → HasName names s
-step_to_name names place (Some (Imports literal optional)) row s is h = subst (HasName names) (one_step row _ s is h) tt
-step_to_name names place (Some (Declares name literal optional)) row s is h = subst (HasName names) (one_step row _ s is.2 h) (slice_get_within names is.0 (text_of_name name) is.1)
-step_to_name names place None row s is h = absurd (subst (In s) is h)
-
-step_name : (names : List (List ℕ)) (i : Item) (t : Option ℕ) (row : List Step) (s : Step) → IsStepOf names i t row → In s row → HasName names s
-step_name names i None row s is h = absurd (subst (In s) is h)
-step_name names i (Some place) row s is h = step_to_name names place (edge_of i) row s is h
-
-steps_name : (names : List (List ℕ)) (is : List Item) (ts : List (Option ℕ)) (row : List Step) (s : Step) → AreSteps names is ts row → In s row → HasName names s
-steps_name names [] [] row s are h = absurd (subst (In s) are h)
-steps_name names [] (t ∷ ts) row s are h = absurd are
-steps_name names (i ∷ is) [] row s are h = absurd are
-steps_name names (i ∷ is) (t ∷ ts) row s are h = elim (in_cases s are.0 are.1 (subst (In s) are.4 h)) [
-  | inl a ↦ step_name names i t are.0 s are.2 a
-  | inr b ↦ steps_name names is ts are.1 s are.3 b
-]
-
-named : (names : List Name) (s : Step) → HasName (texts_of names) s → IfSome s.enters (λ number. number < length names)
-named names s h = subst (λ n. IfSome s.enters (λ number. number < n)) (length-map names text_of_name) h
 
 -- a row is what the steps are
 row_steps : (rows : List (Vec Step Global)) (a i : ℕ) (s : Step) → slice_get (steps rows a) i ≡ Some s → (row : Vec Step Global) × (slice_get rows a ≡ Some row) × (slice_get row.items i ≡ Some s)
@@ -244,10 +210,8 @@ module _ (w : World) (scan : Scan) (is : IsScan w scan) (us : List Unfolded) (ar
           let before = read_at sources o.parent p.0 in
           let tells = nodes.1.tells o.parent element.0 parent element.1 p.1 in
           let row = row_steps scan.rows.items parent.node o.step s c.3 in
-          let file = read_at scan.files.items parent.node (omega (arith, is.count, slice_get_within scan.rows.items parent.node row.0 row.1)) in
-          let scanned = is.scanned parent.node file.0 row.0 file.1 row.1 in
-          let there : In s row.0.items = is_in s row.0.items (got row.0.items o.step s row.2) in
-          let leads : HasStep scan.rows.items parent.node s.target = contained s.target (map (λ (x : Step). x.target) (steps scan.rows.items parent.node)) (in_map (λ (x : Step). x.target) s (steps scan.rows.items parent.node) (is_in s (steps scan.rows.items parent.node) (got (steps scan.rows.items parent.node) o.step s c.3))) in
+          let here : In s (steps scan.rows.items parent.node) = is_in s (steps scan.rows.items parent.node) (got (steps scan.rows.items parent.node) o.step s c.3) in
+          let leads : HasStep scan.rows.items parent.node s.target = contained s.target (map (λ (x : Step). x.target) (steps scan.rows.items parent.node)) (in_map (λ (x : Step). x.target) s (steps scan.rows.items parent.node) here) in
           let came : CameIn scan parent before.0 = so o.parent parent before.0 p.1 before.1 in
           let same : unfolded_key element.0 ≡ key parent = λ i. record { path = tells.path i; node = tells.node i } in
           let depth : IsLeastDepth (steps scan.rows.items) 0 (key parent) element.0.depth = subst (λ k. IsLeastDepth (steps scan.rows.items) 0 k element.0.depth) same (are.depths o.parent element.0 element.1) in
@@ -264,7 +228,7 @@ module _ (w : World) (scan : Scan) (is : IsScan w scan) (us : List Unfolded) (ar
             row_at = ap (slice_get scan.rows.items) tells.node ∙ row.1;
             step_at = row.2;
             target = omega (arith, is.within parent.node s.target leads, is.count);
-            number = named scan.names.items s (steps_name (texts_of scan.names.items) scanned.items file.0.targets.items row.0.items s scanned.steps there);
+            number = numbered scan s.enters (known_here w scan is parent.node s here);
             came = came;
             shallow = omega (arith, came.depth.1 element.0.depth depth.0, are.shallow o.parent element.0 element.1);
             is_child = c.4;
@@ -288,11 +252,11 @@ module _ (w : World) (scan : Scan) (is : IsScan w scan) (us : List Unfolded) (ar
         omega (arith, node, rows.some, rows.count)
 
 -- what is listed of rows that are lent
-pub are_unfolded : (scan : Scan) (rows : List (Vec Step Global)) (us lent : List Unfolded) → rows ≡ scan.rows.items → lent ≡ us → IsUnfolded (steps rows) 0 us → ((k : ℕ) (u : Unfolded) → slice_get us k ≡ Some u → IsLeastDepth (steps rows) 0 (unfolded_key u) u.depth)
+pub are_unfolded : (scan : Scan) (rows : List (Vec Step Global)) (us lent : List Unfolded) → rows ≡ scan.rows.items → lent ≡ us → IsUnfolded (steps rows) 0 us → AreLeast (steps rows) 0 us
     → ((k : ℕ) (u : Unfolded) → slice_get us k ≡ Some u → u.depth < length us) → AreUnfolded scan lent
 are_unfolded scan rows us lent is_rows is_us listed depths shallow = subst (AreUnfolded scan) (sym is_us) (record {
   unfolded = subst (λ rs. IsUnfolded (steps rs) 0 us) is_rows listed;
-  depths = subst (λ rs. (k : ℕ) (u : Unfolded) → slice_get us k ≡ Some u → IsLeastDepth (steps rs) 0 (unfolded_key u) u.depth) is_rows depths;
+  depths = subst (λ rs. AreLeast (steps rs) 0 us) is_rows depths;
   shallow = shallow;
 })
 

@@ -1,14 +1,15 @@
 -- The rows of a scan are the steps of its files, by texts.
-use Rattle.std.proofs.Common.{◌≡◌, ℕ, zero, suc, ◌<◌, List, [], ◌∷◌, ◌++◌, map, length, get_or, Option, None, Some, inl, inr, refl, sym, ap, subst, ◌∙◌, arith}
+use Rattle.std.proofs.Common.{◌≡◌, ℕ, zero, suc, ◌<◌, List, [], ◌∷◌, ◌++◌, map, length, get_or, Option, None, Some, IfSome, inl, inr, refl, sym, ap, subst, ◌∙◌, arith}
 use Rattle.std.specs.Prelude.{unwrap_or}
 use Rattle.std.specs.List.{flat_map, slice_get}
 use Rattle.std.specs.Option.{option_map}
 use Rattle.std.specs.declared.vec.Vec.{Vec}
 use Rattle.std.specs.declared.alloc.Global.{Global}
-use Rattle.std.proofs.lemmas.List.{map-append}
+use Rattle.std.proofs.lemmas.List.{length-map, map-append}
 use Rattle.std.proofs.lemmas.Option.{get_or_from_slice_get, slice_get_within}
 use Rattle.just_graph.specs.Unfolding.{steps}
 use Rattle.just_graph.specs.declared.unfolding.Step.{Step}
+use Rattle.just_graph.proofs.StepRows.{steps_at as row_read}
 use Rattle.just_graph.proofs.Members.{In, in_cases}
 use Rattle.just_parts.specs.Clean.{folder_of}
 use Rattle.just_parts.specs.Edge.{Edge, Imports, Declares, edge_of}
@@ -23,7 +24,7 @@ use Rattle.just_loader.specs.Reached.{World, link}
 use Rattle.just_loader.specs.Scanned.{IsPlaceOf, ArePlacesOf, IsStepTo, IsStepOf, AreSteps, IsScan, IsScanned, paths_in}
 use Rattle.just_loader.specs.declared.scanned.Scan.{Scan}
 use Rattle.just_loader.specs.declared.scanned.ScannedFile.{ScannedFile}
-use Rattle.just_loader.proofs.Numberings.{map_get, none_some, some_same}
+use Rattle.just_loader.proofs.Numberings.{map_get}
 use Rattle.just_loader.proofs.WholeScans.{one_target, read_at, row_at}
 
 -- where links lead
@@ -96,9 +97,11 @@ module _ (scan : Scan) where
   row_known (i ∷ is) (t ∷ ts) row s are h = elim (in_cases s are.0 are.1 (subst (In s) are.4 h)) [ inl a ↦ item_known i t are.0 s are.2 a | inr b ↦ row_known is ts are.1 s are.3 b ]
 
 pub steps_at : (rows : List (Vec Step Global)) (a : ℕ) (row : Vec Step Global) → slice_get rows a ≡ Some row → steps rows a ≡ row.items
-steps_at [] a row e = absurd (none_some e)
-steps_at (r ∷ rows) zero row e = ap (λ (x : Vec Step Global). x.items) (some_same e)
-steps_at (r ∷ rows) (suc a) row e = steps_at rows a row e
+steps_at rows a row e = row_read rows a row (slice_get_within rows a row e) ∙ ap (λ (x : Vec Step Global). x.items) (get_or_from_slice_get rows a row row e)
+
+pub numbered : (scan : Scan) (e : Option ℕ) → IsKnown scan e → IfSome e (λ number. number < length scan.names.items)
+numbered scan None h = tt
+numbered scan (Some number) h = omega (arith, slice_get_within (texts_of scan.names.items) number (name_at scan number) h, length-map scan.names.items text_of_name)
 
 module _ (w : World) (scan : Scan) (is : IsScan w scan) where
   -- the file at a place

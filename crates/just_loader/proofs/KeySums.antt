@@ -5,7 +5,7 @@ use Rattle.std.proofs.lemmas.List.Sums.{sum_by-cons}
 use Rattle.just_graph.specs.Unfolding.{IsReachedKey, steps}
 use Rattle.just_graph.specs.Unfolded.{unfolded_key, AreApart, AreReached}
 use Rattle.just_graph.specs.declared.unfolding.Unfolded.{Unfolded}
-use Rattle.just_graph.proofs.Members.{In, contained, is_in, in_cases, in_map}
+use Rattle.just_graph.proofs.Members.{In, contained, is_in, in_cases, in_map, without}
 use Rattle.just_loader.specs.Causes.{Cause, NoNumber, Keeps}
 use Rattle.just_loader.specs.FileCircles.{LeadsOn, by_edge, by_edges, ChainTo, at_root, and_next, NamesCircle, leads_back}
 use Rattle.just_loader.specs.Keys.{IsKey, FileKey, AreOnceKeys, spends_at, NamesInFiles, no_root, at_fault, in_circle, too_many}
@@ -14,19 +14,9 @@ use Rattle.just_loader.specs.Reached.{World, Reached, LeadsTo, NamesInScan}
 use Rattle.just_loader.specs.Scanned.{IsScan}
 use Rattle.just_loader.specs.Sources.{text_at}
 use Rattle.just_loader.specs.declared.scanned.Scan.{Scan}
+use Rattle.just_loader.proofs.ComingIn.{get_take}
 use Rattle.just_loader.proofs.FileKeys.{file_key, from_key, same_keys, stands, to_key}
 use Rattle.just_loader.proofs.Numberings.{got, placed, get_map, map_get, none_some}
-
--- a list without one of its elements
-without : {A : Type 0} (x : A) (ys : List A) → In x ys → (zs : List A) × ((g : A → ℕ) → sum_by g ys ≡ g x + sum_by g zs) × ((z : A) → In z ys → (z ≡ x → ⊥) → In z zs)
-without x [] h = absurd h
-without x (y ∷ ys) (inl e) = (ys, λ g. sum_by-cons g y ys ∙ ap (λ v. g v + sum_by g ys) (sym e), λ z h other. elim h [ inl k ↦ absurd (other (k ∙ sym e)) | inr i ↦ i ])
-without x (y ∷ ys) (inr h) =
-    let r = without x ys h in (
-      y ∷ r.0,
-      λ g. omega (arith, sum_by-cons g y ys, sum_by-cons g y r.0, r.1 g),
-      λ z i other. elim i [ inl k ↦ inl k | inr j ↦ inr (r.2 z j other) ],
-    )
 
 -- what has each element of another list, where that has none twice, has no smaller sum
 sums : {A : Type 0} (g : A → ℕ) (these those : List A) → ((i j : ℕ) (x : A) → slice_get these i ≡ Some x → slice_get these j ≡ Some x → i ≡ j) → ((x : A) → In x these → In x those) → sum_by g these ≤ sum_by g those
@@ -35,18 +25,12 @@ sums {A} g (x ∷ these) those once all =
     let r = without x those (all x (inl refl)) in
     let fresh : In x these → ⊥ = λ h. let k = placed these x (contained x these h) in let same : 0 ≡ suc k.0 = once 0 (suc k.0) x refl k.1 in absurd (omega (arith, same)) in
     let less : sum_by g these ≤ sum_by g r.0 =
-    sums g these r.0 (λ i j y e f. let same : suc i ≡ suc j = once (suc i) (suc j) y e f in omega (arith, same)) (λ z h. r.2 z (all z (inr h)) (λ e. fresh (subst (λ (y : A). In y these) e h))) in
-    omega (arith, less, r.1 g, sum_by-cons g x these)
+    sums g these r.0 (λ i j y e f. let same : suc i ≡ suc j = once (suc i) (suc j) y e f in omega (arith, same)) (λ z h. r.3 z (all z (inr h)) (λ e. fresh (subst (λ (y : A). In y these) e h))) in
+    omega (arith, less, r.2 g, sum_by-cons g x these)
 
 sum_map : {A B : Type 0} (g : B → ℕ) (f : A → B) (xs : List A) → sum_by g (map f xs) ≡ sum_by (λ x. g (f x)) xs
 sum_map g f [] = refl
 sum_map g f (x ∷ xs) = sum_by-cons g (f x) (map f xs) ∙ ap (λ n. g (f x) + n) (sum_map g f xs) ∙ sym (sum_by-cons (λ y. g (f y)) x xs)
-
-get_take : {A : Type 0} (xs : List A) (n k : ℕ) (x : A) → slice_get (take n xs) k ≡ Some x → slice_get xs k ≡ Some x
-get_take xs zero k x e = absurd (none_some e)
-get_take [] (suc n) k x e = absurd (none_some e)
-get_take (y ∷ xs) (suc n) zero x e = e
-get_take (y ∷ xs) (suc n) (suc k) x e = get_take xs n k x e
 
 -- a file of a chain is reached, and the last is it or what it leads on to
 reached_in : (w : World) {files : List (List ℕ)} {f : List ℕ} → ChainTo w files f → (g : List ℕ) → In g files → (g ≡ f) ⊎ LeadsOn w g f
@@ -96,13 +80,13 @@ module _ (w : World) (scan : Scan) (is : IsScan w scan) (us : List Unfolded) (ke
   each_once n i j k e f =
       let u = get_map key_of (take n us) i k e in
       let v = get_map key_of (take n us) j k f in
-      one_place i j u.0 v.0 (get_take us n i u.0 u.1) (get_take us n j v.0 v.1) (u.2 ∙ sym v.2)
+      one_place i j u.0 v.0 (get_take us n i u.0 u.1).1 (get_take us n j v.0 v.1).1 (u.2 ∙ sym v.2)
 
   each_key : (n : ℕ) (k : FileKey) → Contains (map key_of (take n us)) k → IsKey w k
   each_key n k c =
       let at = placed (map key_of (take n us)) k c in
       let u = get_map key_of (take n us) at.0 k at.1 in
-      subst (IsKey w) u.2 (to_key w scan is (unfolded_key u.0) (reached at.0 u.0 (get_take us n at.0 u.0 u.1)))
+      subst (IsKey w) u.2 (to_key w scan is (unfolded_key u.0) (reached at.0 u.0 (get_take us n at.0 u.0 u.1).1))
 
   -- the first texts take too many numbers
   pub many : (n : ℕ) → 2 ^ 64 ≤ sum_by takes (take n us) → NamesInFiles w NoNumber

@@ -7,6 +7,8 @@ use Rattle.std.proofs.lemmas.Bool.{false_from_ne_true}
 use Rattle.std.proofs.lemmas.List.{map-append, length-map}
 use Rattle.std.proofs.lemmas.Slice.Eq.{bytes_eq-Decides}
 use Rattle.std.specs.HashMap.{get}
+pub use Rattle.just_graph.proofs.Told.{get_old as get_more, get_last}
+pub use Rattle.just_graph.proofs.Index.{got_in as got, map_get, none_some, some_same}
 use Rattle.just_parts.specs.Name.{text_of_name}
 use Rattle.just_parts.specs.declared.layers.name.Name.{Name}
 use Rattle.just_loader.specs.Sources.{Files}
@@ -14,16 +16,6 @@ use Rattle.just_loader.specs.declared.sources.SourceFile.{SourceFile}
 use Rattle.just_loader.specs.declared.found.Found.{Found}
 use Rattle.just_loader.specs.Numbering.{AreOnce, IsNumbering, IsFile, AreFound, paths_of, texts_of}
 use Rattle.just_loader.proofs.Lists.{same_or_not}
-
--- what a list has stays behind more
-pub get_more : {A : Type 0} (xs ys : List A) (i : ℕ) (x : A) → slice_get xs i ≡ Some x → slice_get (xs ++ ys) i ≡ Some x
-get_more [] ys i x e = cc
-get_more (y ∷ xs) ys zero x e = e
-get_more (y ∷ xs) ys (suc i) x e = get_more xs ys i x e
-
-pub get_last : {A : Type 0} (xs : List A) (x : A) → slice_get (xs ++ x ∷ []) (length xs) ≡ Some x
-get_last [] x = refl
-get_last (y ∷ xs) x = get_last xs x
 
 pub get_cases : {A : Type 0} (xs : List A) (x y : A) (i : ℕ) → slice_get (xs ++ x ∷ []) i ≡ Some y → (slice_get xs i ≡ Some y) ⊎ ((i ≡ length xs) × (x ≡ y))
 get_cases [] x y zero e = inr (refl, cc)
@@ -36,23 +28,9 @@ get_map f [] k y e = cc
 get_map f (x ∷ xs) zero y e = (x, refl, cc)
 get_map f (x ∷ xs) (suc k) y e = get_map f xs k y e
 
-pub map_get : {A B : Type 0} (f : A → B) (xs : List A) (k : ℕ) (x : A) → slice_get xs k ≡ Some x → slice_get (map f xs) k ≡ Some (f x)
-map_get f [] k x e = cc
-map_get f (y ∷ xs) zero x e = cc
-map_get f (y ∷ xs) (suc k) x e = map_get f xs k x e
-
 -- what is at a place is an element, and the other way round
-pub got : {A : Type 0} (xs : List A) (k : ℕ) (x : A) → slice_get xs k ≡ Some x → Contains xs x
-got xs k x e = (k, slice_get_within xs k x e, get_or_from_slice_get xs k x x e)
-
 pub placed : {A : Type 0} (xs : List A) (x : A) → Contains xs x → (k : ℕ) × (slice_get xs k ≡ Some x)
 placed xs x c = (c.0, slice_get_read xs (length xs) c.0 x refl c.1 (sym c.2))
-
-pub some_same : {A : Type 0} {x y : A} → Some x ≡ Some y → x ≡ y
-some_same e = cc
-
-pub none_some : {A : Type 0} {x : A} → None ≡ Some x → ⊥
-none_some e = cc
 
 -- no text stands at two places of a numbering
 pub once : (texts : List (List ℕ)) (numbers : List ℕ → Option ℕ) → IsNumbering texts numbers → AreOnce texts

@@ -12,7 +12,7 @@ use Rattle.std.proofs.lemmas.Option.{get_or_from_slice_get, slice_get_within}
 use Rattle.std.proofs.lemmas.Slice.Eq.{bytes_eq-Decides}
 use Rattle.just_graph.specs.Unfolding.{HasStep, steps}
 use Rattle.just_graph.specs.declared.unfolding.Step.{Step}
-use Rattle.just_graph.proofs.Members.{In, contained, is_in, in_cases, from_map}
+use Rattle.just_graph.proofs.Members.{In, contained, is_in, in_cases, from_map, without}
 use Rattle.just_graph.proofs.Index.{same_lists}
 use Rattle.just_parts.specs.Clean.{IsClean, folder_of}
 use Rattle.just_parts.specs.Entries.{find}
@@ -235,21 +235,13 @@ module _ (w : World) (paths names : List (List ℕ)) (files : List ScannedFile) 
         names = subst AreOnce (sym is_texts) once_names;
       }
 
--- a list without one of its elements
-without : (x : List ℕ) (ys : List (List ℕ)) → In x ys → (zs : List (List ℕ)) × (length ys ≡ suc (length zs)) × ((z : List ℕ) → In z ys → (z ≡ x → ⊥) → In z zs)
-without x [] h = absurd h
-without x (y ∷ ys) (inl e) = (ys, refl, λ z h other. elim h [ inl k ↦ absurd (other (k ∙ sym e)) | inr i ↦ i ])
-without x (y ∷ ys) (inr h) =
-    let r = without x ys h in
-    (y ∷ r.0, ap suc r.1, λ z i other. elim i [ inl k ↦ inl k | inr j ↦ inr (r.2 z j other) ])
-
 -- texts of a list that are there once are no more than the list has
 few : (xs ys : List (List ℕ)) → AreOnce xs → ((x : List ℕ) → In x xs → In x ys) → length xs ≤ length ys
 few [] ys once h = omega arith
 few (x ∷ xs) ys once h =
     let r = without x ys (h x (inl refl)) in
     let fresh : In x xs → ⊥ = λ i. let k = placed xs x (contained x xs i) in let same : 0 ≡ suc k.0 = once 0 (suc k.0) x refl k.1 in absurd (omega (arith, same)) in
-    let shorter : length xs ≤ length r.0 = few xs r.0 (λ i j t e f. let same : suc i ≡ suc j = once (suc i) (suc j) t e f in omega (arith, same)) (λ z i. r.2 z (h z (inr i)) (λ e. fresh (subst (λ y. In y xs) e i))) in
+    let shorter : length xs ≤ length r.0 = few xs r.0 (λ i j t e f. let same : suc i ≡ suc j = once (suc i) (suc j) t e f in omega (arith, same)) (λ z i. r.3 z (h z (inr i)) (λ e. fresh (subst (λ y. In y xs) e i))) in
     omega (arith, r.1, shorter)
 
 some_is : {A : Type 0} (o : Option A) (x : A) → o ≡ Some x → IsSome o

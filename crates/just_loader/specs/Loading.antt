@@ -2,7 +2,7 @@
 use Rattle.std.specs.Prelude.{◌≡◌, ℕ, ◌+◌, ◌<◌, ◌≤◌, ◌^◌, List, [], ◌∷◌, ◌++◌, map, take, length, slice_get, Option, Some, None}
 use Rattle.std.specs.List.{flat_map, sum_by}
 use Rattle.just_graph.specs.Unfolding.{Node, AreFirst, IsLeastDepth, offsets_after, steps}
-use Rattle.just_graph.specs.Unfolded.{AllTold, IsUnfolded, unfolded_key}
+use Rattle.just_graph.specs.Unfolded.{AreLeast, AllTold, IsUnfolded, unfolded_key}
 use Rattle.just_graph.specs.declared.unfolding.Step.{Step}
 use Rattle.just_graph.specs.declared.unfolding.Unfolded.{Unfolded}
 use Rattle.just_parts.specs.Bare.{bare_ast}
@@ -28,7 +28,7 @@ pub record IsScanBy (w : World) (scan : Scan) (answers : SyntaxAnswers) : Type 0
 -- The elements tell the first node of each key with its least depth, which is below their number.
 pub record AreUnfolded (scan : Scan) (us : List Unfolded) : Type 0 where
   pub unfolded : IsUnfolded (steps scan.rows.items) 0 us
-  pub depths : (k : ℕ) (u : Unfolded) → slice_get us k ≡ Some u → IsLeastDepth (steps scan.rows.items) 0 (unfolded_key u) u.depth
+  pub depths : AreLeast (steps scan.rows.items) 0 us
   pub shallow : (k : ℕ) (u : Unfolded) → slice_get us k ≡ Some u → u.depth < length us
 
 -- what holds in each world that the scan is of
