@@ -23,7 +23,8 @@ use std::alloc::{AllocError, Global};
 /// A line that is empty or begins with `#` is ignored. `import 'P'` is an import, and `mod NAME` or `mod NAME 'P'` a
 /// module, where NAME is an identifier, P has no `'`, and `?` right after the first word makes it optional. Any other
 /// line is `NAME P .. : D .. && D ..`, where a name, a parameter and a dependency is an identifier, each list may be
-/// empty and the part from `&&` on may be missing. Blanks and tabs separate, but begin no line.
+/// empty and the part from `&&` on may be missing. Blanks and tabs separate, but begin no line. Where a text does not
+/// follow the grammar, the token of the fault is the whole of the first line that does not.
 #[derive(Clone, Copy, Debug, Default, PartialEq, Eq)]
 pub struct PlainSyntax;
 
