@@ -3,7 +3,7 @@ use Rattle.std.proofs.Common.{Some, Option, Bool, ◌≡◌, ℕ, ◌+◌, ◌^�
 use Rattle.std.proofs.Math.Seq.{drop-cons}
 use Rattle.std.specs.List.{All, slice_get}
 use Rattle.std.proofs.lemmas.List.{map-append, append-nil, length-map}
-use Rattle.std.proofs.lemmas.List.Elements.{All-push, All-nil}
+use Rattle.std.proofs.lemmas.List.Elements.{All-push}
 use Rattle.std.proofs.lemmas.Grind.{flat_map-append}
 use Rattle.just_parts.specs.declared.source.Source.{Source}
 use Rattle.just_parts.specs.declared.layers.ast.Item.{Item}
@@ -15,7 +15,7 @@ use Rattle.just_parts.specs.declared.layers.name.Name.{Name}
 use Rattle.just_bench.specs.declared.lines.Line.{Line}
 use Rattle.just_bench.specs.declared.grammar.Heading.{Heading}
 use Rattle.just_bench.specs.declared.grammar.Reading.{Reading}
-use Rattle.just_bench.specs.declared.grammar.Reading.TheVariants.{Bad, Ignored, Imports, Declares, Begins}
+use Rattle.just_bench.specs.declared.grammar.Reading.TheVariants.{Bad, Imports, Declares, Begins}
 use Rattle.just_parts.specs.Bare.{bare_item, bare_recipe}
 use Rattle.just_parts.specs.Syntax.{CameBy, ItemCameBy, PriorsAreDependencies, item_numbers, parameter_numbers, recipe_numbers, numbers, AreRising}
 use Rattle.just_parts.specs.Token.{Place}

@@ -19,10 +19,10 @@ use Rattle.just_bench.specs.declared.lexer.Kind.TheVariants as kind
 use Rattle.just_bench.specs.declared.lexer.Lexeme.{Lexeme}
 use Rattle.just_bench.specs.declared.grammar.Heading.{Heading}
 use Rattle.just_bench.specs.declared.grammar.Reading.{Reading}
-use Rattle.just_bench.specs.declared.grammar.Reading.TheVariants.{Bad, Ignored, Imports, Declares}
+use Rattle.just_bench.specs.declared.grammar.Reading.TheVariants.{Imports, Declares}
 use Rattle.just_bench.specs.Lines.{IsLineOf}
 use Rattle.just_bench.specs.Lexemes.{is_blank, is_quote, starts_with_and, quoted, first, place, before, lexemes_from, lexemes, IsQuoted}
-use Rattle.just_bench.specs.Grammar.{is_quoted, is_name, is_word, is_optional, after_word, only_quoted, import_line, after_module, after_mod, module_line, heading, told, sorted, is_comment, is_indented, reading, PathIsQuoted, name_of}
+use Rattle.just_bench.specs.Grammar.{is_quoted, is_name, is_word, is_optional, after_word, only_quoted, import_line, after_module, after_mod, module_line, heading, told, sorted, PathIsQuoted, name_of}
 use Rattle.just_bench.specs.Items.{between_quotes}
 use Rattle.just_bench.proofs.Lexing.{quote_found}
 

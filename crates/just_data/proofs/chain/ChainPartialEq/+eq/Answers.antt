@@ -1,5 +1,4 @@
-use Rattle.std.proofs.Common.{rules, nat_eq}
-use Rattle.std.specs.Cmp.Lexicographic.{pointwise}
+use Rattle.std.proofs.Common.{rules}
 use Rattle.just_data.proofs.Chained.{pointwise_pushed}
 use Rattle.just_data.proofs.chain.ChainPartialEq.+eq.Goals as goal
 
