@@ -1,12 +1,9 @@
 -- What is known of the keys of the modules.
-use Rattle.std.proofs.Common.{nat_eq, ◌≡◌, ℕ, ◌<◌, List, [], ◌∷◌, map, length, get_or, Some, inl, inr, sym, ap, subst, ◌∙◌, arith}
+use Rattle.std.proofs.Common.{nat_eq, ◌≡◌, ℕ, ◌<◌, List, map, length, get_or, Some, sym, ap, subst, ◌∙◌}
 use Rattle.std.specs.Prelude.{flat_map}
 use Rattle.std.proofs.lemmas.List.Elements.{Contains-get_or}
-use Rattle.std.proofs.lemmas.List.{length-map}
-use Rattle.std.proofs.lemmas.Option.{slice_get_within}
 use Rattle.just_graph.proofs.Ended.{one_list}
 use Rattle.just_graph.proofs.Members.{In, is_in}
-use Rattle.just_loader.specs.Numbering.{texts_of}
 use Rattle.std.specs.HashMap.{get}
 use Rattle.std.specs.List.{All, Contains, slice_get}
 use Rattle.just_graph.specs.Steps.{IsOnce}
@@ -14,10 +11,9 @@ use Rattle.just_graph.specs.Unfolding.{steps, IsOrdered, Key, KeySteps, root_key
 use Rattle.just_parts.specs.Name.{text_of_name}
 use Rattle.just_parts.specs.declared.layers.ast.Ast.{Ast}
 use Rattle.just_loader.specs.Asts.{same_ast_key}
-use Rattle.just_loader.specs.Loaded.{IsLoaded, key_at, name_at}
+use Rattle.just_loader.specs.Loaded.{IsLoaded, key_at}
 use Rattle.just_loader.specs.Reached.{World}
 use Rattle.just_loader.specs.declared.loaded.Loaded.{Loaded}
-use Rattle.just_loader.specs.declared.scanned.Scan.{Scan}
 use Rattle.just_loader.proofs.FileRows.{numbered}
 use Rattle.just_loader.proofs.FileKeys.{stands}
 use Rattle.just_analyzer.specs.Index.{AreDifferent}

@@ -1,17 +1,17 @@
 -- The nodes of the modules, as they are compiled.
-use Rattle.std.proofs.Common.{◌≡◌, ◌∙◌, ℕ, zero, suc, ◌<◌, Bool, true, false, List, [], ◌∷◌, map, flat_map, filter, length, take, get_or, is_some, Option, Some, None, IsSome, inl, inr, ◌⊎◌, ◌↔◌, refl, sym, ap, subst, arith, cond}
+use Rattle.std.proofs.Common.{◌≡◌, ◌∙◌, ℕ, suc, ◌<◌, Bool, true, false, List, [], ◌∷◌, map, flat_map, filter, length, take, get_or, is_some, Option, Some, None, IsSome, inl, inr, ◌↔◌, refl, sym, ap, subst, arith, cond}
 use Rattle.std.specs.List.{All, Contains, slice_get}
 use Rattle.std.proofs.lemmas.List.{length-map}
 use Rattle.std.proofs.lemmas.List.Elements.{Contains-get_or}
 use Rattle.std.proofs.lemmas.Option.{slice_get_within}
-use Rattle.just_graph.specs.Unfolding.{steps, Key, Node, key, key_child, root_key, KeySteps, stay, move, Firsts, none, again, first}
+use Rattle.just_graph.specs.Unfolding.{steps, Key, Node, key, key_child, root_key, KeySteps, stay, move}
 use Rattle.just_graph.specs.Unfolded.{unfolded_key, AllTold, AreApart, CameFrom, IsUnfolded}
 use Rattle.just_graph.specs.declared.unfolding.Origin.{Origin}
 use Rattle.just_graph.specs.declared.unfolding.Step.{Step}
 use Rattle.just_graph.specs.declared.unfolding.Unfolded.{Unfolded}
 use Rattle.just_graph.proofs.Preorder.{firsts_in}
 use Rattle.just_graph.proofs.KeySteps.{steps_keep, steps_more}
-use Rattle.just_graph.proofs.Members.{In, from_flat, contained, is_in, in_left, in_cases}
+use Rattle.just_graph.proofs.Members.{In, from_flat, contained, is_in}
 use Rattle.just_graph.proofs.Index.{get_map, map_get, some_same, got_in}
 use Rattle.just_graph.proofs.Told.{at_least, told_key}
 use Rattle.just_graph.proofs.Trails.{trails}

@@ -1,5 +1,5 @@
 -- Sums over keys, and the rules of files that are kept.
-use Rattle.std.proofs.Common.{◌≡◌, ℕ, zero, suc, length, ◌+◌, ◌<◌, ◌≤◌, ◌^◌, List, [], ◌∷◌, map, take, ◌↔◌, Option, None, Some, IsSome, ◌⊎◌, refl, sym, ap, subst, ◌∙◌, arith, inl, inr}
+use Rattle.std.proofs.Common.{◌≡◌, ℕ, suc, length, ◌+◌, ◌<◌, ◌≤◌, ◌^◌, List, [], ◌∷◌, map, take, Option, None, Some, IsSome, ◌⊎◌, refl, sym, ap, subst, ◌∙◌, arith, inl, inr}
 use Rattle.std.specs.List.{Contains, slice_get, sum_by}
 use Rattle.std.proofs.lemmas.List.Sums.{sum_by-cons}
 use Rattle.just_graph.specs.Unfolding.{IsReachedKey, steps}
@@ -16,7 +16,7 @@ use Rattle.just_loader.specs.Sources.{text_at}
 use Rattle.just_loader.specs.declared.scanned.Scan.{Scan}
 use Rattle.just_loader.proofs.ComingIn.{get_take}
 use Rattle.just_loader.proofs.FileKeys.{file_key, from_key, same_keys, stands, to_key}
-use Rattle.just_loader.proofs.Numberings.{got, placed, get_map, map_get, none_some}
+use Rattle.just_loader.proofs.Numberings.{got, placed, get_map, map_get}
 
 -- what has each element of another list, where that has none twice, has no smaller sum
 sums : {A : Type 0} (g : A → ℕ) (these those : List A) → ((i j : ℕ) (x : A) → slice_get these i ≡ Some x → slice_get these j ≡ Some x → i ≡ j) → ((x : A) → In x these → In x those) → sum_by g these ≤ sum_by g those
