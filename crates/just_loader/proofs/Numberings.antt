@@ -9,12 +9,13 @@ use Rattle.std.proofs.lemmas.Slice.Eq.{bytes_eq-Decides}
 use Rattle.std.specs.HashMap.{get}
 pub use Rattle.just_graph.proofs.Told.{get_old as get_more, get_last}
 pub use Rattle.just_graph.proofs.Index.{got_in as got, map_get, none_some, some_same}
+use Rattle.just_graph.specs.Unfolded.{AreApart}
 use Rattle.just_parts.specs.Name.{text_of_name}
 use Rattle.just_parts.specs.declared.layers.name.Name.{Name}
 use Rattle.just_loader.specs.Sources.{Files}
 use Rattle.just_loader.specs.declared.sources.SourceFile.{SourceFile}
 use Rattle.just_loader.specs.declared.found.Found.{Found}
-use Rattle.just_loader.specs.Numbering.{AreOnce, IsNumbering, IsFile, AreFound, paths_of, texts_of}
+use Rattle.just_loader.specs.Numbering.{IsNumbering, IsFile, AreFound, paths_of, texts_of}
 use Rattle.just_loader.proofs.Lists.{same_or_not}
 
 pub get_cases : {A : Type 0} (xs : List A) (x y : A) (i : ℕ) → slice_get (xs ++ x ∷ []) i ≡ Some y → (slice_get xs i ≡ Some y) ⊎ ((i ≡ length xs) × (x ≡ y))
@@ -33,7 +34,7 @@ pub placed : {A : Type 0} (xs : List A) (x : A) → Contains xs x → (k : ℕ) 
 placed xs x c = (c.0, slice_get_read xs (length xs) c.0 x refl c.1 (sym c.2))
 
 -- no text stands at two places of a numbering
-pub once : (texts : List (List ℕ)) (numbers : List ℕ → Option ℕ) → IsNumbering texts numbers → AreOnce texts
+pub once : (texts : List (List ℕ)) (numbers : List ℕ → Option ℕ) → IsNumbering texts numbers → AreApart texts
 once texts numbers n i j t e f = some_same (sym ((n t i).0 e) ∙ (n t j).0 f)
 
 differ : (a b : List ℕ) → a ≢ b → bytes_eq a b ≡ false
