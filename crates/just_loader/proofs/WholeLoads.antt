@@ -1,12 +1,12 @@
 -- What is loaded, from what is scanned, unfolded and parsed.
-use Rattle.std.proofs.Common.{◌≡◌, ℕ, ◌<◌, ◌^◌, false, List, [], ◌∷◌, map, length, ◌↔◌, Some, IsSome, refl, sym, ap, subst, ◌∙◌, arith}
+use Rattle.std.proofs.Common.{◌≡◌, ℕ, ◌<◌, ◌^◌, false, List, [], ◌∷◌, map, length, Some, IsSome, refl, sym, ap, subst, ◌∙◌, arith}
 use Rattle.std.specs.HashMap.{get}
 use Rattle.std.specs.List.{All, Contains, flat_map, slice_get}
 use Rattle.std.specs.declared.vec.Vec.{Vec}
 use Rattle.std.specs.declared.alloc.Global.{Global}
 use Rattle.std.proofs.lemmas.Option.{slice_get_within}
-use Rattle.just_graph.specs.Unfolding.{Key, Node, KeySteps, key, root_key, steps}
-use Rattle.just_graph.specs.Unfolded.{AreApart, IsUnfolded, unfolded_key}
+use Rattle.just_graph.specs.Unfolding.{Key, Node, key, steps}
+use Rattle.just_graph.specs.Unfolded.{AreApart, IsUnfolded, unfolded_key, AreReached}
 use Rattle.just_graph.specs.declared.unfolding.Step.{Step}
 use Rattle.just_graph.specs.declared.unfolding.Unfolded.{Unfolded}
 use Rattle.just_graph.proofs.Index.{told_same}
@@ -36,7 +36,7 @@ use Rattle.just_loader.proofs.WholeScans.{read_at}
 -- what unfolding tells of the nodes
 pub record IsWhole (rows : List (Vec Step Global)) (us : List Unfolded) : Type 0 where
   pub first : IsUnfolded (steps rows) 0 us
-  pub keys : (k : Key) → Contains (map unfolded_key us) k ↔ ((n : ℕ) × KeySteps (steps rows) (root_key 0) k n)
+  pub keys : AreReached (steps rows) 0 (map unfolded_key us)
   pub once : AreApart (map unfolded_key us)
 
 pub whole_lent : {rows lent : List (Vec Step Global)} {us shown : List Unfolded} → lent ≡ rows → shown ≡ us → IsWhole lent us → IsWhole rows shown

@@ -1,5 +1,5 @@
 -- What a file imports and which modules it declares, and the keys of files: the path of a module, and a file of it.
-use Rattle.std.specs.Prelude.{◌≡◌, ℕ, List, [], ◌∷◌, map, filter, not, is_some, unwrap_or, ◌≤◌, ◌^◌, slice_get, Option, None, Some}
+use Rattle.std.specs.Prelude.{◌≡◌, ℕ, List, [], ◌∷◌, map, filter, not, is_some, unwrap_or, ◌≤◌, ◌^◌, Option, None, Some}
 use Rattle.std.specs.List.{Contains, flat_map, sum_by}
 use Rattle.std.specs.Option.{option_map}
 use Rattle.just_graph.specs.Unfolding.{KeyOf, KeyStepsOf}
