@@ -1,23 +1,19 @@
 -- What is known of the keys of the modules.
-use Rattle.std.proofs.Common.{nat_eq, ◌≡◌, ℕ, ◌<◌, List, [], ◌∷◌, map, length, get_or, Some, inl, inr, sym, ap, subst, ◌∙◌, arith}
+use Rattle.std.proofs.Common.{nat_eq, ◌≡◌, ℕ, ◌<◌, List, map, length, get_or, Some, sym, ap, subst, ◌∙◌}
 use Rattle.std.specs.Prelude.{flat_map}
 use Rattle.std.proofs.lemmas.List.Elements.{Contains-get_or}
-use Rattle.std.proofs.lemmas.List.{length-map}
-use Rattle.std.proofs.lemmas.Option.{slice_get_within}
 use Rattle.just_graph.proofs.Ended.{one_list}
 use Rattle.just_graph.proofs.Members.{In, is_in}
-use Rattle.just_loader.specs.Numbering.{texts_of}
 use Rattle.std.specs.HashMap.{get}
 use Rattle.std.specs.List.{All, Contains, slice_get}
 use Rattle.just_graph.specs.Steps.{IsOnce}
-use Rattle.just_graph.specs.Unfolding.{steps, IsOrdered, Key, KeySteps, root_key}
+use Rattle.just_graph.specs.Unfolding.{steps, IsOrdered, Key, IsReachedKey}
 use Rattle.just_parts.specs.Name.{text_of_name}
 use Rattle.just_parts.specs.declared.layers.ast.Ast.{Ast}
 use Rattle.just_loader.specs.Asts.{same_ast_key}
-use Rattle.just_loader.specs.Loaded.{IsLoaded, key_at, name_at}
+use Rattle.just_loader.specs.Loaded.{IsLoaded, key_at}
 use Rattle.just_loader.specs.Reached.{World}
 use Rattle.just_loader.specs.declared.loaded.Loaded.{Loaded}
-use Rattle.just_loader.specs.declared.scanned.Scan.{Scan}
 use Rattle.just_loader.proofs.FileRows.{numbered}
 use Rattle.just_loader.proofs.FileKeys.{stands}
 use Rattle.just_analyzer.specs.Index.{AreDifferent}
@@ -42,25 +38,25 @@ all_in : {X : Type 0} (P : X → Type 0) (xs : List X) → ((x : X) → In x xs 
 all_in P xs f = λ k d h. f (get_or xs k d) (is_in (get_or xs k d) xs (Contains-get_or xs k d h))
 
 module _ (w : World) (loaded : Loaded) (plans : Plans) (is : IsLoaded w loaded) (are : ArePlans w loaded.scan plans) where
-  abbrev pub IsReachedKey : Key → Type 0
-  IsReachedKey k = (n : ℕ) × KeySteps (steps plans.entries.items) (root_key 0) k n
+  abbrev Reached : Key → Type 0
+  Reached = IsReachedKey (steps plans.entries.items) 0
 
   -- no module leads back to itself
   pub entries_ordered : IsOrdered plans.entries.items 0
   entries_ordered = module_order w loaded is plans are
 
-  pub key_planned : (k : Key) → IsReachedKey k → (plan : Plan) × (slice_get plans.plans.items k.node ≡ Some (Some plan))
+  pub key_planned : (k : Key) → Reached k → (plan : Plan) × (slice_get plans.plans.items k.node ≡ Some (Some plan))
   key_planned k r = plan_of w loaded.scan plans are r.1
 
   -- each name of a path has its number
-  pub key_names : (k : Key) → IsReachedKey k → All (λ name. name < length loaded.scan.names.items) k.path
+  pub key_names : (k : Key) → Reached k → All (λ name. name < length loaded.scan.names.items) k.path
   key_names k r =
       let at = stands w loaded.scan is.scan (module_keys w loaded is plans are r.1).1 in
       all_in (λ name. name < length loaded.scan.names.items) k.path
       (λ x h. numbered loaded.scan (Some x) (at.known x h))
 
   -- the plan of a key, with the files of any join
-  module _ (k : Key) (r : IsReachedKey k) (files : List ℕ) (join : IsJoin loaded.scan k.node files) where
+  module _ (k : Key) (r : Reached k) (files : List ℕ) (join : IsJoin loaded.scan k.node files) where
     of_key : (plan : Plan) × IsModule plans k plan
     of_key = module_of w loaded plans are r.1
 
@@ -91,7 +87,7 @@ module _ (w : World) (loaded : Loaded) (plans : Plans) (is : IsLoaded w loaded) 
       said_priors = module_priors w loaded is plans are k of_key.0 of_key.1 asts at_plan
 
   -- a path is that of one module
-  pub one_key : (k l : Key) → IsReachedKey k → IsReachedKey l → k.path ≡ l.path → k ≡ l
+  pub one_key : (k l : Key) → Reached k → Reached l → k.path ≡ l.path → k ≡ l
   one_key k l r q e = one_path w loaded.scan is.scan plans are r.1 q.1 e
 
   -- the names of the modules that a module declares
@@ -102,7 +98,7 @@ module _ (w : World) (loaded : Loaded) (plans : Plans) (is : IsLoaded w loaded) 
   entries_different a plan at = subst AreDifferent (plan_names w loaded.scan is.scan plans are a plan at) (entries_differ w loaded.scan is.scan plans are a plan at)
 
   -- no recipe number is that of two modules
-  pub numbers_apart : (k l : Key) → IsReachedKey k → IsReachedKey l → (k ≡ l → ⊥) → (files more : List ℕ) → IsJoin loaded.scan k.node files → IsJoin loaded.scan l.node more → (asts others : List Ast) → AreSaid loaded k files asts → AreSaid loaded l more others
+  pub numbers_apart : (k l : Key) → Reached k → Reached l → (k ≡ l → ⊥) → (files more : List ℕ) → IsJoin loaded.scan k.node files → IsJoin loaded.scan l.node more → (asts others : List Ast) → AreSaid loaded k files asts → AreSaid loaded l more others
       → (n : ℕ) → Contains (unresolved_numbers (recipes_said w asts)) n → Contains (unresolved_numbers (recipes_said w others)) n → ⊥
   numbers_apart k l r q apart files more join joined asts others said saids n c d =
       let p = of_key k r files join in

@@ -1,9 +1,8 @@
 -- The asts of modules: what they hold together, and that modules are told apart.
-use Rattle.std.proofs.Common.{◌≡◌, ℕ, zero, suc, List, [], ◌∷◌, ◌++◌, map, Some, refl, ap, ◌∙◌}
+use Rattle.std.proofs.Common.{◌≡◌, ℕ, List, map, Some, ap, ◌∙◌}
 use Rattle.std.specs.Prelude.{flat_map, false}
 use Rattle.std.specs.HashMap.{get}
 use Rattle.std.specs.List.{All, Contains, slice_get}
-use Rattle.just_graph.specs.Levels.{level, before}
 use Rattle.just_graph.specs.Steps.{IsOnce}
 use Rattle.just_graph.specs.Unfolding.{Key, Node, KeySteps, root_key, steps}
 use Rattle.just_graph.proofs.Members.{In, is_in}

@@ -1,17 +1,17 @@
 -- The nodes of the modules, as they are compiled.
-use Rattle.std.proofs.Common.{◌≡◌, ◌∙◌, ℕ, zero, suc, ◌<◌, Bool, true, false, List, [], ◌∷◌, map, flat_map, filter, length, take, get_or, is_some, Option, Some, None, IsSome, inl, inr, ◌⊎◌, ◌↔◌, refl, sym, ap, subst, arith, cond}
+use Rattle.std.proofs.Common.{◌≡◌, ◌∙◌, ℕ, suc, ◌<◌, Bool, true, false, List, [], ◌∷◌, map, flat_map, filter, length, take, get_or, is_some, Option, Some, None, IsSome, inl, inr, refl, sym, ap, subst, arith, cond}
 use Rattle.std.specs.List.{All, Contains, slice_get}
 use Rattle.std.proofs.lemmas.List.{length-map}
 use Rattle.std.proofs.lemmas.List.Elements.{Contains-get_or}
 use Rattle.std.proofs.lemmas.Option.{slice_get_within}
-use Rattle.just_graph.specs.Unfolding.{steps, Key, Node, key, key_child, root_key, KeySteps, stay, move, Firsts, none, again, first}
-use Rattle.just_graph.specs.Unfolded.{unfolded_key, AllTold, AreApart, CameFrom, IsUnfolded}
+use Rattle.just_graph.specs.Unfolding.{steps, Key, Node, key, key_child, root_key, KeySteps, stay, move, IsReachedKey}
+use Rattle.just_graph.specs.Unfolded.{unfolded_key, AllTold, AreApart, CameFrom, IsUnfolded, AreReached}
 use Rattle.just_graph.specs.declared.unfolding.Origin.{Origin}
 use Rattle.just_graph.specs.declared.unfolding.Step.{Step}
 use Rattle.just_graph.specs.declared.unfolding.Unfolded.{Unfolded}
 use Rattle.just_graph.proofs.Preorder.{firsts_in}
 use Rattle.just_graph.proofs.KeySteps.{steps_keep, steps_more}
-use Rattle.just_graph.proofs.Members.{In, from_flat, contained, is_in, in_left, in_cases}
+use Rattle.just_graph.proofs.Members.{In, from_flat, contained, is_in}
 use Rattle.just_graph.proofs.Index.{get_map, map_get, some_same, got_in}
 use Rattle.just_graph.proofs.Told.{at_least, told_key}
 use Rattle.just_graph.proofs.Trails.{trails}
@@ -104,7 +104,7 @@ has_name (Some name) e = (name, refl)
 
 module _ (w : World) (loaded : Loaded) (plans : Plans) (is : IsLoaded w loaded) (are : ArePlans w loaded.scan plans) where
   abbrev Reached : Key → Type 0
-  Reached k = keys.IsReachedKey w loaded plans is are k
+  Reached = IsReachedKey (entries plans) 0
 
   root_reached : Reached (root_key 0)
   root_reached = (0, stay)
@@ -162,7 +162,7 @@ module _ (w : World) (loaded : Loaded) (plans : Plans) (is : IsLoaded w loaded) 
       let f = from_flat (entries_at loaded.scan) s plan.0.files.items (is_in s (flat_map (entries_at loaded.scan) plan.0.files.items) (subst (λ ss. Contains ss s) known.1 c)) in
       has_name s.enters (entered (steps loaded.scan.rows.items f.0) s f.2)
 
-  module _ (us : List Unfolded) (unfolded : IsUnfolded (entries plans) 0 us) (all : (k : Key) → Contains (map unfolded_key us) k ↔ ((n : ℕ) × KeySteps (entries plans) (root_key 0) k n)) (once : AreApart (map unfolded_key us)) where
+  module _ (us : List Unfolded) (unfolded : IsUnfolded (entries plans) 0 us) (all : AreReached (entries plans) 0 (map unfolded_key us)) (once : AreApart (map unfolded_key us)) where
     reached : (i : ℕ) (u : Unfolded) → slice_get us i ≡ Some u → Reached (unfolded_key u)
     reached i u e = (all (unfolded_key u)).0 (got_in (map unfolded_key us) i (unfolded_key u) (map_get unfolded_key us i u e))
 

@@ -1,11 +1,10 @@
 -- The keys of modules are those to which the steps into modules lead, and each has its plan.
-use Rattle.std.proofs.Common.{◌≡◌, ℕ, List, sym, ◌∙◌}
+use Rattle.std.proofs.Common.{ℕ, List}
 use Rattle.just_graph.specs.Unfolding.{Key, KeySteps, root_key, steps}
 use Rattle.just_graph.specs.declared.unfolding.Step.{Step}
 use Rattle.just_loader.specs.Reached.{World}
 use Rattle.just_loader.specs.declared.loaded.Loaded.{Loaded}
-use Rattle.just_loader.specs.declared.scanned.Scan.{Scan}
-use Rattle.just_analyzer.specs.Planned.{imports_at, IsJoin, ArePlans}
+use Rattle.just_analyzer.specs.Planned.{IsJoin, ArePlans}
 use Rattle.just_analyzer.specs.declared.plans.Plan.{Plan}
 use Rattle.just_analyzer.specs.declared.plans.Plans.{Plans}
 use Rattle.just_analyzer.proofs.ModuleAsts.{IsModule}

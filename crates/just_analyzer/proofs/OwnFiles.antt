@@ -1,6 +1,6 @@
 -- Own files by texts and by their places, and the plans of the first files of an order.
-use Rattle.std.proofs.Common.{nat_eq, ◌≡◌, ℕ, ◌<◌, List, [], ◌∷◌, map, length, slice_index, None, Some, Bool, true, false, inl, inr, sym, ap, subst, ◌∙◌, arith}
-use Rattle.std.specs.Prelude.{filter, flat_map, if◌then◌else◌}
+use Rattle.std.proofs.Common.{nat_eq, ◌≡◌, ℕ, ◌<◌, List, [], map, length, slice_index, None, Some, Bool, sym, ap, subst, ◌∙◌, arith}
+use Rattle.std.specs.Prelude.{filter, flat_map}
 use Rattle.std.specs.Bool.{one_answer}
 use Rattle.std.specs.List.{slice_get}
 use Rattle.std.specs.Str.{bytes_eq}

@@ -1,7 +1,6 @@
 -- What stands at the places of a scan is what the texts say.
-use Rattle.std.proofs.Common.{◌≡◌, ℕ, zero, suc, ◌<◌, List, [], ◌∷◌, ◌++◌, ◌+◌, map, take, length, get_or, slice_index, Option, None, Some, Bool, true, false, inl, inr, refl, sym, ap, subst, ◌∙◌, arith}
+use Rattle.std.proofs.Common.{◌≡◌, ℕ, ◌<◌, List, [], ◌∷◌, ◌++◌, ◌+◌, map, take, length, get_or, slice_index, Option, None, Some, Bool, true, false, inl, inr, refl, sym, ap, subst, ◌∙◌}
 use Rattle.std.specs.Prelude.{filter, flat_map, if◌then◌else◌, is_some, not}
-use Rattle.std.specs.List.{slice_get}
 use Rattle.std.specs.Option.{option_map, unwrap_or}
 use Rattle.std.specs.declared.vec.Vec.{Vec}
 use Rattle.std.specs.declared.alloc.Global.{Global}
@@ -20,15 +19,14 @@ use Rattle.just_parts.specs.declared.layers.ast.Item.TheVariants as item
 use Rattle.just_parts.specs.declared.layers.ast.UnresolvedDependency.{UnresolvedDependency}
 use Rattle.just_parts.specs.declared.recipe.Recipe.{Recipe}
 use Rattle.just_loader.specs.Keys.{FileStep, Submodule, declared, imports_of, items_at, modules_of}
-use Rattle.just_loader.specs.Links.{Link, Nowhere, To, Fault}
 use Rattle.just_loader.specs.Loaded.{file_at, name_at}
 use Rattle.just_loader.specs.Numbering.{texts_of}
 use Rattle.just_loader.specs.Reached.{World, link}
-use Rattle.just_loader.specs.Scanned.{IsPlaceOf, ArePlacesOf, IsStepOf, AreSteps, IsScan, IsScanned, paths_in}
+use Rattle.just_loader.specs.Scanned.{IsPlaceOf, ArePlacesOf, IsStepOf, AreSteps, IsScan, paths_in}
 use Rattle.just_loader.specs.declared.scanned.Scan.{Scan}
 use Rattle.just_loader.specs.declared.scanned.ScannedFile.{ScannedFile}
 use Rattle.just_loader.proofs.FileRows.{at, no_end, one_end, said, steps_at, steps_here, text_step}
-use Rattle.just_loader.proofs.Numberings.{map_get, some_same}
+use Rattle.just_loader.proofs.Numberings.{map_get}
 use Rattle.just_analyzer.specs.Contents.{contents}
 use Rattle.just_analyzer.specs.Outline.{outlines_of, recipes_of}
 use Rattle.just_analyzer.specs.Places.{imports_in, name_if, named_in, names_at, recipes_at, heading_named}

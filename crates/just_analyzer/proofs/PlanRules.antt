@@ -1,5 +1,5 @@
 -- What a module's checks tell of its contents.
-use Rattle.std.proofs.Common.{nat_eq, ◌≡◌, Bool, ℕ, zero, suc, ◌<◌, ◌≤◌, List, [], ◌∷◌, map, length, get_or, min, refl, sym, ap, subst, ◌∙◌, arith, inl, inr, ◌↔◌}
+use Rattle.std.proofs.Common.{nat_eq, ◌≡◌, Bool, ℕ, ◌<◌, List, [], ◌∷◌, map, length, get_or, min, sym, ap, subst, ◌∙◌, arith, inl, inr, ◌↔◌}
 use Rattle.std.specs.Prelude.{flat_map}
 use Rattle.std.specs.List.{All, Contains}
 use Rattle.std.specs.declared.vec.Vec.{Vec}
@@ -11,8 +11,6 @@ use Rattle.just_graph.specs.Building.{EachRow, targets_past}
 use Rattle.just_graph.specs.Graph.{targets, HasEdge, IsGraph}
 use Rattle.just_graph.specs.Levels.{AreLevels}
 use Rattle.just_graph.specs.Steps.{Reached, from_start, from_member}
-use Rattle.just_graph.specs.Unfolding.{steps}
-use Rattle.just_graph.specs.declared.unfolding.Step.{Step}
 use Rattle.just_graph.proofs.Trails.{steps_past}
 use Rattle.just_graph.proofs.Members.{is_in}
 use Rattle.just_parts.specs.Name.{text_of_name}

@@ -1,13 +1,13 @@
 -- One turn of compiling modules, as its loop takes it.
-use Rattle.std.proofs.Common.{◌≡◌, ◌∙◌, ℕ, ◌<◌, Bool, List, [], ◌∷◌, ◌++◌, ◌↔◌, map, length, get_or, set, replicate, Option, Some, None, ap, subst, sym, arith}
+use Rattle.std.proofs.Common.{◌≡◌, ◌∙◌, ℕ, ◌<◌, Bool, List, [], ◌∷◌, ◌++◌, map, length, get_or, set, replicate, Option, Some, None, ap, subst, sym, arith}
 use Rattle.std.specs.List.{Contains, slice_get}
 use Rattle.std.specs.Map.{values_of}
 use Rattle.std.proofs.lemmas.List.{length_push, length-set}
 use Rattle.std.proofs.lemmas.Option.{slice_get-get_or}
 use Rattle.std.specs.declared.vec.Vec.{Vec}
 use Rattle.std.specs.declared.alloc.Global.{Global}
-use Rattle.just_graph.specs.Unfolding.{steps, IsOrdered, Key, KeySteps, root_key}
-use Rattle.just_graph.specs.Unfolded.{unfolded_key, AreApart, IsUnfolded}
+use Rattle.just_graph.specs.Unfolding.{steps, IsOrdered}
+use Rattle.just_graph.specs.Unfolded.{unfolded_key, AreApart, IsUnfolded, AreReached}
 use Rattle.just_graph.specs.declared.unfolding.Origin.{Origin}
 use Rattle.just_graph.specs.declared.unfolding.Step.{Step}
 use Rattle.just_graph.specs.declared.unfolding.Unfolded.{Unfolded}
@@ -45,9 +45,9 @@ module _ (enabled : Item → Bool) (loaded : Loaded) (plans : Plans) (a : ArePla
   rows_ordered rows same = subst (λ r. IsOrdered r 0) (sym same) (entries_ordered a.world loaded plans a.loaded_is a.plans_are)
 
   pub nodes_by : (rows : List (Vec Step Global)) → rows ≡ plans.entries.items → (us : List Unfolded) → IsUnfolded (steps rows) 0 us
-      → ((k : Key) → Contains (map unfolded_key us) k ↔ ((n : ℕ) × KeySteps (steps rows) (root_key 0) k n)) → AreApart (map unfolded_key us) → AreNodes a.world loaded plans us
+      → AreReached (steps rows) 0 (map unfolded_key us) → AreApart (map unfolded_key us) → AreNodes a.world loaded plans us
   nodes_by rows same us first all once = are_nodes a.world loaded plans a.loaded_is a.plans_are us
-      (subst (λ r. IsUnfolded (steps r) 0 us) same first) (subst (λ r. (k : Key) → Contains (map unfolded_key us) k ↔ ((n : ℕ) × KeySteps (steps r) (root_key 0) k n)) same all) once
+      (subst (λ r. IsUnfolded (steps r) 0 us) same first) (subst (λ r. AreReached (steps r) 0 (map unfolded_key us)) same all) once
 
   module _ (us : List Unfolded) (nodes : AreNodes a.world loaded plans us) where
     pub started : (tables : List Entries) (count : ℕ) (recipes : List (Recipe Dependency)) → tables ≡ replicate count [] → count ≡ length us → recipes ≡ [] → Building a.world loaded us tables recipes

@@ -1,5 +1,5 @@
 -- The files of a module, by levels: its own file, then what that imports, then what these import, each file at the last place of the first level that has it.
-use Rattle.std.specs.Prelude.{ℕ, List}
+use Rattle.std.specs.Prelude.{List}
 use Rattle.std.specs.Str.{bytes_eq}
 use Rattle.just_graph.specs.Levels.{AreLevels}
 use Rattle.just_parts.specs.Modulepath.{Text}

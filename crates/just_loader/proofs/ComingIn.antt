@@ -1,12 +1,12 @@
 -- How files come in.
-use Rattle.std.proofs.Common.{◌≡◌, ℕ, zero, suc, ◌<◌, List, [], ◌∷◌, ◌++◌, map, take, length, get_or, Option, None, Some, IfSome, Result, Ok, Err, IfOk, ◌⊎◌, inl, inr, refl, sym, ap, subst, ◌∙◌, arith}
+use Rattle.std.proofs.Common.{◌≡◌, ℕ, zero, suc, ◌<◌, List, [], ◌∷◌, ◌++◌, map, take, length, get_or, Option, None, Some, IfSome, Result, Ok, Err, IfOk, inl, inr, refl, sym, ap, subst, ◌∙◌, arith}
 use Rattle.std.specs.List.{All, slice_get}
 use Rattle.std.specs.declared.vec.Vec.{Vec}
 use Rattle.std.specs.declared.alloc.Global.{Global}
-use Rattle.std.proofs.lemmas.List.{length-map, length_push, map-append}
+use Rattle.std.proofs.lemmas.List.{length_push, map-append}
 use Rattle.std.proofs.lemmas.List.Elements.{All-contains}
 use Rattle.std.proofs.lemmas.Option.{get_or_from_slice_get, slice_get_read, slice_get_within}
-use Rattle.just_graph.specs.Unfolding.{Node, AreFirst, Firsts, none, again, first, Unfolds, nothing, tree, IsLeastDepth, HasStep, child, key, offsets_after, path_after, root_node, steps}
+use Rattle.just_graph.specs.Unfolding.{Node, AreFirst, Unfolds, nothing, tree, IsLeastDepth, HasStep, child, key, offsets_after, path_after, root_node, steps}
 use Rattle.just_graph.specs.Unfolded.{AreLeast, CameFrom, IsUnfolded, Tells, unfolded_key}
 use Rattle.just_graph.specs.declared.unfolding.Origin.{Origin}
 use Rattle.just_graph.specs.declared.unfolding.Step.{Step}
@@ -17,8 +17,6 @@ use Rattle.just_graph.proofs.Walks.{child_of}
 use Rattle.just_parts.specs.Clean.{IsClean, folder_of}
 use Rattle.just_parts.specs.Name.{names_of_path, submodule_path, text_of_name}
 use Rattle.just_parts.specs.Syntax.{components_of}
-use Rattle.just_parts.specs.declared.layers.ast.Item.{Item}
-use Rattle.just_parts.specs.Edge.{Edge, Imports, Declares, edge_of}
 use Rattle.just_parts.specs.declared.layers.error.Error.{Error}
 use Rattle.just_parts.specs.declared.layers.name.Name.{Name}
 use Rattle.just_parts.specs.declared.layers.name.Namepath.{Namepath}
@@ -27,7 +25,7 @@ use Rattle.just_loader.specs.Loaded.{CameIn, entered, file_at, name_at, own_afte
 use Rattle.just_loader.specs.Loading.{AreNodes, AreUnfolded, CameInSoFar, ComesNext, components_after, folder_after}
 use Rattle.just_loader.specs.Numbering.{texts_of}
 use Rattle.just_loader.specs.Reached.{World}
-use Rattle.just_loader.specs.Scanned.{AreSteps, IsScan, IsStepOf, IsStepTo, paths_in}
+use Rattle.just_loader.specs.Scanned.{IsScan, paths_in}
 use Rattle.just_loader.specs.declared.scanned.Scan.{Scan}
 use Rattle.just_loader.specs.declared.scanned.ScannedFile.{ScannedFile}
 use Rattle.just_loader.proofs.FileRows.{known_here, numbered}

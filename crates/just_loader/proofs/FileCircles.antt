@@ -12,7 +12,7 @@ use Rattle.just_graph.specs.Graph.{HasEdge}
 use Rattle.just_graph.specs.Steps.{Leads, by_step, by_steps, in_take, IsCircle, circle_by}
 use Rattle.just_graph.specs.Unfolding.{HasStep, AreEdges, IsOrdered, steps}
 use Rattle.just_graph.specs.declared.unfolding.Step.{Step}
-use Rattle.just_graph.proofs.Members.{In, contained, is_in, in_left, in_right, in_last, in_map, from_map, in_flat, from_flat}
+use Rattle.just_graph.proofs.Members.{In, contained, is_in, in_left, in_last, in_map, from_map, in_flat, from_flat}
 use Rattle.just_graph.proofs.Trails.{of_reverse}
 use Rattle.just_parts.specs.Clean.{folder_of}
 use Rattle.just_parts.specs.Name.{text_of_name}
@@ -23,15 +23,14 @@ use Rattle.just_loader.specs.FileCircles.{HasRows, LeadsOn, by_edge, by_edges, C
 use Rattle.just_loader.specs.Keys.{FileStep, end_of, items_at, steps_by, steps_of}
 use Rattle.just_loader.specs.Loaded.{file_at}
 use Rattle.just_loader.specs.Links.{Link, Nowhere, To, Fault, edge_link}
-use Rattle.just_loader.specs.Numbering.{texts_of}
 use Rattle.just_loader.specs.Reached.{World, Reached, from_root, from_file, items_of, link, LeadsTo}
 use Rattle.just_loader.specs.Causes.{LeadsBack}
-use Rattle.just_loader.specs.Scanned.{IsPlaceOf, ArePlacesOf, IsStepTo, AreSteps, IsScan, paths_in}
+use Rattle.just_loader.specs.Scanned.{IsScan, paths_in}
 use Rattle.just_loader.specs.declared.scanned.Scan.{Scan}
 use Rattle.just_loader.specs.declared.scanned.ScannedFile.{ScannedFile}
 use Rattle.just_loader.proofs.FileRows.{at, said, steps_here, text_step}
-use Rattle.just_loader.proofs.Numberings.{got, placed, get_map, map_get, some_same, none_some}
-use Rattle.just_loader.proofs.WholeScans.{steps_target, row_at, read_at}
+use Rattle.just_loader.proofs.Numberings.{got, some_same}
+use Rattle.just_loader.proofs.WholeScans.{read_at}
 
 pub has_rows : (w : World) (scan : Scan) → IsScan w scan → HasRows scan
 has_rows w scan is = record {

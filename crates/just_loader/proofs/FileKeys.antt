@@ -1,9 +1,8 @@
 -- Keys of the unfolding of a scan, and the keys of files.
-use Rattle.std.proofs.Common.{◌≡◌, ℕ, ◌<◌, List, [], ◌∷◌, ◌++◌, map, length, Option, None, Some, inl, inr, refl, sym, ap, subst, ◌∙◌, arith}
-use Rattle.std.specs.List.{slice_get}
+use Rattle.std.proofs.Common.{◌≡◌, ℕ, ◌<◌, List, [], ◌∷◌, map, length, Option, None, Some, inl, inr, refl, sym, ap, subst, ◌∙◌, arith}
 use Rattle.std.proofs.lemmas.List.{length-map}
 use Rattle.std.proofs.lemmas.Option.{slice_get_within, get_or_from_slice_get}
-use Rattle.just_graph.specs.Unfolding.{Key, KeySteps, IsReachedKey, key_child, path_after, root_key, steps}
+use Rattle.just_graph.specs.Unfolding.{Key, KeySteps, IsReachedKey, path_after, root_key, steps}
 use Rattle.just_graph.specs.declared.unfolding.Step.{Step}
 use Rattle.just_graph.proofs.KeySteps.{steps_back, steps_keep, steps_mapped}
 use Rattle.just_graph.proofs.Members.{In, contained, in_cases, in_map}

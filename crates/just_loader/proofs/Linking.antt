@@ -1,12 +1,10 @@
 -- What items lead to.
-use Rattle.std.proofs.Common.{◌≡◌, ℕ, ◌<◌, ◌==◌, Bool, true, false, List, [], ◌∷◌, length, map, None, Some, ◌⊎◌, inl, inr, Result, Ok, Err, IfErr, refl, arith}
-use Rattle.std.specs.Prelude.{if◌then◌else◌}
-use Rattle.std.proofs.lemmas.Bool.{eqb-true}
+use Rattle.std.proofs.Common.{◌≡◌, ℕ, ◌<◌, Bool, List, [], ◌∷◌, length, map, ◌⊎◌, inl, inr, Result, Ok, Err, IfErr, refl, arith}
 use Rattle.just_parts.specs.declared.layers.name.Name.{Name}
 use Rattle.just_parts.specs.declared.layers.error.LoadError.TheVariants as load
 use Rattle.just_parts.specs.declared.layers.error.Error.{Error}
 use Rattle.just_parts.specs.declared.layers.error.Error.TheVariants as error
-use Rattle.just_loader.specs.ModuleFile.{after, relative}
+use Rattle.just_loader.specs.ModuleFile.{relative}
 use Rattle.just_loader.specs.Links.{Fault, choice}
 use Rattle.just_loader.specs.Causes.{Reports, SeveralFiles}
 

@@ -1,7 +1,7 @@
 -- One more text under a number.
 use Rattle.std.proofs.Common.{◌≡◌, ◌≢◌, ℕ, zero, suc, false, List, [], ◌∷◌, ◌++◌, map, length, Option, Some, None, ◌⊎◌, inl, inr, refl, sym, ap, subst, ◌∙◌}
 use Rattle.std.specs.List.{Contains, slice_get}
-use Rattle.std.proofs.lemmas.Option.{slice_get_within, get_or_from_slice_get, slice_get_read}
+use Rattle.std.proofs.lemmas.Option.{slice_get_read}
 use Rattle.std.specs.Str.{bytes_eq}
 use Rattle.std.proofs.lemmas.Bool.{false_from_ne_true}
 use Rattle.std.proofs.lemmas.List.{map-append, length-map}
@@ -9,12 +9,13 @@ use Rattle.std.proofs.lemmas.Slice.Eq.{bytes_eq-Decides}
 use Rattle.std.specs.HashMap.{get}
 pub use Rattle.just_graph.proofs.Told.{get_old as get_more, get_last}
 pub use Rattle.just_graph.proofs.Index.{got_in as got, map_get, none_some, some_same}
+use Rattle.just_graph.specs.Unfolded.{AreApart}
 use Rattle.just_parts.specs.Name.{text_of_name}
 use Rattle.just_parts.specs.declared.layers.name.Name.{Name}
 use Rattle.just_loader.specs.Sources.{Files}
 use Rattle.just_loader.specs.declared.sources.SourceFile.{SourceFile}
 use Rattle.just_loader.specs.declared.found.Found.{Found}
-use Rattle.just_loader.specs.Numbering.{AreOnce, IsNumbering, IsFile, AreFound, paths_of, texts_of}
+use Rattle.just_loader.specs.Numbering.{IsNumbering, IsFile, AreFound, paths_of, texts_of}
 use Rattle.just_loader.proofs.Lists.{same_or_not}
 
 pub get_cases : {A : Type 0} (xs : List A) (x y : A) (i : ℕ) → slice_get (xs ++ x ∷ []) i ≡ Some y → (slice_get xs i ≡ Some y) ⊎ ((i ≡ length xs) × (x ≡ y))
@@ -33,7 +34,7 @@ pub placed : {A : Type 0} (xs : List A) (x : A) → Contains xs x → (k : ℕ) 
 placed xs x c = (c.0, slice_get_read xs (length xs) c.0 x refl c.1 (sym c.2))
 
 -- no text stands at two places of a numbering
-pub once : (texts : List (List ℕ)) (numbers : List ℕ → Option ℕ) → IsNumbering texts numbers → AreOnce texts
+pub once : (texts : List (List ℕ)) (numbers : List ℕ → Option ℕ) → IsNumbering texts numbers → AreApart texts
 once texts numbers n i j t e f = some_same (sym ((n t i).0 e) ∙ (n t j).0 f)
 
 differ : (a b : List ℕ) → a ≢ b → bytes_eq a b ≡ false

@@ -1,13 +1,12 @@
 -- What is loaded, from what is scanned, unfolded and parsed.
-use Rattle.std.proofs.Common.{◌≡◌, ℕ, ◌<◌, ◌^◌, false, List, [], ◌∷◌, map, length, ◌↔◌, Some, IsSome, refl, sym, ap, subst, ◌∙◌, arith}
+use Rattle.std.proofs.Common.{◌≡◌, ℕ, ◌<◌, ◌^◌, false, List, [], ◌∷◌, map, length, Some, IsSome, refl, sym, ap, subst, ◌∙◌, arith}
 use Rattle.std.specs.HashMap.{get}
 use Rattle.std.specs.List.{All, Contains, flat_map, slice_get}
 use Rattle.std.specs.declared.vec.Vec.{Vec}
 use Rattle.std.specs.declared.alloc.Global.{Global}
-use Rattle.std.proofs.lemmas.List.{length-map}
 use Rattle.std.proofs.lemmas.Option.{slice_get_within}
-use Rattle.just_graph.specs.Unfolding.{Key, Node, KeySteps, key, root_key, steps}
-use Rattle.just_graph.specs.Unfolded.{AreApart, IsUnfolded, unfolded_key}
+use Rattle.just_graph.specs.Unfolding.{Key, Node, key, steps}
+use Rattle.just_graph.specs.Unfolded.{AreApart, IsUnfolded, unfolded_key, AreReached}
 use Rattle.just_graph.specs.declared.unfolding.Step.{Step}
 use Rattle.just_graph.specs.declared.unfolding.Unfolded.{Unfolded}
 use Rattle.just_graph.proofs.Index.{told_same}
@@ -24,11 +23,10 @@ use Rattle.just_loader.specs.Loaded.{IsLoaded, at_first, file_at, name_at}
 use Rattle.just_loader.specs.Loading.{AreParsed, Stops, spent_by}
 use Rattle.just_loader.specs.Parsed.{AreKeyed, AreHeld, relative_at}
 use Rattle.just_loader.specs.Reached.{World, Reached, NamesInScan, relative_to_root}
-use Rattle.just_loader.specs.Scanned.{IsScan, paths_in}
+use Rattle.just_loader.specs.Scanned.{IsScan}
 use Rattle.just_loader.specs.Sources.{text_at}
 use Rattle.just_loader.specs.declared.loaded.Loaded.{Loaded}
 use Rattle.just_loader.specs.declared.scanned.Scan.{Scan}
-use Rattle.just_loader.specs.declared.scanned.ScannedFile.{ScannedFile}
 use Rattle.just_loader.proofs.HeldAsts.{are_asts_of, are_told_apart, held_each}
 use Rattle.just_loader.proofs.KeySums.{node_inside, one_place, many, files_kept}
 use Rattle.just_loader.proofs.LoadedPaths.{relative_paths}
@@ -38,7 +36,7 @@ use Rattle.just_loader.proofs.WholeScans.{read_at}
 -- what unfolding tells of the nodes
 pub record IsWhole (rows : List (Vec Step Global)) (us : List Unfolded) : Type 0 where
   pub first : IsUnfolded (steps rows) 0 us
-  pub keys : (k : Key) → Contains (map unfolded_key us) k ↔ ((n : ℕ) × KeySteps (steps rows) (root_key 0) k n)
+  pub keys : AreReached (steps rows) 0 (map unfolded_key us)
   pub once : AreApart (map unfolded_key us)
 
 pub whole_lent : {rows lent : List (Vec Step Global)} {us shown : List Unfolded} → lent ≡ rows → shown ≡ us → IsWhole lent us → IsWhole rows shown

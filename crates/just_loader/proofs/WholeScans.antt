@@ -14,13 +14,14 @@ use Rattle.just_graph.specs.Unfolding.{HasStep, steps}
 use Rattle.just_graph.specs.declared.unfolding.Step.{Step}
 use Rattle.just_graph.proofs.Members.{In, contained, is_in, in_cases, from_map, without}
 use Rattle.just_graph.proofs.Index.{same_lists}
+use Rattle.just_graph.specs.Unfolded.{AreApart}
 use Rattle.just_parts.specs.Clean.{IsClean, folder_of}
 use Rattle.just_parts.specs.Entries.{find}
 use Rattle.just_parts.specs.declared.layers.ast.Item.{Item}
 use Rattle.just_parts.specs.Edge.{Edge, Imports, Declares, edge_of}
 use Rattle.just_parts.specs.declared.layers.name.Name.{Name}
 use Rattle.just_loader.specs.Links.{Link, Nowhere, To, Fault}
-use Rattle.just_loader.specs.Numbering.{AreFound, AreOnce, paths_of, texts_of}
+use Rattle.just_loader.specs.Numbering.{AreFound, paths_of, texts_of}
 use Rattle.just_loader.specs.Reached.{World, Reached, from_root, from_file, items_of, link, LeadsTo, NamesAt, NamesInScan}
 use Rattle.just_loader.specs.Causes.{Cause}
 use Rattle.just_loader.specs.Scanned.{IsPlaceOf, ArePlacesOf, IsStepTo, IsStepOf, AreSteps, IsScanned, AreScanned, IsScan, paths_in, Grows, Extends}
@@ -219,24 +220,24 @@ module _ (w : World) (paths names : List (List ℕ)) (files : List ScannedFile) 
       let inside : s.0.target < length paths = places_inside paths (map (link w (folder_of file.0.path)) is.items) file.0.targets.items s.0.target is.targets (steps_target names is.items file.0.targets.items row.0.items s.0 is.steps row.2) in
       omega (arith, so.count, inside, s.2)
 
-  pub is_scan : (listed : List Name) (scan : Scan) → AreOnce paths → All IsClean paths → AreOnce names → texts_of listed ≡ names → scan.files.items ≡ files → scan.rows.items ≡ rows → scan.names.items ≡ listed → IsScan w scan
+  pub is_scan : (listed : List Name) (scan : Scan) → AreApart paths → All IsClean paths → AreApart names → texts_of listed ≡ names → scan.files.items ≡ files → scan.rows.items ≡ rows → scan.names.items ≡ listed → IsScan w scan
   is_scan listed scan once_paths clean_paths once_names texts is_files is_rows is_names =
       let is_paths : paths_in scan.files.items ≡ paths = ap paths_in is_files ∙ all_paths in
       let is_texts : texts_of scan.names.items ≡ names = ap texts_of is_names ∙ texts in
       record {
         reached = λ p. (λ c. so.reached p (subst (λ ps. Contains ps p) is_paths c), λ r. subst (λ ps. Contains ps p) (sym is_paths) (all_reached p r));
-        once = subst AreOnce (sym is_paths) once_paths;
+        once = subst AreApart (sym is_paths) once_paths;
         clean = subst (All IsClean) (sym is_paths) clean_paths;
         root = ap (λ ps. slice_get ps 0) is_paths ∙ so.first;
         count = ap length is_rows ∙ so.count ∙ sym (ap length is_files);
         scanned = subst (λ ps. AreScanned w ps (texts_of scan.names.items) scan.files.items scan.rows.items) (sym is_paths) (subst (λ ns. AreScanned w paths ns scan.files.items scan.rows.items) (sym is_texts)
             (subst (λ fs. AreScanned w paths names fs scan.rows.items) (sym is_files) (subst (λ rs. AreScanned w paths names files rs) (sym is_rows) so.scanned)));
         within = subst (λ rs. (a b : ℕ) → HasStep rs a b → b < length rs) (sym is_rows) step_inside;
-        names = subst AreOnce (sym is_texts) once_names;
+        names = subst AreApart (sym is_texts) once_names;
       }
 
 -- texts of a list that are there once are no more than the list has
-few : (xs ys : List (List ℕ)) → AreOnce xs → ((x : List ℕ) → In x xs → In x ys) → length xs ≤ length ys
+few : (xs ys : List (List ℕ)) → AreApart xs → ((x : List ℕ) → In x xs → In x ys) → length xs ≤ length ys
 few [] ys once h = omega arith
 few (x ∷ xs) ys once h =
     let r = without x ys (h x (inl refl)) in
@@ -261,5 +262,5 @@ pub found_clean : (files : Files) (found : Found) → AreFound files found → A
 found_clean files found f = all_at IsClean (paths_of found.files.items) (λ k p e. let x = get_map (λ (x : SourceFile). x.path) found.files.items k p e in subst IsClean x.2 (f.there k x.0 x.1).1)
 
 -- no more files are found than there are
-pub found_few : (files : Files) (found : Found) → AreFound files found → AreOnce (paths_of found.files.items) → length found.files.items ≤ length (keys_of files)
+pub found_few : (files : Files) (found : Found) → AreFound files found → AreApart (paths_of found.files.items) → length found.files.items ≤ length (keys_of files)
 found_few files found f once = omega (arith, few (paths_of found.files.items) (keys_of files) once (found_key files found f), length-map found.files.items (λ (x : SourceFile). x.path))

@@ -1,8 +1,9 @@
 -- What a file imports and which modules it declares, and the keys of files: the path of a module, and a file of it.
-use Rattle.std.specs.Prelude.{◌≡◌, ℕ, List, [], ◌∷◌, map, filter, not, is_some, unwrap_or, ◌≤◌, ◌^◌, slice_get, Option, None, Some}
+use Rattle.std.specs.Prelude.{◌≡◌, ℕ, List, [], ◌∷◌, map, filter, not, is_some, unwrap_or, ◌≤◌, ◌^◌, Option, None, Some}
 use Rattle.std.specs.List.{Contains, flat_map, sum_by}
 use Rattle.std.specs.Option.{option_map}
 use Rattle.just_graph.specs.Unfolding.{KeyOf, KeyStepsOf}
+use Rattle.just_graph.specs.Unfolded.{AreApart}
 use Rattle.just_parts.specs.Clean.{folder_of}
 use Rattle.just_parts.specs.Edge.{Edge, Imports, Declares, edge_of}
 use Rattle.just_parts.specs.Name.{text_of_name}
@@ -78,10 +79,6 @@ FileKeySteps w = KeyStepsOf (λ (s : FileStep). s.to) (λ (s : FileStep). s.ente
 abbrev pub IsKey : World → FileKey → Type 0
 IsKey w k = (d : ℕ) × FileKeySteps w (root_file_key w) k d
 
--- no key stands at two places
-abbrev pub AreOnceKeys : List FileKey → Type 0
-AreOnceKeys keys = (i j : ℕ) (k : FileKey) → slice_get keys i ≡ Some k → slice_get keys j ≡ Some k → i ≡ j
-
 -- how many numbers the text of the file at a path takes
 abbrev pub spends_at : World → Text → ℕ
 spends_at w f = unwrap_or (option_map (w.answers.spends (relative_to_root w f)) (text_at w.files f)) 0
@@ -91,4 +88,4 @@ pub data NamesInFiles (w : World) : Cause → Type 0 where
   no_root : {path : Text} → text_at w.files w.root ≡ None → w.root ≡ path → NamesInFiles w (NoFile path)
   at_fault : {c : Cause} → NamesInScan w c → NamesInFiles w c
   in_circle : {c : Cause} → NamesCircle w c → NamesInFiles w c
-  too_many : (keys : List FileKey) → AreOnceKeys keys → ((k : FileKey) → Contains keys k → IsKey w k) → 2 ^ 64 ≤ sum_by (λ (k : FileKey). spends_at w k.node) keys → NamesInFiles w NoNumber
+  too_many : (keys : List FileKey) → AreApart keys → ((k : FileKey) → Contains keys k → IsKey w k) → 2 ^ 64 ≤ sum_by (λ (k : FileKey). spends_at w k.node) keys → NamesInFiles w NoNumber

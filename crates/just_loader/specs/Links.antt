@@ -1,5 +1,5 @@
 -- What the items of a file lead to.
-use Rattle.std.specs.Prelude.{ℕ, ◌==◌, Bool, List, [], ◌∷◌, ◌++◌, map, is_some, Option, None, Some, codes, if◌then◌else◌}
+use Rattle.std.specs.Prelude.{◌==◌, Bool, List, [], ◌∷◌, ◌++◌, map, is_some, Option, None, Some, codes, if◌then◌else◌}
 use Rattle.std.specs.Option.{option_map}
 use Rattle.just_parts.specs.Bare.{bare_item}
 use Rattle.just_parts.specs.Edge.{Edge, Imports, Declares, edge_of}

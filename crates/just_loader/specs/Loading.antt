@@ -1,8 +1,8 @@
 -- The steps of loading: how each node's file comes in, and what its text says.
 use Rattle.std.specs.Prelude.{◌≡◌, ℕ, ◌+◌, ◌<◌, ◌≤◌, ◌^◌, List, [], ◌∷◌, ◌++◌, map, take, length, slice_get, Option, Some, None}
 use Rattle.std.specs.List.{flat_map, sum_by}
-use Rattle.just_graph.specs.Unfolding.{Node, AreFirst, IsLeastDepth, offsets_after, steps}
-use Rattle.just_graph.specs.Unfolded.{AreLeast, AllTold, IsUnfolded, unfolded_key}
+use Rattle.just_graph.specs.Unfolding.{Node, AreFirst, offsets_after, steps}
+use Rattle.just_graph.specs.Unfolded.{AreLeast, AllTold, IsUnfolded}
 use Rattle.just_graph.specs.declared.unfolding.Step.{Step}
 use Rattle.just_graph.specs.declared.unfolding.Unfolded.{Unfolded}
 use Rattle.just_parts.specs.Bare.{bare_ast}

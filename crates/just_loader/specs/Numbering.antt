@@ -11,10 +11,6 @@ use Rattle.just_loader.specs.declared.sources.SourceFile.{SourceFile}
 use Rattle.just_loader.specs.declared.found.Found.{Found}
 use Rattle.just_loader.specs.declared.found.NameNumbers.{NameNumbers}
 
--- no text stands at two places
-abbrev pub AreOnce : List (List ℕ) → Type 0
-AreOnce texts = (i j : ℕ) (text : List ℕ) → slice_get texts i ≡ Some text → slice_get texts j ≡ Some text → i ≡ j
-
 -- the number of a text is its place
 abbrev pub IsNumbering : List (List ℕ) → (List ℕ → Option ℕ) → Type 0
 IsNumbering texts numbers = (text : List ℕ) (i : ℕ) → (slice_get texts i ≡ Some text) ↔ (numbers text ≡ Some i)

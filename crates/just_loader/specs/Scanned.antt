@@ -1,10 +1,11 @@
 -- What a scan tells of the files that are reached.
-use Rattle.std.specs.Prelude.{◌≡◌, ◌↔◌, ℕ, ◌<◌, List, [], ◌∷◌, ◌++◌, Option, None, Some, map, length, slice_get}
+use Rattle.std.specs.Prelude.{◌≡◌, ◌↔◌, ℕ, List, [], ◌∷◌, ◌++◌, Option, None, Some, map, length, slice_get}
 use Rattle.std.specs.List.{All, Contains}
 use Rattle.std.specs.declared.vec.Vec.{Vec}
 use Rattle.std.specs.declared.alloc.Global.{Global}
 use Rattle.just_graph.specs.Unfolding.{LeadInside}
 use Rattle.just_graph.specs.declared.unfolding.Step.{Step}
+use Rattle.just_graph.specs.Unfolded.{AreApart}
 use Rattle.just_parts.specs.Bare.{bare_item}
 use Rattle.just_parts.specs.Clean.{IsClean, folder_of}
 use Rattle.just_parts.specs.Edge.{Edge, Imports, Declares, edge_of}
@@ -12,7 +13,7 @@ use Rattle.just_parts.specs.Name.{text_of_name}
 use Rattle.just_parts.specs.Modulepath.{Text}
 use Rattle.just_parts.specs.declared.layers.ast.Item.{Item}
 use Rattle.just_loader.specs.Links.{Link, Nowhere, To, Fault}
-use Rattle.just_loader.specs.Numbering.{AreOnce, paths_found, texts_numbered, texts_of}
+use Rattle.just_loader.specs.Numbering.{paths_found, texts_numbered, texts_of}
 use Rattle.just_loader.specs.Reached.{World, Reached, items_of, link, relative_to_root}
 use Rattle.just_loader.specs.Sources.{text_at}
 use Rattle.just_loader.specs.declared.found.Found.{Found}
@@ -74,13 +75,13 @@ AreScanned w paths names files rows = (k : ℕ) (file : ScannedFile) (row : Vec 
 -- The reached files, each once and under a clean path, the root first, each with its row, whose steps lead to rows. Each name has one number.
 pub record IsScan (w : World) (scan : Scan) : Type 0 where
   pub reached : (path : Text) → Contains (paths_in scan.files.items) path ↔ Reached w path
-  pub once : AreOnce (paths_in scan.files.items)
+  pub once : AreApart (paths_in scan.files.items)
   pub clean : All IsClean (paths_in scan.files.items)
   pub root : slice_get (paths_in scan.files.items) 0 ≡ Some w.root
   pub count : length scan.rows.items ≡ length scan.files.items
   pub scanned : AreScanned w (paths_in scan.files.items) (texts_of scan.names.items) scan.files.items scan.rows.items
   pub within : LeadInside scan.rows.items
-  pub names : AreOnce (texts_of scan.names.items)
+  pub names : AreApart (texts_of scan.names.items)
 
 -- a list with more behind it that has a property
 abbrev pub Grows : (Text → Type 0) → List Text → List Text → Type 0
