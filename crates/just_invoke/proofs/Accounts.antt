@@ -12,46 +12,46 @@ use Rattle.just_invoke.specs.declared.pair.Pair.{Pair}
 use Rattle.just_invoke.specs.Firsts.{has}
 use Rattle.just_invoke.specs.Pairs.{Task, same_pair}
 use Rattle.just_invoke.specs.Run.{beginning, Holds}
-use Rattle.just_invoke.specs.Account.{Asked, Table, Empty, Asks, Runs, asks, own, begun, In, AreIn, known, pairs_asked, Fits, Complete, prior_count, if_any, counts_below, beginnings, add_at, AllLow, AreDone, Settled}
+use Rattle.just_invoke.specs.Account.{Asked, OnceTables, Empty, Asks, Runs, asks, own, begun, In, AreIn, known, pairs_asked, Fits, Complete, prior_count, if_any, counts_below, beginnings, add_at, AllLow, AreDone, Settled}
 use Rattle.just_invoke.proofs.Keeps.{has-append, or_false}
 use Rattle.just_invoke.proofs.Pairs.{pair-exact}
 
-abbrev pub join : Table → Table → Table
+abbrev pub join : OnceTables → OnceTables → OnceTables
 join Empty u = u
 join (Asks a r) u = Asks a (join r u)
 join (Runs t ps ss b r) u = Runs t ps ss b (join r u)
 
-pub own-join : (t u : Table) → own (join t u) ≡ own t ++ own u
+pub own-join : (t u : OnceTables) → own (join t u) ≡ own t ++ own u
 own-join Empty u = refl
 own-join (Asks a r) u = own-join r u
 own-join (Runs t ps ss b r) u = ap (λ x. t.pair ∷ x) (own-join r u)
 
-pub asks-join : (t u : Table) → asks (join t u) ≡ asks t ++ asks u
+pub asks-join : (t u : OnceTables) → asks (join t u) ≡ asks t ++ asks u
 asks-join Empty u = refl
 asks-join (Asks a r) u = ap (λ x. a ∷ x) (asks-join r u)
 asks-join (Runs t ps ss b r) u = asks-join r u
 
-pub begun-join : (t u : Table) → begun (join t u) ≡ begun t ++ begun u
+pub begun-join : (t u : OnceTables) → begun (join t u) ≡ begun t ++ begun u
 begun-join Empty u = refl
 begun-join (Asks a r) u = begun-join r u
 begun-join (Runs t ps ss b r) u = ap (λ x. t ∷ (begun b ++ x)) (begun-join r u) ∙ ap (λ x. t ∷ x) (sym (append_assoc (begun b) (begun r) (begun u)))
 
-pub priors-join : (t u : Table) → prior_count (join t u) ≡ prior_count t + prior_count u
+pub priors-join : (t u : OnceTables) → prior_count (join t u) ≡ prior_count t + prior_count u
 priors-join Empty u = omega arith
 priors-join (Asks a r) u = priors-join r u
 priors-join (Runs t ps ss b r) u = let h = priors-join r u in omega arith
 
-pub below-join : (t u : Table) → counts_below (join t u) ≡ counts_below t ++ counts_below u
+pub below-join : (t u : OnceTables) → counts_below (join t u) ≡ counts_below t ++ counts_below u
 below-join Empty u = refl
 below-join (Asks a r) u = below-join r u
 below-join (Runs t ps ss b r) u = ap (λ x. if_any ss ((length ss + prior_count b) ∷ counts_below b) ++ x) (below-join r u) ∙ sym (append_assoc (if_any ss ((length ss + prior_count b) ∷ counts_below b)) (counts_below r) (counts_below u))
 
-pub Complete-join : (plan : List (Recipe Dependency)) (t u : Table) → Complete plan t → Complete plan u → Complete plan (join t u)
+pub Complete-join : (plan : List (Recipe Dependency)) (t u : OnceTables) → Complete plan t → Complete plan u → Complete plan (join t u)
 Complete-join plan Empty u h k = k
 Complete-join plan (Asks a r) u h k = Complete-join plan r u h k
 Complete-join plan (Runs t ps ss b r) u h k = (h.0, h.1, h.2, Complete-join plan r u h.3 k)
 
-pub Fits-join : (plan : List (Recipe Dependency)) (tops : List Task) (t u : Table) (asked : List Asked) (done : List Pair) → Fits plan tops asked done t → Fits plan tops (asked ++ asks t) (done ++ own t) u → Fits plan tops asked done (join t u)
+pub Fits-join : (plan : List (Recipe Dependency)) (tops : List Task) (t u : OnceTables) (asked : List Asked) (done : List Pair) → Fits plan tops asked done t → Fits plan tops (asked ++ asks t) (done ++ own t) u → Fits plan tops asked done (join t u)
 Fits-join plan tops Empty u asked done h k = subst (λ a. Fits plan tops a done u) (append-nil asked) (subst (λ d. Fits plan tops (asked ++ []) d u) (append-nil done) k)
 Fits-join plan tops (Asks a r) u asked done h k = (h.0, h.1, Fits-join plan tops r u (asked ++ a ∷ []) done h.2 (subst (λ x. Fits plan tops x (done ++ own r) u) (sym (append_assoc asked (a ∷ []) (asks r))) k))
 Fits-join plan tops (Runs t ps ss b r) u asked done h k = (h.0, h.1, h.2, h.3, h.4, Fits-join plan tops r u asked (done ++ t.pair ∷ []) h.5 (subst (λ d. Fits plan tops (asked ++ asks r) d u) (sym (append_assoc done (t.pair ∷ []) (own r))) k))
@@ -124,7 +124,7 @@ AreDone-append : (done : List Pair) (rest bs : List Asked) → AreDone done rest
 AreDone-append done [] bs h k = k
 AreDone-append done (a ∷ rest) bs h k = (h.0, AreDone-append done rest bs h.1 k)
 
-pub AreDone-join : (t u : Table) → AreDone (own t) (asks t) → AreDone (own u) (asks u) → AreDone (own (join t u)) (asks (join t u))
+pub AreDone-join : (t u : OnceTables) → AreDone (own t) (asks t) → AreDone (own u) (asks u) → AreDone (own (join t u)) (asks (join t u))
 AreDone-join t u h k = subst (λ d. AreDone d (asks (join t u))) (sym (own-join t u)) (subst (λ a. AreDone (own t ++ own u) a) (sym (asks-join t u))
     (AreDone-append (own t ++ own u) (asks t) (asks u) (AreDone-more (own t) (own u) (asks t) h) (AreDone-after (own t) (own u) (asks u) k)))
 
@@ -144,7 +144,7 @@ Settled-done : (k : ℕ) (done : List Pair) (rest : List Asked) → AreDone done
 Settled-done k done [] h = tt
 Settled-done k done (a ∷ rest) h = ((λ i. h.0), Settled-done k done rest h.1)
 
-pub Settled-then : (k : ℕ) (done now : List Pair) (asked : List Asked) (t : Table) → Settled k asked done → AreDone (own t) (asks t) → now ≡ done ++ own t → Settled k (asked ++ asks t) now
+pub Settled-then : (k : ℕ) (done now : List Pair) (asked : List Asked) (t : OnceTables) → Settled k asked done → AreDone (own t) (asks t) → now ≡ done ++ own t → Settled k (asked ++ asks t) now
 Settled-then k done now asked t h i e = subst (λ d. Settled k (asked ++ asks t) d) (sym e)
     (Settled-append k (done ++ own t) asked (asks t) (Settled-more k done (own t) asked h) (Settled-done k (done ++ own t) (asks t) (AreDone-after done (own t) (asks t) i)))
 
@@ -200,27 +200,27 @@ counted-join c0 c1 c2 i a b x y h e k =
     k ∙ ap (λ t. add_at t i b ++ y) e ∙ ap (λ t. t ++ y) (add-append (add_at c0 i a) x i b (let l = length-add c0 i a in omega arith))
     ∙ ap (λ t. (t ++ x) ++ y) (add-twice c0 i a b) ∙ append_assoc (add_at c0 i (a + b)) x y
 
-pub joined-begun : (rs : List (Recipe Dependency)) (t u : Table) (old mid new : List Entry) → mid ≡ old ++ beginnings rs (begun t) → new ≡ mid ++ beginnings rs (begun u) → new ≡ old ++ beginnings rs (begun (join t u))
+pub joined-begun : (rs : List (Recipe Dependency)) (t u : OnceTables) (old mid new : List Entry) → mid ≡ old ++ beginnings rs (begun t) → new ≡ mid ++ beginnings rs (begun u) → new ≡ old ++ beginnings rs (begun (join t u))
 joined-begun rs t u old mid new h k = k ∙ ap (λ x. x ++ beginnings rs (begun u)) h ∙ append_assoc old (beginnings rs (begun t)) (beginnings rs (begun u))
     ∙ ap (λ x. old ++ x) (sym (beginnings-append rs (begun t) (begun u)) ∙ ap (beginnings rs) (sym (begun-join t u)))
 
-pub joined-fits : (plan : List (Recipe Dependency)) (tops : List Task) (t u : Table) (asked : List Asked) (done now : List Pair) → Fits plan tops asked done t → now ≡ done ++ own t → Fits plan tops (asked ++ asks t) now u → Fits plan tops asked done (join t u)
+pub joined-fits : (plan : List (Recipe Dependency)) (tops : List Task) (t u : OnceTables) (asked : List Asked) (done now : List Pair) → Fits plan tops asked done t → now ≡ done ++ own t → Fits plan tops (asked ++ asks t) now u → Fits plan tops asked done (join t u)
 joined-fits plan tops t u asked done now h e k = Fits-join plan tops t u asked done h (subst (λ d. Fits plan tops (asked ++ asks t) d u) e k)
 
-pub joined-low : (t u : Table) (k m n : ℕ) → m ≤ k → n ≤ k → AllLow m (own t) → AllLow n (own u) → AllLow k (own (join t u))
+pub joined-low : (t u : OnceTables) (k m n : ℕ) → m ≤ k → n ≤ k → AllLow m (own t) → AllLow n (own u) → AllLow k (own (join t u))
 joined-low t u k m n l j h i = subst (λ ps. AllLow k ps) (sym (own-join t u)) (All-append (λ (p : Pair). p.recipe < k) (own t) (own u) (AllLow-more m k (own t) l h) (AllLow-more n k (own u) j i))
 
-pub joined-table : (t u : Table) (done now new : List Pair) → now ≡ done ++ own t → new ≡ now ++ own u → new ≡ done ++ own (join t u)
+pub joined-table : (t u : OnceTables) (done now new : List Pair) → now ≡ done ++ own t → new ≡ now ++ own u → new ≡ done ++ own (join t u)
 joined-table t u done now new h k = k ∙ ap (λ x. x ++ own u) h ∙ append_assoc done (own t) (own u) ∙ ap (λ x. done ++ x) (sym (own-join t u))
 
-pub joined-counts : (t u : Table) (c0 c1 c2 : List ℕ) (i a b : ℕ) → i < length c0 → c1 ≡ add_at c0 i (a + prior_count t) ++ counts_below t → c2 ≡ add_at c1 i (b + prior_count u) ++ counts_below u → c2 ≡ add_at c0 i ((a + b) + prior_count (join t u)) ++ counts_below (join t u)
+pub joined-counts : (t u : OnceTables) (c0 c1 c2 : List ℕ) (i a b : ℕ) → i < length c0 → c1 ≡ add_at c0 i (a + prior_count t) ++ counts_below t → c2 ≡ add_at c1 i (b + prior_count u) ++ counts_below u → c2 ≡ add_at c0 i ((a + b) + prior_count (join t u)) ++ counts_below (join t u)
 joined-counts t u c0 c1 c2 i a b h e k =
     let n : (a + prior_count t) + (b + prior_count u) ≡ (a + b) + prior_count (join t u) = omega (arith, priors-join t u) in
     counted-join c0 c1 c2 i (a + prior_count t) (b + prior_count u) (counts_below t) (counts_below u) h e k
     ∙ ap (λ x. add_at c0 i x ++ (counts_below t ++ counts_below u)) n ∙ ap (λ x. add_at c0 i ((a + b) + prior_count (join t u)) ++ x) (sym (below-join t u))
 
 -- the priors, and then the block, which counts nothing in the table itself
-pub block-counts : (t u : Table) (c0 c1 c2 : List ℕ) (i k a : ℕ) → c1 ≡ add_at c0 i ((k + a) + prior_count t) ++ counts_below t → c2 ≡ c1 ++ counts_below u → prior_count u ≡ a → c2 ≡ add_at c0 i (k + prior_count (join t u)) ++ counts_below (join t u)
+pub block-counts : (t u : OnceTables) (c0 c1 c2 : List ℕ) (i k a : ℕ) → c1 ≡ add_at c0 i ((k + a) + prior_count t) ++ counts_below t → c2 ≡ c1 ++ counts_below u → prior_count u ≡ a → c2 ≡ add_at c0 i (k + prior_count (join t u)) ++ counts_below (join t u)
 block-counts t u c0 c1 c2 i k a e g h =
     let n : (k + a) + prior_count t ≡ k + prior_count (join t u) = omega (arith, priors-join t u) in
     g ∙ ap (λ x. x ++ counts_below u) e ∙ append_assoc (add_at c0 i ((k + a) + prior_count t)) (counts_below t) (counts_below u)

@@ -15,7 +15,7 @@ use Rattle.just_invoke.specs.declared.justfile.Justfile.{Justfile, out-Justfile}
 use Rattle.just_invoke.specs.declared.justfile.RecipeKey.{RecipeKey}
 use Rattle.just_invoke.specs.Closed.{recipe_named, default_recipe}
 use Rattle.just_invoke.specs.Cause.{Cause, unknown_recipe, unknown_submodule, expected_submodule, no_recipes, no_default, default_requires, count_mismatch}
-use Rattle.just_invoke.specs.Head.{Words, Held, name_of, NoDefault, BadName, goes_on, Leads, Misleads, NoPath, NoHead, IsHead, has_colon, is_empty, IsPathWord, PathLeads}
+use Rattle.just_invoke.specs.Head.{Words, Held, name_of, NoDefault, BadName, goes_on, WordsLead, WordsMislead, NoPath, NoHead, IsHead, has_colon, is_empty, IsPathWord, PathLeads}
 use Rattle.just_invoke.specs.Tail.{IsTail, first_variadic, group, uses_from, any_missing}
 use Rattle.just_invoke.specs.Split.{Reading, Invokes, Chain, IsSplit, Stops, IsFault}
 use Rattle.just_invoke.proofs.PathLemmas.{drops_once}
@@ -152,7 +152,7 @@ none_follow (n ∷ ns) e = absurd (false≢true (sym e))
 
 -- the names of a path lead to a recipe, or mislead
 leads_or : (root : Justfile) (recipes : Held) (names : Words) →
-    ((r : Recipe Dependency) × Leads root recipes names [] r) ⊎ ((cause : Cause) × Misleads root recipes true names cause)
+    ((r : Recipe Dependency) × WordsLead root recipes names [] r) ⊎ ((cause : Cause) × WordsMislead root recipes true names cause)
 leads_or root recipes [] = elim (default_or (out-Justfile root).recipes (default_recipe root recipes)) [
   | inl p ↦ inl (p.0, (refl, (p.1, p.2)))
   | inr q ↦ inr q
@@ -172,8 +172,8 @@ path_or root recipes last w (inl p) = elim (leads_or root recipes p.0) [
 
 -- the first word is a head, or there is a cause
 word_or : (root : Justfile) (recipes : Held) (w : Text) (ws : Words) (colon : Bool) →
-    ((r : Recipe Dependency) × MatchBool colon ((◌≡◌ {A = Words} [] []) × PathLeads root recipes (is_empty ws) w r) (Leads root recipes (w ∷ []) ws r))
-    ⊎ ((cause : Cause) × MatchBool colon (NoPath root recipes (is_empty ws) w cause) (Misleads root recipes false (w ∷ ws) cause))
+    ((r : Recipe Dependency) × MatchBool colon ((◌≡◌ {A = Words} [] []) × PathLeads root recipes (is_empty ws) w r) (WordsLead root recipes (w ∷ []) ws r))
+    ⊎ ((cause : Cause) × MatchBool colon (NoPath root recipes (is_empty ws) w cause) (WordsMislead root recipes false (w ∷ ws) cause))
 word_or root recipes w ws true = elim (path_or root recipes (is_empty ws) w (decide_path (is_empty ws) w)) [
   | inl p ↦ inl (p.0, (refl, p.1))
   | inr q ↦ inr q

@@ -11,7 +11,7 @@ use Rattle.just_invoke.specs.declared.justfile.Justfile.{Justfile, out-Justfile}
 use Rattle.just_invoke.specs.declared.justfile.RecipeKey.{RecipeKey}
 use Rattle.just_invoke.specs.Closed.{recipe_named, default_recipe}
 use Rattle.just_invoke.specs.Cause.{Cause, count_mismatch}
-use Rattle.just_invoke.specs.Head.{Words, Held, name_of, NoDefault, BadName, goes_on, Leads, Misleads, NoPath, NoHead, IsHead, has_colon, is_empty, PathLeads}
+use Rattle.just_invoke.specs.Head.{Words, Held, name_of, NoDefault, BadName, goes_on, WordsLead, WordsMislead, NoPath, NoHead, IsHead, has_colon, is_empty, PathLeads}
 use Rattle.just_invoke.specs.Tail.{IsTail, any_missing}
 use Rattle.just_invoke.specs.Split.{Reading, Invokes, Chain, IsSplit, Lacks, Stops, IsFault}
 use Rattle.just_invoke.proofs.Unique.{path_word_once, head_once, tail_once, invokes_once}
@@ -28,7 +28,7 @@ bad_name_once one false path (Some r) c d p q = absurd p
 bad_name_once one false path None c d p q = p ∙ sym q
 
 misleads_once : (root : Justfile) (recipes : Held) (one : Bool) (ns : Words) (c d : Cause) →
-    Misleads root recipes one ns c → Misleads root recipes one ns d → c ≡ d
+    WordsMislead root recipes one ns c → WordsMislead root recipes one ns d → c ≡ d
 misleads_once root recipes one [] c d p q = no_default_once (out-Justfile root).recipes (default_recipe root recipes) c d p q
 misleads_once root recipes one (n ∷ ns) c d p q = bad_name_once one (goes_on one ns) (n ∷ []) (recipe_named root recipes n) c d p q
 
@@ -44,9 +44,9 @@ not_on false [] h = refl
 not_on false (x ∷ a) h = refl
 
 no_leads : (root : Justfile) (recipes : Held) (one : Bool) (xs a : Words) (r : Recipe Dependency) (c : Cause) → (one ≡ true → a ≡ []) →
-    Leads root recipes xs a r → Misleads root recipes one (xs ++ a) c → ⊥
+    WordsLead root recipes xs a r → WordsMislead root recipes one (xs ++ a) c → ⊥
 no_leads root recipes one [] a r c h p q =
-    (subst (λ o. NoDefault (out-Justfile root).recipes o c) p.1.0 (subst (λ t. Misleads root recipes one t c) p.0 q)).0 p.1.1
+    (subst (λ o. NoDefault (out-Justfile root).recipes o c) p.1.0 (subst (λ t. WordsMislead root recipes one t c) p.0 q)).0 p.1.1
 no_leads root recipes one (n ∷ ns) a r c h p q =
     let ends : goes_on one (ns ++ a) ≡ false = ap (λ t. goes_on one (t ++ a)) p.0 ∙ not_on one a h in
     good_name one (goes_on one (ns ++ a)) (n ∷ []) r c ends
@@ -56,12 +56,12 @@ no_path : (root : Justfile) (recipes : Held) (last : Bool) (w : Text) (r : Recip
 no_path root recipes last w r c p (inl q) = q.0 p.0 p.1
 no_path root recipes last w r c p (inr q) =
     let same = path_word_once last w p.0 q.0 p.1 q.1 in
-    no_leads root recipes true q.0 [] r c (λ e. refl) (subst (λ names. Leads root recipes names [] r) same p.2)
-    (subst (λ names. Misleads root recipes true names c) (sym (append-nil q.0)) q.2)
+    no_leads root recipes true q.0 [] r c (λ e. refl) (subst (λ names. WordsLead root recipes names [] r) same p.2)
+    (subst (λ names. WordsMislead root recipes true names c) (sym (append-nil q.0)) q.2)
 
 no_head_step : (root : Justfile) (recipes : Held) (w : Text) (xs a : Words) (r : Recipe Dependency) (c : Cause) (colon : Bool) →
-    MatchBool colon ((xs ≡ []) × PathLeads root recipes (is_empty a) w r) (Leads root recipes (w ∷ xs) a r) →
-    MatchBool colon (NoPath root recipes (is_empty (xs ++ a)) w c) (Misleads root recipes false (w ∷ (xs ++ a)) c) → ⊥
+    MatchBool colon ((xs ≡ []) × PathLeads root recipes (is_empty a) w r) (WordsLead root recipes (w ∷ xs) a r) →
+    MatchBool colon (NoPath root recipes (is_empty (xs ++ a)) w c) (WordsMislead root recipes false (w ∷ (xs ++ a)) c) → ⊥
 no_head_step root recipes w xs a r c true p q = no_path root recipes (is_empty a) w r c p.1 (subst (λ t. NoPath root recipes (is_empty (t ++ a)) w c) p.0 q)
 no_head_step root recipes w xs a r c false p q = no_leads root recipes false (w ∷ xs) a r c (λ e. absurd (false≢true e)) p q
 
@@ -75,11 +75,11 @@ no_path_once root recipes last w c d (inl p) (inr q) = absurd (p.0 q.0 q.1)
 no_path_once root recipes last w c d (inr p) (inl q) = absurd (q.0 p.0 p.1)
 no_path_once root recipes last w c d (inr p) (inr q) =
     misleads_once root recipes true q.0 c d
-    (subst (λ names. Misleads root recipes true names c) (path_word_once last w p.0 q.0 p.1 q.1) p.2) q.2
+    (subst (λ names. WordsMislead root recipes true names c) (path_word_once last w p.0 q.0 p.1 q.1) p.2) q.2
 
 no_head_once_step : (root : Justfile) (recipes : Held) (w : Text) (ws : Words) (c d : Cause) (colon : Bool) →
-    MatchBool colon (NoPath root recipes (is_empty ws) w c) (Misleads root recipes false (w ∷ ws) c) →
-    MatchBool colon (NoPath root recipes (is_empty ws) w d) (Misleads root recipes false (w ∷ ws) d) → c ≡ d
+    MatchBool colon (NoPath root recipes (is_empty ws) w c) (WordsMislead root recipes false (w ∷ ws) c) →
+    MatchBool colon (NoPath root recipes (is_empty ws) w d) (WordsMislead root recipes false (w ∷ ws) d) → c ≡ d
 no_head_once_step root recipes w ws c d true p q = no_path_once root recipes (is_empty ws) w c d p q
 no_head_once_step root recipes w ws c d false p q = misleads_once root recipes false (w ∷ ws) c d p q
 

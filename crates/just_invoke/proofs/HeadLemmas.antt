@@ -13,7 +13,7 @@ use Rattle.just_invoke.specs.declared.justfile.Justfile.{Justfile}
 use Rattle.just_invoke.specs.Closed.{IsHeld}
 use Rattle.just_invoke.specs.Recipes.{find_number}
 use Rattle.just_invoke.specs.Cause.{Cause}
-use Rattle.just_invoke.specs.Head.{Held, Leads, Misleads, IsHead, has_colon, is_empty, PathLeads, NoPath, NoHead}
+use Rattle.just_invoke.specs.Head.{Held, WordsLead, WordsMislead, IsHead, has_colon, is_empty, PathLeads, NoPath, NoHead}
 
 pub texts_front : (names : List (Bor Text)) (i : ℕ) (d : Bor Text) → i < length names →
     texts (take (i + 1) names) ≡ texts (take i names) ++ (get_or names i d).now ∷ []
@@ -38,18 +38,18 @@ held_found recipes n None e = tt
 held_found recipes n (Some r) e = ap (find_number recipes) (number_found recipes n r.now (sym e)) ∙ sym e
 
 head_of_front : (root : Justfile) (recipes : Held) (word : Bor Text) (others : List (Bor Text)) (k : ℕ) (r : Recipe Dependency) → has_colon word.now ≡ false →
-    Leads root recipes (texts (take k (word ∷ others))) (texts (drop k (word ∷ others))) r → IsHead root recipes (texts (take k (word ∷ others))) (texts (drop k (word ∷ others))) r
+    WordsLead root recipes (texts (take k (word ∷ others))) (texts (drop k (word ∷ others))) r → IsHead root recipes (texts (take k (word ∷ others))) (texts (drop k (word ∷ others))) r
 head_of_front root recipes word others zero r e p = p
 head_of_front root recipes word others (suc k) r e p =
     subst (λ b. MatchBool b ((texts (take k others) ≡ []) × PathLeads root recipes (is_empty (texts (drop k others))) word.now r)
-    (Leads root recipes (texts (take (suc k) (word ∷ others))) (texts (drop (suc k) (word ∷ others))) r)) (sym e) p
+    (WordsLead root recipes (texts (take (suc k) (word ∷ others))) (texts (drop (suc k) (word ∷ others))) r)) (sym e) p
 
 -- names in turn are a head where the first has no colon
 pub head_by_names : (root : Justfile) (recipes : Held) (words : List (Bor Text)) (word : Bor Text) (others : List (Bor Text)) (k : ℕ) (r : Recipe Dependency) →
     words ≡ word ∷ others → has_colon word.now ≡ false →
-    Leads root recipes (texts (take k words)) (texts (drop k words)) r → IsHead root recipes (texts (take k words)) (texts (drop k words)) r
+    WordsLead root recipes (texts (take k words)) (texts (drop k words)) r → IsHead root recipes (texts (take k words)) (texts (drop k words)) r
 head_by_names root recipes words word others k r e f =
-    subst (λ ws. Leads root recipes (texts (take k ws)) (texts (drop k ws)) r → IsHead root recipes (texts (take k ws)) (texts (drop k ws)) r) (sym e) (head_of_front root recipes word others k r f)
+    subst (λ ws. WordsLead root recipes (texts (take k ws)) (texts (drop k ws)) r → IsHead root recipes (texts (take k ws)) (texts (drop k ws)) r) (sym e) (head_of_front root recipes word others k r f)
 
 empty_by_length : (others : List (Bor Text)) (last : Bool) → last ≡ eqb (length others) 0 → last ≡ is_empty (texts others)
 empty_by_length [] last e = e
@@ -58,7 +58,7 @@ empty_by_length (x ∷ xs) last e = e ∙ eqb-suc-zero (length xs)
 head_of_path : (root : Justfile) (recipes : Held) (word : Bor Text) (others : List (Bor Text)) (last : Bool) (r : Recipe Dependency) → has_colon word.now ≡ true → last ≡ is_empty (texts others) →
     PathLeads root recipes last word.now r → IsHead root recipes (word.now ∷ []) (texts others) r
 head_of_path root recipes word others last r f g p =
-    subst (λ b. MatchBool b ((texts [] ≡ []) × PathLeads root recipes (is_empty (texts others)) word.now r) (Leads root recipes (word.now ∷ []) (texts others) r)) (sym f)
+    subst (λ b. MatchBool b ((texts [] ≡ []) × PathLeads root recipes (is_empty (texts others)) word.now r) (WordsLead root recipes (word.now ∷ []) (texts others) r)) (sym f)
     (refl, subst (λ b. PathLeads root recipes b word.now r) g p)
 
 -- a word with a colon is a head where its path leads to a recipe
@@ -75,5 +75,5 @@ pub no_head_by_path : (root : Justfile) (recipes : Held) (words : List (Bor Text
 no_head_by_path root recipes words word others last None e f g p = p
 no_head_by_path root recipes words word others last (Some cause) e f g p =
     subst (λ ws. NoHead root recipes (texts ws) cause) (sym e)
-    (subst (λ b. MatchBool b (NoPath root recipes (is_empty (texts others)) word.now cause) (Misleads root recipes false (word.now ∷ texts others) cause)) (sym f)
+    (subst (λ b. MatchBool b (NoPath root recipes (is_empty (texts others)) word.now cause) (WordsMislead root recipes false (word.now ∷ texts others) cause)) (sym f)
     (subst (λ b. NoPath root recipes b word.now cause) (empty_by_length others last g) p))

@@ -15,7 +15,7 @@ use Rattle.just_invoke.specs.Run.{IsRun}
 use Rattle.just_invoke.specs.Split.{Reading, reading_of, IsSplit}
 use Rattle.just_invoke.specs.Unready.{IsUnready, AreReady, IsReason}
 use Rattle.just_invoke.specs.Outcome.{pairs_read, tops, expected_run, IsOutcome, IsRefusal, MayRun, IsWhole}
-use Rattle.just_invoke.specs.Account.{Table, own, AreIn, Complete, counts}
+use Rattle.just_invoke.specs.Account.{OnceTables, own, AreIn, Complete, counts}
 use Rattle.just_invoke.specs.declared.pair.Pair.{Pair}
 
 pub same_read : (recipes : List (Recipe Dependency)) (is : List parsed.Invocation) → pairs_of recipes is ≡ pairs_read recipes (map reading_of is)
@@ -36,7 +36,7 @@ outcome_run root recipes words old new readings (Err Exhausted) s x = (readings,
 outcome_run root recipes words old new readings (Err Memory) s x = inr (readings, s, x)
 
 -- what is known of a success
-pub whole_run : (root : Justfile) (recipes : List (Recipe Dependency)) (words : List (List ℕ)) (readings : List Reading) (ts : List Task) (t : Table) (r : Result Report Error) → IsSplit root recipes words readings → ts ≡ tops recipes readings
+pub whole_run : (root : Justfile) (recipes : List (Recipe Dependency)) (words : List (List ℕ)) (readings : List Reading) (ts : List Task) (t : OnceTables) (r : Result Report Error) → IsSplit root recipes words readings → ts ≡ tops recipes readings
     → IfOk r (λ report. AreIn (own t) ts × Complete recipes t × (report.calls.items ≡ counts ts t)) → IfOk r (IsWhole root recipes words ts t)
 whole_run root recipes words readings ts t (Err e) s is x = tt
 whole_run root recipes words readings ts t (Ok report) s is x = record { readings = readings; split = s; tops_are = is; all_begun = x.0; complete = x.1; counted = x.2 }

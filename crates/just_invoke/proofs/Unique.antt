@@ -8,7 +8,7 @@ use Rattle.just_parts.specs.declared.dependency.Dependency.{Dependency}
 use Rattle.just_parts.specs.declared.recipe.Recipe.{Recipe}
 use Rattle.just_invoke.specs.declared.justfile.Justfile.{Justfile}
 use Rattle.just_invoke.specs.Closed.{recipe_named}
-use Rattle.just_invoke.specs.Head.{Words, Held, Leads, IsHead, has_colon, is_empty, IsPathWord, PathLeads}
+use Rattle.just_invoke.specs.Head.{Words, Held, WordsLead, IsHead, has_colon, is_empty, IsPathWord, PathLeads}
 use Rattle.just_invoke.specs.Tail.{IsTail, group, uses_from}
 use Rattle.just_invoke.specs.Split.{Reading, Invokes, Chain, IsSplit}
 use Rattle.just_invoke.proofs.PathLemmas.{word_path_once, argument_path_once}
@@ -18,7 +18,7 @@ abbrev pub Agree : Words → Words → Words → Words → Recipe Dependency →
 Agree xs ys a b r s = (xs ≡ ys) × (a ≡ b) × (r ≡ s)
 
 leads_once : (root : Justfile) (recipes : Held) (xs ys a b : Words) (r s : Recipe Dependency) → xs ++ a ≡ ys ++ b →
-    Leads root recipes xs a r → Leads root recipes ys b s → Agree xs ys a b r s
+    WordsLead root recipes xs a r → WordsLead root recipes ys b s → Agree xs ys a b r s
 leads_once root recipes [] [] a b r s e p q =
     let f : Some r ≡ Some s = sym p.1.0 ∙ q.1.0 in
     (refl, e, (cc))
@@ -38,11 +38,11 @@ path_word_once false word cs ds p q = word_path_once word cs ds p q
 path_leads_once : (root : Justfile) (recipes : Held) (last : Bool) (word : Text) (r s : Recipe Dependency) → PathLeads root recipes last word r → PathLeads root recipes last word s → r ≡ s
 path_leads_once root recipes last word r s p q =
     let same = path_word_once last word p.0 q.0 p.1 q.1 in
-    (leads_once root recipes q.0 q.0 [] [] r s refl (subst (λ names. Leads root recipes names [] r) same p.2) q.2).2
+    (leads_once root recipes q.0 q.0 [] [] r s refl (subst (λ names. WordsLead root recipes names [] r) same p.2) q.2).2
 
 head_step : (root : Justfile) (recipes : Held) (w : Text) (xs ys a b : Words) (r s : Recipe Dependency) (colon : Bool) → xs ++ a ≡ ys ++ b →
-    MatchBool colon ((xs ≡ []) × PathLeads root recipes (is_empty a) w r) (Leads root recipes (w ∷ xs) a r) →
-    MatchBool colon ((ys ≡ []) × PathLeads root recipes (is_empty b) w s) (Leads root recipes (w ∷ ys) b s) → Agree (w ∷ xs) (w ∷ ys) a b r s
+    MatchBool colon ((xs ≡ []) × PathLeads root recipes (is_empty a) w r) (WordsLead root recipes (w ∷ xs) a r) →
+    MatchBool colon ((ys ≡ []) × PathLeads root recipes (is_empty b) w s) (WordsLead root recipes (w ∷ ys) b s) → Agree (w ∷ xs) (w ∷ ys) a b r s
 head_step root recipes w xs ys a b r s true e p q =
     let rest : a ≡ b = ap (λ t. t ++ a) (sym p.0) ∙ e ∙ ap (λ t. t ++ b) q.0 in (
       ap (λ t. w ∷ t) (p.0 ∙ sym q.0),

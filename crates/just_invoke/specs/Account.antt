@@ -15,25 +15,25 @@ pub record Asked : Type 0 where
   pub priors : List Task
 
 -- what happened in one table, in order: a task asked; or a task begun, with its priors, its subsequents and the table below whose tops these are
-pub data Table : Type 0 where
-  Empty : Table
-  Asks : (asked : Asked) (rest : Table) → Table
-  Runs : (task : Task) (priors subsequents : List Task) (below rest : Table) → Table
+pub data OnceTables : Type 0 where
+  Empty : OnceTables
+  Asks : (asked : Asked) (rest : OnceTables) → OnceTables
+  Runs : (task : Task) (priors subsequents : List Task) (below rest : OnceTables) → OnceTables
 
 -- those asked in the table itself
-abbrev pub asks : Table → List Asked
+abbrev pub asks : OnceTables → List Asked
 asks Empty = []
 asks (Asks a rest) = a ∷ asks rest
 asks (Runs t ps ss below rest) = asks rest
 
 -- the pairs begun in the table itself
-abbrev pub own : Table → List Pair
+abbrev pub own : OnceTables → List Pair
 own Empty = []
 own (Asks a rest) = own rest
 own (Runs t ps ss below rest) = t.pair ∷ own rest
 
 -- those begun in it and below, in order: a table below stands directly after its task
-abbrev pub begun : Table → List Task
+abbrev pub begun : OnceTables → List Task
 begun Empty = []
 begun (Asks a rest) = begun rest
 begun (Runs t ps ss below rest) = t ∷ (begun below ++ begun rest)
@@ -61,7 +61,7 @@ pairs_asked asked = map (λ (a : Asked). a.task.pair) asked
 
 -- in a table with these tops, where some were asked and some begun: each asked is a top or a prior of one asked, and no pair is asked twice;
 -- each begun was asked, its priors are those of its recipe and were begun before, and no pair is begun twice
-abbrev pub Fits : List (Recipe Dependency) → List Task → List Asked → List Pair → Table → Type 0
+abbrev pub Fits : List (Recipe Dependency) → List Task → List Asked → List Pair → OnceTables → Type 0
 Fits recipes tops asked done Empty = Unit {0}
 Fits recipes tops asked done (Asks a rest) = In a.task (known tops asked) × (has same_pair (pairs_asked asked) a.task.pair ≡ false) × Fits recipes tops (asked ++ a ∷ []) done rest
 Fits recipes tops asked done (Runs t ps ss below rest) =
@@ -69,13 +69,13 @@ Fits recipes tops asked done (Runs t ps ss below rest) =
     × Fits recipes ss [] [] below × Fits recipes tops asked (done ++ t.pair ∷ []) rest
 
 -- the subsequents of each task begun are those of its recipe, and each was begun in the table below
-abbrev pub Complete : List (Recipe Dependency) → Table → Type 0
+abbrev pub Complete : List (Recipe Dependency) → OnceTables → Type 0
 Complete recipes Empty = Unit {0}
 Complete recipes (Asks a rest) = Complete recipes rest
 Complete recipes (Runs t ps ss below rest) = (ss ≡ subsequents recipes t) × AreIn (own below) ss × Complete recipes below × Complete recipes rest
 
 -- the number of priors of the tasks begun in a table
-abbrev pub prior_count : Table → ℕ
+abbrev pub prior_count : OnceTables → ℕ
 prior_count Empty = 0
 prior_count (Asks a rest) = prior_count rest
 prior_count (Runs t ps ss below rest) = length ps + prior_count rest
@@ -86,13 +86,13 @@ if_any [] ns = []
 if_any (t ∷ ts) ns = ns
 
 -- for a table with these tops and then those below it, in the order of opening: its tops and the priors of its tasks
-abbrev pub counts_below : Table → List ℕ
+abbrev pub counts_below : OnceTables → List ℕ
 counts_below Empty = []
 counts_below (Asks a rest) = counts_below rest
 counts_below (Runs t ps ss below rest) = if_any ss ((length ss + prior_count below) ∷ counts_below below) ++ counts_below rest
 
 -- the counts of a table with these tops, and of those below it
-abbrev pub counts : List Task → Table → List ℕ
+abbrev pub counts : List Task → OnceTables → List ℕ
 counts tops t = if_any tops ((length tops + prior_count t) ∷ counts_below t)
 
 -- the list with k more at a place

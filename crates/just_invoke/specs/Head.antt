@@ -29,9 +29,9 @@ abbrev pub TakesDefault : Justfile → Held → Recipe Dependency → Type 0
 TakesDefault root recipes r = (default_recipe root recipes ≡ Some r) × (least_arguments r.parameters ≡ 0)
 
 -- the names lead to the recipe, before the rest of the words; they may end in the module only where nothing follows them
-abbrev pub Leads : Justfile → Held → Words → Words → Recipe Dependency → Type 0
-Leads root recipes [] rest r = (rest ≡ []) × TakesDefault root recipes r
-Leads root recipes (n ∷ ns) rest r = (ns ≡ []) × (recipe_named root recipes n ≡ Some r)
+abbrev pub WordsLead : Justfile → Held → Words → Words → Recipe Dependency → Type 0
+WordsLead root recipes [] rest r = (rest ≡ []) × TakesDefault root recipes r
+WordsLead root recipes (n ∷ ns) rest r = (ns ≡ []) × (recipe_named root recipes n ≡ Some r)
 
 -- a `:` is in the word
 abbrev pub has_colon : Text → Bool
@@ -49,15 +49,15 @@ IsPathWord false word names = IsWordPath word names
 
 -- the word is a path that leads to the recipe
 abbrev pub PathLeads : Justfile → Held → Bool → Text → Recipe Dependency → Type 0
-PathLeads root recipes last word r = (names : Words) × IsPathWord last word names × Leads root recipes names [] r
+PathLeads root recipes last word r = (names : Words) × IsPathWord last word names × WordsLead root recipes names [] r
 
 -- the front of the words that names the recipe, before the rest of them
 abbrev pub IsHead : Justfile → Held → Words → Words → Recipe Dependency → Type 0
-IsHead root recipes [] rest r = Leads root recipes [] rest r
+IsHead root recipes [] rest r = WordsLead root recipes [] rest r
 IsHead root recipes (w ∷ ws) rest r =
     MatchBool (has_colon w)
     ((ws ≡ []) × PathLeads root recipes (is_empty rest) w r)
-    (Leads root recipes (w ∷ ws) rest r)
+    (WordsLead root recipes (w ∷ ws) rest r)
 
 -- why no default is taken, by the module's table and its default
 abbrev pub NoDefault : List (Text × RecipeKey) → Option (Recipe Dependency) → Cause → Type 0
@@ -78,20 +78,20 @@ BadName one false path (Some r) cause = ⊥
 BadName one false path None cause = cause ≡ unknown_recipe (text_of path (not one))
 
 -- why the names lead to no recipe; `one` says that they are one word
-abbrev pub Misleads : Justfile → Held → Bool → Words → Cause → Type 0
-Misleads root recipes one [] cause = NoDefault (out-Justfile root).recipes (default_recipe root recipes) cause
-Misleads root recipes one (n ∷ ns) cause = BadName one (goes_on one ns) (n ∷ []) (recipe_named root recipes n) cause
+abbrev pub WordsMislead : Justfile → Held → Bool → Words → Cause → Type 0
+WordsMislead root recipes one [] cause = NoDefault (out-Justfile root).recipes (default_recipe root recipes) cause
+WordsMislead root recipes one (n ∷ ns) cause = BadName one (goes_on one ns) (n ∷ []) (recipe_named root recipes n) cause
 
 -- why the word is no path to a recipe
 abbrev pub NoPath : Justfile → Held → Bool → Text → Cause → Type 0
 NoPath root recipes last word cause =
     (((names : Words) → IsPathWord last word names → ⊥) × (cause ≡ unknown_recipe word))
-    ⊎ ((names : Words) × IsPathWord last word names × Misleads root recipes true names cause)
+    ⊎ ((names : Words) × IsPathWord last word names × WordsMislead root recipes true names cause)
 
 -- why the words begin with no head
 abbrev pub NoHead : Justfile → Held → Words → Cause → Type 0
-NoHead root recipes [] cause = Misleads root recipes false [] cause
+NoHead root recipes [] cause = WordsMislead root recipes false [] cause
 NoHead root recipes (w ∷ ws) cause =
     MatchBool (has_colon w)
     (NoPath root recipes (is_empty ws) w cause)
-    (Misleads root recipes false (w ∷ ws) cause)
+    (WordsMislead root recipes false (w ∷ ws) cause)

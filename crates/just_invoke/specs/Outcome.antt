@@ -9,10 +9,10 @@ use Rattle.just_parts.specs.declared.recipe.Recipe.{Recipe}
 use Rattle.just_invoke.specs.declared.justfile.Justfile.{Justfile}
 use Rattle.just_invoke.specs.declared.pair.Pair.{Pair}
 use Rattle.just_invoke.specs.declared.running.Report.{Report}
-use Rattle.just_invoke.specs.Account.{Table, own, begun, beginnings, AreIn, Fits, Complete, counts}
+use Rattle.just_invoke.specs.Account.{OnceTables, own, begun, beginnings, AreIn, Fits, Complete, counts}
 use Rattle.just_invoke.specs.Cause.{cause_of}
 use Rattle.just_invoke.specs.Pairs.{Task, tasks, place_of}
-use Rattle.just_invoke.specs.Run.{run_questions, IsBroken}
+use Rattle.just_invoke.specs.Run.{run_questions, IsBeginning}
 use Rattle.just_invoke.specs.Split.{Reading, IsSplit, IsFault}
 use Rattle.just_invoke.specs.Unready.{IsUnready, AreReady}
 
@@ -36,8 +36,8 @@ expected_run recipes readings = run_questions recipes (length recipes) (tops rec
 -- Want of memory or of numbers leaves a beginning of the expected run.
 abbrev pub IsOutcome : Justfile → List (Recipe Dependency) → List (List ℕ) → List Entry → List Entry → Result Report Error → Type 0
 IsOutcome root recipes words old new (Ok report) = (readings : List Reading) × IsSplit root recipes words readings × (new ≡ old ++ expected_run recipes readings)
-IsOutcome root recipes words old new (Err Memory) = (new ≡ old) ⊎ ((readings : List Reading) × IsSplit root recipes words readings × IsBroken (expected_run recipes readings) old new)
-IsOutcome root recipes words old new (Err Exhausted) = (readings : List Reading) × IsSplit root recipes words readings × IsBroken (expected_run recipes readings) old new
+IsOutcome root recipes words old new (Err Memory) = (new ≡ old) ⊎ ((readings : List Reading) × IsSplit root recipes words readings × IsBeginning (expected_run recipes readings) old new)
+IsOutcome root recipes words old new (Err Exhausted) = (readings : List Reading) × IsSplit root recipes words readings × IsBeginning (expected_run recipes readings) old new
 IsOutcome root recipes words old new (Err (Invocation e)) = IfSome (cause_of (Invocation e)) (IsFault root recipes words) × (new ≡ old)
 IsOutcome root recipes words old new (Err (Run e)) = (readings : List Reading) × IsSplit root recipes words readings × (new ≡ old)
 IsOutcome root recipes words old new (Err (Load e)) = ⊥
@@ -58,12 +58,12 @@ abbrev pub MayRun : Justfile → List (Recipe Dependency) → List (List ℕ) �
 MayRun root recipes words one = (readings : List Reading) × IsSplit root recipes words readings × (one ≡ true → length readings ≤ 1) × AreReady recipes (pairs_read recipes readings)
 
 -- The account of a run, for every host: what was begun, in order, is what a tree of once tables has.
-pub record HasAccount (recipes : List (Recipe Dependency)) (old new : List Entry) (ts : List Task) (t : Table) : Type 0 where
+pub record HasAccount (recipes : List (Recipe Dependency)) (old new : List Entry) (ts : List Task) (t : OnceTables) : Type 0 where
   pub gained : new ≡ old ++ beginnings recipes (begun t)
   pub fits : Fits recipes ts [] [] t
 
 -- where it succeeds, the first table's tops are the invocations' tasks, each was begun, and the report counts the calls
-pub record IsWhole (root : Justfile) (recipes : List (Recipe Dependency)) (words : List (List ℕ)) (ts : List Task) (t : Table) (report : Report) : Type 0 where
+pub record IsWhole (root : Justfile) (recipes : List (Recipe Dependency)) (words : List (List ℕ)) (ts : List Task) (t : OnceTables) (report : Report) : Type 0 where
   pub readings : List Reading
   pub split : IsSplit root recipes words readings
   pub tops_are : ts ≡ tops recipes readings

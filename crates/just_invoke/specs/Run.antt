@@ -54,14 +54,14 @@ walk_questions recipes (suc n) ts =
     flat_map (part_questions recipes (walk_questions recipes n)) (walks key (walk same_pair key (priors recipes) (suc n)) [] ts)
 
 -- some beginning of the questions was asked
-abbrev pub IsBroken : List Entry → List Entry → List Entry → Type 0
-IsBroken qs old new = (xs : List Entry) × (ys : List Entry) × (qs ≡ xs ++ ys) × (new ≡ old ++ xs)
+abbrev pub IsBeginning : List Entry → List Entry → List Entry → Type 0
+IsBeginning qs old new = (xs : List Entry) × (ys : List Entry) × (qs ≡ xs ++ ys) × (new ≡ old ++ xs)
 
 -- all was asked; or where memory or a number was refused, a beginning
 abbrev pub Follows : List Entry → List Entry → List Entry → Option halt.Halt → Type 0
 Follows qs old new None = new ≡ old ++ qs
-Follows qs old new (Some halts.Memory) = IsBroken qs old new
-Follows qs old new (Some halts.Exhausted) = IsBroken qs old new
+Follows qs old new (Some halts.Memory) = IsBeginning qs old new
+Follows qs old new (Some halts.Exhausted) = IsBeginning qs old new
 
 -- why a call ended early, if it did
 abbrev pub halt_of : {A : Type 0} → Result A halt.Halt → Option halt.Halt
@@ -71,8 +71,8 @@ halt_of (Err e) = Some e
 -- the same of a whole run, before which nothing was asked where it answers that it cannot run yet
 abbrev pub IsRun : {A : Type 0} → List Entry → List Entry → List Entry → Result A Error → Type 0
 IsRun qs old new (Ok x) = new ≡ old ++ qs
-IsRun qs old new (Err Memory) = IsBroken qs old new
-IsRun qs old new (Err Exhausted) = IsBroken qs old new
+IsRun qs old new (Err Memory) = IsBeginning qs old new
+IsRun qs old new (Err Exhausted) = IsBeginning qs old new
 IsRun qs old new (Err (Run e)) = new ≡ old
 IsRun qs old new (Err (Load e)) = ⊥
 IsRun qs old new (Err (Compile e)) = ⊥

@@ -8,7 +8,7 @@ ghost use Rattle.just_parts.specs.declared.layers.error.InvocationError.TheVaria
 ghost use Rattle.just_invoke.specs.Cause.{cause_of, count_mismatch, IsExpected};
 ghost use Rattle.just_invoke.specs.Closed.{recipe_named, default_recipe, IsHeld, IsClosed};
 ghost use Rattle.just_invoke.specs.declared.justfile.Justfile.{out-Justfile};
-ghost use Rattle.just_invoke.specs.Head.{Words, name_of, has_colon, is_empty, goes_on, TakesDefault, NoDefault, BadName, Leads, Misleads, IsPathWord, PathLeads, NoPath, IsHead, NoHead};
+ghost use Rattle.just_invoke.specs.Head.{Words, name_of, has_colon, is_empty, goes_on, TakesDefault, NoDefault, BadName, WordsLead, WordsMislead, IsPathWord, PathLeads, NoPath, IsHead, NoHead};
 ghost use Rattle.just_invoke.specs.Tail.{shown, first_variadic, IsTail, is_missing, any_missing};
 ghost use Rattle.just_invoke.specs.Split.{reading_of, Invokes, Chain, IsSplit, Stops, IsFault};
 
@@ -166,9 +166,9 @@ fn walk<'run, 'src>(
     ensures within { IfOk result (λ found. found.1 ≤ length names.now) }
     ensures moves { IfOk result (λ found. 0 < length names.now → 0 < found.1) }
     ensures whole { IfOk result (λ found. one ≡ true → found.1 ≡ length names.now) }
-    ensures ok { IfOk result (λ found. Leads root.now recipes.now (texts (take found.1 names.now)) (texts (drop found.1 names.now)) found.0.now) }
+    ensures ok { IfOk result (λ found. WordsLead root.now recipes.now (texts (take found.1 names.now)) (texts (drop found.1 names.now)) found.0.now) }
     ensures held { IfOk result (λ found. IsHeld recipes.now found.0.now) }
-    ensures err { IfErr result (λ e. IfSome (cause_of e) (Misleads root.now recipes.now one (texts names.now))) }
+    ensures err { IfErr result (λ e. IfSome (cause_of e) (WordsMislead root.now recipes.now one (texts names.now))) }
     ensures expected { IfErr result (λ e. IsExpected e) }
 {
     let Some((name, rest)) = names.split_first() else {
@@ -220,9 +220,9 @@ fn walk_path<'run, 'src>(
     recipes: &'run Recipes<'src>,
     names: &[&str],
 ) -> Result<&'run Recipe<'src>, Error<'src>>
-    ensures ok { IfOk result (λ r. Leads root.now recipes.now (texts names.now) [] r.now) }
+    ensures ok { IfOk result (λ r. WordsLead root.now recipes.now (texts names.now) [] r.now) }
     ensures held { IfOk result (λ r. IsHeld recipes.now r.now) }
-    ensures err { IfErr result (λ e. IfSome (cause_of e) (Misleads root.now recipes.now true (texts names.now))) }
+    ensures err { IfErr result (λ e. IfSome (cause_of e) (WordsMislead root.now recipes.now true (texts names.now))) }
     ensures expected { IfErr result (λ e. IsExpected e) }
 {
     let (recipe, _) = walk(alloc, root, recipes, true, names)?;

@@ -85,7 +85,7 @@ impl<'src> Justfile<'src> {
     ghost use Rattle.std.specs.Prelude.{◌≡◌, List, IfOk, IfErr};
     ghost use Rattle.just_parts.specs.Host.{KeepsPromises};
     ghost use Rattle.just_parts.specs.Modulepath.{texts};
-    ghost use Rattle.just_invoke.specs.Account.{Table};
+    ghost use Rattle.just_invoke.specs.Account.{OnceTables};
     ghost use Rattle.just_invoke.specs.Closed.{IsClosed};
     ghost use Rattle.just_invoke.specs.Outcome.{IsOutcome, IsRefusal, MayRun, HasAccount, IsWhole};
     ghost use Rattle.just_invoke.specs.Pairs.{Task};
@@ -115,7 +115,7 @@ impl<'src> Justfile<'src> {
         // The writer is left as it was.
         ensures unwritten { W.written writer.new ≡ W.written writer.old }
         ensures unfailed { W.failed writer.new ≡ W.failed writer.old }
-        ensures account { (ts : List Task) × (t : Table) × HasAccount recipes.now (H.entries host.old) (H.entries host.new) ts t × IfOk result (IsWhole self.now recipes.now (texts words.now) ts t) }
+        ensures account { (ts : List Task) × (t : OnceTables) × HasAccount recipes.now (H.entries host.old) (H.entries host.new) ts t × IfOk result (IsWhole self.now recipes.now (texts words.now) ts t) }
     {
         let invocations = InvocationParser::parse_invocations(
             alloc, self, recipes, evaluation, words,

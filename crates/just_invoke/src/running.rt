@@ -3,7 +3,7 @@ ghost use Rattle.std.specs.List.{All};
 ghost use Rattle.just_parts.specs.Host.{KeepsPromises};
 ghost use Rattle.just_invoke.specs.declared.invocation.Invocation.{Invocation};
 ghost use Rattle.just_invoke.specs.declared.pair.Pair.{Pair};
-ghost use Rattle.just_invoke.specs.Account.{Asked, Table, own, asks, begun, beginnings, In, AreIn, known, Fits, Complete, prior_count, counts_below, counts, add_at, AllLow, AreDone, Settled};
+ghost use Rattle.just_invoke.specs.Account.{Asked, OnceTables, own, asks, begun, beginnings, In, AreIn, known, Fits, Complete, prior_count, counts_below, counts, add_at, AllLow, AreDone, Settled};
 ghost use Rattle.just_invoke.specs.Closed.{IsHeld, IsResolved};
 ghost use Rattle.just_invoke.specs.Expansion.{Block, part_key};
 ghost use Rattle.just_invoke.specs.Firsts.{has};
@@ -96,7 +96,7 @@ fn run_recipe<H: Host>(
         Follows (flat_map (part_questions recipes.now (walk_questions recipes.now m)) (walk same_pair key (priors recipes.now) (suc n) done (task flag pair.now))) (H.entries host.old) (H.entries host.new) (halt_of result)
         × IfOk result (λ _. Holds table.new (done ++ blocks (map (part_key key) (walk same_pair key (priors recipes.now) (suc n) done (task flag pair.now))))) }
     ensures account { (flag : Bool) (tops : List Task) (before : List Asked) (done : List Pair) → Holds table.old done → In (task flag pair.now) (known tops before) → Settled (suc pair.now.recipe) before done →
-        (t : Table) × (H.entries host.new ≡ H.entries host.old ++ beginnings recipes.now (begun t)) × Fits recipes.now tops before done t × AllLow (suc pair.now.recipe) (own t)
+        (t : OnceTables) × (H.entries host.new ≡ H.entries host.old ++ beginnings recipes.now (begun t)) × Fits recipes.now tops before done t × AllLow (suc pair.now.recipe) (own t)
         × IfOk result (λ _. Holds table.new (done ++ own t) × (has same_pair (done ++ own t) pair.now ≡ true) × AreDone (own t) (asks t) × Complete recipes.now t × (calls.new.items ≡ add_at calls.old.items number (1 + prior_count t) ++ counts_below t)) }
 {
     count_call(calls, number)?;
@@ -134,7 +134,7 @@ fn run_block<H: Host>(
     ensures number { length calls.old.items ≤ length calls.new.items }
     ensures run { (flag : Bool) (m : ℕ) → pair.now.recipe ≤ m → Follows (part_questions recipes.now (walk_questions recipes.now m) (Block (task flag pair.now))) (H.entries host.old) (H.entries host.new) (halt_of result) }
     ensures account { (flag : Bool) (tops : List Task) (before : List Asked) (done : List Pair) (ps : List Task) → In (record { task = task flag pair.now; priors = ps }) before → has same_pair done pair.now ≡ false → AreIn done ps → ps ≡ priors recipes.now (task flag pair.now) →
-        (t : Table) × (H.entries host.new ≡ H.entries host.old ++ beginnings recipes.now (begun t)) × Fits recipes.now tops before done t × AllLow (suc pair.now.recipe) (own t)
+        (t : OnceTables) × (H.entries host.new ≡ H.entries host.old ++ beginnings recipes.now (begun t)) × Fits recipes.now tops before done t × AllLow (suc pair.now.recipe) (own t)
         × IfOk result (λ _. (own t ≡ pair.now ∷ []) × (asks t ≡ []) × Complete recipes.now t × (prior_count t ≡ length ps) × (calls.new.items ≡ calls.old.items ++ counts_below t)) }
 {
     execute(recipes, host, pair)?;
@@ -158,7 +158,7 @@ fn run_fresh<H: Host>(
     ensures keeps { KeepsPromises (H.promised host.old) (H.promised host.new) }
     ensures number { length calls.old.items ≤ length calls.new.items }
     ensures run { (flag : Bool) (m : ℕ) → bound ≤ m → Follows (walk_questions recipes.now m (tasks flag tops.now)) (H.entries host.old) (H.entries host.new) (halt_of result) }
-    ensures account { (flag : Bool) → (t : Table) × (H.entries host.new ≡ H.entries host.old ++ beginnings recipes.now (begun t)) × Fits recipes.now (tasks flag tops.now) [] [] t
+    ensures account { (flag : Bool) → (t : OnceTables) × (H.entries host.new ≡ H.entries host.old ++ beginnings recipes.now (begun t)) × Fits recipes.now (tasks flag tops.now) [] [] t
         × IfOk result (λ _. AreIn (own t) (tasks flag tops.now) × Complete recipes.now t × (calls.new.items ≡ calls.old.items ++ counts (tasks flag tops.now) t)) }
 {
     if tops.is_empty() {
@@ -192,7 +192,7 @@ fn run_all<H: Host>(
         Follows (flat_map (part_questions recipes.now (walk_questions recipes.now m)) (walks key (walk same_pair key (priors recipes.now) n) done (tasks flag tops.now))) (H.entries host.old) (H.entries host.new) (halt_of result)
         × IfOk result (λ _. Holds table.new (done ++ blocks (map (part_key key) (walks key (walk same_pair key (priors recipes.now) n) done (tasks flag tops.now))))) }
     ensures account { (flag : Bool) (named : List Task) (before : List Asked) (done : List Pair) → Holds table.old done → All (λ (q : Task). In q (known named before)) (tasks flag tops.now) → Settled bound before done →
-        (t : Table) × (H.entries host.new ≡ H.entries host.old ++ beginnings recipes.now (begun t)) × Fits recipes.now named before done t × AllLow bound (own t)
+        (t : OnceTables) × (H.entries host.new ≡ H.entries host.old ++ beginnings recipes.now (begun t)) × Fits recipes.now named before done t × AllLow bound (own t)
         × IfOk result (λ _. Holds table.new (done ++ own t) × AreIn (done ++ own t) (tasks flag tops.now) × AreDone (own t) (asks t) × Complete recipes.now t × (calls.new.items ≡ add_at calls.old.items number (length (tasks flag tops.now) + prior_count t) ++ counts_below t)) }
 {
     for pair in tops {
@@ -214,7 +214,7 @@ pub(crate) fn run_invocations<'src, H: Host>(
     ensures unready { IfErr result (IsReason recipes.now (pairs_of recipes.now invocations.now)) }
     ensures ready { IfOk result (λ _. AreReady recipes.now (pairs_of recipes.now invocations.now)) }
     ensures run { IsRun (run_questions recipes.now (length recipes.now) (tops_of recipes.now invocations.now)) (H.entries host.old) (H.entries host.new) result }
-    ensures account { (t : Table) × (H.entries host.new ≡ H.entries host.old ++ beginnings recipes.now (begun t)) × Fits recipes.now (tops_of recipes.now invocations.now) [] [] t
+    ensures account { (t : OnceTables) × (H.entries host.new ≡ H.entries host.old ++ beginnings recipes.now (begun t)) × Fits recipes.now (tops_of recipes.now invocations.now) [] [] t
         × IfOk result (λ report. AreIn (own t) (tops_of recipes.now invocations.now) × Complete recipes.now t × (report.calls.items ≡ counts (tops_of recipes.now invocations.now) t)) }
 {
     let tops = name_tops(alloc, recipes, invocations)?;

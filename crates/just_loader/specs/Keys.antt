@@ -1,5 +1,5 @@
 -- What a file imports and which modules it declares, and the keys of files: the path of a module, and a file of it.
-use Rattle.std.specs.Prelude.{◌≡◌, ℕ, List, [], ◌∷◌, map, filter, not, is_some, unwrap_or, ◌≤◌, ◌^◌, Option, None, Some}
+use Rattle.std.specs.Prelude.{◌≡◌, ◌+◌, ℕ, List, [], ◌∷◌, map, filter, not, is_some, unwrap_or, ◌≤◌, ◌^◌, Option, None, Some}
 use Rattle.std.specs.List.{Contains, flat_map, sum_by}
 use Rattle.std.specs.Option.{option_map}
 use Rattle.just_graph.specs.Unfolding.{KeyOf, KeyStepsOf}
@@ -82,6 +82,10 @@ IsKey w k = (d : ℕ) × FileKeySteps w (root_file_key w) k d
 -- how many numbers the text of the file at a path takes
 abbrev pub spends_at : World → Text → ℕ
 spends_at w f = unwrap_or (option_map (w.answers.spends (relative_to_root w f)) (text_at w.files f)) 0
+
+-- so many lie between two numbers
+abbrev pub SpendsAt : World → Text → ℕ → ℕ → Type 0
+SpendsAt w f low high = high ≡ low + spends_at w f
 
 -- What is broken in the group of files: the root is no file, a reached file is at fault, one leads back to itself, or the texts of some keys take more numbers than there are.
 pub data NamesInFiles (w : World) : Cause → Type 0 where

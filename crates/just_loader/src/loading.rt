@@ -11,7 +11,7 @@ ghost use Rattle.just_parts.specs.Syntax.{AreRising, PriorsAreDependencies, numb
 ghost use Rattle.just_parts.specs.declared.layers.ast.Ast.{Ast};
 ghost use Rattle.just_loader.specs.Asts.{same_ast_key};
 ghost use Rattle.just_loader.specs.Causes.{Keeps, Reports};
-ghost use Rattle.just_loader.specs.Keys.{NamesInFiles, spends_at};
+ghost use Rattle.just_loader.specs.Keys.{NamesInFiles, SpendsAt, spends_at};
 ghost use Rattle.just_loader.specs.Loaded.{IsLoaded, at_first, file_at};
 ghost use Rattle.just_loader.specs.Loading.{AreNodes, AreNumberedBy, AreParsedBy, AreSources, AreUnfolded, CameInAt, CameInSoFar, ComesNext, HavePaths, InWorlds, IsSaid, IsScanBy, Stops, StopsAt, spent_by};
 ghost use Rattle.just_loader.specs.Parsed.{AreHeld, AreKeyed, relative_at};
@@ -145,7 +145,7 @@ fn parse_file<'src, S: Syntax>(
     ensures said { IfOk result (λ ast. InWorlds scan.now (S.answers syntax.now) (λ w. IsSaid w (file_at scan.now place) source.now ast)) }
     ensures numbers { IfOk result (λ ast. AreRising numerator.old.next (numbers ast.items) numerator.new.next) }
     ensures priors { IfOk result (λ ast. All PriorsAreDependencies ast.items) }
-    ensures spent { OnOk result (InWorlds scan.now (S.answers syntax.now) (λ w. numerator.new.next ≡ numerator.old.next + spends_at w (file_at scan.now place))) }
+    ensures spent { OnOk result (InWorlds scan.now (S.answers syntax.now) (λ w. SpendsAt w (file_at scan.now place) numerator.old.next numerator.new.next)) }
     ensures fits { OnOk result (numerator.new.next < 2 ^ 64) }
     ensures stopped { IfErr result (λ e. InWorlds scan.now (S.answers syntax.now) (λ w. StopsAt numerator.old.next (spends_at w (file_at scan.now place)) e)) }
 {

@@ -93,7 +93,7 @@ fn targets<'src, S: Syntax>(
     found: &mut Found<'src>,
 ) -> Result<Vec<Option<usize>>, Error<'src>>
     requires { AreFound sources.now found.old }
-    ensures places { IfOk result (λ targets. ArePlacesIn found.new (links_by sources.now config.now (S.answers syntax.now) folder.now items.now) targets.items) }
+    ensures places { IfOk result (λ it. ArePlacesIn found.new (links_by sources.now config.now (S.answers syntax.now) folder.now items.now) it.items) }
     ensures grows { OnOk result (FindsAll (links_by sources.now config.now (S.answers syntax.now) folder.now items.now) found.old found.new) }
     ensures found { OnOk result (AreFound sources.now found.new) }
     ensures error { IfErr result (Reports (λ c. Contains (links_by sources.now config.now (S.answers syntax.now) folder.now items.now) (Fault c))) }

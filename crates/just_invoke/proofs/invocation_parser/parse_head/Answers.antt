@@ -2,7 +2,7 @@ use Rattle.std.proofs.Common.{rules, IfSome, ◌≡◌, ◌∷◌, sym, ◌∙�
 use Rattle.std.proofs.lemmas.Result.{IfOk-weaker, IfErr-weaker}
 use Rattle.just_parts.specs.Modulepath.{texts}
 use Rattle.just_invoke.specs.Cause.{cause_of}
-use Rattle.just_invoke.specs.Head.{Leads, IsHead, NoPath, NoHead, has_colon}
+use Rattle.just_invoke.specs.Head.{WordsLead, IsHead, NoPath, NoHead, has_colon}
 use Rattle.just_invoke.proofs.HeadLemmas.{head_by_names, head_by_path, no_head_by_path}
 use Rattle.just_invoke.proofs.invocation_parser.parse_head.Goals as goal
 
@@ -14,7 +14,7 @@ returns-then-not-contains_colon-clause-ok c =
     let whole : words ≡ c.in-Some.word.now ∷ c.in-Some.rest.now = search rules in
     let none : has_colon c.in-Some.word.now.now ≡ false = sym c.contains_colon.ensures ∙ c.if-not-contains_colon.true in
     IfOk-weaker c.walk-then-not-contains_colon.result
-    (λ found. Leads root recipes (texts (take found.1 words)) (texts (drop found.1 words)) found.0.now)
+    (λ found. WordsLead root recipes (texts (take found.1 words)) (texts (drop found.1 words)) found.0.now)
     (λ found. IsHead root recipes (texts (take found.1 words)) (texts (drop found.1 words)) found.0.now)
     (λ found p. head_by_names root recipes words c.in-Some.word.now c.in-Some.rest.now found.1 found.0.now whole none p)
     c.walk-then-not-contains_colon.ensures.ok

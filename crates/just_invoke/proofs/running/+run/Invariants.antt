@@ -3,7 +3,7 @@ use Rattle.std.specs.Prelude.{Bool, flat_map}
 use Rattle.std.specs.List.{All}
 use Rattle.just_parts.specs.Host.{KeepsPromises}
 use Rattle.just_invoke.specs.declared.pair.Pair.{Pair}
-use Rattle.just_invoke.specs.Account.{Asked, Table, own, asks, begun, beginnings, In, AreIn, known, Fits, Complete, prior_count, counts_below, add_at, AllLow, AreDone, Settled}
+use Rattle.just_invoke.specs.Account.{Asked, OnceTables, own, asks, begun, beginnings, In, AreIn, known, Fits, Complete, prior_count, counts_below, add_at, AllLow, AreDone, Settled}
 use Rattle.just_invoke.specs.Expansion.{part_key}
 use Rattle.just_invoke.specs.Pairs.{Task, same_pair, key, tasks, priors}
 use Rattle.just_invoke.specs.Run.{part_questions, walk_questions, Follows, Holds}
@@ -30,6 +30,6 @@ invariant-run_all-loop-pair g l = record {
       Follows (flat_map (part_questions l.recipes (walk_questions l.recipes m)) (walks key (walk same_pair key (priors l.recipes) n) done (take l.pair-index (tasks flag l.tops)))) (g.H.Host.entries l.initial.host) (g.H.Host.entries l.host) None
       × Holds l.table (done ++ blocks (map (part_key key) (walks key (walk same_pair key (priors l.recipes) n) done (take l.pair-index (tasks flag l.tops)))));
   account : (flag : Bool) (named : List Task) (before : List Asked) (done : List Pair) → Holds l.initial.table done → All (λ (q : Task). In q (known named before)) (tasks flag l.tops) → Settled l.bound before done →
-      (t : Table) × (g.H.Host.entries l.host ≡ g.H.Host.entries l.initial.host ++ beginnings l.recipes (begun t)) × Fits l.recipes named before done t × AllLow l.bound (own t)
+      (t : OnceTables) × (g.H.Host.entries l.host ≡ g.H.Host.entries l.initial.host ++ beginnings l.recipes (begun t)) × Fits l.recipes named before done t × AllLow l.bound (own t)
       × Holds l.table (done ++ own t) × AreIn (done ++ own t) (take l.pair-index (tasks flag l.tops)) × AreDone (own t) (asks t) × Complete l.recipes t × (l.calls.items ≡ add_at l.initial.calls.items l.number (l.pair-index + prior_count t) ++ counts_below t);
 }

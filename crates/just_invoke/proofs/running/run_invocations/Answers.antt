@@ -1,7 +1,7 @@
 use Rattle.std.proofs.Common.{◌≡◌, ◌++◌, ◌∙◌, [], false, length, sym, ap, subst, arith}
 use Rattle.just_invoke.specs.Account.{own, AreIn, Fits, counts}
 use Rattle.just_invoke.specs.Pairs.{tasks, pairs_of, AllBelow}
-use Rattle.just_invoke.specs.Run.{walk_questions, IsBroken}
+use Rattle.just_invoke.specs.Run.{walk_questions, IsBeginning}
 use Rattle.just_invoke.proofs.Follow.{broken-of}
 use Rattle.just_invoke.proofs.Whole.{whole-run}
 use Rattle.just_invoke.proofs.running.run_invocations.Goals as goal
@@ -20,7 +20,7 @@ returns-in-Err-Memory-clause-run g c =
     let same = whole-run c.args.recipes.now false c.deref-2.result.now (pairs_of c.args.recipes.now c.args.invocations.now) c.end.ensures.ordered tops below in
     let broken = broken-of (walk_questions c.args.recipes.now (length c.args.recipes.now) (tasks false c.deref-2.result.now)) (g.H.Host.entries c.args.host.now) (g.H.Host.entries c.run_fresh.new.host) c.in-Err-Memory.field-0
     (c.in-Err-Memory.ensures.run false (length c.args.recipes.now) (omega (arith, c.end.ensures.is))) in
-    subst (λ qs. IsBroken qs (g.H.Host.entries c.args.host.now) (g.H.Host.entries c.run_fresh.new.host)) same broken
+    subst (λ qs. IsBeginning qs (g.H.Host.entries c.args.host.now) (g.H.Host.entries c.run_fresh.new.host)) same broken
 
 pub returns-clause-run : goal.returns-clause-run
 returns-clause-run g c =
@@ -29,7 +29,7 @@ returns-clause-run g c =
     let same = whole-run c.args.recipes.now false c.deref-2.result.now (pairs_of c.args.recipes.now c.args.invocations.now) c.end.ensures.ordered tops below in
     let broken = broken-of (walk_questions c.args.recipes.now (length c.args.recipes.now) (tasks false c.deref-2.result.now)) (g.H.Host.entries c.args.host.now) (g.H.Host.entries c.run_fresh.new.host) c.in-Err-Exhausted.field-0
     (c.in-Err-Exhausted.ensures.run false (length c.args.recipes.now) (omega (arith, c.end.ensures.is))) in
-    subst (λ qs. IsBroken qs (g.H.Host.entries c.args.host.now) (g.H.Host.entries c.run_fresh.new.host)) same broken
+    subst (λ qs. IsBeginning qs (g.H.Host.entries c.args.host.now) (g.H.Host.entries c.run_fresh.new.host)) same broken
 
 pub returns-in-Ok-clause-account : goal.returns-in-Ok-clause-account
 returns-in-Ok-clause-account g c =
