@@ -1,8 +1,6 @@
 -- Lists that end in an element.
-use Rattle.std.proofs.Common.{◌≡◌, ◌≢◌, ◌↔◌, IsTrue, Bool, true, false, ◌&&◌, List, [], ◌∷◌, ◌++◌, refl, sym, ap, ◌∙◌, subst, ⊎_elim}
-use Rattle.std.specs.List.{Contains}
+use Rattle.std.proofs.Common.{◌≡◌, Bool, true, false, ◌&&◌, List, [], ◌∷◌, ◌++◌, refl, sym, ap, ◌∙◌}
 use Rattle.std.specs.Cmp.Lexicographic.{pointwise}
-use Rattle.std.proofs.lemmas.List.Elements.{Contains-push, Contains-append_left, Contains-push_cases}
 
 and_false : (b : Bool) → (b && false) ≡ false
 and_false true = refl
@@ -13,24 +11,17 @@ and_moved : (a b c : Bool) → (a && (b && c)) ≡ (b && (a && c))
 and_moved true b c = refl
 and_moved false b c = sym (and_false b)
 
-module _ {X : Type 0} where
-  pub contains_last : (P : Type 0) (xs : List X) (y x : X) → y ≡ x → P ↔ Contains (xs ++ y ∷ []) x → IsTrue true ↔ P
-  contains_last P xs y x e h = ((λ t. h.1 (subst (λ z. Contains (xs ++ y ∷ []) z) e (Contains-push xs y))), λ p. refl)
+module _ {X : Type 0} (e : X → X → Bool) where
+  more_right : (ys : List X) (y : X) → pointwise e [] (ys ++ y ∷ []) ≡ false
+  more_right [] y = refl
+  more_right (z ∷ zs) y = refl
 
-  pub contains_front : (P : Type 0) (xs : List X) (y x : X) → y ≢ x → P ↔ Contains (xs ++ y ∷ []) x → P ↔ Contains xs x
-  contains_front P xs y x n h = ((λ p. ⊎_elim (λ c. c) (λ e. absurd (n e)) (Contains-push_cases xs y x (h.0 p))), λ c. h.1 (Contains-append_left xs (y ∷ []) x c))
+  more_left : (xs : List X) (x : X) → pointwise e (xs ++ x ∷ []) [] ≡ false
+  more_left [] x = refl
+  more_left (w ∷ ws) x = refl
 
-  module _ (e : X → X → Bool) where
-    more_right : (ys : List X) (y : X) → pointwise e [] (ys ++ y ∷ []) ≡ false
-    more_right [] y = refl
-    more_right (z ∷ zs) y = refl
-
-    more_left : (xs : List X) (x : X) → pointwise e (xs ++ x ∷ []) [] ≡ false
-    more_left [] x = refl
-    more_left (w ∷ ws) x = refl
-
-    pub pointwise_pushed : (xs ys : List X) (x y : X) → pointwise e (xs ++ x ∷ []) (ys ++ y ∷ []) ≡ (e x y && pointwise e xs ys)
-    pointwise_pushed [] [] x y = refl
-    pointwise_pushed [] (z ∷ zs) x y = ap (λ b. e x z && b) (more_right zs y) ∙ and_false (e x z) ∙ sym (and_false (e x y))
-    pointwise_pushed (w ∷ ws) [] x y = ap (λ b. e w y && b) (more_left ws x) ∙ and_false (e w y) ∙ sym (and_false (e x y))
-    pointwise_pushed (w ∷ ws) (z ∷ zs) x y = ap (λ b. e w z && b) (pointwise_pushed ws zs x y) ∙ and_moved (e w z) (e x y) (pointwise e ws zs)
+  pub pointwise_pushed : (xs ys : List X) (x y : X) → pointwise e (xs ++ x ∷ []) (ys ++ y ∷ []) ≡ (e x y && pointwise e xs ys)
+  pointwise_pushed [] [] x y = refl
+  pointwise_pushed [] (z ∷ zs) x y = ap (λ b. e x z && b) (more_right zs y) ∙ and_false (e x z) ∙ sym (and_false (e x y))
+  pointwise_pushed (w ∷ ws) [] x y = ap (λ b. e w y && b) (more_left ws x) ∙ and_false (e w y) ∙ sym (and_false (e x y))
+  pointwise_pushed (w ∷ ws) (z ∷ zs) x y = ap (λ b. e w z && b) (pointwise_pushed ws zs x y) ∙ and_moved (e w z) (e x y) (pointwise e ws zs)

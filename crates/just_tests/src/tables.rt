@@ -6,31 +6,31 @@ use std::test::Fail;
 
 // A text under a name.
 #[derive(Drop)]
-struct Line<'src> {
+struct Named<'src> {
     name: BorrowedText<'src>,
     text: BorrowedText<'src>,
 }
 
-impl<'src> Keyed<'src> for Line<'src> {
-    ghost key_of = { λ line. line.name };
+impl<'src> Keyed<'src> for Named<'src> {
+    ghost key_of = { λ named. named.name };
 
     fn key(&self) -> &'src str {
         self.name.as_str()
     }
 }
 
-fn line<'src>(name: &'src str, text: &'src str) -> Line<'src> {
-    Line {
+fn entry<'src>(name: &'src str, text: &'src str) -> Named<'src> {
+    Named {
         name: BorrowedText::new(name),
         text: BorrowedText::new(text),
     }
 }
 
 // The entries of a table, which is used up.
-fn shown(alloc: Global, table: Table<'static, Line<'static>>) -> Result<String, Fail> {
+fn shown(alloc: Global, table: Table<'static, Named<'static>>) -> Result<String, Fail> {
     let mut text = String::new(alloc);
-    for (key, line) in table {
-        write!(text, "{key}={} ", line.text)?;
+    for (key, named) in table {
+        write!(text, "{key}={} ", named.text)?;
     }
     Ok(text)
 }
@@ -38,9 +38,9 @@ fn shown(alloc: Global, table: Table<'static, Line<'static>>) -> Result<String, 
 #[test]
 fn table_is_collected_from_values(rt: HostRuntime) -> Result<(), Fail> {
     let alloc = rt.alloc();
-    let lines = [line("b", "of b"), line("a", "old"), line("a", "of a")];
-    let values = Vec::from_array(alloc, lines)?;
-    let table: Table<'static, Line<'static>> = values.into_iter().collect(alloc)?;
+    let entries = [entry("b", "of b"), entry("a", "old"), entry("a", "of a")];
+    let values = Vec::from_array(alloc, entries)?;
+    let table: Table<'static, Named<'static>> = values.into_iter().collect(alloc)?;
     let text = shown(alloc, table)?;
     assert_eq!(rt; text.as_str(), "a=of a b=of b ");
     Ok(())
