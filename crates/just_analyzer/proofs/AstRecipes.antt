@@ -15,7 +15,7 @@ use Rattle.just_parts.specs.declared.layers.ast.Item.{Item}
 use Rattle.just_parts.specs.declared.layers.ast.Item.TheVariants as item
 use Rattle.just_parts.specs.declared.layers.ast.UnresolvedDependency.{UnresolvedDependency}
 use Rattle.just_parts.specs.declared.recipe.Recipe.{Recipe}
-use Rattle.just_loader.specs.Asts.{AstKey, same_ast_key}
+use Rattle.just_parts.specs.Asts.{AstKey, same_ast_key}
 use Rattle.just_loader.specs.Keys.{items_at}
 use Rattle.just_loader.specs.Loaded.{IsLoaded, file_at, key_at, with_path}
 use Rattle.just_loader.specs.Reached.{World, items_said}

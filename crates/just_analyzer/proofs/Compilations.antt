@@ -3,8 +3,8 @@ use Rattle.std.proofs.Common.{◌≡◌, false, ℕ, List, [], ◌∷◌, slice_
 use Rattle.std.specs.HashMap.{get}
 use Rattle.just_graph.specs.Unfolding.{Key, root_key, stay}
 use Rattle.just_parts.specs.declared.layers.error.Error.{Error}
-use Rattle.just_loader.specs.Asts.{same_ast_key, root_ast_key}
-use Rattle.just_loader.specs.Causes.{Keeps, Reports}
+use Rattle.just_parts.specs.Asts.{same_ast_key, root_ast_key}
+use Rattle.just_parts.specs.Causes.{Keeps, Reports}
 use Rattle.just_loader.specs.Loaded.{IsLoaded, file_at, key_at}
 use Rattle.just_loader.specs.Reached.{World}
 use Rattle.just_loader.specs.Scanned.{paths_in}

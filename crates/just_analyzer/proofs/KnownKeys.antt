@@ -10,7 +10,7 @@ use Rattle.just_graph.specs.Steps.{IsOnce}
 use Rattle.just_graph.specs.Unfolding.{steps, IsOrdered, Key, IsReachedKey}
 use Rattle.just_parts.specs.Name.{text_of_name}
 use Rattle.just_parts.specs.declared.layers.ast.Ast.{Ast}
-use Rattle.just_loader.specs.Asts.{same_ast_key}
+use Rattle.just_parts.specs.Asts.{same_ast_key}
 use Rattle.just_loader.specs.Loaded.{IsLoaded, key_at}
 use Rattle.just_loader.specs.Reached.{World}
 use Rattle.just_loader.specs.declared.loaded.Loaded.{Loaded}

@@ -7,7 +7,7 @@ use Rattle.just_graph.specs.Steps.{IsOnce}
 use Rattle.just_graph.specs.Unfolding.{Key, Node, KeySteps, root_key, steps}
 use Rattle.just_graph.proofs.Members.{In, is_in}
 use Rattle.just_parts.specs.declared.layers.ast.Ast.{Ast}
-use Rattle.just_loader.specs.Asts.{same_ast_key}
+use Rattle.just_parts.specs.Asts.{same_ast_key}
 use Rattle.just_loader.specs.Loaded.{IsLoaded, name_at, key_at}
 use Rattle.just_loader.specs.Reached.{World}
 use Rattle.just_loader.specs.declared.loaded.Loaded.{Loaded}

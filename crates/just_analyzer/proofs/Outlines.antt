@@ -11,7 +11,7 @@ use Rattle.just_parts.specs.declared.layers.error.CompileErrorKind.TheVariants a
 use Rattle.just_parts.specs.declared.layers.error.Definition.TheVariants as definition
 use Rattle.just_analyzer.specs.Outline.{Outline, outline_of, outlines_of, outline_at, no_outline, names_of, lent}
 use Rattle.just_analyzer.specs.Index.{name_at, Repeats, AreDifferent}
-use Rattle.just_loader.specs.Causes.{Cause, Broken}
+use Rattle.just_parts.specs.Causes.{Cause, Broken}
 use Rattle.just_analyzer.specs.Rules.{RecipeHeaders, duplicate_parameter, redefinition}
 
 pub outline_read : (rs : List (Recipe UnresolvedDependency)) (i : ℕ) (r : Recipe UnresolvedDependency) → slice_get rs i ≡ Some r → outline_of r ≡ outline_at (outlines_of rs) i

@@ -20,7 +20,7 @@ use Rattle.just_parts.specs.declared.layers.error.CompileErrorKind.{CompileError
 use Rattle.just_parts.specs.declared.layers.error.CompileErrorKind.TheVariants as kind
 use Rattle.just_parts.specs.declared.layers.error.Definition.TheVariants as definition
 use Rattle.just_parts.specs.declared.layers.error.Error.{Error}
-use Rattle.just_loader.specs.Causes.{Broken, Cause, Keeps, Reports}
+use Rattle.just_parts.specs.Causes.{Broken, Cause, Keeps, Reports}
 use Rattle.just_loader.specs.FileCircles.{HasRows}
 use Rattle.just_loader.specs.Reached.{World}
 use Rattle.just_loader.specs.Scanned.{IsScan}

@@ -17,7 +17,7 @@ use Rattle.just_graph.specs.declared.unfolding.Step.{Step}
 use Rattle.just_parts.specs.declared.layers.ast.Item.{Item}
 use Rattle.just_parts.specs.declared.layers.error.Error.{Error}
 use Rattle.just_parts.specs.Modulepath.{Text}
-use Rattle.just_loader.specs.Causes.{Cause, Keeps}
+use Rattle.just_parts.specs.Causes.{Cause, Keeps}
 use Rattle.just_loader.specs.FileCircles.{HasRows, IsFileOrder}
 use Rattle.just_loader.specs.Keys.{imports_of, NamesInFiles}
 use Rattle.just_loader.specs.Loaded.{file_at}

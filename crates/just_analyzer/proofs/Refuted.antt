@@ -10,7 +10,7 @@ use Rattle.just_parts.specs.Name.{texts_of_path}
 use Rattle.just_analyzer.specs.Index.{AreDifferent}
 use Rattle.just_analyzer.specs.Outline.{Outline, outline_at, names_of, Depends}
 use Rattle.just_analyzer.specs.Rows.{IsRow, IsOrderOf}
-use Rattle.just_loader.specs.Causes.{Cause}
+use Rattle.just_parts.specs.Causes.{Cause}
 use Rattle.just_analyzer.specs.Rules.{Dependencies, unknown_dependency, circular, argument_count}
 use Rattle.just_analyzer.proofs.Outlines.{one_place}
 use Rattle.just_analyzer.proofs.Edges.{target_of, edges}

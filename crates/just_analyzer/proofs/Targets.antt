@@ -9,7 +9,7 @@ use Rattle.just_parts.specs.declared.layers.ast.UnresolvedDependency.{Unresolved
 use Rattle.just_parts.specs.declared.recipe.Recipe.{Recipe}
 use Rattle.just_analyzer.specs.Index.{name_at, IsLast, IsIndex, place_in}
 use Rattle.just_analyzer.specs.Outline.{Outline, outline_of, outline_at, names_of}
-use Rattle.just_loader.specs.Causes.{Broken}
+use Rattle.just_parts.specs.Causes.{Broken}
 use Rattle.just_analyzer.specs.Rules.{Dependencies, unknown_dependency, argument_count}
 use Rattle.just_analyzer.proofs.Outlines.{name_of_outline}
 

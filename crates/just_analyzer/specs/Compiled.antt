@@ -3,8 +3,8 @@ use Rattle.std.specs.Prelude.{◌≡◌, Result, IfOk, IfErr, IsSome}
 use Rattle.std.specs.HashMap.{get, IsEmpty}
 use Rattle.just_parts.specs.declared.layers.error.Error.{Error}
 use Rattle.just_invoke.specs.Closed.{IsClosed, AreClosed}
-use Rattle.just_loader.specs.Asts.{same_ast_key, root_ast_key}
-use Rattle.just_loader.specs.Causes.{Keeps, Reports}
+use Rattle.just_parts.specs.Asts.{same_ast_key, root_ast_key}
+use Rattle.just_parts.specs.Causes.{Keeps, Reports}
 use Rattle.just_loader.specs.Loaded.{IsLoaded}
 use Rattle.just_loader.specs.Reached.{World}
 use Rattle.just_loader.specs.declared.loaded.Loaded.{Loaded}

@@ -5,7 +5,7 @@ use Rattle.just_parts.specs.Name.{texts_of_path}
 use Rattle.just_parts.specs.declared.layers.name.Namepath.{Namepath}
 use Rattle.just_parts.specs.declared.layers.error.Definition.TheVariants as definition
 use Rattle.just_parts.specs.declared.layers.error.CompileErrorKind.TheVariants as kind
-use Rattle.just_loader.specs.Causes.{Cause, Broken, Keeps}
+use Rattle.just_parts.specs.Causes.{Cause, Broken, Keeps}
 use Rattle.just_loader.specs.FileCircles.{LeadsOn}
 use Rattle.just_loader.specs.Keys.{NamesInFiles}
 use Rattle.just_loader.specs.Reached.{World}

@@ -1,6 +1,6 @@
 ghost use Rattle.std.specs.Prelude.{◌≡◌, Some, IsSome};
 ghost use Rattle.std.specs.HashMap.{get};
-ghost use Rattle.just_loader.specs.Asts.{same_ast_key, root_ast_key};
+ghost use Rattle.just_parts.specs.Asts.{same_ast_key, root_ast_key};
 
 use just_data::Text;
 use just_invoke::{Justfile, Recipes};
@@ -32,7 +32,7 @@ fn is_root_key(key: &(Modulepath, Text), root: &str) -> bool
 impl<'src> Compilation<'src> {
     ghost use Rattle.std.specs.Prelude.{Some, IsSome};
     ghost use Rattle.std.specs.HashMap.{get};
-    ghost use Rattle.just_loader.specs.Asts.{same_ast_key, root_ast_key};
+    ghost use Rattle.just_parts.specs.Asts.{same_ast_key, root_ast_key};
 
     /// What the root file says.
     pub fn root_ast(&self) -> &Ast<'src>

@@ -8,7 +8,7 @@ ghost use Rattle.just_parts.specs.declared.layers.error.Definition.TheVariants a
 ghost use Rattle.just_analyzer.specs.Index.{AreDifferent, IsIndex};
 ghost use Rattle.just_analyzer.specs.Outline.{outline_at, names_of};
 ghost use Rattle.just_analyzer.specs.Definitions.{outlines_in};
-ghost use Rattle.just_loader.specs.Causes.{Keeps, Reports};
+ghost use Rattle.just_parts.specs.Causes.{Keeps, Reports};
 ghost use Rattle.just_analyzer.specs.Places.{of_names};
 ghost use Rattle.just_analyzer.specs.Rules.{Headers, RecipeHeaders};
 

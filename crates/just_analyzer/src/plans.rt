@@ -7,7 +7,7 @@ ghost use Rattle.just_graph.specs.Building.{EachRow};
 ghost use Rattle.just_graph.specs.Levels.{has};
 ghost use Rattle.just_graph.specs.Unfolding.{steps};
 ghost use Rattle.just_graph.specs.declared.unfolding.Step.{Step};
-ghost use Rattle.just_loader.specs.Causes.{Keeps, Reports};
+ghost use Rattle.just_parts.specs.Causes.{Keeps, Reports};
 ghost use Rattle.just_loader.specs.FileCircles.{HasRows, IsFileOrder};
 ghost use Rattle.just_loader.specs.Keys.{NamesInFiles};
 ghost use Rattle.just_loader.specs.Loaded.{IsLoaded};

@@ -11,7 +11,7 @@ ghost use Rattle.just_analyzer.specs.Outline.{outline_at, names_of};
 ghost use Rattle.just_analyzer.specs.Definitions.{recipes_in, outlines_in};
 ghost use Rattle.just_analyzer.specs.Resolved.{unresolved_numbers, HasPriors, Resolving, AreResolved};
 ghost use Rattle.just_analyzer.specs.Rows.{IsTarget, IsRow, IsOrderOf};
-ghost use Rattle.just_loader.specs.Causes.{Keeps, Reports};
+ghost use Rattle.just_parts.specs.Causes.{Keeps, Reports};
 ghost use Rattle.just_analyzer.specs.Rules.{Dependencies};
 
 use crate::definitions::{Definitions, recipe_at};

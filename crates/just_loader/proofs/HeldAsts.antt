@@ -17,7 +17,7 @@ use Rattle.just_parts.specs.Syntax.{AreRising, numbers}
 use Rattle.just_parts.specs.contracts.modulepath.ModulepathPartialEq.TheImpl as path_eq
 use Rattle.just_parts.specs.declared.layers.ast.Ast.{Ast}
 use Rattle.just_parts.specs.declared.modulepath.Modulepath.{Modulepath}
-use Rattle.just_loader.specs.Asts.{AstKey, same_ast_key}
+use Rattle.just_parts.specs.Asts.{AstKey, same_ast_key}
 use Rattle.just_loader.specs.Loaded.{AreAstsOf, AreToldApart, file_at, key_at}
 use Rattle.just_loader.specs.Loading.{AreParsed}
 use Rattle.just_loader.specs.Parsed.{AreKeyed, AreHeld, text_key}

@@ -6,7 +6,7 @@ use Rattle.just_parts.specs.declared.layers.error.Error.{Error}
 use Rattle.just_parts.specs.declared.layers.error.Error.TheVariants as error
 use Rattle.just_loader.specs.ModuleFile.{relative}
 use Rattle.just_loader.specs.Links.{Fault, choice}
-use Rattle.just_loader.specs.Causes.{Reports, SeveralFiles}
+use Rattle.just_parts.specs.Causes.{Reports, SeveralFiles}
 
 several : (folder : List ℕ) (name : Name) (optional : Bool) (found : List (List ℕ)) → 1 < length found → choice folder name optional found ≡ Fault (SeveralFiles name (map (relative folder) found))
 several folder name optional [] h = absurd (omega arith)

@@ -15,8 +15,8 @@ use Rattle.just_parts.specs.Syntax.{AreRising, PriorsAreDependencies, numbers}
 use Rattle.just_parts.specs.declared.layers.ast.Ast.{Ast}
 use Rattle.just_parts.specs.declared.layers.error.Error.{Error}
 use Rattle.just_parts.specs.declared.layers.error.Error.TheVariants as error
-use Rattle.just_loader.specs.Asts.{AstKey, same_ast_key}
-use Rattle.just_loader.specs.Causes.{Keeps, Reports}
+use Rattle.just_parts.specs.Asts.{AstKey, same_ast_key}
+use Rattle.just_parts.specs.Causes.{Keeps, Reports}
 use Rattle.just_loader.specs.FileCircles.{IsFileOrder, LeadsOn}
 use Rattle.just_loader.specs.Keys.{FileKey, NamesInFiles}
 use Rattle.just_loader.specs.Loaded.{IsLoaded, at_first, file_at, name_at}

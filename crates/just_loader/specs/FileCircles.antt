@@ -8,7 +8,7 @@ use Rattle.just_graph.specs.Steps.{IsOrder}
 use Rattle.just_graph.specs.Unfolding.{LeadInside, HasStep}
 use Rattle.just_parts.specs.Modulepath.{Text}
 use Rattle.just_loader.specs.Reached.{World, LeadsTo, Reached}
-use Rattle.just_loader.specs.Causes.{Cause, LeadsBack}
+use Rattle.just_parts.specs.Causes.{Cause, LeadsBack}
 use Rattle.just_loader.specs.declared.scanned.Scan.{Scan}
 
 -- a row for each file, the root among them, and steps that lead to rows

@@ -1,5 +1,3 @@
-pub mod Asts
-pub mod Causes
 pub mod FileCircles
 pub mod Keys
 pub mod Links

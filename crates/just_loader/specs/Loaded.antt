@@ -12,7 +12,7 @@ use Rattle.just_parts.specs.Modulepath.{Text}
 use Rattle.just_parts.specs.declared.layers.ast.Ast.{Ast}
 use Rattle.just_parts.specs.declared.layers.ast.Item.{Item}
 use Rattle.just_parts.specs.declared.source.Source.{Source}
-use Rattle.just_loader.specs.Asts.{AstKey, same_ast_key}
+use Rattle.just_parts.specs.Asts.{AstKey, same_ast_key}
 use Rattle.just_loader.specs.FileCircles.{IsFileOrder}
 use Rattle.just_loader.specs.Links.{Link, Nowhere, To, Fault}
 use Rattle.just_loader.specs.Numbering.{texts_of}

@@ -3,7 +3,7 @@
 ghost use Rattle.std.specs.Prelude.{◌≡◌, ◌<◌, ℕ, List, Some, length, slice_get, IfOk, IfErr, OnOk};
 ghost use Rattle.just_loader.specs.FileCircles.{HasRows, IsFileOrder, LeadsOn, NamesCircle};
 ghost use Rattle.just_loader.specs.Reached.{World, Reached};
-ghost use Rattle.just_loader.specs.Causes.{Reports};
+ghost use Rattle.just_parts.specs.Causes.{Reports};
 ghost use Rattle.just_loader.specs.Scanned.{IsScan, paths_in};
 
 use crate::scanned::Scan;

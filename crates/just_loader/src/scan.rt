@@ -11,7 +11,7 @@ ghost use Rattle.just_loader.specs.Links.{To, Fault, link_by, links_by};
 ghost use Rattle.just_loader.specs.ModuleFile.{relative};
 ghost use Rattle.just_loader.specs.Numbering.{AreFound, AreNumbered, IsFile, paths_found, texts_numbered};
 ghost use Rattle.just_loader.specs.Reached.{LeadsTo, NamesAt, NamesInScan, items_said, world_of};
-ghost use Rattle.just_loader.specs.Causes.{Keeps, Reports};
+ghost use Rattle.just_parts.specs.Causes.{Keeps, Reports};
 ghost use Rattle.just_loader.specs.Sources.{text_at};
 ghost use Rattle.just_loader.specs.Scanned.{ArePlacesIn, IsPlaceOf, IsStepOf, AreSteps, IsScannedIn, IsScan, Finds, FindsAll, Extends};
 

@@ -1,4 +1,6 @@
+pub mod Asts
 pub mod Bare
+pub mod Causes
 pub mod Clean
 pub mod Edge
 pub mod Entries
@@ -6,6 +8,7 @@ pub mod Host
 pub mod Identifier
 pub mod Join
 pub mod Lends
+pub mod Located
 pub mod Messages
 pub mod Modulepath
 pub mod Name

@@ -4,7 +4,7 @@ use Rattle.std.proofs.lemmas.Result.{IfErr-weaker}
 use Rattle.just_graph.specs.Building.{EachRow}
 use Rattle.just_parts.specs.Name.{text_of_name}
 use Rattle.just_parts.specs.declared.layers.name.Name.{Name}
-use Rattle.just_loader.specs.Causes.{Reports}
+use Rattle.just_parts.specs.Causes.{Reports}
 use Rattle.just_analyzer.specs.Definitions.{outlines_in}
 use Rattle.just_analyzer.specs.Index.{AreDifferent}
 use Rattle.just_analyzer.specs.Outline.{outlines_of}

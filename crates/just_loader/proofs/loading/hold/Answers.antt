@@ -1,7 +1,7 @@
 use Rattle.std.proofs.Common.{◌≡◌, ◌<◌, length, refl, ◌∙◌, arith, rules}
 use Rattle.std.specs.HashMap.{get}
 use Rattle.std.proofs.lemmas.Grind.{common_steps}
-use Rattle.just_loader.specs.Asts.{same_ast_key}
+use Rattle.just_parts.specs.Asts.{same_ast_key}
 use Rattle.just_loader.proofs.HeldAsts.{held_none, held_next, node_inside}
 use Rattle.just_loader.proofs.loading.hold.Goals as goal
 

@@ -1,6 +1,6 @@
 use Rattle.std.proofs.Common.{length}
 use Rattle.std.specs.HashMap.{get}
-use Rattle.just_loader.specs.Asts.{same_ast_key}
+use Rattle.just_parts.specs.Asts.{same_ast_key}
 use Rattle.just_loader.proofs.HeldAsts.{HeldFrom}
 use Rattle.just_loader.proofs.loading.hold.Given as goal
 

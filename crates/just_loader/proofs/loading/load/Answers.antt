@@ -4,10 +4,10 @@ use Rattle.std.specs.List.{slice_get}
 use Rattle.just_graph.specs.Unfolded.{AllTold}
 use Rattle.just_graph.specs.Unfolding.{steps}
 use Rattle.just_graph.specs.declared.unfolding.Unfolded.{Unfolded}
-use Rattle.just_loader.specs.Asts.{same_ast_key}
+use Rattle.just_parts.specs.Asts.{same_ast_key}
 use Rattle.just_loader.specs.Keys.{NamesInFiles, no_root, at_fault, in_circle}
 use Rattle.just_loader.specs.FileCircles.{NamesCircle}
-use Rattle.just_loader.specs.Causes.{Reports}
+use Rattle.just_parts.specs.Causes.{Reports}
 use Rattle.just_loader.specs.Loaded.{at_first}
 use Rattle.just_loader.specs.Loading.{AreParsed, IsScanBy, spent_by}
 use Rattle.just_loader.specs.Parsed.{AreHeld, AreKeyed, relative_at}

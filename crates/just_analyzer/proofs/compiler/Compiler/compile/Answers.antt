@@ -1,7 +1,7 @@
 use Rattle.std.proofs.Common.{IsSome, refl, sym, subst, rules}
 use Rattle.std.specs.HashMap.{get}
 use Rattle.just_invoke.specs.Closed.{is_closed}
-use Rattle.just_loader.specs.Asts.{same_ast_key, root_ast_key}
+use Rattle.just_parts.specs.Asts.{same_ast_key, root_ast_key}
 use Rattle.just_loader.specs.Keys.{NamesInFiles}
 use Rattle.just_loader.specs.Reached.{World, world_of}
 use Rattle.just_loader.proofs.FileCircles.{has_rows}
