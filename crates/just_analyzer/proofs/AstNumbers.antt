@@ -25,9 +25,9 @@ use Rattle.just_loader.specs.declared.loaded.Loaded.{Loaded}
 use Rattle.just_loader.specs.declared.scanned.Scan.{Scan}
 use Rattle.just_loader.proofs.FileKeys.{same_keys}
 use Rattle.just_loader.proofs.HeldAsts.{key_same}
-use Rattle.just_analyzer.specs.Outline.{recipes_of}
+use Rattle.just_modules.specs.Outline.{recipes_of}
 use Rattle.just_analyzer.specs.Planned.{imports_at, IsJoin}
-use Rattle.just_analyzer.specs.Resolved.{unresolved_numbers}
+use Rattle.just_modules.specs.Resolved.{unresolved_numbers}
 use Rattle.just_analyzer.proofs.AstRecipes.{AreHeld, are_held, held_at, recipes_in, recipe_item}
 use Rattle.just_analyzer.proofs.ModuleKeys.{Way}
 

@@ -21,9 +21,9 @@ use Rattle.just_loader.specs.Loaded.{IsLoaded, file_at, key_at, with_path}
 use Rattle.just_loader.specs.Reached.{World, items_said}
 use Rattle.just_loader.specs.declared.loaded.Loaded.{Loaded}
 use Rattle.just_loader.proofs.Numberings.{some_same}
-use Rattle.just_analyzer.specs.Outline.{outline_of, outlines_of, recipes_of}
+use Rattle.just_modules.specs.Outline.{outline_of, outlines_of, recipes_of}
 use Rattle.just_analyzer.specs.Planned.{contents_at}
-use Rattle.just_analyzer.specs.Resolved.{HasPriors}
+use Rattle.just_modules.specs.Resolved.{HasPriors}
 use Rattle.just_analyzer.proofs.Files.{outlines_bare, recipes_append}
 use Rattle.just_analyzer.proofs.ModuleKeys.{HasAst}
 

@@ -33,17 +33,18 @@ use Rattle.just_invoke.specs.declared.justfile.Justfile.{Justfile, out-Justfile}
 use Rattle.just_loader.specs.Loaded.{file_at, name_at}
 use Rattle.just_loader.specs.Reached.{World}
 use Rattle.just_loader.specs.declared.loaded.Loaded.{Loaded}
-use Rattle.just_analyzer.specs.Analysis.{IsOf}
+use Rattle.just_modules.specs.Analysis.{IsOf}
 use Rattle.just_analyzer.specs.Compiling.{IsMade, ast_of, modulepath_at, recipes_under, IsNameOf}
 use Rattle.just_analyzer.specs.Modules.{Built, ComeAfter, IsCompiledFrom, IsJustfileOf, IsModuleKey, IsTree, tree, AreCompiled, recipes_said, entries_in, last_name}
-use Rattle.just_analyzer.specs.Outline.{recipes_of}
-use Rattle.just_analyzer.specs.Resolved.{AreResolved, unresolved_numbers}
+use Rattle.just_modules.specs.Outline.{recipes_of}
+use Rattle.just_modules.specs.Resolved.{AreResolved, unresolved_numbers}
 use Rattle.just_analyzer.specs.declared.plans.Plan.{Plan}
 use Rattle.just_analyzer.specs.declared.plans.Plans.{Plans}
 use Rattle.just_analyzer.proofs.Placed.{name_by}
 use Rattle.just_analyzer.proofs.ModuleNodes.{AreNodes, IsFrom, IsPlanned, entries}
-use Rattle.just_analyzer.proofs.Said.{all_said, recipes_same, made_numbers}
-use Rattle.just_analyzer.proofs.TableValues.{put_there, put_cases, put_keeps, keyed_values}
+use Rattle.just_modules.proofs.Makings.{made_numbers}
+use Rattle.just_analyzer.proofs.Said.{all_said, recipes_same}
+use Rattle.just_modules.proofs.TableValues.{put_there, put_cases, put_keeps, keyed_values}
 use Rattle.just_analyzer.proofs.Trees.{tree_stays}
 
 abbrev pub Entries : Type 0

@@ -10,7 +10,7 @@ use Rattle.just_loader.specs.Reached.{World}
 use Rattle.just_loader.specs.Scanned.{paths_in}
 use Rattle.just_loader.specs.declared.loaded.Loaded.{Loaded}
 use Rattle.just_analyzer.specs.Compiled.{Compiles}
-use Rattle.just_analyzer.specs.Rules.{KeepsAll, Names, in_dependencies, in_files, in_headers}
+use Rattle.just_analyzer.specs.Rules.{KeepsAll, Names, in_bodies, in_dependencies, in_files, in_headers}
 use Rattle.just_analyzer.specs.declared.compilation.Compilation.{Compilation}
 
 -- what is found in a list is what a default stands for elsewhere
@@ -34,7 +34,8 @@ module _ (w : World) (loaded : Loaded) (is : IsLoaded w loaded) where
 pub none_named : (w : World) → KeepsAll w → Keeps (Names w)
 none_named w all c (in_files names) = all.files c names
 none_named w all c (in_headers own files keeps is_own join names) = (all.modules own files is_own join).headers c names
-none_named w all c (in_dependencies own files keeps is_own below join headers names) = (all.modules own files is_own join).dependencies c names
+none_named w all c (in_bodies own files keeps is_own below join headers names) = (all.modules own files is_own join).bodies c names
+none_named w all c (in_dependencies own files keeps is_own below join headers bodies names) = (all.modules own files is_own join).dependencies c names
 
 -- a refusal that is named
 pub refused : (w : World) (r : Result Compilation Error) → IfOk r (λ _. ⊥) → IfErr r (Reports (Names w)) → Compiles w r

@@ -12,7 +12,7 @@ use Rattle.just_parts.specs.declared.layers.ast.Item.{Item}
 use Rattle.just_parts.specs.declared.layers.ast.Item.TheVariants as item
 use Rattle.just_parts.specs.declared.recipe.Recipe.{Recipe}
 use Rattle.just_parts.proofs.Edges.{bare_twice}
-use Rattle.just_analyzer.specs.Outline.{outline_of, outlines_of, recipes_of}
+use Rattle.just_modules.specs.Outline.{outline_of, outlines_of, recipes_of}
 
 names_bare : (ps : List Parameter) → map (λ (p : Parameter). text_of_name p.name) (map bare_parameter ps) ≡ map (λ (p : Parameter). text_of_name p.name) ps
 names_bare [] = refl

@@ -16,11 +16,11 @@ use Rattle.just_loader.specs.Reached.{World}
 use Rattle.just_loader.specs.declared.loaded.Loaded.{Loaded}
 use Rattle.just_loader.proofs.FileRows.{numbered}
 use Rattle.just_loader.proofs.FileKeys.{stands}
-use Rattle.just_analyzer.specs.Index.{AreDifferent}
+use Rattle.just_modules.specs.Index.{AreDifferent}
 use Rattle.just_analyzer.specs.Modules.{recipes_said}
-use Rattle.just_analyzer.specs.Outline.{outlines_of}
+use Rattle.just_modules.specs.Outline.{outlines_of}
 use Rattle.just_analyzer.specs.Planned.{imports_at, ArePlans, IsJoin, contents_at, entries_at}
-use Rattle.just_analyzer.specs.Resolved.{unresolved_numbers, HasPriors}
+use Rattle.just_modules.specs.Resolved.{unresolved_numbers, HasPriors}
 use Rattle.just_analyzer.specs.declared.plans.Plan.{Plan}
 use Rattle.just_analyzer.specs.declared.plans.Plans.{Plans}
 use Rattle.just_analyzer.proofs.ModuleAsts.{IsModule, AreAstsAt, ast_path, module_ast, module_numbers_apart, module_numbers_once, module_outlines, module_priors}

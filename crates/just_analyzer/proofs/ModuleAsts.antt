@@ -11,9 +11,9 @@ use Rattle.just_parts.specs.Asts.{same_ast_key}
 use Rattle.just_loader.specs.Loaded.{IsLoaded, name_at, key_at}
 use Rattle.just_loader.specs.Reached.{World}
 use Rattle.just_loader.specs.declared.loaded.Loaded.{Loaded}
-use Rattle.just_analyzer.specs.Outline.{outlines_of, recipes_of}
+use Rattle.just_modules.specs.Outline.{outlines_of, recipes_of}
 use Rattle.just_analyzer.specs.Planned.{contents_at, ArePlans}
-use Rattle.just_analyzer.specs.Resolved.{unresolved_numbers, HasPriors}
+use Rattle.just_modules.specs.Resolved.{unresolved_numbers, HasPriors}
 use Rattle.just_analyzer.specs.declared.plans.Plan.{Plan}
 use Rattle.just_analyzer.specs.declared.plans.Plans.{Plans}
 use Rattle.just_analyzer.proofs.AstNumbers.{join_once, numbers_differ, number_of_ast, numbers_once}

@@ -26,12 +26,12 @@ use Rattle.just_loader.specs.Loaded.{IsLoaded}
 use Rattle.just_loader.specs.Reached.{World}
 use Rattle.just_loader.specs.declared.loaded.Loaded.{Loaded}
 use Rattle.just_analyzer.specs.Compiling.{CanResolve, IsReady, HasPlan, ast_of, modulepath_at}
-use Rattle.just_analyzer.specs.Index.{AreDifferent}
+use Rattle.just_modules.specs.Index.{AreDifferent}
 use Rattle.just_analyzer.specs.Modules.{recipes_said, entries_in, IsModuleKey, of_root, of_entry}
-use Rattle.just_analyzer.specs.Outline.{Outline, outlines_of, names_of}
+use Rattle.just_modules.specs.Outline.{Outline, outlines_of, names_of}
 use Rattle.just_analyzer.specs.Planned.{ArePlans, IsPlan, IsJoin, enters, entries_at}
-use Rattle.just_analyzer.specs.Resolved.{unresolved_numbers}
-use Rattle.just_analyzer.specs.Rows.{IsRow, IsOrderOf}
+use Rattle.just_modules.specs.Resolved.{unresolved_numbers}
+use Rattle.just_modules.specs.Rows.{IsRow, IsOrderOf}
 use Rattle.just_graph.specs.Building.{EachRow}
 use Rattle.just_analyzer.specs.declared.plans.Plan.{Plan}
 use Rattle.just_analyzer.specs.declared.plans.Plans.{Plans}

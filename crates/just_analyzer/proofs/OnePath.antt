@@ -16,8 +16,7 @@ use Rattle.just_loader.specs.Scanned.{IsScan}
 use Rattle.just_loader.specs.declared.scanned.Scan.{Scan}
 use Rattle.just_loader.proofs.FileKeys.{stands_on}
 use Rattle.just_loader.proofs.Numberings.{placed, map_get, some_same}
-use Rattle.just_analyzer.specs.Contents.{Heading, heading_of}
-use Rattle.just_analyzer.specs.Index.{AreDifferent, name_at as text_at}
+use Rattle.just_modules.specs.Index.{AreDifferent, name_at as text_at}
 use Rattle.just_analyzer.specs.Planned.{ArePlans}
 use Rattle.just_analyzer.specs.declared.plans.Plan.{Plan}
 use Rattle.just_analyzer.specs.declared.plans.Plans.{Plans}
@@ -71,7 +70,7 @@ module _ (w : World) (scan : Scan) (is : IsScan w scan) (plans : Plans) (are : A
 
     -- the names of the entries of a module are different
     pub entries_differ : AreDifferent (map (name_entered scan) (E a))
-    entries_differ = subst AreDifferent (map_map (λ (h : Heading). h.name) heading_of declared ∙ sym entered) (are.planned a plan at).0.different_modules
+    entries_differ = subst AreDifferent (map_map text_of_name (λ (m : Submodule). m.name) declared ∙ sym entered) (are.planned a plan at).0.different_modules
 
   -- a name leads from a module by one step
   pub one_named : (a : ℕ) (s t : Step) → In s (E a) → In t (E a) → name_entered scan s ≡ name_entered scan t → s ≡ t

@@ -28,8 +28,8 @@ use Rattle.just_loader.specs.declared.scanned.ScannedFile.{ScannedFile}
 use Rattle.just_loader.proofs.FileRows.{at, no_end, one_end, said, steps_at, steps_here, text_step}
 use Rattle.just_loader.proofs.Numberings.{map_get}
 use Rattle.just_analyzer.specs.Contents.{contents}
-use Rattle.just_analyzer.specs.Outline.{outlines_of, recipes_of}
-use Rattle.just_analyzer.specs.Places.{imports_in, name_if, named_in, names_at, recipes_at, heading_named}
+use Rattle.just_modules.specs.Outline.{outlines_of, recipes_of}
+use Rattle.just_analyzer.specs.Places.{imports_in, name_if, named_in, names_at, recipes_at}
 use Rattle.just_analyzer.specs.Planned.{enters, imports_at, entries_at}
 use Rattle.just_analyzer.proofs.Files.{outlines_bare, recipes_append}
 
@@ -208,9 +208,6 @@ module _ (w : World) (scan : Scan) (is : IsScan w scan) where
         ∙ flat_same (λ a. map (name_entered scan) (entries_at scan a)) (λ a. map (λ (m : Submodule). text_of_name m.name) (modules_of w (file_at scan a))) files (λ a h. entered_here a (inside a h))
         ∙ sym (map_flat (λ (m : Submodule). text_of_name m.name) (λ a. modules_of w (file_at scan a)) files)
         ∙ ap (map (λ (m : Submodule). text_of_name m.name)) (sym (flat_map_map (modules_of w) (file_at scan) files))
-
-    pub headings_joined : (contents w (map (file_at scan) files)).modules ≡ map heading_named (flat_map (names_at scan) files)
-    headings_joined = sym (ap (map heading_named) names_joined ∙ map_map heading_named (λ (m : Submodule). m.name) (flat_map (modules_of w) (map (file_at scan) files)))
 
     pub recipes_joined : (enabled : Item → Bool) → w.answers.enabled ≡ enabled → outlines_of (flat_map (recipes_at enabled scan) files) ≡ (contents w (map (file_at scan) files)).recipes
     recipes_joined enabled e =

@@ -25,38 +25,21 @@ use Rattle.just_loader.specs.FileCircles.{HasRows}
 use Rattle.just_loader.specs.Reached.{World}
 use Rattle.just_loader.specs.Scanned.{IsScan}
 use Rattle.just_loader.specs.declared.scanned.Scan.{Scan}
-use Rattle.just_loader.proofs.Lifts.{reports_by}
-use Rattle.just_analyzer.specs.Contents.{Contents, Heading, heading_at, names_of_headings, no_heading}
-use Rattle.just_analyzer.specs.Index.{AreDifferent, Repeats}
-use Rattle.just_analyzer.specs.Outline.{Outline, outlines_of, names_of}
-use Rattle.just_analyzer.specs.Places.{heading_named, of_names, imports_in, names_at, recipes_at, IsKeptPlan, NamesModule, of_headers, of_dependencies}
+use Rattle.just_parts.proofs.Lifts.{reports_by}
+use Rattle.just_modules.specs.Contents.{Contents, of_names, texts_of_names}
+use Rattle.just_modules.specs.Index.{AreDifferent, Repeats}
+use Rattle.just_modules.specs.Outline.{Outline, outlines_of, names_of}
+use Rattle.just_analyzer.specs.Places.{imports_in, names_at, recipes_at, IsKeptPlan, NamesModule, of_headers, of_bodies, of_dependencies}
 use Rattle.just_analyzer.specs.Planned.{contents_at, imports_at, IsJoin}
-use Rattle.just_analyzer.specs.Rows.{IsRow, IsOrderOf}
-use Rattle.just_analyzer.specs.Rules.{Dependencies, Headers, RecipeHeaders, of_recipes, module_redefinition, duplicate_parameter, redefinition}
+use Rattle.just_modules.specs.Rows.{IsRow, IsOrderOf}
+use Rattle.just_modules.specs.Rules.{Bodies, Dependencies, Headers, Parameters, duplicate_parameter, module_redefinition, of_parameters}
+use Rattle.just_modules.proofs.ModuleNames.{headers_kept}
 use Rattle.just_analyzer.proofs.OwnFiles.{import_inside, joined_inside}
-use Rattle.just_analyzer.proofs.Placed.{headings_joined, map_map, names_joined, recipes_joined}
+use Rattle.just_analyzer.proofs.Placed.{names_joined, recipes_joined}
 
--- two modules of one name
-pub modules_redefined : (names : List Name) (i j : ℕ) (first second : Name) (k : CompileErrorKind) → Repeats (map text_of_name names) i j → first ≡ get_or names i first → second ≡ get_or names j second
-    → k ≡ kind.Redefinition definition.Module definition.Module (text_of_name second) (min first.token.line second.token.line) → Headers (of_names names) (Broken k)
-modules_redefined names i j first second k repeats a b is =
-    let inside : j < length names = omega (arith, repeats.within, length-map names text_of_name) in
-    let before : i < length names = omega (arith, repeats.apart, inside) in
-    let at : (n : ℕ) (name : Name) → n < length names → name ≡ get_or names n name → heading_at (map heading_named names) n ≡ heading_named name =
-    λ n name h is. get_or-map heading_named names n name no_heading h ∙ ap heading_named (sym is) in
-    let texts : map text_of_name names ≡ names_of_headings (map heading_named names) = sym (map_map (λ (h : Heading). h.name) heading_named names) in
-    subst (λ x. Headers (of_names names) (Broken x)) (sym is) (module_redefinition i j (subst (λ ns. Repeats ns i j) texts repeats) (ap (λ (h : Heading). h.name) (at j second inside b))
-    (λ t. min ((at i first before a t).line) ((at j second inside b t).line)))
-
--- the headers of a module
-headers_of : (m : Contents) → Keeps (RecipeHeaders m.recipes) → AreDifferent (names_of_headings m.modules) → Keeps (Headers m)
-headers_of m kept different c (of_recipes h) = kept c h
-headers_of m kept different _ (module_redefinition i j r e f) = different i j r.apart r.within r.same
-
-headers_more : (m : Contents) (names : List Name) → m.modules ≡ map heading_named names → (c : Cause) → Headers (of_names names) c → Headers m c
-headers_more m names e _ (of_recipes (duplicate_parameter i p q h a b d)) = absurd (omega arith)
-headers_more m names e _ (of_recipes (redefinition i j r a b)) = absurd (omega (arith, r.within))
-headers_more m names e c (module_redefinition i j r a b) = subst (λ hs. Headers (record { recipes = m.recipes; modules = hs }) c) (sym e) (module_redefinition i j r a b)
+headers_more : (m : Contents) (names : List Name) → m.modules ≡ names → (c : Cause) → Headers (of_names names) c → Headers m c
+headers_more m names e _ (of_parameters (duplicate_parameter i p q h a b d)) = absurd (omega arith)
+headers_more m names e c (module_redefinition i j first second r a b f g) = subst (λ ns. Headers (record { recipes = m.recipes; modules = ns }) c) (sym e) (module_redefinition i j first second r a b f g)
 
 -- the imports by places
 module _ (scan : Scan) (imports : List (Vec ℕ Global)) (are : EachRow (λ a row. row ≡ imports_at scan a) (length scan.rows.items) imports) where
@@ -93,33 +76,37 @@ module _ (enabled : Item → Bool) (scan : Scan) (has : HasRows scan) (own : ℕ
   names = listed.items
 
   module _ (w : World) (e : w.answers.enabled ≡ enabled) (is : IsScan w scan) where
-    headings : (contents_at w scan files).modules ≡ map heading_named names
-    headings = headings_joined w scan is files (λ a i. omega (arith, is.count, joined_inside w scan is has own files inside join a i)) ∙ ap (map heading_named) (sym are_names)
+    declared : (contents_at w scan files).modules ≡ names
+    declared = sym (are_names ∙ names_joined w scan is files (λ a i. omega (arith, is.count, joined_inside w scan is has own files inside join a i)))
 
     recipes : os ≡ (contents_at w scan files).recipes
     recipes = are_recipes ∙ recipes_joined w scan is files (λ a i. omega (arith, is.count, joined_inside w scan is has own files inside join a i)) enabled e
 
     -- errors of the checks
     pub names_modules : (error : Error) → Reports (Headers (of_names names)) error → Reports (NamesModule w scan own) error
-    names_modules error reports = reports_by (Headers (of_names names)) (NamesModule w scan own) (λ c h. of_headers files join (headers_more (contents_at w scan files) names headings c h)) error reports
+    names_modules error reports = reports_by (Headers (of_names names)) (NamesModule w scan own) (λ c h. of_headers files join (headers_more (contents_at w scan files) names declared c h)) error reports
 
-    pub names_headers : (error : Error) → Reports (RecipeHeaders os) error → Reports (NamesModule w scan own) error
-    names_headers error reports = reports_by (RecipeHeaders os) (NamesModule w scan own) (λ c h. of_headers files join (of_recipes (subst (λ rs. RecipeHeaders rs c) recipes h))) error reports
+    pub names_parameters : (error : Error) → Reports (Parameters os) error → Reports (NamesModule w scan own) error
+    names_parameters error reports = reports_by (Parameters os) (NamesModule w scan own) (λ c h. of_headers files join (of_parameters (subst (λ rs. Parameters rs c) recipes h))) error reports
 
-    module _ (different : AreDifferent (map text_of_name names)) (kept : Keeps (RecipeHeaders os)) where
-      different_modules : AreDifferent (names_of_headings (contents_at w scan files).modules)
-      different_modules = subst AreDifferent (sym (ap names_of_headings headings ∙ map_map (λ (h : Heading). h.name) heading_named names)) different
+    module _ (different : AreDifferent (map text_of_name names)) (kept : Keeps (Parameters os)) where
+      different_modules : AreDifferent (texts_of_names (contents_at w scan files).modules)
+      different_modules = subst AreDifferent (sym (ap texts_of_names declared)) different
 
       keeps_headers : Keeps (Headers (contents_at w scan files))
-      keeps_headers = headers_of (contents_at w scan files) (subst (λ rs. Keeps (RecipeHeaders rs)) recipes kept) different_modules
+      keeps_headers = headers_kept (contents_at w scan files) (subst (λ rs. Keeps (Parameters rs)) recipes kept) different_modules
 
-      pub names_dependencies : (error : Error) → Reports (Dependencies os) error → Reports (NamesModule w scan own) error
-      names_dependencies error reports = reports_by (Dependencies os) (NamesModule w scan own) (λ c h. of_dependencies files join keeps_headers (subst (λ rs. Dependencies rs c) recipes h)) error reports
+      pub names_bodies : (error : Error) → Reports (Bodies os) error → Reports (NamesModule w scan own) error
+      names_bodies error reports = reports_by (Bodies os) (NamesModule w scan own) (λ c h. of_bodies files join keeps_headers (subst (λ rs. Bodies rs c) recipes h)) error reports
+
+      pub names_dependencies : Keeps (Bodies os) → (error : Error) → Reports (Dependencies os) error → Reports (NamesModule w scan own) error
+      names_dependencies bodies error reports =
+          reports_by (Dependencies os) (NamesModule w scan own) (λ c h. of_dependencies files join keeps_headers (subst (λ rs. Keeps (Bodies rs)) recipes bodies) (subst (λ rs. Dependencies rs c) recipes h)) error reports
 
   -- no error
-  pub kept_plan : (rows : Vec (Vec ℕ Global) Global) (order : Vec ℕ Global) → AreDifferent (map text_of_name names) → Keeps (RecipeHeaders os) → AreDifferent (names_of os) → Keeps (Dependencies os) → EachRow (IsRow os) (length os) rows.items → IsOrderOf os order.items
+  pub kept_plan : (rows : Vec (Vec ℕ Global) Global) (order : Vec ℕ Global) → AreDifferent (map text_of_name names) → Keeps (Parameters os) → Keeps (Bodies os) → AreDifferent (names_of os) → Keeps (Dependencies os) → EachRow (IsRow os) (length os) rows.items → IsOrderOf os order.items
       → IsKeptPlan enabled scan own (record { files = made; names = listed; rows = rows; order = order })
-  kept_plan rows order different kept different_recipes dependencies are_rows is_order = λ w e is.
+  kept_plan rows order different kept bodies different_recipes dependencies are_rows is_order = λ w e is.
       let same = recipes w e is in (
         record {
           join = join;
@@ -129,5 +116,5 @@ module _ (enabled : Item → Bool) (scan : Scan) (has : HasRows scan) (own : ℕ
           rows = subst (λ rs. EachRow (IsRow rs) (length rs) rows.items) same are_rows;
           order = subst (λ rs. IsOrderOf rs order.items) same is_order;
         },
-        record { headers = keeps_headers w e is different kept; dependencies = subst (λ rs. Keeps (Dependencies rs)) same dependencies },
+        record { headers = keeps_headers w e is different kept; bodies = subst (λ rs. Keeps (Bodies rs)) same bodies; dependencies = subst (λ rs. Keeps (Dependencies rs)) same dependencies },
       )

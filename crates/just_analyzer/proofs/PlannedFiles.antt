@@ -29,8 +29,9 @@ use Rattle.just_loader.proofs.Numberings.{none_some, some_same}
 use Rattle.just_analyzer.specs.Contents.{IsOwn, contents}
 use Rattle.just_analyzer.specs.JoinOrder.{IsJoinOrder}
 use Rattle.just_analyzer.specs.Planned.{entries_at, IsOwnAt, ArePlans}
-use Rattle.just_analyzer.specs.Places.{AddsPlan, IsKeptPlan, NamesModule, of_headers, of_dependencies}
-use Rattle.just_analyzer.specs.Rules.{KeepsAll, KeepsBelow, KeepsModule, Names, in_headers, in_dependencies}
+use Rattle.just_analyzer.specs.Places.{AddsPlan, IsKeptPlan, NamesModule, of_headers, of_bodies, of_dependencies}
+use Rattle.just_modules.specs.Rules.{KeepsModule}
+use Rattle.just_analyzer.specs.Rules.{KeepsAll, KeepsBelow, Names, in_headers, in_bodies, in_dependencies}
 use Rattle.just_analyzer.specs.declared.plans.Plan.{Plan}
 use Rattle.just_analyzer.specs.declared.plans.Plans.{Plans}
 use Rattle.just_analyzer.proofs.OwnFiles.{own_inside, own_of_place, place_of_own, joins, listed_at, path_is, PlannedSoFar}
@@ -171,9 +172,12 @@ module _ (w : World) (scan : Scan) (is : IsScan w scan) (has : HasRows scan) (en
   pub names_next : (c : Cause) → n < length order → IsOwnAt scan (slice_index order n) → Keeps (NamesInFiles w) → NamesModule w scan (slice_index order n) c → Names w c
   names_next c h own keeps (of_headers files join names) =
       in_headers (file_at scan (slice_index order n)) (map (file_at scan) files) keeps (own_of_place w scan is has (slice_index order n) own) (joins w scan is has (slice_index order n) files (own_inside scan has (slice_index order n) own) join) names
-  names_next c h own keeps (of_dependencies files join kept names) =
-      in_dependencies (file_at scan (slice_index order n)) (map (file_at scan) files) keeps (own_of_place w scan is has (slice_index order n) own) (keeps_below h (own_inside scan has (slice_index order n) own))
+  names_next c h own keeps (of_bodies files join kept names) =
+      in_bodies (file_at scan (slice_index order n)) (map (file_at scan) files) keeps (own_of_place w scan is has (slice_index order n) own) (keeps_below h (own_inside scan has (slice_index order n) own))
       (joins w scan is has (slice_index order n) files (own_inside scan has (slice_index order n) own) join) kept names
+  names_next c h own keeps (of_dependencies files join kept bodies names) =
+      in_dependencies (file_at scan (slice_index order n)) (map (file_at scan) files) keeps (own_of_place w scan is has (slice_index order n) own) (keeps_below h (own_inside scan has (slice_index order n) own))
+      (joins w scan is has (slice_index order n) files (own_inside scan has (slice_index order n) own) join) kept bodies names
 
   module _ (all : length order ≤ n) where
     keeps_own : (own : Text) (files : List Text) → IsOwn w own → IsJoinOrder w own files → KeepsModule (contents w files)

@@ -11,8 +11,8 @@ use Rattle.just_parts.specs.declared.modulepath.Modulepath.{Modulepath}
 use Rattle.just_parts.specs.declared.recipe.Recipe.{Recipe}
 use Rattle.just_invoke.specs.Recipes.{numbers}
 use Rattle.just_analyzer.specs.Compiling.{recipes_in_ast}
-use Rattle.just_analyzer.specs.Outline.{recipes_of}
-use Rattle.just_analyzer.specs.Resolved.{AreMadeOf, unresolved_numbers}
+use Rattle.just_modules.specs.Outline.{recipes_of}
+use Rattle.just_modules.specs.Resolved.{AreMadeOf, unresolved_numbers}
 use Rattle.just_graph.proofs.Members.{in_map, is_in}
 use Rattle.just_graph.proofs.Index.{got_in}
 use Rattle.just_analyzer.proofs.Trees.{said_by}
@@ -40,13 +40,3 @@ recipes_same enabled f (file ∷ files) [] e = cc
 recipes_same enabled f (file ∷ files) (ast ∷ asts) e =
     let both = tails e in
     ap (λ (o : Option Ast). recipes_in_ast enabled o ++ flat_map (λ x. recipes_in_ast enabled (f x)) files) (sym both.0) ∙ ap (λ (rs : List (Recipe UnresolvedDependency)). recipes_of enabled ast.items ++ rs) (recipes_same enabled f files asts both.1)
-
--- recipes that are resolved have numbers of the source
-pub made_numbers : (rs : List (Recipe UnresolvedDependency)) (path : Modulepath) (order : List ℕ) (made : List (Recipe Dependency)) → AreMadeOf rs path order made → (n : ℕ) → In n (numbers made) → In n (unresolved_numbers rs)
-made_numbers rs path [] [] all n h = absurd h
-made_numbers rs path [] (r ∷ made) all n h = absurd all
-made_numbers rs path (place ∷ order) [] all n h = absurd h
-made_numbers rs path (place ∷ order) (r ∷ made) all n (inl e) =
-    let i : In (all.0).source rs = is_in (all.0).source rs (got_in rs place (all.0).source (all.0).there) in
-    subst (λ m. In m (unresolved_numbers rs)) (sym (e ∙ ap (λ x. x.0) (all.0).resolves.number)) (in_map (λ (q : Recipe UnresolvedDependency). q.number.0) (all.0).source rs i)
-made_numbers rs path (place ∷ order) (r ∷ made) all n (inr h) = made_numbers rs path order made all.1 n h

@@ -25,12 +25,12 @@ use Rattle.just_parts.specs.Asts.{same_ast_key}
 use Rattle.just_loader.specs.Loaded.{file_at, key_at}
 use Rattle.just_loader.specs.Reached.{World}
 use Rattle.just_loader.specs.declared.loaded.Loaded.{Loaded}
-use Rattle.just_analyzer.specs.Analysis.{IsDefaultOf, IsKeyOf, IsOf}
+use Rattle.just_modules.specs.Analysis.{IsDefaultOf, IsKeyOf, IsOf}
 use Rattle.just_analyzer.specs.Modules.{Built, IsCompiledFrom, IsJustfileOf, IsTree, tree, AreCompiled, recipes_said}
-use Rattle.just_analyzer.specs.Outline.{recipes_of}
+use Rattle.just_modules.specs.Outline.{recipes_of}
 use Rattle.just_analyzer.specs.Planned.{IsJoin, imports_at}
-use Rattle.just_analyzer.specs.Resolved.{AreResolved, number_at, unresolved_numbers}
-use Rattle.just_analyzer.proofs.Keys.{each_found}
+use Rattle.just_modules.specs.Resolved.{AreResolved, number_at, unresolved_numbers}
+use Rattle.just_modules.proofs.Keys.{each_found}
 
 -- the recipes that texts say where these items count
 abbrev pub said_by : (Item → Bool) → List Ast → List (Recipe UnresolvedDependency)

@@ -27,7 +27,7 @@ use Rattle.just_loader.specs.Reached.{World}
 use Rattle.just_loader.specs.declared.loaded.Loaded.{Loaded}
 use Rattle.just_analyzer.specs.Compiling.{ArePlanned, HasPlan, IsMade, IsNameOf, IsReady, modulepath_at, recipes_under}
 use Rattle.just_analyzer.specs.Modules.{AreCompiled, last_name}
-use Rattle.just_analyzer.specs.Resolved.{unresolved_numbers}
+use Rattle.just_modules.specs.Resolved.{unresolved_numbers}
 use Rattle.just_analyzer.specs.declared.plans.Plan.{Plan}
 use Rattle.just_analyzer.specs.declared.plans.Plans.{Plans}
 use Rattle.just_analyzer.proofs.Building as building

@@ -20,12 +20,12 @@ use Rattle.just_loader.specs.Loaded.{file_at, name_at, IsLoaded}
 use Rattle.just_loader.specs.Reached.{World}
 use Rattle.just_loader.specs.declared.loaded.Loaded.{Loaded}
 use Rattle.just_loader.specs.declared.scanned.Scan.{Scan}
-use Rattle.just_analyzer.specs.Analysis.{IsOf}
-use Rattle.just_analyzer.specs.Index.{AreDifferent}
-use Rattle.just_analyzer.specs.Outline.{outlines_of, names_of, recipes_of}
+use Rattle.just_modules.specs.Analysis.{IsOf}
+use Rattle.just_modules.specs.Index.{AreDifferent}
+use Rattle.just_modules.specs.Outline.{outlines_of, names_of, recipes_of}
 use Rattle.just_analyzer.specs.Planned.{ArePlans}
-use Rattle.just_analyzer.specs.Resolved.{unresolved_numbers, HasPriors, AreResolved}
-use Rattle.just_analyzer.specs.Rows.{IsRow, IsOrderOf}
+use Rattle.just_modules.specs.Resolved.{unresolved_numbers, HasPriors, AreResolved}
+use Rattle.just_modules.specs.Rows.{IsRow, IsOrderOf}
 use Rattle.just_analyzer.specs.declared.plans.Plan.{Plan}
 use Rattle.just_analyzer.specs.declared.plans.Plans.{Plans}
 

@@ -1,14 +1,8 @@
-pub mod Analysis
 pub mod Compiled
 pub mod Compiling
 pub mod Contents
-pub mod Definitions
-pub mod Index
 pub mod JoinOrder
 pub mod Modules
-pub mod Outline
 pub mod Places
 pub mod Planned
-pub mod Resolved
-pub mod Rows
 pub mod Rules

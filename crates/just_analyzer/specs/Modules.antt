@@ -19,10 +19,10 @@ use Rattle.just_parts.specs.Asts.{same_ast_key}
 use Rattle.just_loader.specs.Loaded.{file_at, key_at, name_at}
 use Rattle.just_loader.specs.Reached.{World}
 use Rattle.just_loader.specs.declared.loaded.Loaded.{Loaded}
-use Rattle.just_analyzer.specs.Analysis.{IsOf}
-use Rattle.just_analyzer.specs.Outline.{recipes_of}
+use Rattle.just_modules.specs.Analysis.{IsOf}
+use Rattle.just_modules.specs.Outline.{recipes_of}
 use Rattle.just_analyzer.specs.Planned.{IsJoin, entries_at}
-use Rattle.just_analyzer.specs.Resolved.{AreResolved}
+use Rattle.just_modules.specs.Resolved.{AreResolved}
 
 -- the recipes that texts say, one text after another
 abbrev pub recipes_said : World → List Ast → List (Recipe UnresolvedDependency)

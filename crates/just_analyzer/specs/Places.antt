@@ -14,10 +14,9 @@ use Rattle.just_loader.specs.Reached.{World}
 use Rattle.just_loader.specs.Scanned.{IsScan}
 use Rattle.just_loader.specs.declared.scanned.Scan.{Scan}
 use Rattle.just_loader.specs.declared.scanned.ScannedFile.{ScannedFile}
-use Rattle.just_analyzer.specs.Contents.{Contents, Heading}
-use Rattle.just_analyzer.specs.Outline.{recipes_of}
+use Rattle.just_modules.specs.Outline.{recipes_of}
 use Rattle.just_analyzer.specs.Planned.{enters, entries_at, contents_at, IsJoin, IsPlan}
-use Rattle.just_analyzer.specs.Rules.{Headers, Dependencies, KeepsModule}
+use Rattle.just_modules.specs.Rules.{Bodies, Dependencies, Headers, KeepsModule}
 use Rattle.just_analyzer.specs.declared.plans.Plan.{Plan}
 use Rattle.just_analyzer.specs.declared.plans.Plans.{Plans}
 
@@ -49,18 +48,11 @@ names_at scan a = get_or (map (λ (f : ScannedFile). named_in f.items f.targets.
 abbrev pub recipes_at : (Item → Bool) → Scan → ℕ → List (Recipe UnresolvedDependency)
 recipes_at enabled scan a = get_or (map (λ (f : ScannedFile). recipes_of enabled f.items) scan.files.items) a []
 
--- the name of a module as the rules read it
-abbrev pub heading_named : Name → Heading
-heading_named name = record { name = text_of_name name; line = name.token.line }
-
--- what names alone tell of a module
-abbrev pub of_names : List Name → Contents
-of_names names = record { recipes = []; modules = map heading_named names }
-
--- What is broken in the module whose own file stands at a place: its headers, or where these are kept, its dependencies.
+-- What is broken in the module whose own file stands at a place: its headers; where these are kept, its bodies; and where these are kept too, its dependencies.
 pub data NamesModule (w : World) (scan : Scan) (own : ℕ) : Cause → Type 0 where
   of_headers : {c : Cause} (files : List ℕ) → IsJoin scan own files → Headers (contents_at w scan files) c → NamesModule w scan own c
-  of_dependencies : {c : Cause} (files : List ℕ) → IsJoin scan own files → Keeps (Headers (contents_at w scan files)) → Dependencies (contents_at w scan files).recipes c → NamesModule w scan own c
+  of_bodies : {c : Cause} (files : List ℕ) → IsJoin scan own files → Keeps (Headers (contents_at w scan files)) → Bodies (contents_at w scan files).recipes c → NamesModule w scan own c
+  of_dependencies : {c : Cause} (files : List ℕ) → IsJoin scan own files → Keeps (Headers (contents_at w scan files)) → Keeps (Bodies (contents_at w scan files).recipes) → Dependencies (contents_at w scan files).recipes c → NamesModule w scan own c
 
 -- a plan of an own file, whose module keeps all groups
 abbrev pub IsKeptPlan : (Item → Bool) → Scan → ℕ → Plan → Type 0

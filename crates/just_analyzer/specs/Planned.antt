@@ -9,10 +9,11 @@ use Rattle.just_loader.specs.Keys.{Submodule, modules_of}
 use Rattle.just_loader.specs.Loaded.{file_at}
 use Rattle.just_loader.specs.Reached.{World}
 use Rattle.just_loader.specs.declared.scanned.Scan.{Scan}
-use Rattle.just_analyzer.specs.Contents.{Contents, contents, names_of_headings}
-use Rattle.just_analyzer.specs.Index.{AreDifferent}
-use Rattle.just_analyzer.specs.Outline.{names_of}
-use Rattle.just_analyzer.specs.Rows.{IsRow, IsOrderOf}
+use Rattle.just_modules.specs.Contents.{Contents, texts_of_names}
+use Rattle.just_analyzer.specs.Contents.{contents}
+use Rattle.just_modules.specs.Index.{AreDifferent}
+use Rattle.just_modules.specs.Outline.{names_of}
+use Rattle.just_modules.specs.Rows.{IsRow, IsOrderOf}
 use Rattle.just_analyzer.specs.declared.plans.Plan.{Plan}
 use Rattle.just_analyzer.specs.declared.plans.Plans.{Plans}
 
@@ -40,7 +41,7 @@ contents_at w scan files = contents w (map (file_at scan) files)
 pub record IsPlan (w : World) (scan : Scan) (own : ℕ) (plan : Plan) : Type 0 where
   pub join : IsJoin scan own plan.files.items
   pub names : plan.names.items ≡ map (λ (m : Submodule). m.name) (flat_map (modules_of w) (map (file_at scan) plan.files.items))
-  pub different_modules : AreDifferent (names_of_headings (contents_at w scan plan.files.items).modules)
+  pub different_modules : AreDifferent (texts_of_names (contents_at w scan plan.files.items).modules)
   pub different : AreDifferent (names_of (contents_at w scan plan.files.items).recipes)
   pub rows : EachRow (IsRow (contents_at w scan plan.files.items).recipes) (length (contents_at w scan plan.files.items).recipes) plan.rows.items
   pub order : IsOrderOf (contents_at w scan plan.files.items).recipes plan.order.items

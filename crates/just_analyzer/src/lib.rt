@@ -1,16 +1,10 @@
 //! Compiles a source map of justfiles, or names a broken rule. What its callers name of the crates below is here too.
 #![tactic(auto)]
 
-mod analyzer;
 pub mod compilation;
 pub mod compiler;
-mod definitions;
-mod headers;
 mod modules;
-mod names;
 mod plans;
-mod recipe_resolver;
-mod unresolved_recipe;
 
 pub use compilation::Compilation;
 pub use compiler::Compiler;

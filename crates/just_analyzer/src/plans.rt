@@ -13,18 +13,18 @@ ghost use Rattle.just_loader.specs.Keys.{NamesInFiles};
 ghost use Rattle.just_loader.specs.Loaded.{IsLoaded};
 ghost use Rattle.just_loader.specs.Reached.{World};
 ghost use Rattle.just_loader.specs.Scanned.{IsScan};
-ghost use Rattle.just_analyzer.specs.Definitions.{recipes_in};
+ghost use Rattle.just_modules.specs.Definitions.{recipes_in};
 ghost use Rattle.just_analyzer.specs.Places.{imports_in, entered_in, name_if, named_in, names_at, recipes_at, NamesModule, IsKeptPlan, AddsPlan};
 ghost use Rattle.just_analyzer.specs.Planned.{ArePlans, enters, entries_at, imports_at, IsJoin, IsOwnAt};
 ghost use Rattle.just_analyzer.specs.Rules.{KeepsAll, Names};
 
-use crate::definitions::Definitions;
-use crate::headers::{check_headers, check_modules};
-use crate::recipe_resolver::order_recipes;
 use just_graph::levels::levels;
 use just_graph::unfolding::Step;
 use just_loader::Loaded;
 use just_loader::scanned::{Scan, ScannedFile};
+use just_modules::Definitions;
+use just_modules::headers::{check_modules, check_parameters, index_recipes};
+use just_modules::recipe_resolver::order_recipes;
 use just_parts::layers::{Error, Item, Name, Syntax};
 use std::alloc::{AllocError, Global};
 
@@ -207,7 +207,8 @@ fn plan_module<'src, S: Syntax>(
     let names = names_of(alloc, scan, files.as_slice())?;
     let definitions = definitions_of(alloc, syntax, scan, files.as_slice())?;
     check_modules(alloc, names.as_slice())?;
-    let index = check_headers(alloc, &definitions)?;
+    check_parameters(alloc, &definitions)?;
+    let index = index_recipes(alloc, &definitions)?;
     let (rows, order) = order_recipes(alloc, &definitions, &index)?;
     Ok(Plan {
         files,

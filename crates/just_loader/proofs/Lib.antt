@@ -5,9 +5,7 @@ pub mod FileKeys
 pub mod Folders
 pub mod HeldAsts
 pub mod KeySums
-pub mod Lifts
 pub mod Linking
-pub mod Lists
 pub mod LoadedPaths
 pub mod ModuleFiles
 pub mod Numberings

@@ -16,7 +16,7 @@ use Rattle.just_loader.specs.Sources.{Files}
 use Rattle.just_loader.specs.declared.sources.SourceFile.{SourceFile}
 use Rattle.just_loader.specs.declared.found.Found.{Found}
 use Rattle.just_loader.specs.Numbering.{IsNumbering, IsFile, AreFound, paths_of, texts_of}
-use Rattle.just_loader.proofs.Lists.{same_or_not}
+use Rattle.just_parts.proofs.SameTexts.{same_or_not}
 
 pub get_cases : {A : Type 0} (xs : List A) (x y : A) (i : ℕ) → slice_get (xs ++ x ∷ []) i ≡ Some y → (slice_get xs i ≡ Some y) ⊎ ((i ≡ length xs) × (x ≡ y))
 get_cases [] x y zero e = inr (refl, cc)

@@ -3,10 +3,11 @@ use Rattle.std.proofs.lemmas.List.Elements.{All-contains}
 use Rattle.just_parts.specs.declared.modulepath.Modulepath.{Modulepath}
 use Rattle.just_loader.specs.Loaded.{file_at}
 use Rattle.just_analyzer.specs.Compiling.{ast_of, modulepath_at, recipes_under}
-use Rattle.just_analyzer.specs.Definitions.{recipes_in}
-use Rattle.just_analyzer.specs.Outline.{recipes_of}
-use Rattle.just_analyzer.specs.Resolved.{AreResolved, Resolving}
-use Rattle.just_analyzer.proofs.Makings.{is_of_same, numbers_as, resolved_as, under_same}
+use Rattle.just_modules.specs.Definitions.{recipes_in}
+use Rattle.just_modules.specs.Outline.{recipes_of}
+use Rattle.just_modules.specs.Resolved.{AreResolved, Resolving}
+use Rattle.just_analyzer.proofs.Makings.{under_same}
+use Rattle.just_modules.proofs.Makings.{is_of_same, numbers_as, resolved_as}
 use Rattle.just_analyzer.proofs.modules.compile_module.Goals as goal
 
 pub ast_at-requires-clause-said : goal.ast_at-requires-clause-said

@@ -1,6 +1,6 @@
 use Rattle.std.proofs.Common.{◌≡◌, take}
 use Rattle.just_analyzer.specs.Compiling.{recipes_under}
-use Rattle.just_analyzer.specs.Definitions.{recipes_in}
+use Rattle.just_modules.specs.Definitions.{recipes_in}
 use Rattle.just_analyzer.proofs.modules.definitions_at.Given as goal
 
 abbrev pub invariant-loop-place : goal.invariant-loop-place

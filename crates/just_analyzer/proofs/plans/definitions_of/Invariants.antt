@@ -1,6 +1,6 @@
 use Rattle.std.proofs.Common.{◌≡◌, take}
 use Rattle.std.specs.Prelude.{flat_map}
-use Rattle.just_analyzer.specs.Definitions.{recipes_in}
+use Rattle.just_modules.specs.Definitions.{recipes_in}
 use Rattle.just_analyzer.specs.Places.{recipes_at}
 use Rattle.just_analyzer.proofs.plans.definitions_of.Given as goal
 

@@ -3,7 +3,7 @@ use Rattle.std.proofs.lemmas.Bool.{false≢true}
 use Rattle.std.proofs.lemmas.Grind.{common_steps}
 use Rattle.just_graph.proofs.Adding.{is_read}
 use Rattle.just_parts.specs.Causes.{Reports}
-use Rattle.just_loader.proofs.Lifts.{reports_by}
+use Rattle.just_parts.proofs.Lifts.{reports_by}
 use Rattle.just_analyzer.specs.Places.{AddsPlan, NamesModule}
 use Rattle.just_analyzer.specs.Planned.{IsOwnAt}
 use Rattle.just_analyzer.specs.Rules.{Names}

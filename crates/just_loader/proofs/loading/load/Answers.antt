@@ -13,7 +13,7 @@ use Rattle.just_loader.specs.Loading.{AreParsed, IsScanBy, spent_by}
 use Rattle.just_loader.specs.Parsed.{AreHeld, AreKeyed, relative_at}
 use Rattle.just_loader.specs.Reached.{World, world_of, NamesInScan}
 use Rattle.just_loader.proofs.ComingIn.{are_unfolded}
-use Rattle.just_loader.proofs.Lifts.{lifted}
+use Rattle.just_parts.proofs.Lifts.{lifted}
 use Rattle.just_loader.proofs.WholeLoads.{IsWhole, whole_lent, are_keyed, are_kept, is_loaded, nodes_inside, stop_named}
 use Rattle.just_loader.proofs.loading.load.Goals as goal
 

@@ -5,7 +5,7 @@ use Rattle.just_parts.specs.Asts.{same_ast_key, root_ast_key}
 use Rattle.just_loader.specs.Keys.{NamesInFiles}
 use Rattle.just_loader.specs.Reached.{World, world_of}
 use Rattle.just_loader.proofs.FileCircles.{has_rows}
-use Rattle.just_loader.proofs.Lifts.{lifted}
+use Rattle.just_parts.proofs.Lifts.{lifted}
 use Rattle.just_analyzer.specs.Rules.{KeepsAll, Names, in_files}
 use Rattle.just_analyzer.proofs.Compilations.{none_named, refused, root_there}
 use Rattle.just_analyzer.proofs.compiler.Compiler.compile.Goals as goal

@@ -1,7 +1,0 @@
-use Rattle.std.proofs.Common.{◌≡◌, take}
-use Rattle.just_analyzer.specs.Outline.{names_of}
-use Rattle.just_analyzer.specs.Definitions.{outlines_in}
-use Rattle.just_analyzer.proofs.headers.recipe_names.Given as goal
-
-abbrev pub invariant-loop-place : goal.invariant-loop-place
-invariant-loop-place l = l.names.items ≡ names_of (take l.place (outlines_in l.definitions))

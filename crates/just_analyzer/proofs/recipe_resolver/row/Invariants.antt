@@ -1,7 +1,0 @@
-use Rattle.just_analyzer.specs.Outline.{outline_at}
-use Rattle.just_analyzer.specs.Definitions.{outlines_in}
-use Rattle.just_analyzer.specs.Rows.{HasTargets}
-use Rattle.just_analyzer.proofs.recipe_resolver.row.Given as goal
-
-abbrev pub invariant-loop-at : goal.invariant-loop-at
-invariant-loop-at l = HasTargets (outlines_in l.definitions) (outline_at (outlines_in l.definitions) l.place).dependencies l.at l.row.items

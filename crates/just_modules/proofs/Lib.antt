@@ -1,0 +1,13 @@
+pub mod Defaults
+pub mod Edges
+pub mod Held
+pub mod Indexing
+pub mod Keys
+pub mod Makings
+pub mod ModuleNames
+pub mod Outlines
+pub mod RecipeCircles
+pub mod Refuted
+pub mod Resolving
+pub mod TableValues
+pub mod Targets

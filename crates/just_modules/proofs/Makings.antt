@@ -1,0 +1,59 @@
+-- What is made of recipes: resolved ones, with their numbers, and a justfile.
+use Rattle.std.proofs.Common.{◌≡◌, ◌∙◌, ℕ, Bool, List, [], ◌∷◌, ap, inl, inr, length, Option, subst, sym}
+use Rattle.std.specs.List.{Contains}
+use Rattle.just_graph.proofs.Index.{got_in}
+use Rattle.just_graph.proofs.Members.{In, contained, in_map, is_in}
+use Rattle.just_parts.specs.declared.dependency.Dependency.{Dependency}
+use Rattle.just_parts.specs.declared.layers.ast.UnresolvedDependency.{UnresolvedDependency}
+use Rattle.just_parts.specs.declared.modulepath.Modulepath.{Modulepath}
+use Rattle.just_parts.specs.declared.recipe.Recipe.{Recipe}
+use Rattle.just_parts.specs.declared.layers.ast.Ast.{Ast}
+use Rattle.just_parts.specs.declared.layers.number.Number.{Number}
+use Rattle.just_invoke.specs.Recipes.{numbers}
+use Rattle.just_invoke.specs.declared.justfile.Justfile.{Justfile, out-Justfile}
+use Rattle.just_invoke.specs.declared.justfile.RecipeKey.{RecipeKey}
+use Rattle.just_modules.specs.Analysis.{AreKeysOf, HasKeysOf, IsDefaultOf, IsOf}
+use Rattle.just_modules.specs.Outline.{outlines_of}
+use Rattle.just_modules.specs.Resolved.{AreMadeOf, Resolving, AreResolved, unresolved_numbers}
+use Rattle.just_modules.specs.Rows.{IsOrderOf}
+use Rattle.just_modules.proofs.Resolving.{all_resolved}
+
+-- recipes that are resolved have numbers of the source
+pub made_numbers : (rs : List (Recipe UnresolvedDependency)) (path : Modulepath) (order : List ℕ) (made : List (Recipe Dependency)) → AreMadeOf rs path order made → (n : ℕ) → In n (numbers made) → In n (unresolved_numbers rs)
+made_numbers rs path [] [] all n h = absurd h
+made_numbers rs path [] (r ∷ made) all n h = absurd all
+made_numbers rs path (place ∷ order) [] all n h = absurd h
+made_numbers rs path (place ∷ order) (r ∷ made) all n (inl e) =
+    let i : In (all.0).source rs = is_in (all.0).source rs (got_in rs place (all.0).source (all.0).there) in
+    subst (λ m. In m (unresolved_numbers rs)) (sym (e ∙ ap (λ x. x.0) (all.0).resolves.number)) (in_map (λ (q : Recipe UnresolvedDependency). q.number.0) (all.0).source rs i)
+made_numbers rs path (place ∷ order) (r ∷ made) all n (inr h) = made_numbers rs path order made all.1 n h
+
+module _ (rs qs : List (Recipe UnresolvedDependency)) (path : Modulepath) (order : List ℕ) (made : List (Recipe Dependency)) (is_order : IsOrderOf (outlines_of qs) order) (so : Resolving rs path order (length order) made) (same : rs ≡ qs) where
+  -- all are resolved
+  pub resolved_as : AreResolved qs path made
+  resolved_as = all_resolved qs path order made is_order (subst (λ (xs : List (Recipe UnresolvedDependency)). Resolving xs path order (length order) made) same so)
+
+  -- their numbers were there
+  pub numbers_as : (n : ℕ) → Contains (numbers made) n → Contains (unresolved_numbers qs) n
+  numbers_as n c = contained n (unresolved_numbers qs) (made_numbers qs path resolved_as.order made resolved_as.made_of n (is_in n (numbers made) c))
+
+-- a justfile of recipes, by its parts
+pub is_of : (rs own : List (Recipe UnresolvedDependency)) (ast : Ast) (loaded : List (List ℕ)) (source : List ℕ) (j : Justfile) (count : ℕ) (keys : List (List ℕ × RecipeKey)) (default : Option Number)
+    → length rs ≡ count → (out-Justfile j).recipes ≡ keys → (out-Justfile j).default ≡ default → AreKeysOf rs count keys → HasKeysOf rs count keys → IsDefaultOf own default
+    → (out-Justfile j).loaded ≡ loaded → (out-Justfile j).source ≡ source → (out-Justfile j).module_path ≡ ast.module_path → (out-Justfile j).working_directory ≡ ast.working_directory → IsOf rs own ast loaded source j
+is_of rs own ast loaded source j count keys default many keys_are default_is all held d loaded_is source_is path folder = record {
+  keys = subst (AreKeysOf rs (length rs)) (sym keys_are) (subst (λ n. AreKeysOf rs n keys) (sym many) all);
+  held = subst (HasKeysOf rs (length rs)) (sym keys_are) (subst (λ n. HasKeysOf rs n keys) (sym many) held);
+  default = subst (IsDefaultOf own) (sym default_is) d;
+  loaded_is = loaded_is;
+  source_is = source_is;
+  module_path = path;
+  working_directory = folder;
+}
+
+-- the same of equal recipes, lists and paths
+pub is_of_same : (rs qs own own' : List (Recipe UnresolvedDependency)) (ast : Ast) (loaded loaded' : List (List ℕ)) (source source' : List ℕ) (j : Justfile) → rs ≡ qs → own ≡ own' → loaded ≡ loaded' → source ≡ source' → IsOf rs own ast loaded source j → IsOf qs own' ast loaded' source' j
+is_of_same rs qs own own' ast loaded loaded' source source' j same owns lists paths is =
+    subst (λ (xs : List (Recipe UnresolvedDependency)). IsOf xs own' ast loaded' source' j) same
+    (subst (λ (xs : List (Recipe UnresolvedDependency)). IsOf rs xs ast loaded' source' j) owns
+    (subst (λ l. IsOf rs own ast l source' j) lists (subst (λ s. IsOf rs own ast loaded s j) paths is)))

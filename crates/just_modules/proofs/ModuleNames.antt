@@ -1,0 +1,23 @@
+-- Modules of one name.
+use Rattle.std.proofs.Common.{◌≡◌, ℕ, ◌<◌, List, map, length, get_or, min, sym, ap, subst, ◌∙◌, arith, refl, Some}
+use Rattle.std.specs.List.{slice_get}
+use Rattle.std.proofs.lemmas.List.{length-map}
+use Rattle.just_parts.specs.Name.{text_of_name}
+use Rattle.just_parts.specs.declared.layers.name.Name.{Name}
+use Rattle.just_parts.specs.declared.layers.error.CompileErrorKind.{CompileErrorKind}
+use Rattle.just_parts.specs.declared.layers.error.CompileErrorKind.TheVariants as kind
+use Rattle.just_parts.specs.declared.layers.error.Definition.TheVariants as definition
+use Rattle.just_parts.specs.Causes.{Broken, Keeps}
+use Rattle.just_modules.specs.Contents.{Contents, of_names, texts_of_names}
+use Rattle.just_modules.specs.Index.{AreDifferent, Repeats}
+use Rattle.just_modules.specs.Rules.{Headers, Parameters, module_redefinition, of_parameters}
+
+-- two modules of one name
+pub modules_redefined : (m : Contents) (i j : ℕ) (first second : Name) (k : CompileErrorKind) → Repeats (texts_of_names m.modules) i j → slice_get m.modules i ≡ Some first → slice_get m.modules j ≡ Some second
+    → k ≡ kind.Redefinition definition.Module definition.Module (text_of_name second) (min first.token.line second.token.line) → Headers m (Broken k)
+modules_redefined m i j first second k repeats a b is = subst (λ x. Headers m (Broken x)) (sym is) (module_redefinition i j first second repeats a b refl refl)
+
+-- the headers of a module
+pub headers_kept : (m : Contents) → Keeps (Parameters m.recipes) → AreDifferent (texts_of_names m.modules) → Keeps (Headers m)
+headers_kept m kept different c (of_parameters h) = kept c h
+headers_kept m kept different _ (module_redefinition i j first second r a b e f) = different i j r.apart r.within r.same

@@ -1,0 +1,54 @@
+-- What a module's recipes are compiled to.
+use Rattle.std.specs.Prelude.{◌≡◌, ◌≢◌, ℕ, ◌<◌, ◌≤◌, List, [], length, Option, Some, None}
+use Rattle.std.specs.Cmp.Lexicographic.{slice_cmp}
+use Rattle.std.specs.List.{AllByRecursion}
+use Rattle.std.specs.Option.{option_map}
+use Rattle.std.specs.Ordering.{nat_cmp}
+use Rattle.std.specs.declared.cmp.Ordering.TheVariants.{Less}
+use Rattle.just_parts.specs.Entries.{find}
+use Rattle.just_parts.specs.Name.{text_of_name}
+use Rattle.just_parts.specs.declared.layers.ast.Ast.{Ast}
+use Rattle.just_parts.specs.declared.layers.number.Number.{Number}
+use Rattle.just_invoke.specs.declared.justfile.Justfile.{Justfile, out-Justfile}
+use Rattle.just_parts.specs.declared.layers.ast.UnresolvedDependency.{UnresolvedDependency}
+use Rattle.just_parts.specs.declared.recipe.Recipe.{Recipe}
+use Rattle.just_invoke.specs.declared.justfile.RecipeKey.{RecipeKey}
+use Rattle.just_modules.specs.Outline.{Outline, outlines_of, outline_at}
+use Rattle.just_modules.specs.Resolved.{number_at}
+
+-- a key has the number and the name of one of the first n recipes
+abbrev pub IsKeyOf : List (Recipe UnresolvedDependency) → ℕ → RecipeKey → Type 0
+IsKeyOf recipes n key = (place : ℕ) × (place < n) × (number_at recipes place ≡ key.number.0) × ((outline_at (outlines_of recipes) place).name ≡ text_of_name key.name)
+
+-- so has each key of the table
+abbrev pub AreKeysOf : List (Recipe UnresolvedDependency) → ℕ → List (List ℕ × RecipeKey) → Type 0
+AreKeysOf recipes n table = AllByRecursion (λ entry. IsKeyOf recipes n entry.1) table
+
+-- the table has each of the first n recipes under its name
+abbrev pub HasKeysOf : List (Recipe UnresolvedDependency) → ℕ → List (List ℕ × RecipeKey) → Type 0
+HasKeysOf recipes n table = (place : ℕ) → place < n → option_map (λ (key : RecipeKey). key.number.0) (find (outline_at (outlines_of recipes) place).name table) ≡ Some (number_at recipes place)
+
+-- a stands on a smaller line than b, or on the same with a name that is no less
+pub record IsBefore (a b : Outline) : Type 0 where
+  pub line : a.line ≤ b.line
+  pub name : a.line ≡ b.line → slice_cmp nat_cmp a.name b.name ≢ Less
+
+-- no recipe stands on a smaller line, and none on the same line has a greater name
+pub record IsDefault (recipes : List (Recipe UnresolvedDependency)) (place : ℕ) : Type 0 where
+  pub there : place < length recipes
+  pub least : (k : ℕ) → k < length recipes → IsBefore (outline_at (outlines_of recipes) place) (outline_at (outlines_of recipes) k)
+
+-- the default: none where there are no recipes, else the recipe on the least line
+abbrev pub IsDefaultOf : List (Recipe UnresolvedDependency) → Option Number → Type 0
+IsDefaultOf recipes None = recipes ≡ []
+IsDefaultOf recipes (Some number) = (place : ℕ) × IsDefault recipes place × (number_at recipes place ≡ number.0)
+
+-- A module has the keys of these recipes, the default of those of its own file, the paths that it was given, and what its own file says.
+pub record IsOf (recipes own : List (Recipe UnresolvedDependency)) (ast : Ast) (loaded : List (List ℕ)) (source : List ℕ) (justfile : Justfile) : Type 0 where
+  pub keys : AreKeysOf recipes (length recipes) (out-Justfile justfile).recipes
+  pub held : HasKeysOf recipes (length recipes) (out-Justfile justfile).recipes
+  pub default : IsDefaultOf own (out-Justfile justfile).default
+  pub loaded_is : (out-Justfile justfile).loaded ≡ loaded
+  pub source_is : (out-Justfile justfile).source ≡ source
+  pub module_path : (out-Justfile justfile).module_path ≡ ast.module_path
+  pub working_directory : (out-Justfile justfile).working_directory ≡ ast.working_directory

@@ -1,0 +1,66 @@
+ghost use Rattle.std.specs.Prelude.{◌≡◌, ◌<◌, IfOk, Some, length, slice_get};
+ghost use Rattle.just_modules.specs.Outline.{outline_of, outline_at, recipes_of};
+ghost use Rattle.just_modules.specs.Definitions.{recipes_in, outlines_in};
+
+use just_parts::UnresolvedRecipe;
+use just_parts::layers::{Item, Syntax};
+use std::alloc::{AllocError, Global};
+
+/// The recipes of a module, before they are resolved.
+#[derive(Drop)]
+pub struct Definitions<'a, 'src> {
+    pub recipes: Vec<&'a UnresolvedRecipe<'src>>,
+}
+
+impl<'a, 'src> Definitions<'a, 'src> {
+    ghost use Rattle.std.specs.Prelude.{◌++◌, [], OnOk};
+    ghost use Rattle.just_modules.specs.Definitions.{recipes_in};
+
+    /// No recipes.
+    pub fn new(alloc: Global) -> Definitions<'a, 'src>
+        ensures { recipes_in result ≡ [] }
+    {
+        Definitions {
+            recipes: Vec::new(alloc),
+        }
+    }
+
+    /// Adds the recipes of the enabled items, in the order of the text. Other items are not looked at.
+    pub fn add<S: Syntax>(&mut self, syntax: &S, items: &'a [Item<'src>]) -> Result<(), AllocError>
+        ensures { OnOk result (recipes_in self.new ≡ recipes_in self.old ++ recipes_of (S.answers syntax.now).enabled items.now) }
+    {
+        for item in items {
+            if !syntax.is_enabled(item) {
+                continue;
+            }
+            match item {
+                Item::Recipe(recipe) => self.recipes.push(recipe)?,
+                _ => continue,
+            }
+        }
+        Ok(())
+    }
+}
+
+// The recipe that is lent at a place.
+fn lent_at<'b, 'a, 'src>(
+    definitions: &'b Definitions<'a, 'src>,
+    place: usize,
+) -> &'b UnresolvedRecipe<'src>
+    requires { place < length definitions.now.recipes.items }
+    ensures { slice_get (recipes_in definitions.now) place ≡ Some result.now }
+{
+    &*definitions.recipes[place]
+}
+
+/// The recipe at a place.
+pub fn recipe_at<'b, 'a, 'src>(
+    definitions: &'b Definitions<'a, 'src>,
+    place: usize,
+) -> &'b UnresolvedRecipe<'src>
+    requires { place < length definitions.now.recipes.items }
+    ensures recipe { slice_get (recipes_in definitions.now) place ≡ Some result.now }
+    ensures outline { outline_of result.now ≡ outline_at (outlines_in definitions.now) place }
+{
+    lent_at(definitions, place)
+}

@@ -1,0 +1,11 @@
+//! The rules of a module, and what its recipes are resolved to.
+#![tactic(auto)]
+
+pub mod analyzer;
+pub mod definitions;
+pub mod headers;
+mod names;
+pub mod recipe_resolver;
+mod unresolved_recipe;
+
+pub use definitions::Definitions;
