@@ -7,7 +7,9 @@ pub mod Makings
 pub mod ModuleNames
 pub mod Outlines
 pub mod RecipeCircles
+pub mod Placing
 pub mod Refuted
 pub mod Resolving
 pub mod TableValues
+pub mod Trees
 pub mod Targets

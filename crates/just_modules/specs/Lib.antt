@@ -1,8 +1,13 @@
 pub mod Analysis
 pub mod Contents
 pub mod Definitions
+pub mod Files
+pub mod Groups
 pub mod Index
+pub mod Justfiles
+pub mod Modules
 pub mod Outline
+pub mod Reading
 pub mod Resolved
 pub mod Rows
 pub mod Rules

@@ -35,6 +35,12 @@ recipes_of enabled [] = []
 recipes_of enabled (item.Recipe r ∷ items) = if enabled (bare_item (item.Recipe r)) then r ∷ recipes_of enabled items else recipes_of enabled items
 recipes_of enabled (_ ∷ items) = recipes_of enabled items
 
+-- the recipes of items
+abbrev pub recipes_said : List Item → List (Recipe UnresolvedDependency)
+recipes_said [] = []
+recipes_said (item.Recipe r ∷ items) = r ∷ recipes_said items
+recipes_said (_ ∷ items) = recipes_said items
+
 abbrev pub outlines_of : List (Recipe UnresolvedDependency) → List Outline
 outlines_of = map outline_of
 

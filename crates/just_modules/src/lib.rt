@@ -3,6 +3,7 @@
 
 pub mod analyzer;
 pub mod definitions;
+pub mod files;
 pub mod headers;
 mod names;
 pub mod recipe_resolver;

@@ -1,0 +1,51 @@
+-- The files of a compilation under places.
+use Rattle.std.specs.Prelude.{◌≡◌, Bool, true, false, ℕ, List, [], ◌∷◌, map, flat_map, slice_get, Option, Some, IsSome, MatchOption, if◌then◌else◌}
+use Rattle.std.specs.Borrow.{Bor}
+use Rattle.std.specs.HashMap.{get}
+use Rattle.std.specs.List.{AllByRecursion, IsDistinct}
+use Rattle.std.specs.Map.{keys_of, values_of}
+use Rattle.just_parts.specs.Asts.{AstKey, same_ast_key}
+use Rattle.just_parts.specs.Bare.{bare_item}
+use Rattle.just_parts.specs.declared.layers.ast.Ast.{Ast}
+use Rattle.just_parts.specs.declared.layers.ast.Item.{Item}
+use Rattle.just_parts.specs.declared.modulepath.Modulepath.{Modulepath}
+use Rattle.just_modules.specs.Reading.{Submodule, declared, imported}
+use Rattle.just_modules.specs.declared.files.Files.{Files}
+
+abbrev pub keys_in : Files → List AstKey
+keys_in files = map (λ (k : Bor AstKey). k.now) files.keys.items
+
+abbrev pub asts_in : Files → List Ast
+asts_in files = map (λ (a : Bor Ast). a.now) files.asts.items
+
+-- a table leads from keys to their places in a list, and no other key has one
+abbrev pub LeadsTo : List AstKey → (AstKey → Option ℕ) → Type 0
+LeadsTo keys places = (k : AstKey) → MatchOption (places k) ((p : ℕ) → slice_get keys p ≡ Some k → ⊥) (λ p. slice_get keys p ≡ Some k)
+
+-- Each entry of a table of asts has a place.
+pub record ArePlaced (entries : List (AstKey × Ast)) (files : Files) : Type 0 where
+  pub distinct : IsDistinct same_ast_key (keys_of entries)
+  pub keys : keys_in files ≡ keys_of entries
+  pub asts : asts_in files ≡ values_of entries
+  pub places : LeadsTo (keys_of entries) (get same_ast_key files.places)
+
+-- the keys to which an item of a module's file leads: those of modules, or of imports
+abbrev pub led : Bool → Modulepath → Item → List AstKey
+led true path i = map (λ (s : Submodule). s.key) (declared path i)
+led false path i = imported path i
+
+-- the same where it is enabled
+abbrev pub led_by : Bool → (Item → Bool) → Modulepath → Item → List AstKey
+led_by inside enabled path i = if enabled (bare_item i) then led inside path i else []
+
+-- the keys to which items lead
+abbrev pub all_led : Bool → (Item → Bool) → Modulepath → List Item → List AstKey
+all_led inside enabled path items = flat_map (led_by inside enabled path) items
+
+-- a table has each of these keys
+abbrev pub HoldsAll : (AstKey → Option ℕ) → List AstKey → Type 0
+HoldsAll table found = AllByRecursion (λ k. IsSome (table k)) found
+
+-- the places that a table has for keys
+abbrev pub ArePlacesOf : (AstKey → Option ℕ) → List AstKey → List ℕ → Type 0
+ArePlacesOf table found places = map table found ≡ map Some places

@@ -1,0 +1,46 @@
+-- What modules are compiled to.
+use Rattle.std.specs.Prelude.{◌≡◌, ◌++◌, ℕ, Bool, List, [], ◌∷◌, flat_map, Option, None, Some}
+use Rattle.std.specs.Map.{values_of}
+use Rattle.just_parts.specs.Asts.{AstKey}
+use Rattle.just_parts.specs.Entries.{put}
+use Rattle.just_parts.specs.Modulepath.{Text}
+use Rattle.just_parts.specs.declared.dependency.Dependency.{Dependency}
+use Rattle.just_parts.specs.declared.layers.ast.Ast.{Ast}
+use Rattle.just_parts.specs.declared.layers.ast.Item.{Item}
+use Rattle.just_parts.specs.declared.layers.ast.UnresolvedDependency.{UnresolvedDependency}
+use Rattle.just_parts.specs.declared.recipe.Recipe.{Recipe}
+use Rattle.just_invoke.specs.Module.{module_name}
+use Rattle.just_invoke.specs.declared.justfile.Justfile.{Justfile, out-Justfile}
+use Rattle.just_modules.specs.Analysis.{IsOf}
+use Rattle.just_modules.specs.Modules.{Module, Forest, Empty, Tree}
+use Rattle.just_modules.specs.Outline.{recipes_of}
+use Rattle.just_modules.specs.Reading.{items_in}
+use Rattle.just_modules.specs.Resolved.{AreResolved}
+
+-- the recipes that files say, file after file
+abbrev pub recipes_in : (Item → Bool) → (AstKey → Option Ast) → List AstKey → List (Recipe UnresolvedDependency)
+recipes_in enabled asts files = flat_map (λ k. recipes_of enabled (items_in (asts k))) files
+
+-- modules under their names, one after another
+abbrev pub held_by_name : List (Text × Justfile) → List Justfile → List (Text × Justfile)
+held_by_name held [] = held
+held_by_name held (j ∷ js) = held_by_name (put (module_name j) j held) js
+
+-- modules in byte order of their names
+abbrev pub by_name : List Justfile → List Justfile
+by_name js = values_of (held_by_name [] js)
+
+-- What a module is compiled to: its recipes, each once, resolved and after those that it depends on, and its justfile, with the modules in it.
+pub record IsCompiled (enabled : Item → Bool) (asts : AstKey → Option Ast) (loaded : List Text) (m : Module) (inner : List Justfile) (made : List (Recipe Dependency)) (j : Justfile) : Type 0 where
+  pub own : Ast
+  pub own_said : asts m.heading.key ≡ Some own
+  pub resolved : AreResolved (recipes_in enabled asts m.files) m.heading.key.0 made
+  pub fields : IsOf (recipes_in enabled asts m.files) (recipes_of enabled own.items) own loaded m.heading.key.1 j
+  pub name : (out-Justfile j).name ≡ m.heading.name
+  pub modules : (out-Justfile j).modules ≡ by_name inner
+
+-- The modules of a forest are compiled to justfiles, one by one.
+pub data AreCompiled (enabled : Item → Bool) (asts : AstKey → Option Ast) (loaded : List Text) : Forest → List Justfile → Type 0 where
+  none : AreCompiled enabled asts loaded Empty []
+  one : {m : Module} {inside after : Forest} {inner js : List Justfile} {j : Justfile} (made : List (Recipe Dependency)) → AreCompiled enabled asts loaded inside inner
+      → IsCompiled enabled asts loaded m inner made j → AreCompiled enabled asts loaded after js → AreCompiled enabled asts loaded (Tree m inside after) (j ∷ js)

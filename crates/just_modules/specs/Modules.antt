@@ -1,0 +1,66 @@
+-- The modules of a compilation, as data.
+use Rattle.std.specs.Prelude.{◌≡◌, List, [], ◌∷◌, map, flat_map, Option, Some}
+use Rattle.std.specs.List.{Contains}
+use Rattle.just_graph.specs.Levels.{AreLevels}
+use Rattle.just_parts.specs.Asts.{AstKey, same_ast_key}
+use Rattle.just_parts.specs.declared.layers.ast.Ast.{Ast}
+use Rattle.just_parts.specs.declared.layers.ast.Item.{Item}
+use Rattle.just_parts.specs.declared.layers.name.Name.{Name}
+use Rattle.just_modules.specs.Contents.{Contents}
+use Rattle.just_modules.specs.Outline.{outlines_of, recipes_said}
+use Rattle.just_modules.specs.Reading.{Reading, Submodule, imports_of, submodules_of}
+
+-- The path and the own file of a module, and its name; the root has none.
+pub record Heading : Type 0 where
+  pub key : AstKey
+  pub name : Option Name
+
+-- A module: its files in join order, what each says, and the modules that these declare.
+pub record Module : Type 0 where
+  pub heading : Heading
+  pub files : List AstKey
+  pub asts : List Ast
+  pub modules : List Submodule
+
+abbrev pub heading_of : Submodule → Heading
+heading_of s = record { key = s.key; name = Some s.name }
+
+-- the headings of the modules in a module
+abbrev pub headings_in : Module → List Heading
+headings_in m = map heading_of m.modules
+
+-- what the rules read of it
+abbrev pub contents_of : Module → Contents
+contents_of m = record {
+  recipes = outlines_of (recipes_said (flat_map (λ (ast : Ast). ast.items) m.asts));
+  modules = map (λ (s : Submodule). s.name) m.modules;
+}
+
+-- the module of a heading
+pub record IsModule (R : Reading) (h : Heading) (m : Module) : Type 0 where
+  pub heading : m.heading ≡ h
+  pub files : AreLevels same_ast_key (imports_of R) h.key m.files
+  pub asts : map Some m.asts ≡ map R m.files
+  pub modules : m.modules ≡ flat_map (submodules_of R) m.files
+
+-- Modules, each with those in it, in the order of their declarations: none, or one, those in it, and those after it.
+pub data Forest : Type 0 where
+  Empty : Forest
+  Tree : Module → Forest → Forest → Forest
+
+-- the modules of headings, and those in them
+pub data AreModules (R : Reading) : List Heading → Forest → Type 0 where
+  no_module : AreModules R [] Empty
+  a_module : {h : Heading} {hs : List Heading} {m : Module} {inside after : Forest} → IsModule R h m → AreModules R (headings_in m) inside → AreModules R hs after
+      → AreModules R (h ∷ hs) (Tree m inside after)
+
+-- a module of a forest, and those in it
+pub data HasModule : Forest → Module → Forest → Type 0 where
+  first : {m : Module} {inside after : Forest} → HasModule (Tree m inside after) m inside
+  in_it : {m n : Module} {inside after below : Forest} → HasModule inside n below → HasModule (Tree m inside after) n below
+  after_it : {m n : Module} {inside after below : Forest} → HasModule after n below → HasModule (Tree m inside after) n below
+
+-- the headings of the modules that are reached from one
+pub data IsHeading (R : Reading) (root : Heading) : Heading → Type 0 where
+  of_root : IsHeading R root root
+  of_module : {h : Heading} {m : Module} {s : Submodule} → IsHeading R root h → IsModule R h m → Contains m.modules s → IsHeading R root (heading_of s)

@@ -1,0 +1,91 @@
+//! The files of a compilation under places.
+
+ghost use Rattle.std.specs.Prelude.{◌≡◌, IfOk};
+ghost use Rattle.std.specs.HashMap.{get};
+ghost use Rattle.std.specs.Option.{option_to_list};
+ghost use Rattle.just_parts.specs.Asts.{same_ast_key};
+ghost use Rattle.just_modules.specs.Files.{ArePlaced, ArePlacesOf, HoldsAll, all_led, led};
+
+use just_data::Text;
+use just_parts::Modulepath;
+use just_parts::layers::{Ast, Item, Syntax};
+use std::alloc::{AllocError, Global};
+use std::collections::HashMap;
+
+/// The files of a compilation, each at a place, what they say, and the places of their keys.
+#[derive(Drop)]
+pub struct Files<'a, 'src> {
+    pub keys: Vec<&'a (Modulepath, Text)>,
+    pub asts: Vec<&'a Ast<'src>>,
+    pub places: HashMap<(Modulepath, Text), usize>,
+}
+
+/// Gives each file a place.
+pub fn place_files<'a, 'src>(
+    alloc: Global,
+    asts: &'a HashMap<(Modulepath, Text), Ast<'src>>,
+) -> Result<Files<'a, 'src>, AllocError>
+    ensures { IfOk result (ArePlaced asts.now.entries) }
+{
+    let mut keys = Vec::with_capacity(alloc, asts.len())?;
+    let mut lent = Vec::with_capacity(alloc, asts.len())?;
+    let mut places = HashMap::new(alloc);
+    for (key, ast) in asts {
+        let file = Text::from_str(alloc, key.1.as_str())?;
+        places.insert((key.0.clone()?, file), keys.len())?;
+        keys.push(key)?;
+        lent.push(ast)?;
+    }
+    Ok(Files {
+        keys,
+        asts: lent,
+        places,
+    })
+}
+
+// The key to which an item of a module's file leads: that of a module where `inside` is set, else that of an import.
+fn key_of_item<'src>(
+    alloc: Global,
+    inside: bool,
+    path: &Modulepath,
+    item: &Item<'src>,
+) -> Result<Option<(Modulepath, Text)>, AllocError>
+    ensures { IfOk result (λ key. option_to_list key ≡ led inside path.now item.now) }
+{
+    match (inside, item) {
+        (true, Item::Module { name, absolute: Some(file), .. }) => {
+            Ok(Some((path.join(name.lexeme())?, file.clone()?)))
+        }
+        (false, Item::Import { absolute: Some(file), .. }) => {
+            Ok(Some((path.clone()?, file.clone()?)))
+        }
+        _ => Ok(None),
+    }
+}
+
+// The places of the files to which the enabled items of a module's file lead.
+fn row<'src, S: Syntax>(
+    alloc: Global,
+    syntax: &S,
+    places: &HashMap<(Modulepath, Text), usize>,
+    inside: bool,
+    ast: &Ast<'src>,
+) -> Result<Vec<usize>, AllocError>
+    requires { HoldsAll (get same_ast_key places.now) (all_led inside (S.answers syntax.now).enabled ast.now.module_path ast.now.items) }
+    ensures { IfOk result (λ row. ArePlacesOf (get same_ast_key places.now) (all_led inside (S.answers syntax.now).enabled ast.now.module_path ast.now.items) row.items) }
+{
+    let mut row = Vec::new(alloc);
+    for item in ast.items.as_slice() {
+        if !syntax.is_enabled(item) {
+            continue;
+        }
+        let Some(key) = key_of_item(alloc, inside, &ast.module_path, item)? else {
+            continue;
+        };
+        let Some(place) = places.get(&key) else {
+            unreachable!()
+        };
+        row.push(*place)?;
+    }
+    Ok(row)
+}
