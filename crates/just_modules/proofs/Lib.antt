@@ -2,6 +2,7 @@ pub mod Defaults
 pub mod Edges
 pub mod Held
 pub mod Indexing
+pub mod Joining
 pub mod Keys
 pub mod Makings
 pub mod ModuleNames

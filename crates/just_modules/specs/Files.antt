@@ -1,9 +1,10 @@
 -- The files of a compilation under places.
-use Rattle.std.specs.Prelude.{◌≡◌, Bool, true, false, ℕ, List, [], ◌∷◌, map, flat_map, slice_get, Option, Some, IsSome, MatchOption, if◌then◌else◌}
+use Rattle.std.specs.Prelude.{◌≡◌, Bool, true, false, ℕ, List, [], ◌∷◌, map, flat_map, length, slice_get, Option, None, Some, IsSome, MatchOption, if◌then◌else◌}
 use Rattle.std.specs.Borrow.{Bor}
 use Rattle.std.specs.HashMap.{get}
 use Rattle.std.specs.List.{AllByRecursion, IsDistinct}
 use Rattle.std.specs.Map.{keys_of, values_of}
+use Rattle.just_graph.specs.Building.{EachRow}
 use Rattle.just_parts.specs.Asts.{AstKey, same_ast_key}
 use Rattle.just_parts.specs.Bare.{bare_item}
 use Rattle.just_parts.specs.declared.layers.ast.Ast.{Ast}
@@ -11,6 +12,7 @@ use Rattle.just_parts.specs.declared.layers.ast.Item.{Item}
 use Rattle.just_parts.specs.declared.modulepath.Modulepath.{Modulepath}
 use Rattle.just_modules.specs.Reading.{Submodule, declared, imported}
 use Rattle.just_modules.specs.declared.files.Files.{Files}
+use Rattle.just_modules.specs.declared.files.Rows.{Rows}
 
 abbrev pub keys_in : Files → List AstKey
 keys_in files = map (λ (k : Bor AstKey). k.now) files.keys.items
@@ -42,6 +44,14 @@ led_by inside enabled path i = if enabled (bare_item i) then led inside path i e
 abbrev pub all_led : Bool → (Item → Bool) → Modulepath → List Item → List AstKey
 all_led inside enabled path items = flat_map (led_by inside enabled path) items
 
+abbrev pub led_in : Bool → (Item → Bool) → Option Ast → List AstKey
+led_in inside enabled None = []
+led_in inside enabled (Some ast) = all_led inside enabled ast.module_path ast.items
+
+-- the keys to which the items of the file at a place lead
+abbrev pub led_from : Bool → (Item → Bool) → List Ast → ℕ → List AstKey
+led_from inside enabled asts p = led_in inside enabled (slice_get asts p)
+
 -- a table has each of these keys
 abbrev pub HoldsAll : (AstKey → Option ℕ) → List AstKey → Type 0
 HoldsAll table found = AllByRecursion (λ k. IsSome (table k)) found
@@ -49,3 +59,8 @@ HoldsAll table found = AllByRecursion (λ k. IsSome (table k)) found
 -- the places that a table has for keys
 abbrev pub ArePlacesOf : (AstKey → Option ℕ) → List AstKey → List ℕ → Type 0
 ArePlacesOf table found places = map table found ≡ map Some places
+
+-- the row of each file: the places of the keys to which its items lead
+pub record AreRows (enabled : Item → Bool) (files : Files) (rows : Rows) : Type 0 where
+  pub imports : EachRow (λ p row. ArePlacesOf (get same_ast_key files.places) (led_from false enabled (asts_in files) p) row) (length files.asts.items) rows.imports.items
+  pub modules : EachRow (λ p row. ArePlacesOf (get same_ast_key files.places) (led_from true enabled (asts_in files) p) row) (length files.asts.items) rows.modules.items

@@ -33,7 +33,7 @@ KeepsModules f = (m : Module) (inside : Forest) → HasModule f m inside → Kee
 -- The ground of a group in a module: the groups before it are kept there, and where it is not the first, all groups in the modules inside.
 pub record HasGround (g : Group) (m : Module) (inside : Forest) : Type 0 where
   pub earlier : (f : Group) → rank f < rank g → Keeps (Breaks f m)
-  pub inside : rank g ≢ 0 → KeepsModules inside
+  pub below : rank g ≢ 0 → KeepsModules inside
 
 -- What is broken in a module that is reached from the root's.
 pub data NamesModules (R : Reading) (root : Heading) : Cause → Type 0 where

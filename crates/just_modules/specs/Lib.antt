@@ -4,6 +4,7 @@ pub mod Definitions
 pub mod Files
 pub mod Groups
 pub mod Index
+pub mod Joined
 pub mod Justfiles
 pub mod Modules
 pub mod Outline

@@ -1,10 +1,11 @@
 //! The files of a compilation under places.
 
-ghost use Rattle.std.specs.Prelude.{◌≡◌, IfOk};
+ghost use Rattle.std.specs.Prelude.{◌≡◌, ◌<◌, Bool, ℕ, IfOk, Some, length, slice_get};
 ghost use Rattle.std.specs.HashMap.{get};
 ghost use Rattle.std.specs.Option.{option_to_list};
+ghost use Rattle.just_graph.specs.Building.{EachRow};
 ghost use Rattle.just_parts.specs.Asts.{same_ast_key};
-ghost use Rattle.just_modules.specs.Files.{ArePlaced, ArePlacesOf, HoldsAll, all_led, led};
+ghost use Rattle.just_modules.specs.Files.{ArePlaced, ArePlacesOf, AreRows, HoldsAll, all_led, asts_in, led, led_from};
 
 use just_data::Text;
 use just_parts::Modulepath;
@@ -18,6 +19,13 @@ pub struct Files<'a, 'src> {
     pub keys: Vec<&'a (Modulepath, Text)>,
     pub asts: Vec<&'a Ast<'src>>,
     pub places: HashMap<(Modulepath, Text), usize>,
+}
+
+/// What each file imports, and which modules it declares, by the places of the files.
+#[derive(Drop)]
+pub struct Rows {
+    pub imports: Vec<Vec<usize>>,
+    pub modules: Vec<Vec<usize>>,
 }
 
 /// Gives each file a place.
@@ -88,4 +96,45 @@ fn row<'src, S: Syntax>(
         row.push(*place)?;
     }
     Ok(row)
+}
+
+// What the file at a place says.
+fn ast_at<'b, 'a, 'src>(files: &'b Files<'a, 'src>, place: usize) -> &'b Ast<'src>
+    requires { place < length files.now.asts.items }
+    ensures { slice_get (asts_in files.now) place ≡ Some result.now }
+{
+    &*files.asts[place]
+}
+
+// The rows of all files.
+fn rows_of<'a, 'src, S: Syntax>(
+    alloc: Global,
+    syntax: &S,
+    files: &Files<'a, 'src>,
+    inside: bool,
+) -> Result<Vec<Vec<usize>>, AllocError>
+    requires { (p : ℕ) → HoldsAll (get same_ast_key files.now.places) (led_from inside (S.answers syntax.now).enabled (asts_in files.now) p) }
+    ensures { IfOk result (λ rows. EachRow (λ p row. ArePlacesOf (get same_ast_key files.now.places) (led_from inside (S.answers syntax.now).enabled (asts_in files.now) p) row) (length files.now.asts.items) rows.items) }
+{
+    let mut rows = Vec::new(alloc);
+    for place in 0..files.asts.len() {
+        let ast = ast_at(files, place);
+        rows.push(row(alloc, syntax, &files.places, inside, ast)?)?;
+    }
+    Ok(rows)
+}
+
+/// What each file imports and which modules it declares, by places.
+pub fn file_rows<'a, 'src, S: Syntax>(
+    alloc: Global,
+    syntax: &S,
+    files: &Files<'a, 'src>,
+) -> Result<Rows, AllocError>
+    requires { (inside : Bool) (p : ℕ) → HoldsAll (get same_ast_key files.now.places) (led_from inside (S.answers syntax.now).enabled (asts_in files.now) p) }
+    ensures { IfOk result (AreRows (S.answers syntax.now).enabled files.now) }
+{
+    Ok(Rows {
+        imports: rows_of(alloc, syntax, files, false)?,
+        modules: rows_of(alloc, syntax, files, true)?,
+    })
 }

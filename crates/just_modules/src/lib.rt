@@ -5,6 +5,7 @@ pub mod analyzer;
 pub mod definitions;
 pub mod files;
 pub mod headers;
+pub mod joined;
 mod names;
 pub mod recipe_resolver;
 mod unresolved_recipe;
