@@ -1,11 +1,13 @@
 pub mod Defaults
 pub mod Edges
+pub mod FilePlaces
 pub mod Held
 pub mod Indexing
 pub mod Joining
 pub mod Keys
 pub mod Makings
 pub mod ModuleNames
+pub mod ModulePlaces
 pub mod Outlines
 pub mod RecipeCircles
 pub mod Placing

@@ -1,0 +1,147 @@
+-- The module whose own file stands at a place.
+use Rattle.std.proofs.Common.{◌≡◌, ◌≢◌, ◌<◌, ℕ, zero, suc, ◌+◌, nat_eq, Bool, true, false, List, [], ◌∷◌, ◌++◌, map, take, length, get_or, slice_index, Option, Some, None, refl, sym, ap, subst, ◌∙◌, arith, inl, inr}
+use Rattle.std.specs.Prelude.{flat_map}
+use Rattle.std.specs.List.{All, Contains}
+use Rattle.std.specs.Map.{keys_of, lookup}
+use Rattle.std.specs.Option.{option_map, unwrap_or}
+use Rattle.std.proofs.lemmas.Bool.{eq-eqb, eqb-true, false_from_ne_true}
+use Rattle.std.proofs.lemmas.List.{map-append}
+use Rattle.just_graph.specs.Graph.{HasEdge, targets}
+use Rattle.just_graph.specs.Levels.{AreLevels}
+use Rattle.just_graph.specs.Steps.{ListsStepsFirst, in_take}
+use Rattle.just_graph.proofs.Mapped.{every_level, levels_mapped}
+use Rattle.just_graph.proofs.Members.{In, contained, in_left, in_right, is_in}
+use Rattle.just_parts.specs.Asts.{AstKey, same_ast_key}
+use Rattle.just_parts.specs.Bare.{ast_of_items}
+use Rattle.just_parts.specs.declared.layers.ast.Ast.{Ast}
+use Rattle.just_parts.specs.declared.layers.ast.Item.{Item}
+use Rattle.just_parts.proofs.AstKeys.{key_same}
+use Rattle.just_modules.specs.Files.{ArePlaced, AreRows}
+use Rattle.just_modules.specs.Joined.{IsJoined}
+use Rattle.just_modules.specs.Modules.{AreModules, Forest, Empty, Tree, Heading, IsModule, Module, a_module, no_module, heading_of}
+use Rattle.just_modules.specs.Reading.{Reading, Submodule, imports_of, located_ast, reading_of, submodules_of}
+use Rattle.just_modules.specs.declared.files.Files.{Files}
+use Rattle.just_modules.specs.declared.files.Rows.{Rows}
+use Rattle.just_modules.specs.declared.joined.Joined.{Joined}
+use Rattle.just_modules.proofs.FilePlaces.{import_inside, imports_here, modules_here, one_place, says}
+use Rattle.just_modules.proofs.Joining.{in_row}
+
+same_bools : (a b : Bool) → (a ≡ true → b ≡ true) → (b ≡ true → a ≡ true) → a ≡ b
+same_bools true b f g = sym (f refl)
+same_bools false b f g = sym (false_from_ne_true b (λ t. let wrong : false ≡ true = g t in cc))
+
+-- lists that are mapped, part by part
+flat_keys : {A B C : Type 0} (f : ℕ → C) (g : B → C) (T : ℕ → List ℕ) (S : A → List B) (h : ℕ → A) (xs : List ℕ) → ((x : ℕ) → In x xs → map f (T x) ≡ map g (S (h x))) → map f (flat_map T xs) ≡ map g (flat_map S (map h xs))
+flat_keys f g T S h [] each = refl
+flat_keys f g T S h (x ∷ xs) each =
+    map-append f (T x) (flat_map T xs) ∙ (λ i. each x (inl refl) i ++ flat_keys f g T S h xs (λ y k. each y (inr k)) i) ∙ sym (map-append g (S (h x)) (flat_map S (map h xs)))
+
+abbrev pub no_ast : Ast
+no_ast = ast_of_items []
+
+all_read : (R : Reading) (f : ℕ → AstKey) (xs : List ℕ) → ((x : ℕ) → In x xs → (a : Ast) × (R (f x) ≡ Some a)) → map Some (map (λ k. unwrap_or (R k) no_ast) (map f xs)) ≡ map R (map f xs)
+all_read R f [] each = refl
+all_read R f (x ∷ xs) each =
+    let a = each x (inl refl) in
+    (λ i. (ap (λ o. Some (unwrap_or o no_ast)) a.1 ∙ sym a.1) i ∷ all_read R f xs (λ y h. each y (inr h)) i)
+
+-- the place of an element among the first
+listed_at : (xs : List ℕ) (k q : ℕ) → k < length xs → Contains (take k xs) q → (i : ℕ) × ((i < k) × (i < length xs)) × (slice_index xs i ≡ q)
+listed_at xs k q h c = let i = in_take xs k q (omega (arith, h)) c in (i.0, (i.1, omega (arith, i.1, h)), i.2)
+
+module _ (enabled : Item → Bool) (entries : List (AstKey × Ast)) (d : AstKey) (files : Files) (placed : ArePlaced entries files) (rows : Rows) (are : AreRows enabled files rows)
+    (paths : (k : AstKey) (a : Ast) → lookup (same_ast_key k) entries ≡ Some a → a.module_path ≡ k.0) (joined : Joined) where
+  abbrev R : Reading
+  R = reading_of enabled (λ k. lookup (same_ast_key k) entries)
+
+  abbrev n : ℕ
+  n = length (keys_of entries)
+
+  abbrev key_at : ℕ → AstKey
+  key_at p = get_or (keys_of entries) p d
+
+  agree : (a b : ℕ) → a < n → b < n → same_ast_key (key_at a) (key_at b) ≡ nat_eq a b
+  agree a b h l = same_bools (same_ast_key (key_at a) (key_at b)) (nat_eq a b)
+      (λ t. eq-eqb a b (one_place enabled entries d files placed rows are paths a b h l ((key_same (key_at a) (key_at b)).0 t)))
+      (λ t. (key_same (key_at a) (key_at b)).1 (ap key_at (eqb-true a b t)))
+
+  along : (a : ℕ) → a < n → map key_at (targets rows.imports.items a) ≡ imports_of R (key_at a)
+  along = imports_here enabled entries d files placed rows are paths
+
+  closed : (a b : ℕ) → a < n → In b (targets rows.imports.items a) → b < n
+  closed a b h i = in_row (λ q. q < n) (targets rows.imports.items a) b (import_inside enabled entries d files placed rows are paths a) (contained b (targets rows.imports.items a) i)
+
+  abbrev files_of : ℕ → List ℕ
+  files_of p = targets joined.files.items p
+
+  module _ (p : ℕ) (inside : p < n) (j : IsJoined rows joined p) where
+    pub join_at : AreLevels same_ast_key (imports_of R) (key_at p) (map key_at (files_of p))
+    join_at = levels_mapped nat_eq same_ast_key key_at (λ q. q < n) (targets rows.imports.items) (imports_of R) agree along closed p (files_of p) inside j.files
+
+    pub file_inside : (q : ℕ) → In q (files_of p) → q < n
+    file_inside = every_level nat_eq same_ast_key key_at (λ q. q < n) (targets rows.imports.items) (imports_of R) agree along closed p (files_of p) inside j.files
+
+    -- the own files of the modules that are declared
+    pub inner_keys : map (λ (s : Submodule). s.key) (flat_map (submodules_of R) (map key_at (files_of p))) ≡ map key_at (targets joined.modules.items p)
+    inner_keys = sym (ap (map key_at) j.modules
+        ∙ flat_keys key_at (λ (s : Submodule). s.key) (targets rows.modules.items) (submodules_of R) key_at (files_of p) (λ q h. modules_here enabled entries d files placed rows are paths q (file_inside q h)))
+
+    -- the module of a heading there
+    abbrev pub module_at : Heading → Module
+    module_at h = record {
+      heading = h;
+      files = map key_at (files_of p);
+      asts = map (λ k. unwrap_or (R k) no_ast) (map key_at (files_of p));
+      modules = flat_map (submodules_of R) (map key_at (files_of p));
+    }
+
+    pub is_module : (h : Heading) → h.key ≡ key_at p → IsModule R h (module_at h)
+    is_module h e = record {
+      heading = refl;
+      files = subst (λ k. AreLevels same_ast_key (imports_of R) k (map key_at (files_of p))) (sym e) join_at;
+      asts = all_read R key_at (files_of p) (λ q i. let s = says enabled entries d files placed rows are paths q (file_inside q i) in (located_ast enabled s.ast, ap (λ o. option_map (located_ast enabled) o) s.said));
+      modules = refl;
+    }
+
+  module _ (order : List ℕ) (below : (k : ℕ) → k < length order → slice_index order k < n) (joins : (k : ℕ) → k < length order → IsJoined rows joined (slice_index order k))
+      (first : ListsStepsFirst (HasEdge joined.modules.items) order) where
+    -- a module of the heading, and those in it
+    pub record TreeAt (p : ℕ) (h : Heading) : Type 0 where
+      m : Module
+      inside : Forest
+      are_modules : AreModules R (h ∷ []) (Tree m inside Empty)
+
+    pub record TreesAt (hs : List Heading) : Type 0 where
+      forest : Forest
+      are_modules : AreModules R hs forest
+
+    one_more : {h : Heading} {hs : List Heading} {m : Module} {inside : Forest} → AreModules R (h ∷ []) (Tree m inside Empty) → TreesAt hs → TreesAt (h ∷ hs)
+    one_more (a_module is inner rest) ts = record { forest = Tree _ _ ts.forest; are_modules = a_module is inner ts.are_modules }
+
+    together : {h : Heading} {hs : List Heading} {p : ℕ} → TreeAt p h → TreesAt hs → TreesAt (h ∷ hs)
+    together t ts = one_more t.are_modules ts
+
+    -- modules by the places of their own files
+    trees_of : (subs : List Submodule) (row : List ℕ) → map (λ (s : Submodule). s.key) subs ≡ map key_at row → ((q : ℕ) → In q row → (h : Heading) → h.key ≡ key_at q → TreeAt q h) → TreesAt (map heading_of subs)
+    trees_of [] [] e each = record { forest = Empty; are_modules = no_module }
+    trees_of [] (q ∷ row) e each = cc
+    trees_of (s ∷ subs) [] e each = cc
+    trees_of (s ∷ subs) (q ∷ row) e each =
+        let head : s.key ≡ key_at q = cc in
+        let rest : map (λ (s : Submodule). s.key) subs ≡ map key_at row = cc in
+        together (each q (inl refl) (heading_of s) head) (trees_of subs row rest (λ r i. each r (inr i)))
+
+    trees_below : (m k : ℕ) → k < m → (l : k < length order) → (h : Heading) → h.key ≡ key_at (slice_index order k) → TreeAt (slice_index order k) h
+    trees_below zero k b l h e = absurd (omega arith)
+    trees_below (suc m) k b l h e =
+        let p = slice_index order k in
+        let j = joins k l in
+        let inner = trees_of (module_at p (below k l) j h).modules (targets joined.modules.items p) (inner_keys p (below k l) j) (λ q i g same.
+            let listed = first k q l (contained q (targets joined.modules.items p) i) in
+            let at = listed_at order k q l listed in
+            subst (λ r. TreeAt r g) at.2 (trees_below m at.0 (omega (arith, at.1.0, b)) (omega (arith, at.1.0, l)) g (same ∙ ap key_at (sym at.2)))) in
+        record { m = module_at p (below k l) j h; inside = inner.forest; are_modules = a_module (is_module p (below k l) j h e) inner.are_modules no_module }
+
+    -- each listed place has its modules
+    pub tree_at : (k : ℕ) → k < length order → (h : Heading) → h.key ≡ key_at (slice_index order k) → TreeAt (slice_index order k) h
+    tree_at k l = trees_below (suc k) k (omega arith) l
