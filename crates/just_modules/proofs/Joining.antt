@@ -1,5 +1,5 @@
 -- Rows of places, as they are read, joined and set.
-use Rattle.std.proofs.Common.{◌≡◌, ◌≢◌, ◌⊎◌, inl, inr, subst, ℕ, zero, suc, ◌+◌, ◌<◌, List, [], ◌∷◌, ◌++◌, take, length, get_or, set, slice_index, refl, sym, ap, ◌∙◌, ◌↔◌, arith}
+use Rattle.std.proofs.Common.{◌≡◌, ◌≢◌, ◌⊎◌, inl, inr, subst, ℕ, zero, suc, ◌+◌, ◌-◌, ◌<◌, List, [], ◌∷◌, ◌++◌, take, length, get_or, set, slice_index, refl, sym, ap, ◌∙◌, ◌↔◌, arith}
 use Rattle.std.specs.Prelude.{flat_map, nat_eq}
 use Rattle.std.specs.List.{All, Contains}
 use Rattle.std.proofs.lemmas.Bool.{cases_eq, cases_lt}
@@ -12,7 +12,7 @@ use Rattle.just_graph.specs.Building.{EachRow, targets_past}
 use Rattle.just_graph.specs.Levels.{AreLevels}
 use Rattle.just_graph.proofs.Targets.{targets_at}
 use Rattle.just_graph.specs.Graph.{HasEdge, IsGraph}
-use Rattle.just_graph.specs.Steps.{Reached, from_start, from_member}
+use Rattle.just_graph.specs.Steps.{IsCircle, IsWalk, Reached, from_start, from_member}
 use Rattle.just_graph.proofs.Members.{is_in}
 use Rattle.just_modules.specs.Joined.{AreJoined, IsJoined, StaysJoined}
 use Rattle.just_modules.specs.declared.files.Rows.{Rows}
@@ -122,3 +122,19 @@ none_are_joined rows n count joined same files modules = record {
 -- what holds of each element
 pub in_row : (P : ℕ → Type 0) (xs : List ℕ) (b : ℕ) → All P xs → Contains xs b → P b
 in_row P xs b all c = subst P c.2 (all c.0 b c.1)
+
+-- a walk of steps that each lead deeper ends deeper than it begins
+module _ (R : ℕ → ℕ → Type 0) (depth : ℕ → ℕ) (deeper : (a b : ℕ) → R a b → depth a < depth b) (ns : List ℕ) (walk : IsWalk R ns) where
+  deeper_at : (k : ℕ) → k + 1 < length ns → depth (slice_index ns 0) < depth (slice_index ns (k + 1))
+  deeper_at zero h = deeper (slice_index ns 0) (slice_index ns 1) (walk 0 h)
+  deeper_at (suc k) h =
+      let before = deeper_at k (omega (arith, h)) in
+      let step : depth (slice_index ns (k + 1)) < depth (slice_index ns (suc k + 1)) = deeper (slice_index ns (k + 1)) (slice_index ns (suc k + 1)) (subst (λ m. R (slice_index ns (k + 1)) (slice_index ns m)) (omega arith) (walk (k + 1) (omega (arith, h)))) in
+      omega (arith, before, step)
+
+-- so there is no circle
+pub no_circle : (R : ℕ → ℕ → Type 0) (depth : ℕ → ℕ) → ((a b : ℕ) → R a b → depth a < depth b) → (ns : List ℕ) → IsCircle R ns → ⊥
+no_circle R depth deeper ns c =
+    let deep = deeper_at R depth deeper ns c.walk (length ns - 2) (omega (arith, c.steps)) in
+    let last : slice_index ns (length ns - 2 + 1) ≡ slice_index ns 0 = ap (slice_index ns) (omega (arith, c.steps)) ∙ sym c.closed in
+    omega (arith, deep, ap depth last)

@@ -7,6 +7,7 @@ pub mod Joining
 pub mod Keys
 pub mod Makings
 pub mod ModuleNames
+pub mod ModulePaths
 pub mod ModulePlaces
 pub mod Outlines
 pub mod RecipeCircles

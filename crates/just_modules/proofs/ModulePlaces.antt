@@ -60,12 +60,12 @@ module _ (enabled : Item → Bool) (entries : List (AstKey × Ast)) (d : AstKey)
   abbrev key_at : ℕ → AstKey
   key_at p = get_or (keys_of entries) p d
 
-  agree : (a b : ℕ) → a < n → b < n → same_ast_key (key_at a) (key_at b) ≡ nat_eq a b
+  pub agree : (a b : ℕ) → a < n → b < n → same_ast_key (key_at a) (key_at b) ≡ nat_eq a b
   agree a b h l = same_bools (same_ast_key (key_at a) (key_at b)) (nat_eq a b)
       (λ t. eq-eqb a b (one_place enabled entries d files placed rows are paths a b h l ((key_same (key_at a) (key_at b)).0 t)))
       (λ t. (key_same (key_at a) (key_at b)).1 (ap key_at (eqb-true a b t)))
 
-  along : (a : ℕ) → a < n → map key_at (targets rows.imports.items a) ≡ imports_of R (key_at a)
+  pub along : (a : ℕ) → a < n → map key_at (targets rows.imports.items a) ≡ imports_of R (key_at a)
   along = imports_here enabled entries d files placed rows are paths
 
   closed : (a b : ℕ) → a < n → In b (targets rows.imports.items a) → b < n

@@ -1,13 +1,15 @@
 //! The files of modules, in join order, by the places of their own files.
 
-ghost use Rattle.std.specs.Prelude.{◌≡◌, ◌<◌, ◌++◌, ℕ, [], IfOk, OnOk, length, flat_map};
+ghost use Rattle.std.specs.Prelude.{◌≡◌, ◌<◌, ◌++◌, ℕ, [], ◌∷◌, IfOk, OnOk, length, flat_map};
 ghost use Rattle.std.specs.List.{All, Contains};
 ghost use Rattle.just_graph.specs.Building.{EachRow};
-ghost use Rattle.just_graph.specs.Graph.{HasEdge, targets};
+ghost use Rattle.just_graph.specs.Graph.{HasEdge, IsGraph, targets};
+ghost use Rattle.just_graph.specs.Steps.{IsOrder, Reached};
 ghost use Rattle.just_modules.specs.Joined.{AreGraphs, AreJoined, IsJoined, StaysJoined};
 
 use crate::files::Rows;
 use just_graph::levels::levels;
+use just_graph::order;
 use std::alloc::{AllocError, Global};
 
 /// For each file that is a module's own the places of the module's files, in join order, and of the own files of the
@@ -115,4 +117,23 @@ pub fn join_modules(alloc: Global, rows: &Rows, root: usize) -> Result<Joined, A
         join_each(alloc, rows, row.as_slice(), &mut joined)?;
     }
     Ok(joined)
+}
+
+/// The places of the own files of the modules that are reached from the root's, those of the modules in a module before
+/// its own. There is a number for each place that is larger for the modules in a module.
+pub fn inner_first(
+    alloc: Global,
+    modules: &[Vec<usize>],
+    root: usize,
+) -> Result<Vec<usize>, AllocError>
+    requires graph { IsGraph modules.now }
+    requires root { root < length modules.now }
+    requires deeper { (depth : ℕ → ℕ) × ((a b : ℕ) → HasEdge modules.now a b → depth a < depth b) }
+    ensures ordered { IfOk result (λ order. IsOrder (HasEdge modules.now) (length modules.now) (root ∷ []) order.items) }
+    ensures reached { IfOk result (λ order. All (Reached (HasEdge modules.now) (root ∷ []) []) order.items) }
+{
+    match order(alloc, modules, [root].as_slice())? {
+        Ok(order) => Ok(order),
+        Err(_) => unreachable!(),
+    }
 }
