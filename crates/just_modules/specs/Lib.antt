@@ -7,6 +7,7 @@ pub mod Index
 pub mod Joined
 pub mod Justfiles
 pub mod Modules
+pub mod Named
 pub mod Outline
 pub mod Reading
 pub mod Resolved

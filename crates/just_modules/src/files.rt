@@ -98,8 +98,8 @@ fn row<'src, S: Syntax>(
     Ok(row)
 }
 
-// What the file at a place says.
-fn ast_at<'b, 'a, 'src>(files: &'b Files<'a, 'src>, place: usize) -> &'b Ast<'src>
+/// What the file at a place says.
+pub fn ast_at<'b, 'a, 'src>(files: &'b Files<'a, 'src>, place: usize) -> &'b Ast<'src>
     requires { place < length files.now.asts.items }
     ensures { slice_get (asts_in files.now) place ≡ Some result.now }
 {

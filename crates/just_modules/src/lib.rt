@@ -6,6 +6,8 @@ pub mod definitions;
 pub mod files;
 pub mod headers;
 pub mod joined;
+pub mod module;
+pub mod module_names;
 mod names;
 pub mod recipe_resolver;
 mod unresolved_recipe;

@@ -1,0 +1,61 @@
+-- The modules and the recipes that files at places say.
+use Rattle.std.specs.Prelude.{◌≡◌, ◌++◌, ℕ, Bool, List, [], ◌∷◌, flat_map, length, map, slice_get, Option, None, Some, if◌then◌else◌}
+use Rattle.std.specs.List.{All}
+use Rattle.just_parts.specs.Bare.{bare_item}
+use Rattle.just_parts.specs.Causes.{Cause, Keeps}
+use Rattle.just_parts.specs.declared.dependency.Dependency.{Dependency}
+use Rattle.just_parts.specs.declared.layers.ast.Ast.{Ast}
+use Rattle.just_parts.specs.declared.layers.ast.Item.{Item}
+use Rattle.just_parts.specs.declared.layers.ast.Item.TheVariants as item
+use Rattle.just_parts.specs.declared.layers.ast.UnresolvedDependency.{UnresolvedDependency}
+use Rattle.just_parts.specs.declared.layers.name.Name.{Name}
+use Rattle.just_parts.specs.declared.modulepath.Modulepath.{Modulepath}
+use Rattle.just_parts.specs.declared.recipe.Recipe.{Recipe}
+use Rattle.just_invoke.specs.declared.justfile.Justfile.{Justfile}
+use Rattle.just_modules.specs.Analysis.{IsOf}
+use Rattle.just_modules.specs.Outline.{Outline, recipes_of}
+use Rattle.just_modules.specs.Resolved.{AreResolved}
+use Rattle.just_modules.specs.Rules.{Bodies, Dependencies, Parameters}
+
+-- the name of the module that an item declares
+abbrev pub name_by : Item → List Name
+name_by (item.Module name relative (Some file) optional) = name ∷ []
+name_by _ = []
+
+-- the names of the modules that items declare
+abbrev pub names_said : (Item → Bool) → List Item → List Name
+names_said enabled items = flat_map (λ i. if enabled (bare_item i) then name_by i else []) items
+
+abbrev pub names_in : (Item → Bool) → Option Ast → List Name
+names_in enabled None = []
+names_in enabled (Some ast) = names_said enabled ast.items
+
+-- the names of the modules that files declare, file after file
+abbrev pub names_from : (Item → Bool) → List Ast → List ℕ → List Name
+names_from enabled asts files = flat_map (λ p. names_in enabled (slice_get asts p)) files
+
+abbrev pub recipes_by : (Item → Bool) → Option Ast → List (Recipe UnresolvedDependency)
+recipes_by enabled None = []
+recipes_by enabled (Some ast) = recipes_of enabled ast.items
+
+-- the recipes that files say, file after file
+abbrev pub recipes_from : (Item → Bool) → List Ast → List ℕ → List (Recipe UnresolvedDependency)
+recipes_from enabled asts files = flat_map (λ p. recipes_by enabled (slice_get asts p)) files
+
+-- What is broken in a module whose modules have different names: in its parameters; where these are kept, in its bodies; and where these are kept too, in its dependencies.
+pub data BreaksRecipes (os : List Outline) : Cause → Type 0 where
+  in_parameters : {c : Cause} → Parameters os c → BreaksRecipes os c
+  in_bodies : {c : Cause} → Keeps (Parameters os) → Bodies os c → BreaksRecipes os c
+  in_dependencies : {c : Cause} → Keeps (Parameters os) → Keeps (Bodies os) → Dependencies os c → BreaksRecipes os c
+
+-- no rule on recipes is broken
+pub record KeepsRecipes (os : List Outline) : Type 0 where
+  pub parameters : Keeps (Parameters os)
+  pub bodies : Keeps (Bodies os)
+  pub dependencies : Keeps (Dependencies os)
+
+-- What is made of the recipes of a module: resolved ones, that come after the old ones.
+pub record AreAdded (rs : List (Recipe UnresolvedDependency)) (path : Modulepath) (old new : List (Recipe Dependency)) : Type 0 where
+  pub made : List (Recipe Dependency)
+  pub appended : new ≡ old ++ made
+  pub resolved : AreResolved rs path made

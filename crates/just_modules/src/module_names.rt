@@ -1,0 +1,69 @@
+//! The names of modules.
+
+ghost use Rattle.std.specs.Prelude.{◌≡◌, ◌<◌, ◌++◌, ℕ, IfOk, IfErr, OnOk, length, slice_index};
+ghost use Rattle.std.specs.List.{All};
+ghost use Rattle.std.specs.Option.{option_copied, option_to_list};
+ghost use Rattle.just_graph.specs.Graph.{targets};
+ghost use Rattle.just_parts.specs.Causes.{Reports};
+ghost use Rattle.just_modules.specs.Contents.{of_names, texts_of_names};
+ghost use Rattle.just_modules.specs.Files.{asts_in};
+ghost use Rattle.just_modules.specs.Index.{AreDifferent};
+ghost use Rattle.just_modules.specs.Named.{name_by, names_from, names_said};
+ghost use Rattle.just_modules.specs.Rules.{Headers};
+
+use crate::files::{Files, ast_at};
+use crate::headers::check_modules;
+use crate::joined::Joined;
+use just_parts::layers::{Error, Item, Name, Syntax};
+use std::alloc::{AllocError, Global};
+
+// The name of the module that an item declares.
+fn declared_name<'a, 'src>(item: &'a Item<'src>) -> Option<&'a Name<'src>>
+    ensures { option_to_list (option_copied result) ≡ name_by item.now }
+{
+    match item {
+        Item::Module {
+            name,
+            absolute: Some(_),
+            ..
+        } => Some(name),
+        _ => None,
+    }
+}
+
+// Pushes the names of the modules that enabled items declare.
+fn push_names<'src, S: Syntax>(
+    syntax: &S,
+    items: &[Item<'src>],
+    names: &mut Vec<Name<'src>>,
+) -> Result<(), AllocError>
+    ensures { OnOk result (names.new.items ≡ names.old.items ++ names_said (S.answers syntax.now).enabled items.now) }
+{
+    for item in items {
+        if !syntax.is_enabled(item) {
+            continue;
+        }
+        let Some(name) = declared_name(item) else {
+            continue;
+        };
+        names.push(name.copied())?;
+    }
+    Ok(())
+}
+
+/// The names of the modules that the files at places declare, file after file.
+pub fn module_names<'a, 'src, S: Syntax>(
+    alloc: Global,
+    syntax: &S,
+    files: &Files<'a, 'src>,
+    places: &[usize],
+) -> Result<Vec<Name<'src>>, AllocError>
+    requires { All (λ p. p < length files.now.asts.items) places.now }
+    ensures { IfOk result (λ names. names.items ≡ names_from (S.answers syntax.now).enabled (asts_in files.now) places.now) }
+{
+    let mut names = Vec::new(alloc);
+    for place in places {
+        push_names(syntax, ast_at(files, *place).items.as_slice(), &mut names)?;
+    }
+    Ok(names)
+}
