@@ -1,5 +1,5 @@
 -- What modules are compiled to.
-use Rattle.std.specs.Prelude.{◌≡◌, ◌++◌, ℕ, Bool, List, [], ◌∷◌, flat_map, Option, None, Some}
+use Rattle.std.specs.Prelude.{◌≡◌, ℕ, Bool, List, [], ◌∷◌, flat_map, get_or, Option, None, Some}
 use Rattle.std.specs.Map.{values_of}
 use Rattle.just_parts.specs.Asts.{AstKey}
 use Rattle.just_parts.specs.Entries.{put}
@@ -8,9 +8,10 @@ use Rattle.just_parts.specs.declared.dependency.Dependency.{Dependency}
 use Rattle.just_parts.specs.declared.layers.ast.Ast.{Ast}
 use Rattle.just_parts.specs.declared.layers.ast.Item.{Item}
 use Rattle.just_parts.specs.declared.layers.ast.UnresolvedDependency.{UnresolvedDependency}
+use Rattle.just_parts.specs.declared.layers.name.Name.{Name}
 use Rattle.just_parts.specs.declared.recipe.Recipe.{Recipe}
 use Rattle.just_invoke.specs.Module.{module_name}
-use Rattle.just_invoke.specs.declared.justfile.Justfile.{Justfile, out-Justfile}
+use Rattle.just_invoke.specs.declared.justfile.Justfile.{Justfile, out-Justfile, roll-Justfile}
 use Rattle.just_modules.specs.Analysis.{IsOf}
 use Rattle.just_modules.specs.Modules.{Module, Forest, Empty, Tree}
 use Rattle.just_modules.specs.Outline.{recipes_of}
@@ -44,3 +45,17 @@ pub data AreCompiled (enabled : Item → Bool) (asts : AstKey → Option Ast) (l
   none : AreCompiled enabled asts loaded Empty []
   one : {m : Module} {inside after : Forest} {inner js : List Justfile} {j : Justfile} (made : List (Recipe Dependency)) → AreCompiled enabled asts loaded inside inner
       → IsCompiled enabled asts loaded m inner made j → AreCompiled enabled asts loaded after js → AreCompiled enabled asts loaded (Tree m inside after) (j ∷ js)
+
+-- a justfile under a name
+abbrev pub with_name : Name → Justfile → Justfile
+with_name name j = roll-Justfile (record (out-Justfile j) { name = Some name })
+
+-- each under the name beside it
+abbrev pub with_names : List Justfile → List Name → List Justfile
+with_names [] names = []
+with_names (j ∷ js) [] = []
+with_names (j ∷ js) (name ∷ names) = with_name name j ∷ with_names js names
+
+-- what is held at a place
+abbrev pub slot : List (Option Justfile) → ℕ → Option Justfile
+slot slots q = get_or slots q None

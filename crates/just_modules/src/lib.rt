@@ -5,6 +5,7 @@ pub mod analyzer;
 pub mod definitions;
 pub mod files;
 pub mod headers;
+pub mod inner;
 pub mod joined;
 pub mod module;
 pub mod module_names;
