@@ -16,4 +16,5 @@ pub mod Refuted
 pub mod Resolving
 pub mod TableValues
 pub mod Trees
+pub mod Taking
 pub mod Targets

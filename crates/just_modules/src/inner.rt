@@ -47,3 +47,28 @@ fn take_at<'src>(slots: &mut Vec<Option<Justfile<'src>>>, place: usize) -> Justf
 {
     slots[place].take().unwrap()
 }
+
+/// Takes the modules that are held at the places of a row, under the names beside them: they stand in byte order of
+/// their names.
+pub fn take_inner<'src>(
+    alloc: Global,
+    slots: &mut Vec<Option<Justfile<'src>>>,
+    row: &[usize],
+    names: &[Name<'src>],
+) -> Result<Sequence<Justfile<'src>>, AllocError>
+    requires inside { All (λ q. q < length slots.old.items) row.now }
+    requires once { IsOnce row.now }
+    requires there { (js : List Justfile) × (map Some js ≡ map (slot slots.old.items) row.now) }
+    requires names { length names.now ≡ length row.now }
+    ensures modules { IfOk result (λ modules. (js : List Justfile) → map Some js ≡ map (slot slots.old.items) row.now → modules ≡ by_name (with_names js names.now)) }
+    ensures room { OnOk result (length slots.new.items ≡ length slots.old.items) }
+    ensures others { OnOk result ((q : ℕ) → (Contains row.now q → ⊥) → slot slots.new.items q ≡ slot slots.old.items q) }
+{
+    let mut table = Table::new(alloc);
+    for at in 0..row.len() {
+        let justfile = take_at(slots, row[at]);
+        table.insert(named(justfile, names[at].copied()))?;
+    }
+    let modules = values(alloc, table)?;
+    Ok(modules)
+}
