@@ -1,0 +1,78 @@
+-- What the keys of a compilation hold.
+use Rattle.std.specs.Prelude.{◌≡◌, ℕ, not, false, List, [], ◌∷◌, map, filter, Option, None, Some}
+use Rattle.std.specs.List.{All, Contains}
+use Rattle.std.specs.Str.{bytes_eq}
+use Rattle.just_graph.specs.Unfolding.{HasKeyOf, key_of}
+use Rattle.just_parts.specs.Asts.{AstKey, same_ast_key}
+use Rattle.just_parts.specs.Bare.{bare_ast}
+use Rattle.just_parts.specs.Clean.{folder_of}
+use Rattle.just_parts.specs.Edge.{with_absolute}
+use Rattle.just_parts.specs.Syntax.{AreRising, IsFrom, PriorsAreDependencies, components_of, numbers}
+use Rattle.just_parts.specs.Modulepath.{Text}
+use Rattle.just_parts.specs.declared.layers.ast.Ast.{Ast}
+use Rattle.just_parts.specs.declared.layers.ast.Item.{Item}
+use Rattle.just_parts.specs.declared.source.Source.{Source}
+use Rattle.just_loader.specs.Keys.{AreFirstFiles, FileKey, FileNode, FileStep, IsKey, IsLeastFileDepth, ast_key}
+use Rattle.just_loader.specs.Links.{Link, Nowhere, To, Fault}
+use Rattle.just_loader.specs.Reached.{World, ast_of, link, relative_to_root}
+
+-- the file that is entered, or the one that was
+abbrev pub entered : {A X : Type 0} → A → Option X → A → A
+entered own None target = own
+entered own (Some name) target = target
+
+-- the file that steps entered last: that of the module in which they end
+abbrev pub own_after : Text → List FileStep → Text
+own_after own [] = own
+own_after own (s ∷ ss) = own_after (entered own s.enters s.to) ss
+
+-- How a node's file came in: the files of its trail, the offsets since its module was entered, that module and the folder of its own file, and the least depth of its key.
+pub record CameIn (w : World) (n : FileNode) (source : Source) : Type 0 where
+  pub chain : source.file_path ≡ w.root ∷ map (λ (s : FileStep). s.to) n.trail
+  pub offsets : source.import_offsets ≡ n.offsets
+  pub components : components_of source.namepath ≡ n.path
+  pub path : source.path ≡ n.node
+  pub folder : source.working_directory ≡ folder_of (own_after w.root n.trail)
+  pub depth : IsLeastFileDepth w (key_of n) source.file_depth
+
+-- where a link leads
+abbrev pub path_of_link : Link → Option Text
+path_of_link Nowhere = None
+path_of_link (To path) = Some path
+path_of_link (Fault cause) = None
+
+-- an item with the absolute path of what it leads to
+abbrev pub with_path : World → Text → Item → Item
+with_path w folder i = with_absolute (path_of_link (link w folder i)) i
+
+-- What a node's text says, as it came in, with the absolute paths of what it leads to.
+pub record IsAstOf (w : World) (n : FileNode) (ast : Ast) : Type 0 where
+  pub source : Source
+  pub came : CameIn w n source
+  pub parsed : Ast
+  pub from : IsFrom source parsed
+  pub said : ast_of w n.node ≡ Some (bare_ast parsed)
+  pub items : ast.items ≡ map (with_path w (folder_of n.node)) parsed.items
+  pub module_path : ast.module_path ≡ parsed.module_path
+  pub working_directory : ast.working_directory ≡ parsed.working_directory
+
+-- Numbers tell all definitions apart: those of a text rise, and no number is in two texts.
+pub record AreToldApart (asts : AstKey → Option Ast) : Type 0 where
+  pub rising : (k : AstKey) (ast : Ast) → asts k ≡ Some ast → (low : ℕ) × (high : ℕ) × AreRising low (numbers ast.items) high
+  pub apart : (k l : AstKey) (a b : Ast) (n : ℕ) → asts k ≡ Some a → asts l ≡ Some b → same_ast_key k l ≡ false → Contains (numbers a.items) n → Contains (numbers b.items) n → ⊥
+
+-- each text once, at its first place
+abbrev pub at_first : List Text → List Text
+at_first [] = []
+at_first (x ∷ xs) = x ∷ filter (λ y. not (bytes_eq y x)) (at_first xs)
+
+-- What is loaded: the first node of each key of files, what each key holds, and the relative paths of the files in the order of loading.
+pub record IsLoaded (w : World) (asts : AstKey → Option Ast) (loaded : List Text) : Type 0 where
+  pub nodes : List FileNode
+  pub first : AreFirstFiles w nodes
+  pub keys : (k : FileKey) → IsKey w k → HasKeyOf nodes k
+  pub held : (n : FileNode) → Contains nodes n → (ast : Ast) × (asts (ast_key (key_of n)) ≡ Some ast) × IsAstOf w n ast
+  pub only : (k : AstKey) (ast : Ast) → asts k ≡ Some ast → (n : FileNode) × Contains nodes n × (ast_key (key_of n) ≡ k)
+  pub numbers : AreToldApart asts
+  pub priors : (k : AstKey) (ast : Ast) → asts k ≡ Some ast → All PriorsAreDependencies ast.items
+  pub loaded_is : loaded ≡ map (relative_to_root w) (at_first (map (λ (n : FileNode). n.node) nodes))
