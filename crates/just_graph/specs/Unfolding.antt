@@ -85,7 +85,12 @@ offsets_after offsets offset (Some name) = []
 
 -- where a step from a node leads, by what it leads to, its offset and what it enters
 abbrev pub child_of : {N X E : Type 0} → (E → N) → (E → ℕ) → (E → Option X) → NodeOf N X E → E → NodeOf N X E
-child_of to offset enters n s = record { path = path_after n.path (enters s); node = to s; offsets = offsets_after n.offsets (offset s) (enters s); trail = n.trail ++ s ∷ [] }
+child_of to offset enters n s = record {
+  path = path_after n.path (enters s);
+  node = to s;
+  offsets = offsets_after n.offsets (offset s) (enters s);
+  trail = n.trail ++ s ∷ [];
+}
 
 abbrev pub child : Node → Step → Node
 child n s = record { path = path_after n.path s.enters; node = s.target; offsets = offsets_after n.offsets s.offset s.enters; trail = n.trail ++ s ∷ [] }
@@ -106,7 +111,8 @@ kids S n = map (child n) (S n.node)
 -- The trees of these nodes are finite, and `pre` has their nodes in preorder, the children of a node from the last step to the first.
 pub data UnfoldsOf {N X E : Type 0} (to : E → N) (offset : E → ℕ) (enters : E → Option X) (S : N → List E) : List (NodeOf N X E) → List (NodeOf N X E) → Type 0 where
   nothing : UnfoldsOf to offset enters S [] []
-  tree : {n : NodeOf N X E} {ns below after : List (NodeOf N X E)} → UnfoldsOf to offset enters S (reverse (kids_of to offset enters S n)) below → UnfoldsOf to offset enters S ns after → UnfoldsOf to offset enters S (n ∷ ns) (n ∷ (below ++ after))
+  tree : {n : NodeOf N X E} {ns below after : List (NodeOf N X E)} → UnfoldsOf to offset enters S (reverse (kids_of to offset enters S n)) below
+      → UnfoldsOf to offset enters S ns after → UnfoldsOf to offset enters S (n ∷ ns) (n ∷ (below ++ after))
 
 abbrev pub Unfolds : (ℕ → List Step) → List Node → List Node → Type 0
 Unfolds = UnfoldsOf (λ (s : Step). s.target) (λ (s : Step). s.offset) (λ (s : Step). s.enters)

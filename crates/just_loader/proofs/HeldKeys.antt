@@ -31,7 +31,8 @@ path_led m (item.Module name relative absolute optional) = record { components =
 path_led m _ = m
 
 -- an item as it came in, by its bare form
-located_one : (w : World) (folder : Text) (source : Source) (i : Item) → ItemCameBy source i → located_item (with_path w folder i) ≡ with_depth source.file_depth (with_path w folder (bare_item i))
+located_one : (w : World) (folder : Text) (source : Source) (i : Item) → ItemCameBy source i
+    → located_item (with_path w folder i) ≡ with_depth source.file_depth (with_path w folder (bare_item i))
 located_one w folder source (item.Import relative absolute optional) h = refl
 located_one w folder source (item.Module name relative absolute optional) h = refl
 located_one w folder source (item.Recipe r) h = ap (λ d. item.Recipe (record (bare_recipe r) { file_depth = d })) h.depth
@@ -126,7 +127,8 @@ module _ (w : World) (asts : AstKey → Option Ast) (loaded : List Text) (is : I
       )
 
   -- what an item leads to is held
-  pub closed : (k : AstKey) (ast : Ast) (i : Item) (path : Text) → asts k ≡ Some ast → Contains ast.items i → absolute_of i ≡ Some path → (next : Ast) × (asts (path_led k.0 i, path) ≡ Some next)
+  pub closed : (k : AstKey) (ast : Ast) (i : Item) (path : Text) → asts k ≡ Some ast → Contains ast.items i → absolute_of i ≡ Some path
+      → (next : Ast) × (asts (path_led k.0 i, path) ≡ Some next)
   closed k ast i path e c there =
       let h = held_node k ast e in
       let f : Text = h.node.node in

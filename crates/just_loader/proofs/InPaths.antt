@@ -1,31 +1,31 @@
 -- What is loaded, by places of files and numbers of names, is what is loaded by paths and names.
-use Rattle.std.proofs.Common.{◌≡◌, ◌==◌, ℕ, ◌<◌, ◌≤◌, Bool, true, false, cond, not, List, [], ◌∷◌, ◌++◌, map, length, Option, None, Some, inl, inr, refl, sym, ap, subst, ◌∙◌}
+use Rattle.std.proofs.Common.{◌≡◌, ◌==◌, ℕ, ◌<◌, Bool, true, false, cond, not, List, [], ◌∷◌, map, length, Option, None, Some, inl, inr, refl, sym, ap, subst, ◌∙◌}
 use Rattle.std.specs.HashMap.{get}
-use Rattle.std.specs.List.{Contains, filter}
+use Rattle.std.specs.List.{filter}
 use Rattle.std.specs.Option.{option_map}
 use Rattle.std.specs.Str.{bytes_eq}
 use Rattle.std.proofs.lemmas.Bool.Decides.{eqb_tells}
 use Rattle.std.proofs.lemmas.Bool.{false_from_ne_true}
 use Rattle.std.proofs.lemmas.Slice.Eq.{bytes_eq-Decides}
-use Rattle.just_graph.specs.Unfolding.{Key, Node, AreFirst, IsLeastDepth, IsReachedKey, IsUnfolding, KeySteps, UnfoldsOf, key, key_of, root_key, root_node, root_node_of, steps}
+use Rattle.just_graph.specs.Unfolding.{Node, AreFirst, IsLeastDepth, IsReachedKey, IsUnfolding, KeySteps, UnfoldsOf, key, key_of, root_key, root_node, root_node_of, steps}
 use Rattle.just_graph.specs.declared.unfolding.Step.{Step}
 use Rattle.just_graph.proofs.MappedUnfolding.{firsts_mapped, unfolds_mapped}
 use Rattle.just_graph.proofs.Members.{In, contained, is_in, in_map, from_map}
 use Rattle.just_graph.proofs.Preorder.{firsts_in}
 use Rattle.just_graph.proofs.Trails.{steps_to}
-use Rattle.just_parts.specs.Asts.{AstKey, same_ast_key}
+use Rattle.just_parts.specs.Asts.{same_ast_key}
 use Rattle.just_parts.specs.Clean.{folder_of}
 use Rattle.just_parts.specs.Modulepath.{Text}
 use Rattle.just_parts.specs.declared.layers.ast.Ast.{Ast}
 use Rattle.just_parts.specs.declared.source.Source.{Source}
-use Rattle.just_loader.specs.Keys.{AreFirstFiles, FileKey, FileNode, FileStep, IsKey, IsLeastFileDepth, ast_key, steps_of}
+use Rattle.just_loader.specs.Keys.{AreFirstFiles, FileNode, FileStep, IsLeastFileDepth, ast_key, steps_of}
 use Rattle.just_loader.specs.Loaded.{CameIn, IsAstOf, IsLoaded, at_first, entered, own_after}
 use Rattle.just_loader.specs.LoadedInPlaces.{CameInPlaces, IsAstOfPlace, IsLoadedInPlaces, at_first_places, file_at, key_at, name_at, own_after_places}
 use Rattle.just_loader.specs.Reached.{World, relative_to_root}
 use Rattle.just_loader.specs.Scanned.{IsScan, paths_in}
 use Rattle.just_loader.specs.declared.loaded.Loaded.{Loaded}
 use Rattle.just_loader.specs.declared.scanned.Scan.{Scan}
-use Rattle.just_loader.proofs.FileKeys.{Stands, file_key, from_key, from_steps, root_inside, same_keys, stands, step_inside, to_key, to_steps}
+use Rattle.just_loader.proofs.FileKeys.{file_key, from_key, from_steps, root_inside, same_keys, stands, step_inside, to_steps}
 use Rattle.just_loader.proofs.FileRows.{at, steps_here, text_step}
 use Rattle.just_loader.proofs.HeldAsts.{key_same}
 use Rattle.just_loader.proofs.LoadedPaths.{first_in}

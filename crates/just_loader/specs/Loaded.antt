@@ -26,7 +26,8 @@ abbrev pub own_after : Text → List FileStep → Text
 own_after own [] = own
 own_after own (s ∷ ss) = own_after (entered own s.enters s.to) ss
 
--- How a node's file came in: the files of its trail, the offsets since its module was entered, that module and the folder of its own file, and the least depth of its key.
+-- How a node's file came in: the files of its trail, the offsets since its module was entered, that module, the folder of the module's own file,
+-- and the least depth of its key.
 pub record CameIn (w : World) (n : FileNode) (source : Source) : Type 0 where
   pub chain : source.file_path ≡ w.root ∷ map (λ (s : FileStep). s.to) n.trail
   pub offsets : source.import_offsets ≡ n.offsets

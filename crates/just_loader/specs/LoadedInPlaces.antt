@@ -1,5 +1,5 @@
 -- What the keys of a compilation hold, by places of files and numbers of names.
-use Rattle.std.specs.Prelude.{◌≡◌, ◌==◌, ℕ, not, false, IsTrue, List, [], ◌∷◌, map, filter, get_or, Option, None, Some}
+use Rattle.std.specs.Prelude.{◌≡◌, ◌==◌, ℕ, not, false, IsTrue, List, [], ◌∷◌, map, filter, get_or, Option, Some}
 use Rattle.std.specs.HashMap.{get}
 use Rattle.std.specs.List.{All, Contains}
 use Rattle.just_graph.specs.Unfolding.{Key, Node, KeySteps, AreFirst, IsLeastDepth, key, root_key, steps}
