@@ -14,15 +14,19 @@ const NEXT_MARK: &str = "\n--- ";
 /// Why an input is no bundle of files.
 #[derive(Clone, Copy, Debug, PartialEq, Eq, Error)]
 pub enum BundleError {
+    /// Reading it faulted.
     #[error("The input could not be read")]
     Unreadable,
+    /// It is not UTF-8.
     #[error("The input is not UTF-8")]
     NotText,
     /// A text stands before the first file.
     #[error("The input does not begin with a line `--- PATH`")]
     NoFile,
-    #[error("A path in the input is not clean")]
+    /// A line `--- PATH` has a path that is not clean.
+    #[error("The input has a line `--- PATH` whose path is not clean, as `/a/justfile` is")]
     NotClean,
+    /// Memory was refused.
     #[error("Out of memory")]
     Memory,
 }

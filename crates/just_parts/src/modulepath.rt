@@ -13,7 +13,9 @@ use std::fmt;
 /// A path to a module or a recipe. Equality, order and hash are those of the components, then of `spaced`.
 #[derive(Debug, PartialEq, Eq, PartialOrd, Ord, Hash, Drop)]
 pub struct Modulepath {
+    /// The names, from the root on; none of the root's path.
     pub components: Sequence<Text>,
+    /// Whether blanks stand between the names, as where each came as a word, and not `::`.
     pub spaced: bool,
 }
 

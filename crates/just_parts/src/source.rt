@@ -42,11 +42,17 @@ pub fn folder_of(path: &str) -> &str
 /// the root's.
 #[derive(Clone, Debug, PartialEq, Eq, Drop)]
 pub struct Source<'src> {
+    /// How many imports and modules lead to it from the root.
     pub file_depth: u64,
+    /// The paths of the files that lead to it, from the root to itself.
     pub file_path: Chain<Text>,
+    /// How many bytes stand before the path of each import that leads to it within its module, the outermost first.
     pub import_offsets: Chain<usize>,
+    /// The names that declare its module; none of the root's module.
     pub namepath: Option<Namepath<'src>>,
+    /// Its clean path.
     pub path: Text,
+    /// The folder of the own file of its module: a clean path, or `/`.
     pub working_directory: Text,
 }
 

@@ -30,7 +30,8 @@ fn told(errors: &[u8]) -> &str {
         .unwrap_or("")
         .split_once(": ")
     {
-        Some((name, message)) if !message.is_empty() && !message.contains('\n') && !message.contains('\r') => name,
+        Some((name, message))
+            if !message.is_empty() && !message.contains('\n') && !message.contains('\r') => name,
         _ => "no fault",
     }
 }
@@ -64,7 +65,13 @@ fn program_answers_arguments_and_an_input(rt: HostRuntime) -> Result<(), Fail> {
             "",
             "MissingImportFile",
         ),
-        ("/justfile a", b"--- /justfile\na:\r\n".as_slice(), 1, "", "Syntax"),
+        (
+            "/justfile a",
+            b"--- /justfile\na:\r\n".as_slice(),
+            1,
+            "",
+            "Syntax",
+        ),
         ("a", b"x\n".as_slice(), 1, "", "NotClean"),
         ("/a/../justfile a", FIRST_RUN, 1, "", "NotClean"),
         ("/justfile a", b"x\n".as_slice(), 1, "", "Bundle"),

@@ -66,7 +66,9 @@ impl<'src> LoadError<'src> {
 /// What a name is defined as.
 #[derive(Clone, Copy, Debug, PartialEq, Eq)]
 pub enum Definition {
+    /// A module of a file.
     Module,
+    /// A recipe.
     Recipe,
 }
 
@@ -231,7 +233,9 @@ impl<'src> fmt::Display for CompileErrorKind<'src> {
 /// A broken rule of compilation, and the token at which it is told.
 #[derive(Debug, PartialEq, Eq, Drop)]
 pub struct CompileError<'src> {
+    /// Where it is told: of a second definition that one, of a circle the dependency that closes it.
     pub token: Token<'src>,
+    /// Which rule is broken.
     pub kind: CompileErrorKind<'src>,
 }
 
@@ -253,27 +257,34 @@ impl<'src> std::error::Error for CompileError<'src> {}
 /// Why words are no invocations. Paths are spaced where words were, and joined by `::` where a path was given.
 #[derive(Debug, PartialEq, Eq, Drop, Error)]
 pub enum InvocationError<'src> {
+    /// Words name a recipe that is not there.
     #[error("Justfile does not contain recipe `{recipe}`")]
     UnknownRecipe {
         recipe: Text,
     },
+    /// A path walks through a module that is not there.
     #[error("Justfile does not contain submodule `{path}`")]
     UnknownSubmodule {
         path: Text,
     },
+    /// A path goes on where a recipe stands.
     #[error("Expected submodule at `{path}` but found recipe")]
     ExpectedSubmoduleButFoundRecipe {
         path: Text,
     },
+    /// There are no words, and the module has no recipes.
     #[error("Justfile contains no recipes")]
     NoRecipes,
+    /// There are no words, and the module's own file has no recipe.
     #[error("Justfile contains no default recipe; name the recipe that is to run")]
     NoDefaultRecipe,
+    /// There are no words, and the recipe that is run then takes arguments.
     #[error("Recipe `{recipe}` cannot be used as default recipe since it requires at least {}", Arguments(*.min_arguments))]
     DefaultRecipeRequiresArguments {
         recipe: BorrowedText<'src>,
         min_arguments: usize,
     },
+    /// A recipe is given too few words.
     #[error("Recipe `{recipe}` got {found} positional {} but takes {}", noun(*.found), Takes {least: *.min, most: *.max})]
     PositionalArgumentCountMismatch {
         recipe: BorrowedText<'src>,
@@ -364,12 +375,16 @@ pub enum SourceError {
 /// Every fault of compiling, of reading words and of running.
 #[derive(Debug, Drop, Error)]
 pub enum Error<'src> {
+    /// The files could not be loaded.
     #[error(transparent)]
     Load(LoadError<'src>),
+    /// A rule of compilation is broken.
     #[error(transparent)]
     Compile(CompileError<'src>),
+    /// The words are no invocations.
     #[error(transparent)]
     Invocation(InvocationError<'src>),
+    /// The run ended early.
     #[error(transparent)]
     Run(RunError<'src>),
     /// A number, a depth or a counter no longer fits.

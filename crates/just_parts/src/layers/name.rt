@@ -9,6 +9,7 @@ use std::fmt;
 /// A name in a source text.
 #[derive(Debug, PartialEq, Eq, Drop)]
 pub struct Name<'src> {
+    /// Where it stands. Its text is an identifier.
     pub token: Token<'src>,
 }
 
@@ -72,7 +73,9 @@ impl<'src> fmt::Display for Name<'src> {
 /// One or more names, as `a::b` writes them: those before the last, and the last.
 #[derive(Debug, PartialEq, Eq, Drop)]
 pub struct Namepath<'src> {
+    /// Those before the last, in order; none of a path of one name.
     pub front: Sequence<Name<'src>>,
+    /// The last.
     pub last: Name<'src>,
 }
 

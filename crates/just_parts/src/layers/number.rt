@@ -17,6 +17,7 @@ pub struct Exhausted;
 /// Gives each number once, in rising order.
 #[derive(Debug, Drop)]
 pub struct Numerator {
+    /// The number that is given next.
     pub next: u64,
 }
 

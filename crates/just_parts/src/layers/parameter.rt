@@ -28,8 +28,11 @@ impl ParameterKind {
 /// A parameter of a recipe.
 #[derive(Clone, Debug, PartialEq, Eq, Drop)]
 pub struct Parameter<'src> {
+    /// Its name.
     pub name: Name<'src>,
+    /// What it is told apart by, as every definition.
     pub number: Number,
+    /// How many words it takes.
     pub kind: ParameterKind,
 }
 
