@@ -24,7 +24,7 @@ pub enum BundleError {
     #[error("The input does not begin with a line `--- PATH`")]
     NoFile,
     /// A line `--- PATH` has a path that is not clean.
-    #[error("The input has a line `--- PATH` whose path is not clean, as `/a/justfile` is")]
+    #[error("The input has a line `--- PATH` whose path is not clean: a clean path begins with `/`, and no part of it is empty, `.` or `..`")]
     NotClean,
     /// Memory was refused.
     #[error("Out of memory")]

@@ -49,7 +49,7 @@ impl<'src> fmt::Display for Fault<'src> {
             Fault::NotClean(root) => {
                 write!(
                     f,
-                    "The root `{root}` is not a clean path, as `/a/justfile` is: without `.` and `..`"
+                    "The root `{root}` is not a clean path: that begins with `/`, and no part of it is empty, `.` or `..`"
                 )
             }
             Fault::Bundle(error) => write!(f, "{error}"),

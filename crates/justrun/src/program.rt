@@ -149,10 +149,7 @@ pub fn tell<E: Write>(errors: &mut E, fault: &Fault) -> u8
 fn tell_usage<E: Write>(errors: &mut E) -> u8
     ensures { result ≡ 2 }
 {
-    let _ = writeln!(
-        errors,
-        "justrun: usage: justrun ROOT WORD.., with a bundle of files as input, each after a line `--- PATH`"
-    );
+    let _ = writeln!(errors, "justrun: usage: justrun ROOT WORD..");
     2
 }
 

@@ -24,12 +24,12 @@ pub enum LoadError<'src> {
     #[error("The path of an import or of a module begins with `~/`, and no home folder is known")]
     Homedir,
     /// An import names no file.
-    #[error("{}: Could not find source file for import {}", At(.path), .path.lexeme())]
+    #[error("{}: Could not find source file for import {}, which `import?` would let be absent", At(.path), .path.lexeme())]
     MissingImportFile {
         path: Token<'src>,
     },
     /// No file is found for a module.
-    #[error("{}: Could not find source file for module `{module}`: the file at its path, or without a path `{module}.just`, or a file `mod.just`, `justfile` or `.justfile` in the folder of its path or name", At(&.module.token))]
+    #[error("{}: Could not find source file for module `{module}`, looked for as the file at its path, or without a path as `{module}.just`, and as `mod.just`, `justfile` or `.justfile` in the folder of its path or name", At(&.module.token))]
     MissingModuleFile {
         module: Name<'src>,
     },
