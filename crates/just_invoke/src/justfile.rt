@@ -1,3 +1,4 @@
+//! Compiled modules, and their run.
 use crate::invocation_parser::InvocationParser;
 use crate::recipes::Recipes;
 use crate::running::{Report, run_invocations};

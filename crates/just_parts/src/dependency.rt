@@ -1,3 +1,4 @@
+//! What a resolved recipe depends on.
 use crate::layers::name::Namepath;
 use crate::layers::number::Number;
 use just_data::Exact;

@@ -1,3 +1,4 @@
+//! Paths to modules and recipes.
 ghost use Rattle.std.specs.Prelude.{◌≡◌, ◌≢◌, List, ℕ, [], ◌∷◌, ◌++◌, Bool, map, IfOk, OnErr, OnOk, IsTrue, ◌<◌, length, false, nat_eq};
 ghost use Rattle.std.specs.Cmp.Lexicographic.{pointwise};
 ghost use Rattle.std.specs.List.{starts_with};

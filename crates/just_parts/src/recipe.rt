@@ -1,3 +1,4 @@
+//! Recipes, as a text says them and resolved.
 ghost use Rattle.std.specs.Prelude.{◌≡◌, ◌≤◌, length, take, drop, count_by, IsSome, Some};
 ghost use Rattle.std.specs.List.{list_any};
 ghost use Rattle.just_parts.specs.declared.layers.parameter.Parameter.{Parameter};

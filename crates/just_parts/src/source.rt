@@ -1,3 +1,4 @@
+//! Clean paths, and how a file came in.
 ghost use Rattle.std.specs.Prelude.{◌≡◌, ◌↔◌, ◌⊎◌, ◌+◌, [], ◌∷◌, ◌++◌, Some, None, IsTrue, IfOk, IfErr, IsErrOf, MatchResult};
 ghost use Rattle.just_parts.specs.Clean.{IsClean, is_component, folder_of};
 ghost use Rattle.just_parts.specs.Name.{submodule_path};

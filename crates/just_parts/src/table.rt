@@ -1,3 +1,4 @@
+//! Tables: values under their keys, in byte order.
 ghost use Rattle.std.specs.Prelude.{◌≡◌, [], ◌∷◌, length, is_some, IsSome, IsTrue, ◌↔◌, IfOk, IfErr, OnOk, OnErr, MatchOption, Some, List, ℕ, map, refl, ◌<◌, ◌^◌, true};
 ghost use Rattle.std.specs.Borrow.{Bor};
 ghost use Rattle.std.specs.Cmp.Lexicographic.{slice_cmp};

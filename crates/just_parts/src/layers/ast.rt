@@ -1,3 +1,4 @@
+//! What a source text says.
 use crate::layers::name::{Name, Namepath};
 use crate::layers::token::Token;
 use crate::modulepath::Modulepath;

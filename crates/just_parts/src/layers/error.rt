@@ -1,3 +1,4 @@
+//! Errors, their names and what they say.
 ghost use Rattle.std.specs.Prelude.{◌≡◌, OnOk, codes};
 ghost use Rattle.std.specs.Fmt.{HasWritten, IsPlainFormatter, WritesOnOk};
 ghost use Rattle.just_parts.specs.Modulepath.{joined};

@@ -1,3 +1,4 @@
+//! Names in a source text, and paths of them.
 ghost use Rattle.std.specs.Prelude.{◌≡◌, ◌+◌, ◌++◌, ◌∷◌, [], ⊤, IfOk, length, map, Some};
 ghost use Rattle.just_parts.specs.Token.{lexeme};
 

@@ -1,3 +1,4 @@
+//! Numbers that definitions are told apart by.
 ghost use Rattle.std.specs.Prelude.{◌≡◌, ◌+◌, ◌^◌, ◌<◌, IfOk, OnErr};
 
 use just_data::Exact;

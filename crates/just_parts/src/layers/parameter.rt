@@ -1,3 +1,4 @@
+//! Parameters of recipes.
 ghost use Rattle.std.specs.Prelude.{◌≡◌};
 ghost use Rattle.just_parts.specs.Parameter.{is_variadic, is_required};
 
