@@ -111,7 +111,7 @@ impl Modulepath {
         }
     }
 
-    /// The path that one word of the command line is: one `::` at its end is dropped first.
+    /// The path that one word of the command line is, or `()` where it is none: one `::` at its end is dropped first.
     pub fn from_argument(alloc: Global, word: &str) -> Result<Result<Modulepath, ()>, AllocError>
         ensures path { IfOk result (λ found. IfOk found (λ p. IsArgumentPath word.now p.components × (p.spaced ≡ false))) }
         ensures refusal { IfOk result (λ found. OnErr found ((components : List (List ℕ)) → IsArgumentPath word.now components → ⊥)) }

@@ -109,6 +109,7 @@ impl<'src> Source<'src> {
     }
 
     /// The file that this one imports at an offset. It belongs to this one's module and works where this one does.
+    /// The error is `Exhausted` where it would lie deeper than 64 bits can tell, and else want of memory.
     pub fn import(
         &self,
         alloc: Global,
@@ -137,6 +138,7 @@ impl<'src> Source<'src> {
     }
 
     /// The file of the module `name` of this one's module. It works in its own folder.
+    /// The errors are those of `import`.
     pub fn module(
         &self,
         alloc: Global,
