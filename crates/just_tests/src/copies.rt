@@ -1,5 +1,5 @@
 //! Copies are equal to what they are of, and there is memory for them.
-use just_analyzer::layers::{Ast, Config, Error, Groups, Host, Numerator, Syntax};
+use just_analyzer::layers::{Ast, Config, Error, Groups, Host, LoadError, Numerator, Syntax};
 use just_analyzer::{Compilation, Compiler, Modulepath, Source, Sources, is_clean};
 use just_bench::{PlainEvaluation, PlainSyntax, Recorder};
 use just_data::{Boxed, Exact, Sequence, Text};
@@ -11,11 +11,19 @@ fn is_copied<T: Exact + PartialEq + Drop>(value: &T) -> Result<bool, AllocError>
     Ok(value.clone()? == *value)
 }
 
+// That a root is no file, which a path that is not clean can't be.
+fn no_root<'src>(alloc: Global, root: &str) -> Error<'src> {
+    match Text::from_str(alloc, root) {
+        Ok(path) => Error::Load(LoadError::Load { path }),
+        Err(_) => Error::Memory,
+    }
+}
+
 // What the grammar reads in a text.
 fn parse<'src>(alloc: Global, text: &'src str) -> Result<Ast<'src>, Error<'src>> {
     let path = "/justfile";
     if !is_clean(path) {
-        return Err(Error::Memory);
+        return Err(no_root(alloc, path));
     }
     let source = Source::root(alloc, path)?;
     PlainSyntax.parse_source(alloc, &mut Numerator::new(), "justfile", &source, text)
@@ -36,7 +44,7 @@ fn what_was_read_is_copied(rt: HostRuntime) -> Result<(), Fail> {
 fn compile<'src>(alloc: Global, sources: &Sources<'src>) -> Result<Compilation<'src>, Error<'src>> {
     let root = "/justfile";
     if !is_clean(root) {
-        return Err(Error::Memory);
+        return Err(no_root(alloc, root));
     }
     let config = Config::default();
     Compiler::compile(

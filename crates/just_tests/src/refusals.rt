@@ -3,9 +3,10 @@ ghost use Rattle.std.specs.Prelude.{IfOk};
 ghost use Rattle.just_parts.specs.Clean.{IsClean};
 ghost use Rattle.just_invoke.specs.Closed.{IsClosed};
 
-use just_analyzer::layers::{Config, Entry, Error, Groups, Host};
+use just_analyzer::layers::{Config, Entry, Error, Groups, Host, LoadError};
 use just_analyzer::{Compilation, Compiler, Modulepath, Sources, is_clean};
 use just_bench::{PlainEvaluation, PlainSyntax, Recorder, StopWriter};
+use just_data::Text;
 use std::alloc::{AllocError, Global};
 use std::test::Fail;
 
@@ -83,7 +84,9 @@ fn run_sources<'src>(
 ) -> Result<(), Error<'src>> {
     let root = "/justfile";
     if !is_clean(root) {
-        return Err(Error::Memory);
+        return Err(Error::Load(LoadError::Load {
+            path: Text::from_str(alloc, root)?,
+        }));
     }
     match compile(alloc, sources, root) {
         Ok(compilation) => run(alloc, &compilation, host),

@@ -2,6 +2,7 @@
 #![tactic(auto)]
 
 mod fault;
+mod one_line;
 mod program;
 #[cfg(test)]
 mod tests;
