@@ -1,6 +1,8 @@
 //! Runs the recipes of a bundle of files, and prints which ones began.
 #![tactic(auto)]
 
+#[cfg(test)]
+mod compilations;
 mod fault;
 mod one_line;
 mod program;
