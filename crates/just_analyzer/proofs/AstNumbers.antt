@@ -19,7 +19,7 @@ use Rattle.just_parts.specs.declared.layers.ast.UnresolvedDependency.{Unresolved
 use Rattle.just_parts.specs.declared.recipe.Recipe.{Recipe}
 use Rattle.just_parts.specs.Asts.{AstKey, same_ast_key}
 use Rattle.just_loader.specs.Keys.{FileKey}
-use Rattle.just_loader.specs.Loaded.{IsLoaded, key_at}
+use Rattle.just_loader.specs.LoadedInPlaces.{IsLoadedInPlaces, key_at}
 use Rattle.just_loader.specs.Reached.{World}
 use Rattle.just_loader.specs.declared.loaded.Loaded.{Loaded}
 use Rattle.just_loader.specs.declared.scanned.Scan.{Scan}
@@ -83,7 +83,7 @@ once_recipes enabled low (item.Recipe q ∷ is) high r =
     (once_recipes enabled after.0 is high after.2)
 once_recipes enabled low (_ ∷ is) high r = once_recipes enabled low is high r
 
-module _ (w : World) (loaded : Loaded) (is : IsLoaded w loaded) where
+module _ (w : World) (loaded : Loaded) (is : IsLoadedInPlaces w loaded) where
   -- asts under different keys have no number in common
   pub numbers_differ : (k l : Key) → Way (steps loaded.scan.rows.items) (root_key 0) k → Way (steps loaded.scan.rows.items) (root_key 0) l → (k ≡ l → ⊥) → (a b : Ast) → get same_ast_key loaded.asts (key_at loaded.scan k.path k.node) ≡ Some a → get same_ast_key loaded.asts (key_at loaded.scan l.path l.node) ≡ Some b
       → (x : ℕ) → In x (unresolved_numbers (recipes_of w.answers.enabled a.items)) → In x (unresolved_numbers (recipes_of w.answers.enabled b.items)) → ⊥

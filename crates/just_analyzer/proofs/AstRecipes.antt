@@ -17,7 +17,8 @@ use Rattle.just_parts.specs.declared.layers.ast.UnresolvedDependency.{Unresolved
 use Rattle.just_parts.specs.declared.recipe.Recipe.{Recipe}
 use Rattle.just_parts.specs.Asts.{AstKey, same_ast_key}
 use Rattle.just_loader.specs.Keys.{items_at}
-use Rattle.just_loader.specs.Loaded.{IsLoaded, file_at, key_at, with_path}
+use Rattle.just_loader.specs.Loaded.{with_path}
+use Rattle.just_loader.specs.LoadedInPlaces.{IsLoadedInPlaces, file_at, key_at}
 use Rattle.just_loader.specs.Reached.{World, items_said}
 use Rattle.just_loader.specs.declared.loaded.Loaded.{Loaded}
 use Rattle.just_loader.proofs.Numberings.{some_same}
@@ -111,7 +112,7 @@ all_by : {A : Type 0} (P : A → Type 0) (xs : List A) → ((x : A) → In x xs 
 all_by P xs f = λ k d h. f (get_or xs k d) (is_in (get_or xs k d) xs (Contains-get_or xs k d h))
 
 -- the recipes of what is held have no more priors than dependencies
-pub priors_of_asts : (w : World) (loaded : Loaded) → IsLoaded w loaded → (at : ℕ → AstKey) (asts : List Ast) (files : List ℕ) → map Some asts ≡ map (λ g. get same_ast_key loaded.asts (at g)) files → All HasPriors (recipes_in w.answers.enabled asts)
+pub priors_of_asts : (w : World) (loaded : Loaded) → IsLoadedInPlaces w loaded → (at : ℕ → AstKey) (asts : List Ast) (files : List ℕ) → map Some asts ≡ map (λ g. get same_ast_key loaded.asts (at g)) files → All HasPriors (recipes_in w.answers.enabled asts)
 priors_of_asts w loaded is at asts files e = all_by HasPriors (recipes_in w.answers.enabled asts) (λ r h.
     let a = from_flat (λ (ast : Ast). recipes_of w.answers.enabled ast.items) r asts h in
     let g = held_at (get same_ast_key loaded.asts) at asts files (are_held (get same_ast_key loaded.asts) at asts files e) a.0 a.1 in

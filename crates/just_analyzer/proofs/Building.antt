@@ -30,7 +30,7 @@ use Rattle.just_invoke.specs.Module.{module_name}
 use Rattle.just_invoke.specs.Module as module_of
 use Rattle.just_invoke.specs.Recipes.{numbers}
 use Rattle.just_invoke.specs.declared.justfile.Justfile.{Justfile, out-Justfile}
-use Rattle.just_loader.specs.Loaded.{file_at, name_at}
+use Rattle.just_loader.specs.LoadedInPlaces.{file_at, name_at}
 use Rattle.just_loader.specs.Reached.{World}
 use Rattle.just_loader.specs.declared.loaded.Loaded.{Loaded}
 use Rattle.just_modules.specs.Analysis.{IsOf}

@@ -5,7 +5,7 @@ use Rattle.just_graph.specs.Unfolding.{Key, root_key, stay}
 use Rattle.just_parts.specs.declared.layers.error.Error.{Error}
 use Rattle.just_parts.specs.Asts.{same_ast_key, root_ast_key}
 use Rattle.just_parts.specs.Causes.{Keeps, Reports}
-use Rattle.just_loader.specs.Loaded.{IsLoaded, file_at, key_at}
+use Rattle.just_loader.specs.LoadedInPlaces.{IsLoadedInPlaces, file_at, key_at}
 use Rattle.just_loader.specs.Reached.{World}
 use Rattle.just_loader.specs.Scanned.{paths_in}
 use Rattle.just_loader.specs.declared.loaded.Loaded.{Loaded}
@@ -18,7 +18,7 @@ read_first : (xs : List (List ℕ)) (x : List ℕ) → slice_get xs 0 ≡ Some x
 read_first [] x e = cc
 read_first (y ∷ ys) x e = cc
 
-module _ (w : World) (loaded : Loaded) (is : IsLoaded w loaded) where
+module _ (w : World) (loaded : Loaded) (is : IsLoadedInPlaces w loaded) where
   root_file : file_at loaded.scan 0 ≡ w.root
   root_file = read_first (paths_in loaded.scan.files.items) w.root is.scan.root
 

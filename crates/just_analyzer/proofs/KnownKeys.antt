@@ -11,7 +11,7 @@ use Rattle.just_graph.specs.Unfolding.{steps, IsOrdered, Key, IsReachedKey}
 use Rattle.just_parts.specs.Name.{text_of_name}
 use Rattle.just_parts.specs.declared.layers.ast.Ast.{Ast}
 use Rattle.just_parts.specs.Asts.{same_ast_key}
-use Rattle.just_loader.specs.Loaded.{IsLoaded, key_at}
+use Rattle.just_loader.specs.LoadedInPlaces.{IsLoadedInPlaces, key_at}
 use Rattle.just_loader.specs.Reached.{World}
 use Rattle.just_loader.specs.declared.loaded.Loaded.{Loaded}
 use Rattle.just_loader.proofs.FileRows.{numbered}
@@ -37,7 +37,7 @@ AreSaid loaded k files asts = map Some asts ≡ map (λ file. get same_ast_key l
 all_in : {X : Type 0} (P : X → Type 0) (xs : List X) → ((x : X) → In x xs → P x) → All P xs
 all_in P xs f = λ k d h. f (get_or xs k d) (is_in (get_or xs k d) xs (Contains-get_or xs k d h))
 
-module _ (w : World) (loaded : Loaded) (plans : Plans) (is : IsLoaded w loaded) (are : ArePlans w loaded.scan plans) where
+module _ (w : World) (loaded : Loaded) (plans : Plans) (is : IsLoadedInPlaces w loaded) (are : ArePlans w loaded.scan plans) where
   abbrev Reached : Key → Type 0
   Reached = IsReachedKey (steps plans.entries.items) 0
 

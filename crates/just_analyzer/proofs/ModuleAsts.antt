@@ -8,7 +8,7 @@ use Rattle.just_graph.specs.Unfolding.{Key, Node, KeySteps, root_key, steps}
 use Rattle.just_graph.proofs.Members.{In, is_in}
 use Rattle.just_parts.specs.declared.layers.ast.Ast.{Ast}
 use Rattle.just_parts.specs.Asts.{same_ast_key}
-use Rattle.just_loader.specs.Loaded.{IsLoaded, name_at, key_at}
+use Rattle.just_loader.specs.LoadedInPlaces.{IsLoadedInPlaces, name_at, key_at}
 use Rattle.just_loader.specs.Reached.{World}
 use Rattle.just_loader.specs.declared.loaded.Loaded.{Loaded}
 use Rattle.just_modules.specs.Outline.{outlines_of, recipes_of}
@@ -38,7 +38,7 @@ pub record IsModule (plans : Plans) (k : Key) (plan : Plan) : Type 0 where
   pub way : KeySteps (steps plans.entries.items) (root_key 0) k count
   pub at : slice_get plans.plans.items k.node ≡ Some (Some plan)
 
-module _ (w : World) (loaded : Loaded) (is : IsLoaded w loaded) (plans : Plans) (are : ArePlans w loaded.scan plans) where
+module _ (w : World) (loaded : Loaded) (is : IsLoadedInPlaces w loaded) (plans : Plans) (are : ArePlans w loaded.scan plans) where
   file_way : (k : Key) (plan : Plan) → IsModule plans k plan → (g : ℕ) → In g plan.files.items → Way (steps loaded.scan.rows.items) (root_key 0) (record { path = k.path; node = g })
   file_way k plan m g h = file_keys w loaded is plans are m.way plan m.at g h
 

@@ -11,7 +11,7 @@ use Rattle.just_graph.proofs.KeySteps.{steps_keep, steps_more}
 use Rattle.just_graph.proofs.Members.{In, contained, is_in}
 use Rattle.just_parts.specs.declared.layers.ast.Ast.{Ast}
 use Rattle.just_parts.specs.Asts.{same_ast_key}
-use Rattle.just_loader.specs.Loaded.{IsLoaded, IsAstOf, key_at}
+use Rattle.just_loader.specs.LoadedInPlaces.{IsLoadedInPlaces, IsAstOfPlace, key_at}
 use Rattle.just_loader.specs.Reached.{World}
 use Rattle.just_loader.specs.declared.loaded.Loaded.{Loaded}
 use Rattle.just_loader.specs.declared.scanned.Scan.{Scan}
@@ -83,9 +83,9 @@ pub record HasAst (w : World) (loaded : Loaded) (nodes : List Node) (path : List
   pub node_is : node.node ≡ g
   pub ast : Ast
   pub held : get same_ast_key loaded.asts (key_at loaded.scan path g) ≡ Some ast
-  pub of : IsAstOf w loaded.scan node ast
+  pub of : IsAstOfPlace w loaded.scan node ast
 
-module _ (w : World) (loaded : Loaded) (is : IsLoaded w loaded) where
+module _ (w : World) (loaded : Loaded) (is : IsLoadedInPlaces w loaded) where
   -- a key of a file has its text
   pub ast_at : (k : Key) (n : ℕ) → KeySteps (steps loaded.scan.rows.items) (root_key 0) k n → HasAst w loaded is.nodes k.path k.node
   ast_at k n way =

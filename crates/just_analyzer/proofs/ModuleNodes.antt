@@ -22,7 +22,7 @@ use Rattle.just_parts.specs.declared.layers.ast.Ast.{Ast}
 use Rattle.just_parts.specs.declared.layers.ast.UnresolvedDependency.{UnresolvedDependency}
 use Rattle.just_parts.specs.declared.layers.name.Name.{Name}
 use Rattle.just_parts.specs.declared.recipe.Recipe.{Recipe}
-use Rattle.just_loader.specs.Loaded.{IsLoaded}
+use Rattle.just_loader.specs.LoadedInPlaces.{IsLoadedInPlaces}
 use Rattle.just_loader.specs.Reached.{World}
 use Rattle.just_loader.specs.declared.loaded.Loaded.{Loaded}
 use Rattle.just_analyzer.specs.Compiling.{CanResolve, IsReady, HasPlan, ast_of, modulepath_at}
@@ -102,7 +102,7 @@ has_name : (o : Option ℕ) → is_some o ≡ true → (name : ℕ) × (o ≡ So
 has_name None e = cc
 has_name (Some name) e = (name, refl)
 
-module _ (w : World) (loaded : Loaded) (plans : Plans) (is : IsLoaded w loaded) (are : ArePlans w loaded.scan plans) where
+module _ (w : World) (loaded : Loaded) (plans : Plans) (is : IsLoadedInPlaces w loaded) (are : ArePlans w loaded.scan plans) where
   abbrev Reached : Key → Type 0
   Reached = IsReachedKey (entries plans) 0
 

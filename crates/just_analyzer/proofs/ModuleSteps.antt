@@ -12,7 +12,7 @@ use Rattle.just_graph.specs.declared.unfolding.Step.{Step}
 use Rattle.just_graph.proofs.Least.{before_level, level_steps}
 use Rattle.just_graph.proofs.Members.{In, from_flat, contained, is_in, in_map, from_map}
 use Rattle.just_loader.specs.FileCircles.{IsFileOrder}
-use Rattle.just_loader.specs.Loaded.{IsLoaded}
+use Rattle.just_loader.specs.LoadedInPlaces.{IsLoadedInPlaces}
 use Rattle.just_loader.specs.Reached.{World}
 use Rattle.just_loader.specs.declared.loaded.Loaded.{Loaded}
 use Rattle.just_loader.specs.declared.scanned.Scan.{Scan}
@@ -116,5 +116,5 @@ module _ (w : World) (scan : Scan) (plans : Plans) (are : ArePlans w scan plans)
   )
 
 -- what an own file's modules lead to comes before it in the order of the files
-pub module_order : (w : World) (loaded : Loaded) → IsLoaded w loaded → (plans : Plans) → ArePlans w loaded.scan plans → IsOrdered plans.entries.items 0
+pub module_order : (w : World) (loaded : Loaded) → IsLoadedInPlaces w loaded → (plans : Plans) → ArePlans w loaded.scan plans → IsOrdered plans.entries.items 0
 module_order w loaded is plans are = order_of_modules w loaded.scan plans are loaded.order.items is.scan.count is.order

@@ -10,7 +10,7 @@ use Rattle.just_graph.specs.declared.unfolding.Step.{Step}
 use Rattle.just_graph.proofs.Members.{In, contained, is_in}
 use Rattle.just_parts.specs.Name.{text_of_name}
 use Rattle.just_loader.specs.Keys.{Submodule, modules_of}
-use Rattle.just_loader.specs.Loaded.{file_at}
+use Rattle.just_loader.specs.LoadedInPlaces.{file_at}
 use Rattle.just_loader.specs.Reached.{World}
 use Rattle.just_loader.specs.Scanned.{IsScan}
 use Rattle.just_loader.specs.declared.scanned.Scan.{Scan}

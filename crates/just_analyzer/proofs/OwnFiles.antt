@@ -16,7 +16,7 @@ use Rattle.just_parts.specs.declared.layers.ast.Item.{Item}
 use Rattle.just_parts.specs.Modulepath.{Text}
 use Rattle.just_loader.specs.FileCircles.{HasRows, IsFileOrder}
 use Rattle.just_loader.specs.Keys.{Submodule, imports_of, modules_of}
-use Rattle.just_loader.specs.Loaded.{file_at}
+use Rattle.just_loader.specs.LoadedInPlaces.{file_at}
 use Rattle.just_loader.specs.Reached.{World, Reached}
 use Rattle.just_loader.specs.Scanned.{IsScan, paths_in}
 use Rattle.just_loader.specs.declared.scanned.Scan.{Scan}

@@ -19,7 +19,7 @@ use Rattle.just_parts.specs.declared.layers.ast.Item.TheVariants as item
 use Rattle.just_parts.specs.declared.layers.ast.UnresolvedDependency.{UnresolvedDependency}
 use Rattle.just_parts.specs.declared.recipe.Recipe.{Recipe}
 use Rattle.just_loader.specs.Keys.{FileStep, Submodule, declared, imports_of, items_at, modules_of}
-use Rattle.just_loader.specs.Loaded.{file_at, name_at}
+use Rattle.just_loader.specs.LoadedInPlaces.{file_at, name_at}
 use Rattle.just_loader.specs.Numbering.{texts_of}
 use Rattle.just_loader.specs.Reached.{World, link}
 use Rattle.just_loader.specs.Scanned.{IsPlaceOf, ArePlacesOf, IsStepOf, AreSteps, IsScan, paths_in}

@@ -20,7 +20,7 @@ use Rattle.just_parts.specs.Modulepath.{Text}
 use Rattle.just_parts.specs.Causes.{Cause, Keeps}
 use Rattle.just_loader.specs.FileCircles.{HasRows, IsFileOrder}
 use Rattle.just_loader.specs.Keys.{imports_of, NamesInFiles}
-use Rattle.just_loader.specs.Loaded.{file_at}
+use Rattle.just_loader.specs.LoadedInPlaces.{file_at}
 use Rattle.just_loader.specs.Reached.{World}
 use Rattle.just_loader.specs.Scanned.{IsScan}
 use Rattle.just_loader.specs.declared.scanned.Scan.{Scan}

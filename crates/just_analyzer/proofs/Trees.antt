@@ -22,7 +22,7 @@ use Rattle.just_invoke.specs.declared.justfile.Justfile.{Justfile, out-Justfile}
 use Rattle.just_invoke.specs.declared.justfile.RecipeKey.{RecipeKey}
 use Rattle.std.specs.HashMap.{get}
 use Rattle.just_parts.specs.Asts.{same_ast_key}
-use Rattle.just_loader.specs.Loaded.{file_at, key_at}
+use Rattle.just_loader.specs.LoadedInPlaces.{file_at, key_at}
 use Rattle.just_loader.specs.Reached.{World}
 use Rattle.just_loader.specs.declared.loaded.Loaded.{Loaded}
 use Rattle.just_modules.specs.Analysis.{IsDefaultOf, IsKeyOf, IsOf}

@@ -5,7 +5,7 @@ use Rattle.just_parts.specs.declared.layers.error.Error.{Error}
 use Rattle.just_invoke.specs.Closed.{IsClosed, AreClosed}
 use Rattle.just_parts.specs.Asts.{same_ast_key, root_ast_key}
 use Rattle.just_parts.specs.Causes.{Keeps, Reports}
-use Rattle.just_loader.specs.Loaded.{IsLoaded}
+use Rattle.just_loader.specs.LoadedInPlaces.{IsLoadedInPlaces}
 use Rattle.just_loader.specs.Reached.{World}
 use Rattle.just_loader.specs.declared.loaded.Loaded.{Loaded}
 use Rattle.just_analyzer.specs.Modules.{AreCompiled}
@@ -15,7 +15,7 @@ use Rattle.just_analyzer.specs.declared.compilation.Compilation.{Compilation}
 -- The files are loaded, what they say is held, and their modules are compiled.
 pub record IsCompilation (w : World) (c : Compilation) : Type 0 where
   pub loaded : Loaded
-  pub is_loaded : IsLoaded w loaded
+  pub is_loaded : IsLoadedInPlaces w loaded
   pub asts : c.asts ≡ loaded.asts
   pub compiled : AreCompiled w loaded c.justfile c.recipes
 

@@ -16,7 +16,7 @@ use Rattle.just_parts.specs.declared.modulepath.Modulepath.{Modulepath}
 use Rattle.just_parts.specs.declared.recipe.Recipe.{Recipe}
 use Rattle.just_invoke.specs.declared.justfile.Justfile.{Justfile}
 use Rattle.just_parts.specs.Asts.{same_ast_key}
-use Rattle.just_loader.specs.Loaded.{file_at, name_at, IsLoaded}
+use Rattle.just_loader.specs.LoadedInPlaces.{file_at, name_at, IsLoadedInPlaces}
 use Rattle.just_loader.specs.Reached.{World}
 use Rattle.just_loader.specs.declared.loaded.Loaded.{Loaded}
 use Rattle.just_loader.specs.declared.scanned.Scan.{Scan}
@@ -33,7 +33,7 @@ use Rattle.just_analyzer.specs.declared.plans.Plans.{Plans}
 pub record ArePlanned (enabled : Item → Bool) (loaded : Loaded) (plans : Plans) : Type 0 where
   pub world : World
   pub counts : world.answers.enabled ≡ enabled
-  pub loaded_is : IsLoaded world loaded
+  pub loaded_is : IsLoadedInPlaces world loaded
   pub plans_are : ArePlans world loaded.scan plans
 
 -- the path of a module, in texts

@@ -16,7 +16,7 @@ use Rattle.just_parts.specs.declared.recipe.Recipe.{Recipe}
 use Rattle.just_invoke.specs.Module.{module_name}
 use Rattle.just_invoke.specs.declared.justfile.Justfile.{Justfile, out-Justfile}
 use Rattle.just_parts.specs.Asts.{same_ast_key}
-use Rattle.just_loader.specs.Loaded.{file_at, key_at, name_at}
+use Rattle.just_loader.specs.LoadedInPlaces.{file_at, key_at, name_at}
 use Rattle.just_loader.specs.Reached.{World}
 use Rattle.just_loader.specs.declared.loaded.Loaded.{Loaded}
 use Rattle.just_modules.specs.Analysis.{IsOf}

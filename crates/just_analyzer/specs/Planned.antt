@@ -6,7 +6,7 @@ use Rattle.just_graph.specs.Levels.{AreLevels}
 use Rattle.just_graph.specs.Unfolding.{steps}
 use Rattle.just_graph.specs.declared.unfolding.Step.{Step}
 use Rattle.just_loader.specs.Keys.{Submodule, modules_of}
-use Rattle.just_loader.specs.Loaded.{file_at}
+use Rattle.just_loader.specs.LoadedInPlaces.{file_at}
 use Rattle.just_loader.specs.Reached.{World}
 use Rattle.just_loader.specs.declared.scanned.Scan.{Scan}
 use Rattle.just_modules.specs.Contents.{Contents, texts_of_names}

@@ -11,7 +11,7 @@ ghost use Rattle.just_invoke.specs.Closed.{AreClosed};
 ghost use Rattle.just_invoke.specs.Module.{module_name};
 ghost use Rattle.just_invoke.specs.Recipes.{numbers};
 ghost use Rattle.just_invoke.specs.declared.justfile.Justfile.{out-Justfile};
-ghost use Rattle.just_loader.specs.Loaded.{file_at};
+ghost use Rattle.just_loader.specs.LoadedInPlaces.{file_at};
 ghost use Rattle.just_loader.specs.Reached.{World};
 ghost use Rattle.just_analyzer.specs.Compiling.{ArePlanned, AreHeld, IsReady, IsMade, HasPlan, IsNameOf, ast_of, modulepath_at, recipes_under};
 ghost use Rattle.just_modules.specs.Definitions.{recipes_in};

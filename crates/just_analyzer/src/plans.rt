@@ -10,7 +10,7 @@ ghost use Rattle.just_graph.specs.declared.unfolding.Step.{Step};
 ghost use Rattle.just_parts.specs.Causes.{Keeps, Reports};
 ghost use Rattle.just_loader.specs.FileCircles.{HasRows, IsFileOrder};
 ghost use Rattle.just_loader.specs.Keys.{NamesInFiles};
-ghost use Rattle.just_loader.specs.Loaded.{IsLoaded};
+ghost use Rattle.just_loader.specs.LoadedInPlaces.{IsLoadedInPlaces};
 ghost use Rattle.just_loader.specs.Reached.{World};
 ghost use Rattle.just_loader.specs.Scanned.{IsScan};
 ghost use Rattle.just_modules.specs.Definitions.{recipes_in};
@@ -265,9 +265,9 @@ pub fn plan_modules<'src, S: Syntax>(
 ) -> Result<Plans<'src>, Error<'src>>
     requires rows { HasRows loaded.now.scan }
     requires order { IsFileOrder loaded.now.scan.rows.items loaded.now.order.items }
-    ensures kept { IfOk result (λ _. (w : World) → w.answers.enabled ≡ (S.answers syntax.now).enabled → IsLoaded w loaded.now → Keeps (NamesInFiles w) → KeepsAll w) }
-    ensures plans { IfOk result (λ plans. (w : World) → w.answers.enabled ≡ (S.answers syntax.now).enabled → IsLoaded w loaded.now → ArePlans w loaded.now.scan plans) }
-    ensures named { IfErr result (λ e. (w : World) → w.answers.enabled ≡ (S.answers syntax.now).enabled → IsLoaded w loaded.now → Keeps (NamesInFiles w) → Reports (Names w) e) }
+    ensures kept { IfOk result (λ _. (w : World) → w.answers.enabled ≡ (S.answers syntax.now).enabled → IsLoadedInPlaces w loaded.now → Keeps (NamesInFiles w) → KeepsAll w) }
+    ensures plans { IfOk result (λ plans. (w : World) → w.answers.enabled ≡ (S.answers syntax.now).enabled → IsLoadedInPlaces w loaded.now → ArePlans w loaded.now.scan plans) }
+    ensures named { IfErr result (λ e. (w : World) → w.answers.enabled ≡ (S.answers syntax.now).enabled → IsLoadedInPlaces w loaded.now → Keeps (NamesInFiles w) → Reports (Names w) e) }
 {
     let imports = import_rows(alloc, loaded.scan.rows.as_slice())?;
     let own = own_files(alloc, &loaded.scan)?;

@@ -14,20 +14,24 @@ const NEXT_MARK: &str = "\n--- ";
 /// Why an input is no bundle of files.
 #[derive(Clone, Copy, Debug, PartialEq, Eq, Error)]
 pub enum BundleError {
+    /// Reading it faulted.
     #[error("The input could not be read")]
     Unreadable,
+    /// It is not UTF-8.
     #[error("The input is not UTF-8")]
     NotText,
     /// A text stands before the first file.
     #[error("The input does not begin with a line `--- PATH`")]
     NoFile,
-    #[error("A path in the input is not clean")]
+    /// A line `--- PATH` has a path that is not clean.
+    #[error("The input has a line `--- PATH` whose path is not clean: a clean path begins with `/`, and no part of it is empty, `.` or `..`")]
     NotClean,
+    /// Memory was refused.
     #[error("Out of memory")]
     Memory,
 }
 
-/// The whole of an input as a text.
+/// The whole of an input as a text. The error tells that it can't be read, that it is not UTF-8, or want of memory.
 pub fn read_text<R: Read>(alloc: Global, input: &mut R) -> Result<String, BundleError> {
     let mut bytes = Vec::new(alloc);
     if let Err(error) = input.read_to_end(&mut bytes) {
@@ -68,6 +72,7 @@ fn insert_file<'src>(sources: &mut Sources<'src>, file: &'src str) -> Result<(),
 
 /// The files of a text. A line `--- PATH` begins a file, whose text is the lines up to the next such line, each with
 /// its line end. A later file of an equal path replaces the earlier. An empty text has no files.
+/// The error tells that a text stands before the first file, a path that is not clean, or want of memory.
 pub fn read_sources<'src>(alloc: Global, text: &'src str) -> Result<Sources<'src>, BundleError> {
     let mut sources = Sources::new(alloc);
     if text.is_empty() {

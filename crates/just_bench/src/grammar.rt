@@ -12,9 +12,13 @@ use std::alloc::{AllocError, Global};
 /// The line that a recipe begins with: its name, its parameters, and what runs before and after it.
 #[derive(Debug, PartialEq, Eq, Drop)]
 pub struct Heading<'src> {
+    /// Its name.
     pub name: Name<'src>,
+    /// Its parameters, each single and without a default.
     pub parameters: Sequence<Name<'src>>,
+    /// What stands before `&&`, in order.
     pub priors: Sequence<Name<'src>>,
+    /// What stands after `&&`, in order.
     pub subsequents: Sequence<Name<'src>>,
 }
 

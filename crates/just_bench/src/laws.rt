@@ -1,3 +1,4 @@
+//! Laws: calls that do nothing, whose contracts say what the grammar keeps.
 ghost use Rattle.std.specs.Prelude.{◌≡◌, ◌∷◌, ◌++◌, [], List, Some, map};
 ghost use Rattle.std.specs.List.{join_with_byte};
 ghost use Rattle.just_bench.specs.declared.lexer.Lexeme.{Lexeme};

@@ -29,7 +29,9 @@ pub enum Kind {
 /// The smallest part of a line that means something.
 #[derive(Debug, PartialEq, Eq, Drop)]
 pub struct Lexeme<'src> {
+    /// What it is.
     pub kind: Kind,
+    /// Where it stands.
     pub token: Token<'src>,
 }
 

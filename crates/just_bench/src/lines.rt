@@ -11,8 +11,11 @@ use std::alloc::{AllocError, Global};
 /// A line without its end, and where it stands in its text. Its number counts from 0, its offset counts bytes.
 #[derive(Debug, PartialEq, Eq, Drop)]
 pub struct Line<'src> {
+    /// How many lines stand before it.
     pub number: usize,
+    /// How many bytes stand before it.
     pub offset: usize,
+    /// Its text, without the line end.
     pub text: BorrowedText<'src>,
 }
 

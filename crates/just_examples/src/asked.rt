@@ -16,8 +16,11 @@ enum Part {
 /// A root, a configuration and words.
 #[derive(Drop)]
 pub struct Asked {
+    /// What `--one` and `--home` say.
     pub config: Config,
+    /// The path of the root, which may be one that is not clean.
     pub root: String,
+    /// The words, with their marks resolved.
     pub words: Vec<String>,
     next: Part,
 }

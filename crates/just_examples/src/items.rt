@@ -1,9 +1,10 @@
 //! What a text says, item by item.
 use crate::faults::add_fault;
 use crate::lists::before;
-use just_analyzer::layers::{Ast, Error, Item, Numerator, StringLiteral, Syntax};
+use just_analyzer::layers::{Ast, Error, Item, LoadError, Numerator, StringLiteral, Syntax};
 use just_analyzer::{Source, is_clean};
 use just_bench::PlainSyntax;
+use just_data::Text;
 use std::alloc::{AllocError, Global};
 
 // Adds the text of a path in brackets, its token, and how many bytes stand before it.
@@ -58,7 +59,9 @@ fn add_items(text: &mut String, items: &[Item]) -> Result<(), AllocError> {
 fn parse<'src>(alloc: Global, text: &'src str) -> Result<Ast<'src>, Error<'src>> {
     let path = "/justfile";
     if !is_clean(path) {
-        return Err(Error::Memory);
+        return Err(Error::Load(LoadError::Load {
+            path: Text::from_str(alloc, path)?,
+        }));
     }
     let source = Source::root(alloc, path)?;
     PlainSyntax.parse_source(alloc, &mut Numerator::new(), "justfile", &source, text)

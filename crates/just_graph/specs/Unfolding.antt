@@ -48,18 +48,28 @@ pub record KeyOf (N X : Type 0) : Type 0 where
 abbrev pub Key : Type 0
 Key = KeyOf ℕ ℕ
 
--- a node of the unfolding: its key, the offsets since the last group was entered, and the steps that lead to it
-pub record Node : Type 0 where
-  pub path : List ℕ
-  pub node : ℕ
+-- a node of the unfolding: its key, the offsets since the last group was entered, and the steps of E that lead to it
+pub record NodeOf (N X E : Type 0) : Type 0 where
+  pub path : List X
+  pub node : N
   pub offsets : List ℕ
-  pub trail : List Step
+  pub trail : List E
+
+-- a node by numbers and places
+abbrev pub Node : Type 0
+Node = NodeOf ℕ ℕ Step
+
+abbrev pub key_of : {N X E : Type 0} → NodeOf N X E → KeyOf N X
+key_of n = record { path = n.path; node = n.node }
 
 abbrev pub key : Node → Key
 key n = record { path = n.path; node = n.node }
 
 abbrev pub root_key : ℕ → Key
 root_key root = record { path = []; node = root }
+
+abbrev pub root_node_of : {N X E : Type 0} → N → NodeOf N X E
+root_node_of root = record { path = []; node = root; offsets = []; trail = [] }
 
 abbrev pub root_node : ℕ → Node
 root_node root = record { path = []; node = root; offsets = []; trail = [] }
@@ -69,11 +79,19 @@ abbrev pub path_after : {X : Type 0} → List X → Option X → List X
 path_after path None = path
 path_after path (Some name) = path ++ name ∷ []
 
-abbrev pub offsets_after : List ℕ → ℕ → Option ℕ → List ℕ
+abbrev pub offsets_after : {X : Type 0} → List ℕ → ℕ → Option X → List ℕ
 offsets_after offsets offset None = offsets ++ offset ∷ []
 offsets_after offsets offset (Some name) = []
 
--- where a step from a node leads
+-- where a step from a node leads, by what it leads to, its offset and what it enters
+abbrev pub child_of : {N X E : Type 0} → (E → N) → (E → ℕ) → (E → Option X) → NodeOf N X E → E → NodeOf N X E
+child_of to offset enters n s = record {
+  path = path_after n.path (enters s);
+  node = to s;
+  offsets = offsets_after n.offsets (offset s) (enters s);
+  trail = n.trail ++ s ∷ [];
+}
+
 abbrev pub child : Node → Step → Node
 child n s = record { path = path_after n.path s.enters; node = s.target; offsets = offsets_after n.offsets s.offset s.enters; trail = n.trail ++ s ∷ [] }
 
@@ -84,33 +102,52 @@ key_child_of to enters k s = record { path = path_after k.path (enters s); node 
 abbrev pub key_child : Key → Step → Key
 key_child = key_child_of (λ (s : Step). s.target) (λ (s : Step). s.enters)
 
+abbrev pub kids_of : {N X E : Type 0} → (E → N) → (E → ℕ) → (E → Option X) → (N → List E) → NodeOf N X E → List (NodeOf N X E)
+kids_of to offset enters S n = map (child_of to offset enters n) (S n.node)
+
 abbrev pub kids : (ℕ → List Step) → Node → List Node
 kids S n = map (child n) (S n.node)
 
 -- The trees of these nodes are finite, and `pre` has their nodes in preorder, the children of a node from the last step to the first.
-pub data Unfolds (S : ℕ → List Step) : List Node → List Node → Type 0 where
-  nothing : Unfolds S [] []
-  tree : {n : Node} {ns below after : List Node} → Unfolds S (reverse (kids S n)) below → Unfolds S ns after → Unfolds S (n ∷ ns) (n ∷ (below ++ after))
+pub data UnfoldsOf {N X E : Type 0} (to : E → N) (offset : E → ℕ) (enters : E → Option X) (S : N → List E) : List (NodeOf N X E) → List (NodeOf N X E) → Type 0 where
+  nothing : UnfoldsOf to offset enters S [] []
+  tree : {n : NodeOf N X E} {ns below after : List (NodeOf N X E)} → UnfoldsOf to offset enters S (reverse (kids_of to offset enters S n)) below
+      → UnfoldsOf to offset enters S ns after → UnfoldsOf to offset enters S (n ∷ ns) (n ∷ (below ++ after))
+
+abbrev pub Unfolds : (ℕ → List Step) → List Node → List Node → Type 0
+Unfolds = UnfoldsOf (λ (s : Step). s.target) (λ (s : Step). s.offset) (λ (s : Step). s.enters)
 
 -- the preorder of the root's unfolding, which is finite
+abbrev pub IsUnfoldingOf : {N X E : Type 0} → (E → N) → (E → ℕ) → (E → Option X) → (N → List E) → N → List (NodeOf N X E) → Type 0
+IsUnfoldingOf to offset enters S root = UnfoldsOf to offset enters S (root_node_of root ∷ [])
+
 abbrev pub IsUnfolding : (ℕ → List Step) → ℕ → List Node → Type 0
 IsUnfolding S root = Unfolds S (root_node root ∷ [])
 
 -- some node has the key
+abbrev pub HasKeyOf : {N X E : Type 0} → List (NodeOf N X E) → KeyOf N X → Type 0
+HasKeyOf {N} {X} {E} ns k = (n : NodeOf N X E) × Contains ns n × (key_of n ≡ k)
+
 abbrev pub HasKey : List Node → Key → Type 0
 HasKey ns k = (n : Node) × Contains ns n × (key n ≡ k)
 
 -- `all` is `old` and then the first node of each key that `old` doesn't have, in order
-pub data Firsts : List Node → List Node → List Node → Type 0 where
-  none : {old : List Node} → Firsts old [] old
-  again : {old ns all : List Node} {n : Node} → HasKey old (key n) → Firsts old ns all → Firsts old (n ∷ ns) all
-  first : {old ns all : List Node} {n : Node} → (HasKey old (key n) → ⊥) → Firsts (old ++ n ∷ []) ns all → Firsts old (n ∷ ns) all
+pub data FirstsOf {N X E : Type 0} : List (NodeOf N X E) → List (NodeOf N X E) → List (NodeOf N X E) → Type 0 where
+  none : {old : List (NodeOf N X E)} → FirstsOf old [] old
+  again : {old ns all : List (NodeOf N X E)} {n : NodeOf N X E} → HasKeyOf old (key_of n) → FirstsOf old ns all → FirstsOf old (n ∷ ns) all
+  first : {old ns all : List (NodeOf N X E)} {n : NodeOf N X E} → (HasKeyOf old (key_of n) → ⊥) → FirstsOf (old ++ n ∷ []) ns all → FirstsOf old (n ∷ ns) all
+
+abbrev pub Firsts : List Node → List Node → List Node → Type 0
+Firsts old ns all = FirstsOf old ns all
 
 -- a node of the key has a trail of so many steps
 abbrev pub HasTrail : List Node → Key → ℕ → Type 0
 HasTrail ns k d = (n : Node) × Contains ns n × (key n ≡ k) × (length n.trail ≡ d)
 
 -- the first node of each key in the preorder of the root's unfolding
+abbrev pub AreFirstOf : {N X E : Type 0} → (E → N) → (E → ℕ) → (E → Option X) → (N → List E) → N → List (NodeOf N X E) → Type 0
+AreFirstOf {N} {X} {E} to offset enters S root ns = (pre : List (NodeOf N X E)) × IsUnfoldingOf to offset enters S root pre × FirstsOf [] pre ns
+
 abbrev pub AreFirst : (ℕ → List Step) → ℕ → List Node → Type 0
 AreFirst S root ns = (pre : List Node) × IsUnfolding S root pre × Firsts [] pre ns
 

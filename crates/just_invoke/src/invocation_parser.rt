@@ -1,3 +1,4 @@
+//! What command words mean.
 ghost use Rattle.std.specs.Prelude.{◌≡◌, ◌≤◌, ◌<◌, ◌++◌, ◌∷◌, [], ℕ, true, false, Some, IfOk, IfErr, IfSome, OnOk, OnErr, map, length, take, drop, slice_set, slice_index_or, vec_len};
 ghost use Rattle.std.specs.List.{All};
 ghost use Rattle.std.specs.Option.{option_copied};

@@ -1,3 +1,4 @@
+//! Compiled modules, and their run.
 use crate::invocation_parser::InvocationParser;
 use crate::recipes::Recipes;
 use crate::running::{Report, run_invocations};
@@ -10,7 +11,9 @@ use std::collections::HashMap;
 /// The name and the number of a recipe.
 #[derive(Clone, Debug, PartialEq, Eq, Drop)]
 pub struct RecipeKey<'src> {
+    /// The name that the recipe is found by.
     pub name: Name<'src>,
+    /// The number that `Recipes` holds the recipe under.
     pub number: Number,
 }
 
@@ -37,14 +40,17 @@ pub struct Justfile<'src> {
     pub default: Option<Number>,
     /// The relative paths of the files, each once, in the order of loading.
     pub loaded: Shared<Sequence<Text>>,
+    /// Its path; without names of the root's module.
     pub module_path: Modulepath,
     /// The modules of this one, in byte order of their names.
     pub modules: Sequence<Justfile<'src>>,
     /// The name of the module; none of the root's.
     pub name: Option<Name<'src>>,
+    /// The recipes of the module, by their names.
     pub recipes: Table<'src, RecipeKey<'src>>,
     /// The path of the module's own file.
     pub source: Text,
+    /// The folder of its own file.
     pub working_directory: Text,
 }
 

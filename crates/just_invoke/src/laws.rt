@@ -1,3 +1,4 @@
+//! Laws: calls that do nothing, whose contracts say what definitions keep.
 ghost use Rattle.std.specs.Prelude.{◌≡◌, ◌≢◌, Option, ◌<◌, ◌⊎◌, List, [], length};
 ghost use Rattle.std.specs.List.{Contains};
 ghost use Rattle.just_parts.specs.Host.{Answer, KeepsPromises};

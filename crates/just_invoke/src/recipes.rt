@@ -1,3 +1,4 @@
+//! The recipes of a compilation, by number.
 ghost use Rattle.std.specs.Prelude.{◌≡◌, ◌≢◌, ◌+◌, ◌^◌, ◌<◌, ℕ, ◌++◌, ◌∷◌, [], ◌↔◌, length, map, slice_get, slice_index, nat_eq, IsTrue, IfSome, IfNone, IfErr, OnOk, OnErr, Some};
 ghost use Rattle.std.specs.List.{All, Contains};
 ghost use Rattle.std.specs.Option.{option_copied};

@@ -21,7 +21,8 @@ use Rattle.just_parts.specs.declared.layers.error.Error.{Error}
 use Rattle.just_parts.specs.declared.layers.name.Name.{Name}
 use Rattle.just_parts.specs.declared.layers.name.Namepath.{Namepath}
 use Rattle.just_parts.specs.declared.source.Source.{Source}
-use Rattle.just_loader.specs.Loaded.{CameIn, entered, file_at, name_at, own_after}
+use Rattle.just_loader.specs.Loaded.{entered}
+use Rattle.just_loader.specs.LoadedInPlaces.{CameInPlaces, file_at, name_at, own_after_places}
 use Rattle.just_loader.specs.Loading.{AreNodes, AreUnfolded, CameInSoFar, ComesNext, components_after, folder_after}
 use Rattle.just_loader.specs.Numbering.{texts_of}
 use Rattle.just_loader.specs.Reached.{World}
@@ -65,7 +66,7 @@ module_next scan before s number name path (Ok source) enters text is chain offs
 module_next scan before s number name path (Err e) enters text is chain offsets namepath source_path folder = tt
 
 -- a step at the end of a trail
-own_last : (own : ℕ) (ss : List Step) (s : Step) → own_after own (ss ++ s ∷ []) ≡ entered (own_after own ss) s.enters s.target
+own_last : (own : ℕ) (ss : List Step) (s : Step) → own_after_places own (ss ++ s ∷ []) ≡ entered (own_after_places own ss) s.enters s.target
 own_last own [] s = refl
 own_last own (t ∷ ts) s = own_last (entered own t.enters t.target) ts s
 
@@ -77,13 +78,13 @@ folder_last : (scan : Scan) (own target : ℕ) (o : Option ℕ) → folder_after
 folder_last scan own target None = refl
 folder_last scan own target (Some number) = refl
 
-pub came_next : (scan : Scan) (n : Node) (s : Step) (before source : Source) (depth : ℕ) → CameIn scan n before → ComesNext scan before s source → IsLeastDepth (steps scan.rows.items) 0 (key (child n s)) depth → CameIn scan (child n s) (record source { file_depth = depth })
+pub came_next : (scan : Scan) (n : Node) (s : Step) (before source : Source) (depth : ℕ) → CameInPlaces scan n before → ComesNext scan before s source → IsLeastDepth (steps scan.rows.items) 0 (key (child n s)) depth → CameInPlaces scan (child n s) (record source { file_depth = depth })
 came_next scan n s before source depth came next least = record {
   chain = next.chain ∙ ap (λ c. c ++ file_at scan s.target ∷ []) came.chain ∙ ap (λ c. file_at scan 0 ∷ c) (sym (map-append (λ (x : Step). file_at scan x.target) n.trail (s ∷ [])));
   offsets = next.offsets ∙ ap (λ o. offsets_after o s.offset s.enters) came.offsets;
   components = next.components ∙ ap (λ c. components_after scan c s.enters) came.components ∙ names_last scan n.path s.enters;
   path = next.path;
-  folder = next.folder ∙ ap (λ f. folder_after f s.enters (file_at scan s.target)) came.folder ∙ folder_last scan (own_after 0 n.trail) s.target s.enters ∙ ap (λ o. folder_of (file_at scan o)) (sym (own_last 0 n.trail s));
+  folder = next.folder ∙ ap (λ f. folder_after f s.enters (file_at scan s.target)) came.folder ∙ folder_last scan (own_after_places 0 n.trail) s.target s.enters ∙ ap (λ o. folder_of (file_at scan o)) (sym (own_last 0 n.trail s));
   depth = least;
 }
 
@@ -139,7 +140,7 @@ pub record CameOver (scan : Scan) (us : List Unfolded) (sources : List Source) (
   pub step_at : slice_get row.items o.step ≡ Some step
   pub target : step.target < length scan.files.items
   pub number : IfSome step.enters (λ number. number < length scan.names.items)
-  pub came : CameIn scan parent before
+  pub came : CameInPlaces scan parent before
   pub shallow : before.file_depth < length us
   pub is_child : n ≡ child parent step
 
@@ -176,11 +177,11 @@ module _ (w : World) (scan : Scan) (is : IsScan w scan) (us : List Unfolded) (ar
     is_root e = root_first (steps scan.rows.items) 0 ns (length sources) n nodes.0 here (subst (CameFrom (steps scan.rows.items) (take (length sources) ns) n) e told.origin)
 
     pub came_root : (source : Source) (path : List ℕ) → u.origin ≡ None → path ≡ file_at scan u.node → source.file_path ≡ path ∷ [] → source.import_offsets ≡ [] → source.namepath ≡ None → source.path ≡ path → source.working_directory ≡ folder_of path
-        → CameIn scan n (record source { file_depth = u.depth })
+        → CameInPlaces scan n (record source { file_depth = u.depth })
     came_root source path e path_is chain offsets namepath source_path folder =
         let root : n ≡ root_node 0 = is_root e in
         let file : path ≡ file_at scan 0 = path_is ∙ ap (file_at scan) (told.node ∙ ap (λ (x : Node). x.node) root) in
-        let at_root : CameIn scan (root_node 0) (record source { file_depth = u.depth }) = record {
+        let at_root : CameInPlaces scan (root_node 0) (record source { file_depth = u.depth }) = record {
           chain = chain ∙ ap (λ p. p ∷ []) file;
           offsets = offsets;
           components = ap components_of namepath;
@@ -188,13 +189,13 @@ module _ (w : World) (scan : Scan) (is : IsScan w scan) (us : List Unfolded) (ar
           folder = folder ∙ ap folder_of file;
           depth = subst (λ (x : Node). IsLeastDepth (steps scan.rows.items) 0 (key x) u.depth) root least;
         } in
-        subst (λ x. CameIn scan x (record source { file_depth = u.depth })) (sym root) at_root
+        subst (λ x. CameInPlaces scan x (record source { file_depth = u.depth })) (sym root) at_root
 
-    pub came_by : (o : Origin) (h : CameOver scan us sources n o) (before source : Source) (s : Step) → before ≡ h.before → s ≡ h.step → ComesNext scan before s source → CameIn scan n (record source { file_depth = u.depth })
+    pub came_by : (o : Origin) (h : CameOver scan us sources n o) (before source : Source) (s : Step) → before ≡ h.before → s ≡ h.step → ComesNext scan before s source → CameInPlaces scan n (record source { file_depth = u.depth })
     came_by o h before source s is_before is_step next =
         let last : ComesNext scan h.before h.step source = subst (λ (x : Step). ComesNext scan h.before x source) is_step (subst (λ (x : Source). ComesNext scan x s source) is_before next) in
         let deep : IsLeastDepth (steps scan.rows.items) 0 (key (child h.parent h.step)) u.depth = subst (λ (x : Node). IsLeastDepth (steps scan.rows.items) 0 (key x) u.depth) h.is_child least in
-        subst (λ x. CameIn scan x (record source { file_depth = u.depth })) (sym h.is_child) (came_next scan h.parent h.step h.before source u.depth h.came last deep)
+        subst (λ x. CameInPlaces scan x (record source { file_depth = u.depth })) (sym h.is_child) (came_next scan h.parent h.step h.before source u.depth h.came last deep)
 
     module _ (so : CameInSoFar scan ns sources) (o : Origin) (from : u.origin ≡ Some o) where
       pub came_over : CameOver scan us sources n o
@@ -210,7 +211,7 @@ module _ (w : World) (scan : Scan) (is : IsScan w scan) (us : List Unfolded) (ar
           let row = row_steps scan.rows.items parent.node o.step s c.3 in
           let here : In s (steps scan.rows.items parent.node) = is_in s (steps scan.rows.items parent.node) (got (steps scan.rows.items parent.node) o.step s c.3) in
           let leads : HasStep scan.rows.items parent.node s.target = contained s.target (map (λ (x : Step). x.target) (steps scan.rows.items parent.node)) (in_map (λ (x : Step). x.target) s (steps scan.rows.items parent.node) here) in
-          let came : CameIn scan parent before.0 = so o.parent parent before.0 p.1 before.1 in
+          let came : CameInPlaces scan parent before.0 = so o.parent parent before.0 p.1 before.1 in
           let same : unfolded_key element.0 ≡ key parent = λ i. record { path = tells.path i; node = tells.node i } in
           let depth : IsLeastDepth (steps scan.rows.items) 0 (key parent) element.0.depth = subst (λ k. IsLeastDepth (steps scan.rows.items) 0 k element.0.depth) same (are.depths o.parent element.0 element.1) in
           record {
@@ -262,8 +263,8 @@ are_unfolded scan rows us lent is_rows is_us listed depths shallow = subst (AreU
 pub came_none : (scan : Scan) (ns : List Node) (sources : List Source) → sources ≡ [] → CameInSoFar scan ns sources
 came_none scan ns sources e k n source at here = absurd (none_some (ap (λ xs. slice_get xs k) (sym e) ∙ here))
 
-pub came_more : (scan : Scan) (ns : List Node) (old new : List Source) (source : Source) → CameInSoFar scan ns old → ((n : Node) → slice_get ns (length old) ≡ Some n → CameIn scan n source) → new ≡ old ++ source ∷ [] → CameInSoFar scan ns new
+pub came_more : (scan : Scan) (ns : List Node) (old new : List Source) (source : Source) → CameInSoFar scan ns old → ((n : Node) → slice_get ns (length old) ≡ Some n → CameInPlaces scan n source) → new ≡ old ++ source ∷ [] → CameInSoFar scan ns new
 came_more scan ns old new source so one is k n s at here = elim (get_cases old source s k (ap (λ xs. slice_get xs k) (sym is) ∙ here)) [
   | inl before ↦ so k n s at before
-  | inr last ↦ subst (CameIn scan n) last.1 (one n (ap (slice_get ns) (sym last.0) ∙ at))
+  | inr last ↦ subst (CameInPlaces scan n) last.1 (one n (ap (slice_get ns) (sym last.0) ∙ at))
 ]

@@ -21,7 +21,7 @@ use Rattle.just_parts.specs.Bare.{bare_item}
 use Rattle.just_parts.specs.Edge.{Edge, Imports, Declares, edge_of}
 use Rattle.just_loader.specs.FileCircles.{HasRows, LeadsOn, by_edge, by_edges, ChainTo, at_root, and_next, NamesCircle, leads_back}
 use Rattle.just_loader.specs.Keys.{FileStep, end_of, items_at, steps_by, steps_of}
-use Rattle.just_loader.specs.Loaded.{file_at}
+use Rattle.just_loader.specs.LoadedInPlaces.{file_at}
 use Rattle.just_loader.specs.Links.{Link, Nowhere, To, Fault, edge_link}
 use Rattle.just_loader.specs.Reached.{World, Reached, from_root, from_file, items_of, link, LeadsTo}
 use Rattle.just_parts.specs.Causes.{LeadsBack}
@@ -45,8 +45,8 @@ no_link false path e = cc
 
 -- an item that leads to a file has a step there
 step_of_link : (w : World) (folder path : List ℕ) (b : Bool) (e : Option Edge) → (if b then edge_link w.files w.home folder e else Nowhere) ≡ To path → (s : FileStep) × In s (steps_by e (To path)) × (s.to ≡ path)
-step_of_link w folder path b (Some (Imports literal optional)) l = (record { to = path; enters = None }, inl refl, refl)
-step_of_link w folder path b (Some (Declares name literal optional)) l = (record { to = path; enters = Some (text_of_name name) }, inl refl, refl)
+step_of_link w folder path b (Some (Imports literal optional)) l = (record { to = path; offset = literal.token.offset; enters = None }, inl refl, refl)
+step_of_link w folder path b (Some (Declares name literal optional)) l = (record { to = path; offset = 0; enters = Some (text_of_name name) }, inl refl, refl)
 step_of_link w folder path b None l = absurd (no_link b path l)
 
 -- and leads where its step does

@@ -7,7 +7,7 @@ use Rattle.just_graph.specs.declared.unfolding.Step.{Step}
 use Rattle.just_graph.proofs.KeySteps.{steps_back, steps_keep, steps_mapped}
 use Rattle.just_graph.proofs.Members.{In, contained, in_cases, in_map}
 use Rattle.just_loader.specs.Keys.{FileKey, FileKeySteps, FileStep, IsKey, root_file_key, steps_of}
-use Rattle.just_loader.specs.Loaded.{file_at, name_at}
+use Rattle.just_loader.specs.LoadedInPlaces.{file_at, name_at}
 use Rattle.just_loader.specs.Reached.{World}
 use Rattle.just_loader.specs.Scanned.{IsScan, paths_in}
 use Rattle.just_loader.specs.declared.scanned.Scan.{Scan}
@@ -44,10 +44,10 @@ module _ (w : World) (scan : Scan) (is : IsScan w scan) where
   abbrev inside : ℕ → Type 0
   inside a = a < length scan.files.items
 
-  step_inside : (a : ℕ) (s : Step) → inside a → In s (S a) → inside s.target
+  pub step_inside : (a : ℕ) (s : Step) → inside a → In s (S a) → inside s.target
   step_inside a s h i = omega (arith, is.count, is.within a s.target (contained s.target (map target (S a)) (in_map target s (S a) i)))
 
-  root_inside : inside 0
+  pub root_inside : inside 0
   root_inside = omega (arith, length-map scan.files.items (λ (f : ScannedFile). f.path), slice_get_within (paths_in scan.files.items) 0 w.root is.root)
 
   root_is : root_file_key w ≡ file_key scan (root_key 0)
@@ -60,14 +60,22 @@ module _ (w : World) (scan : Scan) (is : IsScan w scan) where
   pub stands : {k : Key} {n : ℕ} → KeySteps S (root_key 0) k n → Stands scan k
   stands way = stands_on way (record { inside = root_inside; known = λ n h. absurd h })
 
+  -- the steps from the root's key are those of the files' keys
+  pub to_steps : (k : Key) (d : ℕ) → KeySteps S (root_key 0) k d → FileKeySteps w (root_file_key w) (file_key scan k) d
+  to_steps k d way =
+      subst (λ root. FileKeySteps w root (file_key scan k) d) (sym root_is)
+      (steps_mapped target enters (λ (s : FileStep). s.to) (λ (s : FileStep). s.enters) S (steps_of w) (file_at scan) (name_at scan) (text_step scan) (λ s. refl) (λ s. refl) inside (steps_here w scan is) step_inside way root_inside)
+
+  pub from_steps : (k : FileKey) (d : ℕ) → FileKeySteps w (root_file_key w) k d → (l : Key) × KeySteps S (root_key 0) l d × (file_key scan l ≡ k)
+  from_steps k d way =
+      steps_back target enters (λ (s : FileStep). s.to) (λ (s : FileStep). s.enters) S (steps_of w) (file_at scan) (name_at scan) (text_step scan) (λ s. refl) (λ s. refl) inside (steps_here w scan is) step_inside way (root_key 0) root_is root_inside
+
   -- what the root's key leads to are keys of files, and there are no others
   pub to_key : (k : Key) → IsReachedKey S 0 k → IsKey w (file_key scan k)
-  to_key k r = (r.0, subst (λ root. FileKeySteps w root (file_key scan k) r.0) (sym root_is) (steps_mapped target enters (λ (s : FileStep). s.to) (λ (s : FileStep). s.enters) S (steps_of w) (file_at scan) (name_at scan) (text_step scan) (λ s. refl) (λ s. refl) inside (steps_here w scan is) step_inside r.1 root_inside))
+  to_key k r = (r.0, to_steps k r.0 r.1)
 
   pub from_key : (k : FileKey) → IsKey w k → (l : Key) × IsReachedKey S 0 l × (file_key scan l ≡ k)
-  from_key k r =
-      let b = steps_back target enters (λ (s : FileStep). s.to) (λ (s : FileStep). s.enters) S (steps_of w) (file_at scan) (name_at scan) (text_step scan) (λ s. refl) (λ s. refl) inside (steps_here w scan is) step_inside r.1 (root_key 0) root_is root_inside in
-      (b.0, (r.0, b.1), b.2)
+  from_key k r = let b = from_steps k r.0 r.1 in (b.0, (r.0, b.1), b.2)
 
   same_paths : (p q : List ℕ) → ((n : ℕ) → In n p → IsKnown scan (Some n)) → ((n : ℕ) → In n q → IsKnown scan (Some n)) → map (name_at scan) p ≡ map (name_at scan) q → p ≡ q
   same_paths [] [] a b e = refl

@@ -18,7 +18,7 @@ use Rattle.just_parts.specs.Modulepath.{Text}
 use Rattle.just_parts.specs.declared.layers.ast.Item.{Item}
 use Rattle.just_loader.specs.Keys.{FileStep, end_of, items_at, steps_by, steps_of}
 use Rattle.just_loader.specs.Links.{Link, Nowhere, To, Fault}
-use Rattle.just_loader.specs.Loaded.{file_at, name_at}
+use Rattle.just_loader.specs.LoadedInPlaces.{file_at, name_at}
 use Rattle.just_loader.specs.Numbering.{texts_of}
 use Rattle.just_loader.specs.Reached.{World, link}
 use Rattle.just_loader.specs.Scanned.{IsPlaceOf, ArePlacesOf, IsStepTo, IsStepOf, AreSteps, IsScan, IsScanned, paths_in}
@@ -40,7 +40,7 @@ one_end paths (Fault c) place h = absurd h
 
 -- a step by texts
 abbrev pub text_step : Scan → Step → FileStep
-text_step scan s = record { to = file_at scan s.target; enters = option_map (name_at scan) s.enters }
+text_step scan s = record { to = file_at scan s.target; offset = s.offset; enters = option_map (name_at scan) s.enters }
 
 module _ (scan : Scan) where
   abbrev paths : List Text
@@ -58,15 +58,15 @@ module _ (scan : Scan) where
   known number text e = sym (get_or_from_slice_get names number text [] e)
 
   no_steps : (e : Option Edge) (l : Link) → end_of l ≡ [] → [] ≡ steps_by e l
-  no_steps (Some (Imports literal optional)) l at = sym (ap (map (λ path. let s : FileStep = record { to = path; enters = None } in s)) at)
-  no_steps (Some (Declares name literal optional)) l at = sym (ap (map (λ path. let s : FileStep = record { to = path; enters = Some (text_of_name name) } in s)) at)
+  no_steps (Some (Imports literal optional)) l at = sym (ap (map (λ path. let s : FileStep = record { to = path; offset = literal.token.offset; enters = None } in s)) at)
+  no_steps (Some (Declares name literal optional)) l at = sym (ap (map (λ path. let s : FileStep = record { to = path; offset = 0; enters = Some (text_of_name name) } in s)) at)
   no_steps None l at = refl
 
   edge_steps : (e : Option Edge) (l : Link) (place : ℕ) (row : List Step) → end_of l ≡ file_at scan place ∷ [] → IsStepTo names place e row → map (text_step scan) row ≡ steps_by e l
-  edge_steps (Some (Imports literal optional)) l place row at is = ap (map (text_step scan)) is ∙ sym (ap (map (λ path. let s : FileStep = record { to = path; enters = None } in s)) at)
+  edge_steps (Some (Imports literal optional)) l place row at is = ap (map (text_step scan)) is ∙ sym (ap (map (λ path. let s : FileStep = record { to = path; offset = literal.token.offset; enters = None } in s)) at)
   edge_steps (Some (Declares name literal optional)) l place row at is =
-      ap (map (text_step scan)) is.2 ∙ ap (λ text. let s : FileStep = record { to = file_at scan place; enters = Some text } in s ∷ []) (sym (known is.0 (text_of_name name) is.1))
-      ∙ sym (ap (map (λ path. let s : FileStep = record { to = path; enters = Some (text_of_name name) } in s)) at)
+      ap (map (text_step scan)) is.2 ∙ ap (λ text. let s : FileStep = record { to = file_at scan place; offset = 0; enters = Some text } in s ∷ []) (sym (known is.0 (text_of_name name) is.1))
+      ∙ sym (ap (map (λ path. let s : FileStep = record { to = path; offset = 0; enters = Some (text_of_name name) } in s)) at)
   edge_steps None l place row at is = ap (map (text_step scan)) is
 
   item_steps : (i : Item) (l : Link) (t : Option ℕ) (row : List Step) → IsPlaceOf paths l t → IsStepOf names i t row → map (text_step scan) row ≡ steps_by (edge_of i) l

@@ -18,7 +18,8 @@ use Rattle.just_parts.specs.contracts.modulepath.ModulepathPartialEq.TheImpl as 
 use Rattle.just_parts.specs.declared.layers.ast.Ast.{Ast}
 use Rattle.just_parts.specs.declared.modulepath.Modulepath.{Modulepath}
 use Rattle.just_parts.specs.Asts.{AstKey, same_ast_key}
-use Rattle.just_loader.specs.Loaded.{AreAstsOf, AreToldApart, file_at, key_at}
+use Rattle.just_loader.specs.Loaded.{AreToldApart}
+use Rattle.just_loader.specs.LoadedInPlaces.{AreAstsOf, file_at, key_at}
 use Rattle.just_loader.specs.Loading.{AreParsed}
 use Rattle.just_loader.specs.Parsed.{AreKeyed, AreHeld, text_key}
 use Rattle.just_loader.specs.Reached.{World}

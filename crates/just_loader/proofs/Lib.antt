@@ -4,6 +4,8 @@ pub mod FileRows
 pub mod FileKeys
 pub mod Folders
 pub mod HeldAsts
+pub mod HeldKeys
+pub mod InPaths
 pub mod KeySums
 pub mod Linking
 pub mod LoadedPaths

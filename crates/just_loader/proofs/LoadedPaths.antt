@@ -8,7 +8,7 @@ use Rattle.std.proofs.lemmas.List.Elements.{filter-append}
 use Rattle.std.proofs.lemmas.Option.{get_or_from_slice_get, slice_get_read}
 use Rattle.just_graph.specs.declared.unfolding.Unfolded.{Unfolded}
 use Rattle.just_graph.proofs.Members.{In, in_left, in_right, in_cases}
-use Rattle.just_loader.specs.Loaded.{at_first, file_at}
+use Rattle.just_loader.specs.LoadedInPlaces.{at_first_places, file_at}
 use Rattle.just_loader.specs.Parsed.{relative_at}
 use Rattle.just_loader.specs.Reached.{World, relative_to_root}
 use Rattle.just_loader.specs.Scanned.{IsScan, paths_in}
@@ -43,18 +43,18 @@ filter_in x y ne = elim (eqb_tells x y) [
 ]
 
 -- one more number at the end
-first_more : (x : ℕ) (xs : List ℕ) → (In x xs → ⊥) → at_first (xs ++ x ∷ []) ≡ at_first xs ++ x ∷ []
+first_more : (x : ℕ) (xs : List ℕ) → (In x xs → ⊥) → at_first_places (xs ++ x ∷ []) ≡ at_first_places xs ++ x ∷ []
 first_more x [] n = refl
 first_more x (y ∷ xs) n =
-    ap (λ zs. y ∷ filter (but y) zs) (first_more x xs (λ i. n (inr i))) ∙ ap (λ zs. y ∷ zs) (filter-append (but y) (at_first xs) (x ∷ []) ∙ ap (λ zs. filter (but y) (at_first xs) ++ zs) (filter_in x y (λ e. n (inl e))))
+    ap (λ zs. y ∷ filter (but y) zs) (first_more x xs (λ i. n (inr i))) ∙ ap (λ zs. y ∷ zs) (filter-append (but y) (at_first_places xs) (x ∷ []) ∙ ap (λ zs. filter (but y) (at_first_places xs) ++ zs) (filter_in x y (λ e. n (inl e))))
 
-first_again : (x : ℕ) (xs : List ℕ) → In x xs → at_first (xs ++ x ∷ []) ≡ at_first xs
+first_again : (x : ℕ) (xs : List ℕ) → In x xs → at_first_places (xs ++ x ∷ []) ≡ at_first_places xs
 first_again x [] h = absurd h
 first_again x (y ∷ xs) (inr i) = ap (λ zs. y ∷ filter (but y) zs) (first_again x xs i)
 first_again x (y ∷ xs) (inl e) = elim (in_or_not x xs) [
   | inl i ↦ ap (λ zs. y ∷ filter (but y) zs) (first_again x xs i)
   | inr n ↦
-      ap (λ zs. y ∷ filter (but y) zs) (first_more x xs n) ∙ ap (λ zs. y ∷ zs) (filter-append (but y) (at_first xs) (x ∷ []) ∙ ap (λ zs. filter (but y) (at_first xs) ++ zs) (filter_out x y e) ∙ append-nil (filter (but y) (at_first xs)))
+      ap (λ zs. y ∷ filter (but y) zs) (first_more x xs n) ∙ ap (λ zs. y ∷ zs) (filter-append (but y) (at_first_places xs) (x ∷ []) ∙ ap (λ zs. filter (but y) (at_first_places xs) ++ zs) (filter_out x y e) ∙ append-nil (filter (but y) (at_first_places xs)))
 ]
 
 filtered : (p : ℕ → Bool) (x : ℕ) (xs : List ℕ) → In x (filter p xs) → In x xs
@@ -66,10 +66,10 @@ filtered p x (y ∷ xs) h = go (p y) (filtered p x xs) h
     go true f (inr i) = inr (f i)
     go false f i = inr (f i)
 
-firsts_in : (x : ℕ) (xs : List ℕ) → In x (at_first xs) → In x xs
-firsts_in x [] h = absurd h
-firsts_in x (y ∷ xs) (inl e) = inl e
-firsts_in x (y ∷ xs) (inr i) = inr (firsts_in x xs (filtered (but y) x (at_first xs) i))
+pub first_in : (x : ℕ) (xs : List ℕ) → In x (at_first_places xs) → In x xs
+first_in x [] h = absurd h
+first_in x (y ∷ xs) (inl e) = inl e
+first_in x (y ∷ xs) (inr i) = inr (first_in x xs (filtered (but y) x (at_first_places xs) i))
 
 map_same : {B : Type 0} (f g : ℕ → B) (xs : List ℕ) → ((x : ℕ) → In x xs → f x ≡ g x) → map f xs ≡ map g xs
 map_same f g [] h = refl
@@ -77,10 +77,10 @@ map_same f g (x ∷ xs) h = ap (λ y. y ∷ map f xs) (h x (inl refl)) ∙ ap (�
 
 -- the relative paths of a scan are those of its files
 pub relative_paths : (w : World) (scan : Scan) → IsScan w scan → (places : List ℕ) → ((x : ℕ) → In x places → x < length scan.files.items)
-    → map (relative_at scan) (at_first places) ≡ map (λ place. relative_to_root w (file_at scan place)) (at_first places)
-relative_paths w scan is places inside = map_same (relative_at scan) (λ place. relative_to_root w (file_at scan place)) (at_first places) (λ x i.
-    let file = read_at scan.files.items x (inside x (firsts_in x places i)) in
-    let row = read_at scan.rows.items x (omega (arith, is.count, inside x (firsts_in x places i))) in
+    → map (relative_at scan) (at_first_places places) ≡ map (λ place. relative_to_root w (file_at scan place)) (at_first_places places)
+relative_paths w scan is places inside = map_same (relative_at scan) (λ place. relative_to_root w (file_at scan place)) (at_first_places places) (λ x i.
+    let file = read_at scan.files.items x (inside x (first_in x places i)) in
+    let row = read_at scan.rows.items x (omega (arith, is.count, inside x (first_in x places i))) in
     get_or_from_slice_get (map (λ (f : ScannedFile). f.relative) scan.files.items) x file.0.relative [] (map_get (λ (f : ScannedFile). f.relative) scan.files.items x file.0 file.1)
     ∙ (is.scanned x file.0 row.0 file.1 row.1).relative
     ∙ ap (relative_to_root w) (sym (get_or_from_slice_get (paths_in scan.files.items) x file.0.path [] (map_get (λ (f : ScannedFile). f.path) scan.files.items x file.0 file.1))))
@@ -92,7 +92,7 @@ places_of nodes = map (λ (u : Unfolded). u.node) nodes
 pub record AreListed (scan : Scan) (places : List ℕ) (seen : List Bool) (loaded : List (List ℕ)) : Type 0 where
   pub size : length seen ≡ length scan.files.items
   pub marks : (k : ℕ) → k < length seen → Decides (get_or seen k false) (In k places)
-  pub is : loaded ≡ map (relative_at scan) (at_first places)
+  pub is : loaded ≡ map (relative_at scan) (at_first_places places)
 
 -- a file that was seen
 listed_again : (scan : Scan) (places : List ℕ) (seen : List Bool) (loaded : List (List ℕ)) (x : ℕ) → AreListed scan places seen loaded → x < length seen → get_or seen x false ≡ true → AreListed scan (places ++ x ∷ []) seen loaded
@@ -133,7 +133,7 @@ listed_more scan places seen more loaded next x l inside off e put =
               ]),
             ))
       ];
-      is = put ∙ ap (λ xs. xs ++ relative_at scan x ∷ []) l.is ∙ sym (map-append (relative_at scan) (at_first places) (x ∷ [])) ∙ ap (map (relative_at scan)) (sym (first_more x places fresh));
+      is = put ∙ ap (λ xs. xs ++ relative_at scan x ∷ []) l.is ∙ sym (map-append (relative_at scan) (at_first_places places) (x ∷ [])) ∙ ap (map (relative_at scan)) (sym (first_more x places fresh));
     }
 
 next_place : (nodes : List Unfolded) (i : ℕ) (u : Unfolded) → i < length nodes → u ≡ get_or nodes i u → places_of (take (i + 1) nodes) ≡ places_of (take i nodes) ++ u.node ∷ []

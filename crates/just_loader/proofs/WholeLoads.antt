@@ -19,7 +19,7 @@ use Rattle.just_parts.specs.Asts.{AstKey, same_ast_key}
 use Rattle.just_parts.specs.Causes.{Keeps, Reports}
 use Rattle.just_loader.specs.FileCircles.{IsFileOrder, LeadsOn}
 use Rattle.just_loader.specs.Keys.{FileKey, NamesInFiles}
-use Rattle.just_loader.specs.Loaded.{IsLoaded, at_first, file_at, name_at}
+use Rattle.just_loader.specs.LoadedInPlaces.{IsLoadedInPlaces, at_first_places, file_at, name_at}
 use Rattle.just_loader.specs.Loading.{AreParsed, Stops, spent_by}
 use Rattle.just_loader.specs.Parsed.{AreKeyed, AreHeld, relative_at}
 use Rattle.just_loader.specs.Reached.{World, Reached, NamesInScan, relative_to_root}
@@ -81,7 +81,7 @@ module _ (w : World) (scan : Scan) (is : IsScan w scan) (us : List Unfolded) (wh
   are_kept there kept none total = files_kept w scan is us whole.keys whole.once there kept none total
 
 pub is_loaded : (w : World) (loaded : Loaded) (us : List Unfolded) (asts : List Ast) → IsScan w loaded.scan → (whole : IsWhole loaded.scan.rows.items us) → IsFileOrder loaded.scan.rows.items loaded.order.items → AreParsed w loaded.scan whole.first.0 asts
-    → (high : ℕ) → AreRising 0 (flat_map (λ (ast : Ast). numbers ast.items) asts) high → All (λ (ast : Ast). All PriorsAreDependencies ast.items) asts → AreHeld loaded.scan us asts (get same_ast_key loaded.asts) → loaded.loaded ≡ map (relative_at loaded.scan) (at_first (map (λ (u : Unfolded). u.node) us)) → IsLoaded w loaded
+    → (high : ℕ) → AreRising 0 (flat_map (λ (ast : Ast). numbers ast.items) asts) high → All (λ (ast : Ast). All PriorsAreDependencies ast.items) asts → AreHeld loaded.scan us asts (get same_ast_key loaded.asts) → loaded.loaded ≡ map (relative_at loaded.scan) (at_first_places (map (λ (u : Unfolded). u.node) us)) → IsLoadedInPlaces w loaded
 is_loaded w loaded us asts is whole order parsed high rising priors held paths =
     let ns = whole.first.0 in
     let told : map unfolded_key us ≡ map key ns = told_same (steps loaded.scan.rows.items) us ns whole.first.2 in
@@ -102,5 +102,5 @@ is_loaded w loaded us asts is whole order parsed high rising priors held paths =
           let u = from_map (λ (u : Unfolded). u.node) x us i in
           let at = placed us u.0 (contained u.0 us u.1) in
           subst (λ y. y < length loaded.scan.files.items) (sym u.2) (nodes_inside w loaded.scan is us whole at.0 u.0 at.1))
-          ∙ ap (λ ps. map (λ place. relative_to_root w (file_at loaded.scan place)) (at_first ps)) places;
+          ∙ ap (λ ps. map (λ place. relative_to_root w (file_at loaded.scan place)) (at_first_places ps)) places;
     }

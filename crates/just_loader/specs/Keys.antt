@@ -1,9 +1,10 @@
 -- What a file imports and which modules it declares, and the keys of files: the path of a module, and a file of it.
-use Rattle.std.specs.Prelude.{◌≡◌, ◌+◌, ℕ, List, [], ◌∷◌, map, filter, not, is_some, unwrap_or, ◌≤◌, ◌^◌, Option, None, Some}
+use Rattle.std.specs.Prelude.{◌≡◌, ◌+◌, ℕ, false, List, [], ◌∷◌, map, filter, not, is_some, unwrap_or, ◌≤◌, ◌^◌, Option, None, Some}
 use Rattle.std.specs.List.{Contains, flat_map, sum_by}
 use Rattle.std.specs.Option.{option_map}
-use Rattle.just_graph.specs.Unfolding.{KeyOf, KeyStepsOf}
+use Rattle.just_graph.specs.Unfolding.{AreFirstOf, KeyOf, KeyStepsOf, NodeOf}
 use Rattle.just_graph.specs.Unfolded.{AreApart}
+use Rattle.just_parts.specs.Asts.{AstKey}
 use Rattle.just_parts.specs.Clean.{folder_of}
 use Rattle.just_parts.specs.Edge.{Edge, Imports, Declares, edge_of}
 use Rattle.just_parts.specs.Name.{text_of_name}
@@ -26,15 +27,16 @@ end_of Nowhere = []
 end_of (To path) = path ∷ []
 end_of (Fault cause) = []
 
--- A step from a file: where it leads, and the name of the module that it enters; an import enters none.
+-- A step from a file: where it leads, the offset of the quoted text of an import, and the name of the module that it enters; an import enters none.
 pub record FileStep : Type 0 where
   pub to : Text
+  pub offset : ℕ
   pub enters : Option Text
 
 -- the step of an item, by where it leads
 abbrev pub steps_by : Option Edge → Link → List FileStep
-steps_by (Some (Imports literal optional)) l = map (λ path. record { to = path; enters = None }) (end_of l)
-steps_by (Some (Declares name literal optional)) l = map (λ path. record { to = path; enters = Some (text_of_name name) }) (end_of l)
+steps_by (Some (Imports literal optional)) l = map (λ path. record { to = path; offset = literal.token.offset; enters = None }) (end_of l)
+steps_by (Some (Declares name literal optional)) l = map (λ path. record { to = path; offset = 0; enters = Some (text_of_name name) }) (end_of l)
 steps_by None l = []
 
 -- the steps of the items of a file, in order
@@ -78,6 +80,25 @@ FileKeySteps w = KeyStepsOf (λ (s : FileStep). s.to) (λ (s : FileStep). s.ente
 -- steps lead to the key from the root's
 abbrev pub IsKey : World → FileKey → Type 0
 IsKey w k = (d : ℕ) × FileKeySteps w (root_file_key w) k d
+
+-- that many steps lead to the key from the root's, and no fewer do
+abbrev pub IsLeastFileDepth : World → FileKey → ℕ → Type 0
+IsLeastFileDepth w k d = FileKeySteps w (root_file_key w) k d × ((m : ℕ) → FileKeySteps w (root_file_key w) k m → d ≤ m)
+
+-- a node of the unfolding of the root file: its key, the offsets of the imports since its module was entered, and the steps that lead to it
+abbrev pub FileNode : Type 0
+FileNode = NodeOf Text Text FileStep
+
+-- the first node of each key in the preorder of the root file's unfolding
+abbrev pub AreFirstFiles : World → List FileNode → Type 0
+AreFirstFiles w = AreFirstOf (λ (s : FileStep). s.to) (λ (s : FileStep). s.offset) (λ (s : FileStep). s.enters) (steps_of w) w.root
+
+-- the key under which what a file says is held, and the key of the file
+abbrev pub ast_key : FileKey → AstKey
+ast_key k = (record { components = k.path; spaced = false }, k.node)
+
+abbrev pub key_of_ast : AstKey → FileKey
+key_of_ast k = record { path = k.0.components; node = k.1 }
 
 -- how many numbers the text of the file at a path takes
 abbrev pub spends_at : World → Text → ℕ

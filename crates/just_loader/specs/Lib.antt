@@ -2,6 +2,7 @@ pub mod FileCircles
 pub mod Keys
 pub mod Links
 pub mod Loaded
+pub mod LoadedInPlaces
 pub mod Loading
 pub mod ModuleFile
 pub mod Numbering

@@ -1,9 +1,9 @@
 -- What the keys of a compilation hold.
-use Rattle.std.specs.Prelude.{◌≡◌, ◌==◌, ℕ, not, false, IsTrue, List, [], ◌∷◌, map, filter, get_or, Option, None, Some}
-use Rattle.std.specs.HashMap.{get}
+use Rattle.std.specs.Prelude.{◌≡◌, ℕ, not, false, List, [], ◌∷◌, map, filter, Option, None, Some}
 use Rattle.std.specs.List.{All, Contains}
-use Rattle.just_graph.specs.Unfolding.{Key, Node, KeySteps, AreFirst, IsLeastDepth, key, root_key, steps}
-use Rattle.just_graph.specs.declared.unfolding.Step.{Step}
+use Rattle.std.specs.Str.{bytes_eq}
+use Rattle.just_graph.specs.Unfolding.{HasKeyOf, key_of}
+use Rattle.just_parts.specs.Asts.{AstKey, same_ast_key}
 use Rattle.just_parts.specs.Bare.{bare_ast}
 use Rattle.just_parts.specs.Clean.{folder_of}
 use Rattle.just_parts.specs.Edge.{with_absolute}
@@ -12,44 +12,29 @@ use Rattle.just_parts.specs.Modulepath.{Text}
 use Rattle.just_parts.specs.declared.layers.ast.Ast.{Ast}
 use Rattle.just_parts.specs.declared.layers.ast.Item.{Item}
 use Rattle.just_parts.specs.declared.source.Source.{Source}
-use Rattle.just_parts.specs.Asts.{AstKey, same_ast_key}
-use Rattle.just_loader.specs.FileCircles.{IsFileOrder}
+use Rattle.just_loader.specs.Keys.{AreFirstFiles, FileKey, FileNode, FileStep, IsKey, IsLeastFileDepth, ast_key}
 use Rattle.just_loader.specs.Links.{Link, Nowhere, To, Fault}
-use Rattle.just_loader.specs.Numbering.{texts_of}
 use Rattle.just_loader.specs.Reached.{World, ast_of, link, relative_to_root}
-use Rattle.just_loader.specs.Scanned.{IsScan, paths_in}
-use Rattle.just_loader.specs.declared.loaded.Loaded.{Loaded}
-use Rattle.just_loader.specs.declared.scanned.Scan.{Scan}
-
--- the path of the file at a place, and the text of a name under its number
-abbrev pub file_at : Scan → ℕ → Text
-file_at scan place = get_or (paths_in scan.files.items) place []
-
-abbrev pub name_at : Scan → ℕ → Text
-name_at scan number = get_or (texts_of scan.names.items) number []
-
--- the key of a file in a group, in texts
-abbrev pub key_at : Scan → List ℕ → ℕ → AstKey
-key_at scan path place = (record { components = map (name_at scan) path; spaced = false }, file_at scan place)
 
 -- the file that is entered, or the one that was
-abbrev pub entered : ℕ → Option ℕ → ℕ → ℕ
+abbrev pub entered : {A X : Type 0} → A → Option X → A → A
 entered own None target = own
 entered own (Some name) target = target
 
 -- the file that steps entered last: that of the module in which they end
-abbrev pub own_after : ℕ → List Step → ℕ
+abbrev pub own_after : Text → List FileStep → Text
 own_after own [] = own
-own_after own (s ∷ ss) = own_after (entered own s.enters s.target) ss
+own_after own (s ∷ ss) = own_after (entered own s.enters s.to) ss
 
--- How a node's file came in: the files of its trail, the offsets since its module was entered, that module and the folder of its own file, and the least depth of its key.
-pub record CameIn (scan : Scan) (n : Node) (source : Source) : Type 0 where
-  pub chain : source.file_path ≡ file_at scan 0 ∷ map (λ (s : Step). file_at scan s.target) n.trail
+-- How a node's file came in: the files of its trail, the offsets since its module was entered, that module, the folder of the module's own file,
+-- and the least depth of its key.
+pub record CameIn (w : World) (n : FileNode) (source : Source) : Type 0 where
+  pub chain : source.file_path ≡ w.root ∷ map (λ (s : FileStep). s.to) n.trail
   pub offsets : source.import_offsets ≡ n.offsets
-  pub components : components_of source.namepath ≡ map (name_at scan) n.path
-  pub path : source.path ≡ file_at scan n.node
-  pub folder : source.working_directory ≡ folder_of (file_at scan (own_after 0 n.trail))
-  pub depth : IsLeastDepth (steps scan.rows.items) 0 (key n) source.file_depth
+  pub components : components_of source.namepath ≡ n.path
+  pub path : source.path ≡ n.node
+  pub folder : source.working_directory ≡ folder_of (own_after w.root n.trail)
+  pub depth : IsLeastFileDepth w (key_of n) source.file_depth
 
 -- where a link leads
 abbrev pub path_of_link : Link → Option Text
@@ -62,39 +47,33 @@ abbrev pub with_path : World → Text → Item → Item
 with_path w folder i = with_absolute (path_of_link (link w folder i)) i
 
 -- What a node's text says, as it came in, with the absolute paths of what it leads to.
-pub record IsAstOf (w : World) (scan : Scan) (n : Node) (ast : Ast) : Type 0 where
+pub record IsAstOf (w : World) (n : FileNode) (ast : Ast) : Type 0 where
   pub source : Source
-  pub came : CameIn scan n source
+  pub came : CameIn w n source
   pub parsed : Ast
   pub from : IsFrom source parsed
-  pub said : ast_of w (file_at scan n.node) ≡ Some (bare_ast parsed)
-  pub items : ast.items ≡ map (with_path w (folder_of (file_at scan n.node))) parsed.items
+  pub said : ast_of w n.node ≡ Some (bare_ast parsed)
+  pub items : ast.items ≡ map (with_path w (folder_of n.node)) parsed.items
   pub module_path : ast.module_path ≡ parsed.module_path
   pub working_directory : ast.working_directory ≡ parsed.working_directory
-
--- Each node's text is held under its key, and nothing else is.
-pub record AreAstsOf (w : World) (scan : Scan) (nodes : List Node) (asts : AstKey → Option Ast) : Type 0 where
-  pub held : (n : Node) → Contains nodes n → (ast : Ast) × (asts (key_at scan n.path n.node) ≡ Some ast) × IsAstOf w scan n ast
-  pub only : (k : AstKey) (ast : Ast) → asts k ≡ Some ast → (n : Node) × Contains nodes n × IsTrue (same_ast_key (key_at scan n.path n.node) k)
 
 -- Numbers tell all definitions apart: those of a text rise, and no number is in two texts.
 pub record AreToldApart (asts : AstKey → Option Ast) : Type 0 where
   pub rising : (k : AstKey) (ast : Ast) → asts k ≡ Some ast → (low : ℕ) × (high : ℕ) × AreRising low (numbers ast.items) high
   pub apart : (k l : AstKey) (a b : Ast) (n : ℕ) → asts k ≡ Some a → asts l ≡ Some b → same_ast_key k l ≡ false → Contains (numbers a.items) n → Contains (numbers b.items) n → ⊥
 
--- each number once, at its first place
-abbrev pub at_first : List ℕ → List ℕ
+-- each text once, at its first place
+abbrev pub at_first : List Text → List Text
 at_first [] = []
-at_first (x ∷ xs) = x ∷ filter (λ y. not (y == x)) (at_first xs)
+at_first (x ∷ xs) = x ∷ filter (λ y. not (bytes_eq y x)) (at_first xs)
 
--- What is loaded: the reached files, an order of them, the first node of each key of the unfolding, what the keys hold, and the relative paths of the files in the order of loading.
-pub record IsLoaded (w : World) (loaded : Loaded) : Type 0 where
-  pub scan : IsScan w loaded.scan
-  pub order : IsFileOrder loaded.scan.rows.items loaded.order.items
-  pub nodes : List Node
-  pub first : AreFirst (steps loaded.scan.rows.items) 0 nodes
-  pub keys : (k : Key) (n : ℕ) → KeySteps (steps loaded.scan.rows.items) (root_key 0) k n → (node : Node) × Contains nodes node × (key node ≡ k)
-  pub asts : AreAstsOf w loaded.scan nodes (get same_ast_key loaded.asts)
-  pub numbers : AreToldApart (get same_ast_key loaded.asts)
-  pub priors : (k : AstKey) (ast : Ast) → get same_ast_key loaded.asts k ≡ Some ast → All PriorsAreDependencies ast.items
-  pub loaded_is : loaded.loaded ≡ map (λ place. relative_to_root w (file_at loaded.scan place)) (at_first (map (λ (n : Node). n.node) nodes))
+-- What is loaded: the first node of each key of files, what each key holds, and the relative paths of the files in the order of loading.
+pub record IsLoaded (w : World) (asts : AstKey → Option Ast) (loaded : List Text) : Type 0 where
+  pub nodes : List FileNode
+  pub first : AreFirstFiles w nodes
+  pub keys : (k : FileKey) → IsKey w k → HasKeyOf nodes k
+  pub held : (n : FileNode) → Contains nodes n → (ast : Ast) × (asts (ast_key (key_of n)) ≡ Some ast) × IsAstOf w n ast
+  pub only : (k : AstKey) (ast : Ast) → asts k ≡ Some ast → (n : FileNode) × Contains nodes n × (ast_key (key_of n) ≡ k)
+  pub numbers : AreToldApart asts
+  pub priors : (k : AstKey) (ast : Ast) → asts k ≡ Some ast → All PriorsAreDependencies ast.items
+  pub loaded_is : loaded ≡ map (relative_to_root w) (at_first (map (λ (n : FileNode). n.node) nodes))

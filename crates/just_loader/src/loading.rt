@@ -12,7 +12,8 @@ ghost use Rattle.just_parts.specs.declared.layers.ast.Ast.{Ast};
 ghost use Rattle.just_parts.specs.Asts.{same_ast_key};
 ghost use Rattle.just_parts.specs.Causes.{Keeps, Reports};
 ghost use Rattle.just_loader.specs.Keys.{NamesInFiles, SpendsAt, spends_at};
-ghost use Rattle.just_loader.specs.Loaded.{IsLoaded, at_first, file_at};
+ghost use Rattle.just_loader.specs.Loaded.{IsLoaded};
+ghost use Rattle.just_loader.specs.LoadedInPlaces.{IsLoadedInPlaces, at_first_places, file_at};
 ghost use Rattle.just_loader.specs.Loading.{AreNodes, AreNumberedBy, AreParsedBy, AreSources, AreUnfolded, CameInAt, CameInSoFar, ComesNext, HavePaths, InWorlds, IsSaid, IsScanBy, Stops, StopsAt, spent_by};
 ghost use Rattle.just_loader.specs.Parsed.{AreHeld, AreKeyed, relative_at};
 ghost use Rattle.just_loader.specs.Reached.{World, link, world_of};
@@ -220,7 +221,7 @@ fn loaded_paths<'src>(
     nodes: &[Unfolded],
 ) -> Result<Sequence<Text>, AllocError>
     requires { (k : ℕ) (u : Unfolded) → slice_get nodes.now k ≡ Some u → u.node < length scan.now.files.items }
-    ensures { IfOk result (λ loaded. loaded ≡ map (relative_at scan.now) (at_first (map (λ (u : Unfolded). u.node) nodes.now))) }
+    ensures { IfOk result (λ loaded. loaded ≡ map (relative_at scan.now) (at_first_places (map (λ (u : Unfolded). u.node) nodes.now))) }
 {
     let mut seen = Vec::new(alloc);
     seen.resize(scan.files.len(), false)?;
@@ -246,7 +247,8 @@ pub fn load<'src, S: Syntax>(
 ) -> Result<Loaded<'src>, Error<'src>>
     requires { IsClean root.now }
     ensures kept { IfOk result (λ _. Keeps (NamesInFiles (world_of sources.now config.now (S.answers syntax.now) root.now))) }
-    ensures loaded { IfOk result (IsLoaded (world_of sources.now config.now (S.answers syntax.now) root.now)) }
+    ensures loaded { IfOk result (λ loaded. IsLoaded (world_of sources.now config.now (S.answers syntax.now) root.now) (get same_ast_key loaded.asts) loaded.loaded) }
+    ensures in_places { IfOk result (IsLoadedInPlaces (world_of sources.now config.now (S.answers syntax.now) root.now)) }
     ensures named { IfErr result (Reports (NamesInFiles (world_of sources.now config.now (S.answers syntax.now) root.now))) }
 {
     if sources.file(root).is_none() {

@@ -15,3 +15,4 @@ pub mod Name
 pub mod Parameter
 pub mod Syntax
 pub mod Token
+pub mod Wording

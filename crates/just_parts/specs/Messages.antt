@@ -1,7 +1,8 @@
 -- The names of errors, and what they say.
-use Rattle.std.specs.Prelude.{ℕ, ◌+◌, min, false, List, ◌++◌, codes, decimal}
+use Rattle.std.specs.Prelude.{ℕ, ◌==◌, false, List, length, ◌++◌, codes, decimal, if◌then◌else◌}
 use Rattle.just_parts.specs.Modulepath.{joined, text_of}
 use Rattle.just_parts.specs.Name.{texts_of_path}
+use Rattle.just_parts.specs.Wording.{arguments_text, takes_text, place_text, at_text}
 use Rattle.just_parts.specs.declared.layers.name.Namepath.{Namepath}
 use Rattle.just_parts.specs.declared.layers.error.LoadError.{LoadError}
 use Rattle.just_parts.specs.declared.layers.error.LoadError.TheVariants as load
@@ -57,31 +58,36 @@ error_name error.Exhausted = codes "Exhausted"
 error_name error.Memory = codes "Memory"
 
 abbrev pub definition_text : Definition → List ℕ
-definition_text definition.Module = codes "Module"
-definition_text definition.Recipe = codes "Recipe"
-
--- a line or a column, counted from 1
-abbrev pub place_text : ℕ → List ℕ
-place_text n = decimal (min (n + 1) 18446744073709551615)
+definition_text definition.Module = codes "module"
+definition_text definition.Recipe = codes "recipe"
 
 -- the text of a path of names
 abbrev pub path_text : Namepath → List ℕ
 path_text path = text_of (texts_of_path path) false
+
+-- what a circle of recipes says
+abbrev pub chain_text : List ℕ → List (List ℕ) → List ℕ
+chain_text recipe circle = codes "Recipe `" ++ (recipe ++ (codes "` has circular dependency `" ++ (joined (codes " -> ") circle ++ codes "`")))
+
+-- the same, where one of two names, which are equal, is that of a recipe which depends on itself
+abbrev pub circle_text : List ℕ → List (List ℕ) → List ℕ
+circle_text recipe circle =
+    if length circle == 2 then codes "Recipe `" ++ (recipe ++ codes "` depends on itself") else chain_text recipe circle
 
 -- what a broken rule says
 abbrev pub kind_text : CompileErrorKind → List ℕ
 kind_text kind.Syntax = codes "The line does not follow the grammar"
 kind_text (kind.DuplicateParameter recipe parameter) = codes "Recipe `" ++ (recipe ++ (codes "` has duplicate parameter `" ++ (parameter ++ codes "`")))
 kind_text (kind.Redefinition first_type second_type name first) =
-    definition_text first_type ++ (codes " `" ++ (name ++ (codes "` first defined on line " ++ (place_text first ++ (codes " is redefined as " ++ definition_text second_type)))))
+    codes "`" ++ (name ++ (codes "` is redefined as " ++ (definition_text second_type ++ (codes "; its first definition is a " ++ (definition_text first_type ++ (codes " on line " ++ (place_text first ++ codes " of this file or of another one of its module")))))))
 kind_text (kind.UnknownDependency recipe unknown) = codes "Recipe `" ++ (recipe ++ (codes "` has unknown dependency `" ++ (path_text unknown ++ codes "`")))
-kind_text (kind.CircularRecipeDependency recipe circle) = codes "Recipe `" ++ (recipe ++ (codes "` has circular dependency `" ++ (joined (codes " -> ") circle ++ codes "`")))
+kind_text (kind.CircularRecipeDependency recipe circle) = circle_text recipe circle
 kind_text (kind.DependencyArgumentCountMismatch dependency found least most) =
-    codes "Dependency `" ++ (path_text dependency ++ (codes "` got " ++ (decimal found ++ (codes " arguments but takes " ++ (decimal least ++ (codes " to " ++ decimal most))))))
+    codes "Dependency `" ++ (path_text dependency ++ (codes "` got " ++ (arguments_text found ++ (codes " but takes " ++ takes_text least most))))
 
 -- the same, after the place where it is told
 abbrev pub compile_text : CompileError → List ℕ
-compile_text e = e.token.path ++ (codes ":" ++ (place_text e.token.line ++ (codes ":" ++ (place_text e.token.column ++ (codes ": " ++ kind_text e.kind)))))
+compile_text e = at_text e.token ++ (codes ": " ++ kind_text e.kind)
 
 -- what a fault of a run says
 abbrev pub run_text : RunError → List ℕ

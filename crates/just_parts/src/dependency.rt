@@ -1,3 +1,4 @@
+//! What a resolved recipe depends on.
 use crate::layers::name::Namepath;
 use crate::layers::number::Number;
 use just_data::Exact;
@@ -5,7 +6,9 @@ use just_data::Exact;
 /// What a resolved recipe depends on: a recipe, and the path by which it is named.
 #[derive(Clone, Debug, PartialEq, Eq, Drop)]
 pub struct Dependency<'src> {
+    /// The names by which the recipe is named, as the source text has them.
     pub path: Namepath<'src>,
+    /// The number of the recipe.
     pub recipe: Number,
 }
 

@@ -1,3 +1,4 @@
+//! Identifiers.
 ghost use Rattle.std.specs.Prelude.{◌≡◌};
 ghost use Rattle.just_parts.specs.Identifier.{is_identifier_start, is_identifier_continue, is_identifier};
 

@@ -1,3 +1,4 @@
+//! Clean joins: where a text leads to from a folder.
 ghost use Rattle.std.specs.Prelude.{◌≡◌, ◌⊎◌, ◌∷◌, [], IfOk, OnOk};
 ghost use Rattle.just_parts.specs.Clean.{IsClean};
 ghost use Rattle.just_parts.specs.Join.{clean_join, led, start_of};

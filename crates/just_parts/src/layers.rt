@@ -12,6 +12,7 @@ pub mod output;
 pub mod parameter;
 pub mod syntax;
 pub mod token;
+mod wording;
 
 pub use ast::{Ast, Item, StringLiteral, UnresolvedDependency};
 pub use config::Config;

@@ -1,3 +1,4 @@
+//! Paths to modules and recipes.
 ghost use Rattle.std.specs.Prelude.{◌≡◌, ◌≢◌, List, ℕ, [], ◌∷◌, ◌++◌, Bool, map, IfOk, OnErr, OnOk, IsTrue, ◌<◌, length, false, nat_eq};
 ghost use Rattle.std.specs.Cmp.Lexicographic.{pointwise};
 ghost use Rattle.std.specs.List.{starts_with};
@@ -13,7 +14,9 @@ use std::fmt;
 /// A path to a module or a recipe. Equality, order and hash are those of the components, then of `spaced`.
 #[derive(Debug, PartialEq, Eq, PartialOrd, Ord, Hash, Drop)]
 pub struct Modulepath {
+    /// The names, from the root on; none of the root's path.
     pub components: Sequence<Text>,
+    /// Whether blanks stand between the names, as where each came as a word, and not `::`.
     pub spaced: bool,
 }
 
@@ -108,7 +111,7 @@ impl Modulepath {
         }
     }
 
-    /// The path that one word of the command line is: one `::` at its end is dropped first.
+    /// The path that one word of the command line is, or `()` where it is none: one `::` at its end is dropped first.
     pub fn from_argument(alloc: Global, word: &str) -> Result<Result<Modulepath, ()>, AllocError>
         ensures path { IfOk result (λ found. IfOk found (λ p. IsArgumentPath word.now p.components × (p.spaced ≡ false))) }
         ensures refusal { IfOk result (λ found. OnErr found ((components : List (List ℕ)) → IsArgumentPath word.now components → ⊥)) }

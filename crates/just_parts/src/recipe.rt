@@ -1,3 +1,4 @@
+//! Recipes, as a text says them and resolved.
 ghost use Rattle.std.specs.Prelude.{◌≡◌, ◌≤◌, length, take, drop, count_by, IsSome, Some};
 ghost use Rattle.std.specs.List.{list_any};
 ghost use Rattle.just_parts.specs.declared.layers.parameter.Parameter.{Parameter};
@@ -16,15 +17,25 @@ use std::alloc::AllocError;
 /// it is resolved.
 #[derive(Debug, PartialEq, Eq, Drop)]
 pub struct Recipe<'src, D = Dependency<'src>> {
+    /// What it depends on: those that run before it, then those that run after it.
     pub dependencies: Sequence<D>,
+    /// How many imports and modules lead from the root to its file, at least.
     pub file_depth: u64,
+    /// How many bytes stand before the path of each import that leads to its file within its module, the outermost first.
     pub import_offsets: Chain<usize>,
+    /// Its name.
     pub name: Name<'src>,
+    /// What it is told apart by: no other definition of a compilation has this number.
     pub number: Number,
+    /// Its parameters, in order.
     pub parameters: Sequence<Parameter<'src>>,
+    /// How many of the dependencies run before it.
     pub priors: usize,
+    /// Whether it is left out of listings.
     pub private: bool,
+    /// The path of its module, once it is resolved.
     pub module_path: Option<Modulepath>,
+    /// Its own path, which ends with its name, once it is resolved.
     pub recipe_path: Option<Modulepath>,
 }
 

@@ -1,3 +1,4 @@
+//! Clean paths, and how a file came in.
 ghost use Rattle.std.specs.Prelude.{◌≡◌, ◌↔◌, ◌⊎◌, ◌+◌, [], ◌∷◌, ◌++◌, Some, None, IsTrue, IfOk, IfErr, IsErrOf, MatchResult};
 ghost use Rattle.just_parts.specs.Clean.{IsClean, is_component, folder_of};
 ghost use Rattle.just_parts.specs.Name.{submodule_path};
@@ -42,11 +43,17 @@ pub fn folder_of(path: &str) -> &str
 /// the root's.
 #[derive(Clone, Debug, PartialEq, Eq, Drop)]
 pub struct Source<'src> {
+    /// How many imports and modules lead to it from the root.
     pub file_depth: u64,
+    /// The paths of the files that lead to it, from the root to itself.
     pub file_path: Chain<Text>,
+    /// How many bytes stand before the path of each import that leads to it within its module, the outermost first.
     pub import_offsets: Chain<usize>,
+    /// The names that declare its module; none of the root's module.
     pub namepath: Option<Namepath<'src>>,
+    /// Its clean path.
     pub path: Text,
+    /// The folder of the own file of its module: a clean path, or `/`.
     pub working_directory: Text,
 }
 
@@ -102,6 +109,7 @@ impl<'src> Source<'src> {
     }
 
     /// The file that this one imports at an offset. It belongs to this one's module and works where this one does.
+    /// The error is `Exhausted` where it would lie deeper than 64 bits can tell, and else want of memory.
     pub fn import(
         &self,
         alloc: Global,
@@ -130,6 +138,7 @@ impl<'src> Source<'src> {
     }
 
     /// The file of the module `name` of this one's module. It works in its own folder.
+    /// The errors are those of `import`.
     pub fn module(
         &self,
         alloc: Global,

@@ -1,3 +1,4 @@
+//! Tables: values under their keys, in byte order.
 ghost use Rattle.std.specs.Prelude.{◌≡◌, [], ◌∷◌, length, is_some, IsSome, IsTrue, ◌↔◌, IfOk, IfErr, OnOk, OnErr, MatchOption, Some, List, ℕ, map, refl, ◌<◌, ◌^◌, true};
 ghost use Rattle.std.specs.Borrow.{Bor};
 ghost use Rattle.std.specs.Cmp.Lexicographic.{slice_cmp};
@@ -19,8 +20,10 @@ use std::ops::Index;
 
 /// A value that holds its key.
 pub trait Keyed<'key> {
+    /// The key of a value.
     ghost key_of: { Self → List ℕ };
 
+    /// The key, which may outlive the value.
     fn key(&self) -> &'key str
         ensures { result.now ≡ key_of self.now };
 }
@@ -35,8 +38,10 @@ impl<'key> Keyed<'key> for BorrowedText<'key> {
 
 /// A key that is ordered by its text.
 pub trait TextKey: Ord + Copy {
+    /// The text of a key.
     ghost text: { Self → List ℕ };
 
+    /// The order of keys is that of their texts.
     ghost by_text: { (x y : Self) → Self.cmp x y ≡ slice_cmp nat_cmp (text x) (text y) };
 }
 
@@ -69,6 +74,7 @@ impl<K: TextKey, V> Model for TableOf<K, V> {
 }
 
 impl<'key, V> TableOf<&'key str, V> {
+    /// A table without entries, which takes no memory.
     pub fn new(alloc: Global) -> Table<'key, V>
         ensures { result ≡ [] }
     {
@@ -77,6 +83,7 @@ impl<'key, V> TableOf<&'key str, V> {
         }
     }
 
+    /// How many entries there are.
     pub fn len(&self) -> usize
         ensures len { result ≡ length self.now }
         ensures sorted { IsSorted self.now }
@@ -84,18 +91,21 @@ impl<'key, V> TableOf<&'key str, V> {
         self.map.len()
     }
 
+    /// Whether there are no entries.
     pub fn is_empty(&self) -> bool
         ensures { IsTrue result ↔ (self.now ≡ []) }
     {
         self.map.is_empty()
     }
 
+    /// The value at a key, or none.
     pub fn get(&self, key: &str) -> Option<&V>
         ensures { option_copied result ≡ find key.now self.now }
     {
         self.map.get(key)
     }
 
+    /// Whether there is a value at a key.
     pub fn contains_key(&self, key: &str) -> bool
         ensures { result ≡ is_some (find key.now self.now) }
     {
@@ -124,6 +134,7 @@ impl<'key, V: Keyed<'key> + Drop> TableOf<&'key str, V> {
 }
 
 impl<'key, V: Drop> TableOf<&'key str, V> {
+    /// Takes the value at a key out, or answers none and leaves the table as it is.
     pub fn remove(&mut self, key: &str) -> Option<V>
         ensures found { result ≡ find key.now self.old }
         ensures rest { self.new ≡ without key.now self.old }
@@ -142,6 +153,7 @@ impl<'key, V: Drop> TableOf<&'key str, V> {
         }
     }
 
+    /// The values, in the order of their keys, which leaves no table.
     pub fn into_values(self) -> IntoValues<&'key str, V>
         ensures rest { result ≡ values_of self.entry }
         ensures runs { GivesInOrder V }
@@ -153,6 +165,7 @@ impl<'key, V: Drop> TableOf<&'key str, V> {
 }
 
 impl<'key, V> TableOf<&'key str, V> {
+    /// The keys, in order.
     pub fn keys(&self) -> Keys<'_, &'key str, V>
         ensures rest { map (λ k. k.now) result ≡ keys_of self.now }
         ensures runs { ShowsInOrder (deref {X = Bor (List ℕ)}) }
@@ -162,6 +175,7 @@ impl<'key, V> TableOf<&'key str, V> {
         self.map.keys()
     }
 
+    /// The values, in the order of their keys.
     pub fn values(&self) -> Values<'_, &'key str, V>
         ensures rest { result ≡ values_of self.now }
         ensures runs { ShowsInOrder (deref {X = V}) }
@@ -171,6 +185,7 @@ impl<'key, V> TableOf<&'key str, V> {
         self.map.values()
     }
 
+    /// The entries, in the order of their keys.
     pub fn iter(&self) -> Iter<'_, &'key str, V>
         ensures rest { shown (λ k. k.now) result ≡ self.now }
         ensures runs { ShowsInOrder (deref_pair {K = Bor (List ℕ)} {X = V}) }

@@ -1,8 +1,8 @@
 //! Copies are equal to what they are of, and there is memory for them.
-use just_analyzer::layers::{Ast, Config, Error, Groups, Host, Numerator, Syntax};
-use just_analyzer::{Compilation, Compiler, Modulepath, Source, Sources, is_clean};
-use just_bench::{PlainEvaluation, PlainSyntax, Recorder};
+use just_bench::{PlainSyntax, Recorder};
 use just_data::{Boxed, Exact, Sequence, Text};
+use just_parts::layers::{Ast, Config, Error, Groups, Host, LoadError, Numerator, Syntax};
+use just_parts::{Modulepath, Source, is_clean};
 use std::alloc::{AllocError, Global};
 use std::test::Fail;
 
@@ -11,11 +11,19 @@ fn is_copied<T: Exact + PartialEq + Drop>(value: &T) -> Result<bool, AllocError>
     Ok(value.clone()? == *value)
 }
 
+// That a root is no file, which a path that is not clean can't be.
+fn no_root<'src>(alloc: Global, root: &str) -> Error<'src> {
+    match Text::from_str(alloc, root) {
+        Ok(path) => Error::Load(LoadError::Load { path }),
+        Err(_) => Error::Memory,
+    }
+}
+
 // What the grammar reads in a text.
 fn parse<'src>(alloc: Global, text: &'src str) -> Result<Ast<'src>, Error<'src>> {
     let path = "/justfile";
     if !is_clean(path) {
-        return Err(Error::Memory);
+        return Err(no_root(alloc, path));
     }
     let source = Source::root(alloc, path)?;
     PlainSyntax.parse_source(alloc, &mut Numerator::new(), "justfile", &source, text)
@@ -29,47 +37,6 @@ fn what_was_read_is_copied(rt: HostRuntime) -> Result<(), Fail> {
     )?;
     assert_eq!(rt; ast.items.len(), 6);
     assert!(rt; is_copied(&ast)?);
-    Ok(())
-}
-
-// Compiles a text as the one file there is.
-fn compile<'src>(alloc: Global, sources: &Sources<'src>) -> Result<Compilation<'src>, Error<'src>> {
-    let root = "/justfile";
-    if !is_clean(root) {
-        return Err(Error::Memory);
-    }
-    let config = Config::default();
-    Compiler::compile(
-        alloc,
-        &config,
-        &PlainSyntax,
-        &PlainEvaluation,
-        sources,
-        root,
-    )
-}
-
-// Whether the recipes of a compilation are copied, and the keys under which they stand.
-fn are_recipes_copied(compilation: &Compilation) -> Result<bool, AllocError> {
-    for key in compilation.justfile.recipes.values() {
-        let Some(recipe) = compilation.recipes.get(key.number) else {
-            return Ok(false);
-        };
-        if !is_copied(key)? || !is_copied(recipe)? {
-            return Ok(false);
-        }
-    }
-    Ok(true)
-}
-
-#[test]
-fn recipes_are_copied(rt: HostRuntime) -> Result<(), Fail> {
-    let mut sources = Sources::new(rt.alloc());
-    sources.insert("/justfile", "a x: b && c\nb:\nc:\n")?;
-    match compile(rt.alloc(), &sources) {
-        Ok(compilation) => assert!(rt; are_recipes_copied(&compilation)?),
-        Err(error) => assert!(rt; false, "{error}"),
-    }
     Ok(())
 }
 

@@ -1,8 +1,9 @@
 //! The search for a module's file, by its own call.
-use just_analyzer::layers::{Ast, Error, Item, LoadError, Name, Numerator, Syntax};
-use just_analyzer::{Compiler, Source, Sources, is_clean};
 use just_bench::PlainSyntax;
 use just_data::Text;
+use just_loader::{Sources, find_module_file};
+use just_parts::layers::{Ast, Error, Item, LoadError, Name, Numerator, Syntax};
+use just_parts::{Source, is_clean};
 use std::alloc::{AllocError, Global};
 use std::test::Fail;
 
@@ -43,10 +44,7 @@ fn search<'src>(
     name: &Name<'src>,
     folder: &str,
 ) -> Result<String, AllocError> {
-    described(
-        alloc,
-        Compiler::find_module_file(alloc, sources, folder, name, None),
-    )
+    described(alloc, find_module_file(alloc, sources, folder, name, None))
 }
 
 #[test]

@@ -1,13 +1,13 @@
 //! Why the program ends early.
-use just_analyzer::layers::Error;
+use just_analyzer::layers::{CompileErrorKind, Error};
 use just_bench::bundle::BundleError;
 use std::fmt;
 
 /// Why the program ends early, when it was used well.
 #[derive(Debug, Drop)]
 pub enum Fault<'src> {
-    /// The root is no clean path.
-    NotClean,
+    /// The root, which is told, is no clean path.
+    NotClean(&'src str),
     /// The input is no bundle of files.
     Bundle(BundleError),
     /// Compiling or running failed.
@@ -22,7 +22,7 @@ impl<'src> Fault<'src> {
     /// The name of the fault.
     pub fn name(&self) -> &'static str {
         match self {
-            Fault::NotClean => "NotClean",
+            Fault::NotClean(_) => "NotClean",
             Fault::Bundle(BundleError::Memory) => "Memory",
             Fault::Bundle(_) => "Bundle",
             Fault::Analyzer(error) => error.name(),
@@ -32,12 +32,28 @@ impl<'src> Fault<'src> {
     }
 }
 
+// Writes an error of the analyzer. Of a line that does not follow the grammar it shows the line.
+fn write_error<W: fmt::Write>(f: &mut fmt::Formatter<W>, error: &Error) -> fmt::Result {
+    write!(f, "{error}")?;
+    match error {
+        Error::Compile(error) if error.kind == CompileErrorKind::Syntax => {
+            write!(f, ": `{}`", error.token.lexeme())
+        }
+        _ => Ok(()),
+    }
+}
+
 impl<'src> fmt::Display for Fault<'src> {
     fn fmt<W: fmt::Write>(&self, f: &mut fmt::Formatter<W>) -> fmt::Result {
         match self {
-            Fault::NotClean => f.write_str("The root is not a clean path"),
+            Fault::NotClean(root) => {
+                write!(
+                    f,
+                    "The root `{root}` is not a clean path: that begins with `/`, and no part of it is empty, `.` or `..`"
+                )
+            }
             Fault::Bundle(error) => write!(f, "{error}"),
-            Fault::Analyzer(error) => write!(f, "{error}"),
+            Fault::Analyzer(error) => write_error(f, error),
             Fault::Write => f.write_str("The output could not be written"),
             Fault::Memory => f.write_str("Out of memory"),
         }

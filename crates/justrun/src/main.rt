@@ -1,7 +1,10 @@
 //! Runs the recipes of a bundle of files, and prints which ones began.
 #![tactic(auto)]
 
+#[cfg(test)]
+mod compilations;
 mod fault;
+mod one_line;
 mod program;
 #[cfg(test)]
 mod tests;

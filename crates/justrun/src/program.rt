@@ -4,6 +4,7 @@ ghost use Rattle.just_parts.specs.Clean.{IsClean};
 ghost use Rattle.just_invoke.specs.Closed.{IsClosed};
 
 use crate::fault::Fault;
+use crate::one_line::OneLine;
 use just_analyzer::layers::{Config, Entry, Error, Groups};
 use just_analyzer::{Compilation, Compiler, Sources, is_clean};
 use just_bench::bundle::{read_sources, read_text};
@@ -139,7 +140,8 @@ pub fn tell<E: Write>(errors: &mut E, fault: &Fault) -> u8
     ensures { result ≡ 1 }
 {
     let name = fault.name();
-    let _ = writeln!(errors, "justrun: {name}: {fault}");
+    let message = OneLine(fault);
+    let _ = writeln!(errors, "justrun: {name}: {message}");
     1
 }
 
@@ -182,7 +184,7 @@ fn run_input<R: Read, W: Write, E: Write>(
     ensures not_clean { (IsClean root.now → ⊥) → result ≡ 1 }
 {
     if !is_clean(root) {
-        return tell(errors, &Fault::NotClean);
+        return tell(errors, &Fault::NotClean(root));
     }
     match read_text(alloc, input) {
         Ok(text) => run_text(alloc, text.as_str(), root, words, output, errors),

@@ -30,7 +30,8 @@ fn told(errors: &[u8]) -> &str {
         .unwrap_or("")
         .split_once(": ")
     {
-        Some((name, message)) if !message.is_empty() && !message.contains('\n') => name,
+        Some((name, message))
+            if !message.is_empty() && !message.contains('\n') && !message.contains('\r') => name,
         _ => "no fault",
     }
 }
@@ -56,6 +57,20 @@ fn program_answers_arguments_and_an_input(rt: HostRuntime) -> Result<(), Fail> {
             1,
             "",
             "UnknownDependency",
+        ),
+        (
+            "/justfile a",
+            b"--- /justfile\nimport 'a\rb'\n".as_slice(),
+            1,
+            "",
+            "MissingImportFile",
+        ),
+        (
+            "/justfile a",
+            b"--- /justfile\na:\r\n".as_slice(),
+            1,
+            "",
+            "Syntax",
         ),
         ("a", b"x\n".as_slice(), 1, "", "NotClean"),
         ("/a/../justfile a", FIRST_RUN, 1, "", "NotClean"),

@@ -1,3 +1,4 @@
+//! What a source text says.
 use crate::layers::name::{Name, Namepath};
 use crate::layers::token::Token;
 use crate::modulepath::Modulepath;
@@ -7,6 +8,7 @@ use just_data::{Exact, Sequence, Text};
 /// What a recipe of a source text depends on.
 #[derive(Clone, Debug, PartialEq, Eq, Drop)]
 pub struct UnresolvedDependency<'src> {
+    /// The names by which the recipe is named.
     pub recipe: Namepath<'src>,
 }
 
@@ -19,7 +21,9 @@ impl<'src> Exact for UnresolvedDependency<'src> {
 /// A quoted text of a source text: what stands between the quotes, and the whole with its quotes.
 #[derive(Clone, Debug, PartialEq, Eq, Drop)]
 pub struct StringLiteral<'src> {
+    /// What stands between the quotes.
     pub cooked: Text,
+    /// The whole, with its quotes.
     pub token: Token<'src>,
 }
 
@@ -58,8 +62,11 @@ impl<'src> Exact for Item<'src> {
 /// What a source text says: its items in order, the path of its module and the folder that the module works in.
 #[derive(Clone, Debug, PartialEq, Eq, Drop)]
 pub struct Ast<'src> {
+    /// The items, in the order of the text.
     pub items: Sequence<Item<'src>>,
+    /// The path of the module that the file belongs to.
     pub module_path: Modulepath,
+    /// The folder of the module's own file: a clean path, or `/`.
     pub working_directory: Text,
 }
 

@@ -1,3 +1,4 @@
+//! What a front asks for.
 use just_data::Text;
 
 /// What a front asks of a compilation and of a run.

@@ -1,3 +1,4 @@
+//! How an item leads to a file.
 ghost use Rattle.std.specs.Prelude.{◌≡◌, option_map};
 ghost use Rattle.just_parts.specs.Edge.{edge_of, lent_edge, with_absolute};
 

@@ -1,11 +1,13 @@
+//! Errors, their names and what they say.
 ghost use Rattle.std.specs.Prelude.{◌≡◌, OnOk, codes};
-ghost use Rattle.std.specs.Fmt.{HasWritten, IsPlainFormatter};
+ghost use Rattle.std.specs.Fmt.{HasWritten, IsPlainFormatter, WritesOnOk};
 ghost use Rattle.just_parts.specs.Modulepath.{joined};
-ghost use Rattle.just_parts.specs.Messages.{load_name, kind_name, invocation_name, run_name, error_name};
+ghost use Rattle.just_parts.specs.Messages.{load_name, kind_name, invocation_name, run_name, error_name, chain_text, circle_text};
 
 use crate::layers::name::{Name, Namepath};
 use crate::layers::number::Exhausted;
 use crate::layers::token::Token;
+use crate::layers::wording::{Arguments, At, Listed, Takes, noun};
 use just_data::{BorrowedText, Sequence, Text};
 use std::alloc::{AllocError, AllocFailed};
 use std::fmt;
@@ -15,31 +17,31 @@ use thiserror::Error;
 #[derive(Debug, Drop, Error)]
 pub enum LoadError<'src> {
     /// The root is no key of the source map.
-    #[error("Could not find source file `{path}`")]
+    #[error("Could not find the root `{path}` among the files")]
     Load {
         path: Text,
     },
     /// A path begins with `~`, and no home folder is known.
-    #[error("Failed to get homedir")]
+    #[error("The path of an import or of a module begins with `~/`, and no home folder is known")]
     Homedir,
     /// An import names no file.
-    #[error("Could not find source file for import")]
+    #[error("{}: Could not find source file for import {}, which `import?` would let be absent", At(.path), .path.lexeme())]
     MissingImportFile {
         path: Token<'src>,
     },
     /// No file is found for a module.
-    #[error("Could not find source file for module `{module}`")]
+    #[error("{}: Could not find source file for module `{module}`, looked for as the file at its path, or without a path as `{module}.just`, and as `mod.just`, `justfile` or `.justfile` in the folder of its path or name", At(&.module.token))]
     MissingModuleFile {
         module: Name<'src>,
     },
     /// Several files are found for a module.
-    #[error("Found multiple source files for module `{module}`")]
+    #[error("{}: Found multiple source files for module `{module}`, which may have one: {}", At(&.module.token), Listed(.found.as_slice()))]
     AmbiguousModuleFile {
         module: Name<'src>,
         found: Sequence<Text>,
     },
     /// A file leads back to itself.
-    #[error("Import `{import}` in `{current}` is circular")]
+    #[error("File `{current}` leads back to itself: it imports `{import}`, or has it as the file of a module")]
     CircularImport {
         current: Text,
         import: Text,
@@ -65,7 +67,9 @@ impl<'src> LoadError<'src> {
 /// What a name is defined as.
 #[derive(Clone, Copy, Debug, PartialEq, Eq)]
 pub enum Definition {
+    /// A module of a file.
     Module,
+    /// A recipe.
     Recipe,
 }
 
@@ -77,8 +81,8 @@ impl fmt::Display for Definition {
 
     fn fmt<W: fmt::Write>(&self, f: &mut fmt::Formatter<W>) -> fmt::Result {
         match self {
-            Definition::Module => f.write_str("Module"),
-            Definition::Recipe => f.write_str("Recipe"),
+            Definition::Module => f.write_str("module"),
+            Definition::Recipe => f.write_str("recipe"),
         }
     }
 }
@@ -139,7 +143,7 @@ impl<'src> CompileErrorKind<'src> {
 }
 
 // Writes the names of a circle, with arrows between them.
-fn write_circle<W: fmt::Write>(f: &mut fmt::Formatter<W>, circle: &[BorrowedText]) -> fmt::Result
+fn write_names<W: fmt::Write>(f: &mut fmt::Formatter<W>, circle: &[BorrowedText]) -> fmt::Result
     ensures { IsPlainFormatter f.old → OnOk result (HasWritten W.write_str_gives f.old (joined (codes " -> ") circle.now) f.new) }
 {
     let Some((first, rest)) = circle.split_first() else {
@@ -150,6 +154,34 @@ fn write_circle<W: fmt::Write>(f: &mut fmt::Formatter<W>, circle: &[BorrowedText
         write!(f, " -> {name}")?;
     }
     Ok(())
+}
+
+// Writes that a recipe has this circle.
+fn write_chain<W: fmt::Write>(
+    f: &mut fmt::Formatter<W>,
+    recipe: &BorrowedText,
+    circle: &[BorrowedText],
+) -> fmt::Result
+    ensures { WritesOnOk W.write_str_gives f.old result (chain_text recipe.now circle.now) f.new }
+{
+    write!(f, "Recipe `{recipe}` has circular dependency `")?;
+    write_names(f, circle)?;
+    f.write_str("`")
+}
+
+// Writes what a circle says. One of a recipe alone has its name twice.
+fn write_circle<W: fmt::Write>(
+    f: &mut fmt::Formatter<W>,
+    recipe: &BorrowedText,
+    circle: &[BorrowedText],
+) -> fmt::Result
+    ensures { WritesOnOk W.write_str_gives f.old result (circle_text recipe.now circle.now) f.new }
+{
+    if circle.len() == 2 {
+        write!(f, "Recipe `{recipe}` depends on itself")
+    } else {
+        write_chain(f, recipe, circle)
+    }
 }
 
 impl<'src> fmt::Display for CompileErrorKind<'src> {
@@ -173,16 +205,14 @@ impl<'src> fmt::Display for CompileErrorKind<'src> {
                 let line = first.saturating_add(1);
                 write!(
                     f,
-                    "{first_type} `{name}` first defined on line {line} is redefined as {second_type}"
+                    "`{name}` is redefined as {second_type}; its first definition is a {first_type} on line {line} of this file or of another one of its module"
                 )
             }
             CompileErrorKind::UnknownDependency { recipe, unknown } => {
                 write!(f, "Recipe `{recipe}` has unknown dependency `{unknown}`")
             }
             CompileErrorKind::CircularRecipeDependency { recipe, circle } => {
-                write!(f, "Recipe `{recipe}` has circular dependency `")?;
-                write_circle(f, circle.as_slice())?;
-                f.write_str("`")
+                write_circle(f, recipe, circle.as_slice())
             }
             CompileErrorKind::DependencyArgumentCountMismatch {
                 dependency,
@@ -190,10 +220,12 @@ impl<'src> fmt::Display for CompileErrorKind<'src> {
                 min,
                 max,
             } => {
-                write!(
-                    f,
-                    "Dependency `{dependency}` got {found} arguments but takes {min} to {max}"
-                )
+                let found = Arguments(*found);
+                let takes = Takes {
+                    least: *min,
+                    most: *max,
+                };
+                write!(f, "Dependency `{dependency}` got {found} but takes {takes}")
             }
         }
     }
@@ -202,7 +234,9 @@ impl<'src> fmt::Display for CompileErrorKind<'src> {
 /// A broken rule of compilation, and the token at which it is told.
 #[derive(Debug, PartialEq, Eq, Drop)]
 pub struct CompileError<'src> {
+    /// Where it is told: of a second definition that one, of a circle the dependency that closes it.
     pub token: Token<'src>,
+    /// Which rule is broken.
     pub kind: CompileErrorKind<'src>,
 }
 
@@ -213,11 +247,9 @@ impl<'src> fmt::Display for CompileError<'src> {
     ghost output = { λ e. Some (compile_text e) };
 
     fn fmt<W: fmt::Write>(&self, f: &mut fmt::Formatter<W>) -> fmt::Result {
-        let path = self.token.path();
-        let line = self.token.line().saturating_add(1);
-        let column = self.token.column().saturating_add(1);
+        let at = At(&self.token);
         let kind = &self.kind;
-        write!(f, "{path}:{line}:{column}: {kind}")
+        write!(f, "{at}: {kind}")
     }
 }
 
@@ -226,28 +258,35 @@ impl<'src> std::error::Error for CompileError<'src> {}
 /// Why words are no invocations. Paths are spaced where words were, and joined by `::` where a path was given.
 #[derive(Debug, PartialEq, Eq, Drop, Error)]
 pub enum InvocationError<'src> {
+    /// Words name a recipe that is not there.
     #[error("Justfile does not contain recipe `{recipe}`")]
     UnknownRecipe {
         recipe: Text,
     },
+    /// A path walks through a module that is not there.
     #[error("Justfile does not contain submodule `{path}`")]
     UnknownSubmodule {
         path: Text,
     },
+    /// A path goes on where a recipe stands.
     #[error("Expected submodule at `{path}` but found recipe")]
     ExpectedSubmoduleButFoundRecipe {
         path: Text,
     },
+    /// There are no words, and the module has no recipes.
     #[error("Justfile contains no recipes")]
     NoRecipes,
-    #[error("Justfile contains no default recipe")]
+    /// There are no words, and the module's own file has no recipe.
+    #[error("Justfile contains no default recipe; name the recipe that is to run")]
     NoDefaultRecipe,
-    #[error("Recipe `{recipe}` cannot be used as default recipe since it requires at least {min_arguments} arguments")]
+    /// There are no words, and the recipe that is run then takes arguments.
+    #[error("Recipe `{recipe}` cannot be used as default recipe since it requires at least {}", Arguments(*.min_arguments))]
     DefaultRecipeRequiresArguments {
         recipe: BorrowedText<'src>,
         min_arguments: usize,
     },
-    #[error("Recipe `{recipe}` got {found} positional arguments but takes {min} to {max}")]
+    /// A recipe is given too few words.
+    #[error("Recipe `{recipe}` got {found} positional {} but takes {}", noun(*.found), Takes {least: *.min, most: *.max})]
     PositionalArgumentCountMismatch {
         recipe: BorrowedText<'src>,
         found: usize,
@@ -337,12 +376,16 @@ pub enum SourceError {
 /// Every fault of compiling, of reading words and of running.
 #[derive(Debug, Drop, Error)]
 pub enum Error<'src> {
+    /// The files could not be loaded.
     #[error(transparent)]
     Load(LoadError<'src>),
+    /// A rule of compilation is broken.
     #[error(transparent)]
     Compile(CompileError<'src>),
+    /// The words are no invocations.
     #[error(transparent)]
     Invocation(InvocationError<'src>),
+    /// The run ended early.
     #[error(transparent)]
     Run(RunError<'src>),
     /// A number, a depth or a counter no longer fits.

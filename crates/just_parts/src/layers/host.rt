@@ -1,3 +1,4 @@
+//! The layer that is told what runs.
 ghost use Rattle.std.specs.Prelude.{◌≡◌, ◌++◌, ◌∷◌, [], List, Option, OnOk, OnErr};
 ghost use Rattle.just_parts.specs.declared.layers.host.Entry.{Entry};
 ghost use Rattle.just_parts.specs.Host.{Answer, KeepsPromises};

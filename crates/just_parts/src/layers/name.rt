@@ -1,3 +1,4 @@
+//! Names in a source text, and paths of them.
 ghost use Rattle.std.specs.Prelude.{◌≡◌, ◌+◌, ◌++◌, ◌∷◌, [], ⊤, IfOk, length, map, Some};
 ghost use Rattle.just_parts.specs.Token.{lexeme};
 
@@ -9,6 +10,7 @@ use std::fmt;
 /// A name in a source text.
 #[derive(Debug, PartialEq, Eq, Drop)]
 pub struct Name<'src> {
+    /// Where it stands. Its text is an identifier.
     pub token: Token<'src>,
 }
 
@@ -72,7 +74,9 @@ impl<'src> fmt::Display for Name<'src> {
 /// One or more names, as `a::b` writes them: those before the last, and the last.
 #[derive(Debug, PartialEq, Eq, Drop)]
 pub struct Namepath<'src> {
+    /// Those before the last, in order; none of a path of one name.
     pub front: Sequence<Name<'src>>,
+    /// The last.
     pub last: Name<'src>,
 }
 

@@ -1,3 +1,4 @@
+//! Numbers that definitions are told apart by.
 ghost use Rattle.std.specs.Prelude.{◌≡◌, ◌+◌, ◌^◌, ◌<◌, IfOk, OnErr};
 
 use just_data::Exact;
@@ -17,6 +18,7 @@ pub struct Exhausted;
 /// Gives each number once, in rising order.
 #[derive(Debug, Drop)]
 pub struct Numerator {
+    /// The number that is given next.
     pub next: u64,
 }
 

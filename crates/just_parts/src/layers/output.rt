@@ -1,3 +1,4 @@
+//! The layer that text is written to.
 ghost use Rattle.std.specs.Prelude.{◌≡◌, ◌≤◌, ◌<◌, ◌++◌, ℕ, Bool, List, length, take, IfOk, OnErr, IsTrue};
 
 /// A writer that faulted, which it tells from then on.

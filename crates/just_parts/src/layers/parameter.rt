@@ -1,3 +1,4 @@
+//! Parameters of recipes.
 ghost use Rattle.std.specs.Prelude.{◌≡◌};
 ghost use Rattle.just_parts.specs.Parameter.{is_variadic, is_required};
 
@@ -28,8 +29,11 @@ impl ParameterKind {
 /// A parameter of a recipe.
 #[derive(Clone, Debug, PartialEq, Eq, Drop)]
 pub struct Parameter<'src> {
+    /// Its name.
     pub name: Name<'src>,
+    /// What it is told apart by, as every definition.
     pub number: Number,
+    /// How many words it takes.
     pub kind: ParameterKind,
 }
 

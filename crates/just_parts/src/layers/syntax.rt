@@ -1,3 +1,4 @@
+//! The layer that reads source texts.
 ghost use Rattle.std.specs.Prelude.{◌≡◌, ◌+◌, ◌^◌, ◌<◌, ◌≤◌, Some, IfOk, IfErr, OnOk};
 ghost use Rattle.just_parts.specs.Bare.{bare_ast, bare_item};
 ghost use Rattle.just_parts.specs.Syntax.{SyntaxAnswers, IsFrom, numbers, AreRising, Refuses, PriorsAreDependencies};

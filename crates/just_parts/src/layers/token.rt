@@ -1,3 +1,4 @@
+//! Parts of a source text.
 ghost use Rattle.std.specs.Prelude.{◌≡◌, ◌+◌, ⊤, slice_range};
 ghost use Rattle.std.specs.Str.{IsCharBoundary};
 ghost use Rattle.std.specs.Prelude.{length as bytes_count, ◌≤◌};

@@ -1,7 +1,7 @@
 use Rattle.std.proofs.Common.{◌≡◌, ◌∙◌, ◌++◌, length, IsSome, Some, ap, subst, sym}
 use Rattle.std.proofs.lemmas.List.Elements.{All-contains}
 use Rattle.just_parts.specs.declared.modulepath.Modulepath.{Modulepath}
-use Rattle.just_loader.specs.Loaded.{file_at}
+use Rattle.just_loader.specs.LoadedInPlaces.{file_at}
 use Rattle.just_analyzer.specs.Compiling.{ast_of, modulepath_at, recipes_under}
 use Rattle.just_modules.specs.Definitions.{recipes_in}
 use Rattle.just_modules.specs.Outline.{recipes_of}

@@ -1,6 +1,6 @@
 use Rattle.std.proofs.Common.{◌≡◌, ◌∙◌, ◌++◌, ◌∷◌, [], sym, get_or}
 use Rattle.std.proofs.lemmas.List.{map_more}
-use Rattle.just_loader.specs.Loaded.{name_at}
+use Rattle.just_loader.specs.LoadedInPlaces.{name_at}
 use Rattle.just_loader.proofs.ComingIn.{name_is}
 use Rattle.just_analyzer.proofs.modules.module_path.Goals as goal
 

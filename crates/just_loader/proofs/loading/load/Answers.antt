@@ -8,11 +8,13 @@ use Rattle.just_parts.specs.Asts.{same_ast_key}
 use Rattle.just_loader.specs.Keys.{NamesInFiles, no_root, at_fault, in_circle}
 use Rattle.just_loader.specs.FileCircles.{NamesCircle}
 use Rattle.just_parts.specs.Causes.{Reports}
-use Rattle.just_loader.specs.Loaded.{at_first}
+use Rattle.just_loader.specs.LoadedInPlaces.{at_first_places}
 use Rattle.just_loader.specs.Loading.{AreParsed, IsScanBy, spent_by}
 use Rattle.just_loader.specs.Parsed.{AreHeld, AreKeyed, relative_at}
 use Rattle.just_loader.specs.Reached.{World, world_of, NamesInScan}
 use Rattle.just_loader.proofs.ComingIn.{are_unfolded}
+use Rattle.just_loader.specs.declared.loaded.Loaded.{Loaded}
+use Rattle.just_loader.proofs.InPaths.{in_paths}
 use Rattle.just_parts.proofs.Lifts.{lifted}
 use Rattle.just_loader.proofs.WholeLoads.{IsWhole, whole_lent, are_keyed, are_kept, is_loaded, nodes_inside, stop_named}
 use Rattle.just_loader.proofs.loading.load.Goals as goal
@@ -73,8 +75,8 @@ returns-clause-kept g c =
     are_kept w c.in_ok-scan.scan c.in_ok-scan.ensures.scan c.in_ok-nodes.nodes.items whole (search rules) c.in_ok-scan.ensures.kept (c.in_ok-order.ensures.none w c.in_ok-scan.ensures.scan)
     (subst (λ us. spent_by w c.in_ok-scan.scan us < 2 ^ 64) c.as_slice-2.ensures.value (c.in_ok-asts.ensures.fits w by))
 
-pub returns-clause-loaded : goal.returns-clause-loaded
-returns-clause-loaded g c =
+pub returns-clause-in_places : goal.returns-clause-in_places
+returns-clause-in_places g c =
     let w : World = world_of c.args.sources.now c.args.config.now (g.S.Syntax.answers c.args.syntax.now) c.args.root.now in
     let by : IsScanBy w c.in_ok-scan.scan (g.S.Syntax.answers c.args.syntax.now) = record { is_scan = c.in_ok-scan.ensures.scan; same = refl } in
     let whole : IsWhole c.in_ok-scan.scan.rows.items c.in_ok-nodes.nodes.items = whole_lent c.as_slice.ensures.value refl (record { first = c.in_ok-nodes.ensures.first; keys = c.in_ok-nodes.ensures.keys; once = c.in_ok-nodes.ensures.once }) in
@@ -82,7 +84,13 @@ returns-clause-loaded g c =
     let parsed : AreParsed w c.in_ok-scan.scan whole.first.0 c.in_ok-asts.asts.items = c.in_ok-asts.ensures.parsed w whole.first.0 by (whole.first.1, told) in
     let held : AreHeld c.in_ok-scan.scan c.in_ok-nodes.nodes.items c.in_ok-asts.asts.items (get same_ast_key c.in_ok-asts-2.asts) =
     subst (λ us. AreHeld c.in_ok-scan.scan us c.in_ok-asts.asts.items (get same_ast_key c.in_ok-asts-2.asts)) c.as_slice-3.ensures.value c.in_ok-asts-2.ensures in
-    let paths : c.in_ok-loaded.loaded ≡ map (relative_at c.in_ok-scan.scan) (at_first (map (λ (u : Unfolded). u.node) c.in_ok-nodes.nodes.items)) =
-    subst (λ us. c.in_ok-loaded.loaded ≡ map (relative_at c.in_ok-scan.scan) (at_first (map (λ (u : Unfolded). u.node) us))) c.as_slice-4.ensures.value c.in_ok-loaded.ensures in
+    let paths : c.in_ok-loaded.loaded ≡ map (relative_at c.in_ok-scan.scan) (at_first_places (map (λ (u : Unfolded). u.node) c.in_ok-nodes.nodes.items)) =
+    subst (λ us. c.in_ok-loaded.loaded ≡ map (relative_at c.in_ok-scan.scan) (at_first_places (map (λ (u : Unfolded). u.node) us))) c.as_slice-4.ensures.value c.in_ok-loaded.ensures in
     is_loaded w (record { scan = c.in_ok-scan.scan; order = c.in_ok-order.order; asts = c.in_ok-asts-2.asts; loaded = c.in_ok-loaded.loaded }) c.in_ok-nodes.nodes.items c.in_ok-asts.asts.items
     c.in_ok-scan.ensures.scan whole c.in_ok-order.ensures.ordered parsed (spent_by w c.in_ok-scan.scan c.as_slice-2.result.now) (c.in_ok-asts.ensures.numbers w by) c.in_ok-asts.ensures.priors held paths
+
+pub returns-clause-loaded : goal.returns-clause-loaded
+returns-clause-loaded g c =
+    let w : World = world_of c.args.sources.now c.args.config.now (g.S.Syntax.answers c.args.syntax.now) c.args.root.now in
+    let loaded : Loaded = record { scan = c.in_ok-scan.scan; order = c.in_ok-order.order; asts = c.in_ok-asts-2.asts; loaded = c.in_ok-loaded.loaded } in
+    in_paths w loaded (returns-clause-in_places g c)

@@ -11,10 +11,10 @@ use Rattle.just_analyzer.proofs.Compilations.{none_named, refused, root_there}
 use Rattle.just_analyzer.proofs.compiler.Compiler.compile.Goals as goal
 
 pub plan_modules-requires-clause-rows : goal.plan_modules-requires-clause-rows
-plan_modules-requires-clause-rows g c = has_rows _ c.in_ok-loaded.loaded.scan c.in_ok-loaded.ensures.loaded.scan
+plan_modules-requires-clause-rows g c = has_rows _ c.in_ok-loaded.loaded.scan c.in_ok-loaded.ensures.in_places.scan
 
 pub plan_modules-requires-clause-order : goal.plan_modules-requires-clause-order
-plan_modules-requires-clause-order g c = c.in_ok-loaded.ensures.loaded.order
+plan_modules-requires-clause-order g c = c.in_ok-loaded.ensures.in_places.order
 
 pub returns-in_err-path : goal.returns-in_err-path
 returns-in_err-path g c =
@@ -36,13 +36,13 @@ returns-in_err-justfile g c =
 pub returns : goal.returns
 returns g c =
     let w : World = world_of c.args.sources.now c.args.config.now (g.S.Syntax.answers c.args.syntax.now) c.args.root.now in
-    let kept : KeepsAll w = c.in_ok-plans.ensures.kept w refl c.in_ok-loaded.ensures.loaded c.in_ok-loaded.ensures.kept in
+    let kept : KeepsAll w = c.in_ok-plans.ensures.kept w refl c.in_ok-loaded.ensures.in_places c.in_ok-loaded.ensures.kept in
     record {
       kept = kept;
       unnamed = none_named w kept;
       compiled = record {
         loaded = c.in_ok-loaded.loaded;
-        is_loaded = c.in_ok-loaded.ensures.loaded;
+        is_loaded = c.in_ok-loaded.ensures.in_places;
         asts = refl;
         compiled = c.in_ok-justfile.ensures.compiled w refl;
       };
@@ -50,6 +50,6 @@ returns g c =
       all_closed = search rules;
       root = c.in_ok-path.ensures;
       overrides = search rules;
-      root_ast = subst (λ r. IsSome (get same_ast_key c.in_ok-loaded.loaded.asts (root_ast_key r))) (sym c.in_ok-path.ensures) (root_there w c.in_ok-loaded.loaded c.in_ok-loaded.ensures.loaded);
+      root_ast = subst (λ r. IsSome (get same_ast_key c.in_ok-loaded.loaded.asts (root_ast_key r))) (sym c.in_ok-path.ensures) (root_there w c.in_ok-loaded.loaded c.in_ok-loaded.ensures.in_places);
       named = tt;
     }

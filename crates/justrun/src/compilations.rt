@@ -1,11 +1,12 @@
-//! A host that refuses.
+//! What no example shows of a compilation: a host that refuses, and copies of recipes.
 ghost use Rattle.std.specs.Prelude.{IfOk};
 ghost use Rattle.just_parts.specs.Clean.{IsClean};
 ghost use Rattle.just_invoke.specs.Closed.{IsClosed};
 
-use just_analyzer::layers::{Config, Entry, Error, Groups, Host};
+use just_analyzer::layers::{Config, Entry, Error, Groups, Host, LoadError};
 use just_analyzer::{Compilation, Compiler, Modulepath, Sources, is_clean};
 use just_bench::{PlainEvaluation, PlainSyntax, Recorder, StopWriter};
+use just_data::{Exact, Text};
 use std::alloc::{AllocError, Global};
 use std::test::Fail;
 
@@ -83,7 +84,9 @@ fn run_sources<'src>(
 ) -> Result<(), Error<'src>> {
     let root = "/justfile";
     if !is_clean(root) {
-        return Err(Error::Memory);
+        return Err(Error::Load(LoadError::Load {
+            path: Text::from_str(alloc, root)?,
+        }));
     }
     match compile(alloc, sources, root) {
         Ok(compilation) => run(alloc, &compilation, host),
@@ -120,6 +123,37 @@ fn host_that_refuses_leaves_a_beginning(rt: HostRuntime) -> Result<(), Fail> {
         let text = began(rt.alloc(), &host)?;
         assert_eq!(rt; text.as_str(), want);
         assert_eq!(rt; ran.is_ok(), left == 5, "of {left}");
+    }
+    Ok(())
+}
+
+// Whether a copy of a value is equal to it.
+fn is_copied<T: Exact + PartialEq + Drop>(value: &T) -> Result<bool, AllocError> {
+    Ok(value.clone()? == *value)
+}
+
+// Whether the recipes of a compilation are copied, and the keys under which they stand.
+fn are_recipes_copied(compilation: &Compilation) -> Result<bool, AllocError> {
+    for key in compilation.justfile.recipes.values() {
+        let Some(recipe) = compilation.recipes.get(key.number) else {
+            return Ok(false);
+        };
+        if !is_copied(key)? || !is_copied(recipe)? {
+            return Ok(false);
+        }
+    }
+    Ok(true)
+}
+
+#[test]
+fn recipes_are_copied(rt: HostRuntime) -> Result<(), Fail> {
+    let mut sources = Sources::new(rt.alloc());
+    sources.insert("/justfile", "a x: b && c\nb:\nc:\n")?;
+    let root = "/justfile";
+    assert!(rt; is_clean(root));
+    match compile(rt.alloc(), &sources, root) {
+        Ok(compilation) => assert!(rt; are_recipes_copied(&compilation)?),
+        Err(error) => assert!(rt; false, "{error}"),
     }
     Ok(())
 }

@@ -1,0 +1,17 @@
+use Rattle.std.proofs.Common.{ℕ, List, ◌≡◌, ◌∙◌, ap, refl, ◌++◌, append_assoc, codes}
+use Rattle.std.proofs.lemmas.Grind.{put_three}
+use Rattle.just_parts.specs.Modulepath.{joined}
+use Rattle.just_parts.specs.Messages.{chain_text}
+use Rattle.just_parts.proofs.layers.error.write_chain.Goals as goal
+
+three_parts : (a r b c d : List ℕ) → (a ++ (r ++ b)) ++ (c ++ d) ≡ a ++ (r ++ (b ++ (c ++ d)))
+three_parts a r b c d = append_assoc a (r ++ b) (c ++ d) ∙ ap (λ t. a ++ t) (append_assoc r b (c ++ d))
+
+pub returns : goal.returns
+returns g c = λ plain ok.
+    let one = c.in_ok-write.ensures.writes plain refl in
+    let two = c.in_ok-write_names.ensures one.plain in
+    let three = c.write_str.ensures.writes two.plain ok in
+    let text : (codes "Recipe `" ++ (c.args.recipe.now ++ codes "` has circular dependency `")) ++ (joined (codes " -> ") c.args.circle.now ++ codes "`") ≡ chain_text c.args.recipe.now c.args.circle.now =
+    three_parts (codes "Recipe `") c.args.recipe.now (codes "` has circular dependency `") (joined (codes " -> ") c.args.circle.now) (codes "`") in
+    put_three _ _ _ _ _ _ _ _ _ one two three text

@@ -1,0 +1,24 @@
+-- Parts of messages: counts of arguments, and places in a file.
+use Rattle.std.specs.Prelude.{ℕ, ◌+◌, ◌==◌, nat_le, min, List, ◌++◌, codes, decimal, if◌then◌else◌}
+use Rattle.just_parts.specs.Token.{Place}
+
+abbrev pub noun_text : ℕ → List ℕ
+noun_text count = if count == 1 then codes "argument" else codes "arguments"
+
+abbrev pub arguments_text : ℕ → List ℕ
+arguments_text count = decimal count ++ (codes " " ++ noun_text count)
+
+-- how many arguments are taken: a most of 2^64 - 2 or more stands for any number
+abbrev pub takes_text : ℕ → ℕ → List ℕ
+takes_text least most =
+    if least == most then codes "exactly " ++ arguments_text least
+    else (if nat_le 18446744073709551614 most then codes "at least " ++ arguments_text least
+    else decimal least ++ (codes " to " ++ arguments_text most))
+
+-- a line or a column, counted from 1
+abbrev pub place_text : ℕ → List ℕ
+place_text n = decimal (min (n + 1) 18446744073709551615)
+
+-- where a token stands
+abbrev pub at_text : Place → List ℕ
+at_text token = token.path ++ (codes ":" ++ (place_text token.line ++ (codes ":" ++ place_text token.column)))

@@ -1,0 +1,94 @@
+//! Parts of messages: a place in a file, a count of arguments, and a list of paths.
+ghost use Rattle.std.specs.Prelude.{◌≡◌};
+ghost use Rattle.just_parts.specs.Wording.{noun_text};
+
+use crate::layers::token::Token;
+use just_data::Text;
+use std::fmt;
+
+// The most arguments of what takes any number of them.
+const ANY_NUMBER: usize = usize::MAX - 1;
+
+/// The noun for so many arguments.
+pub(crate) fn noun(count: usize) -> &'static str
+    ensures { result.now ≡ noun_text count }
+{
+    if count == 1 { "argument" } else { "arguments" }
+}
+
+/// So many arguments, as `1 argument` and `2 arguments`.
+#[derive(Drop)]
+pub(crate) struct Arguments(pub usize);
+
+impl fmt::Display for Arguments {
+    ghost use Rattle.std.specs.Prelude.{Some};
+    ghost use Rattle.just_parts.specs.Wording.{arguments_text};
+
+    ghost output = { λ a. Some (arguments_text a.0) };
+
+    fn fmt<W: fmt::Write>(&self, f: &mut fmt::Formatter<W>) -> fmt::Result {
+        let count = self.0;
+        write!(f, "{count} {}", noun(count))
+    }
+}
+
+/// How many arguments are taken, as `exactly 2 arguments`, `at least 1 argument` and `1 to 2 arguments`.
+#[derive(Drop)]
+pub(crate) struct Takes {
+    pub least: usize,
+    pub most: usize,
+}
+
+impl fmt::Display for Takes {
+    ghost use Rattle.std.specs.Prelude.{Some};
+    ghost use Rattle.just_parts.specs.Wording.{takes_text};
+
+    ghost output = { λ t. Some (takes_text t.least t.most) };
+
+    fn fmt<W: fmt::Write>(&self, f: &mut fmt::Formatter<W>) -> fmt::Result {
+        let least = self.least;
+        let most = self.most;
+        if least == most {
+            write!(f, "exactly {}", Arguments(least))
+        } else if most >= ANY_NUMBER {
+            write!(f, "at least {}", Arguments(least))
+        } else {
+            write!(f, "{least} to {}", Arguments(most))
+        }
+    }
+}
+
+/// Where a token stands, as `FILE:LINE:COLUMN`. Lines and columns count from 1.
+#[derive(Drop)]
+pub(crate) struct At<'a, 'src>(pub &'a Token<'src>);
+
+impl<'a, 'src> fmt::Display for At<'a, 'src> {
+    ghost use Rattle.std.specs.Prelude.{Some};
+    ghost use Rattle.just_parts.specs.Wording.{at_text};
+
+    ghost output = { λ at. Some (at_text at.0.now) };
+
+    fn fmt<W: fmt::Write>(&self, f: &mut fmt::Formatter<W>) -> fmt::Result {
+        let path = self.0.path();
+        let line = self.0.line().saturating_add(1);
+        let column = self.0.column().saturating_add(1);
+        write!(f, "{path}:{line}:{column}")
+    }
+}
+
+/// Paths in backquotes, with commas between them.
+#[derive(Drop)]
+pub(crate) struct Listed<'a>(pub &'a [Text]);
+
+impl<'a> fmt::Display for Listed<'a> {
+    fn fmt<W: fmt::Write>(&self, f: &mut fmt::Formatter<W>) -> fmt::Result {
+        let Some((first, rest)) = self.0.split_first() else {
+            return Ok(());
+        };
+        write!(f, "`{first}`")?;
+        for path in rest {
+            write!(f, ", `{path}`")?;
+        }
+        Ok(())
+    }
+}
