@@ -24,7 +24,7 @@ use Rattle.just_loader.specs.Reached.{World}
 use Rattle.just_loader.specs.declared.loaded.Loaded.{Loaded}
 use Rattle.just_loader.specs.declared.scanned.Scan.{Scan}
 use Rattle.just_loader.proofs.FileKeys.{same_keys}
-use Rattle.just_loader.proofs.HeldAsts.{key_same}
+use Rattle.just_parts.proofs.AstKeys.{key_same}
 use Rattle.just_modules.specs.Outline.{recipes_of}
 use Rattle.just_analyzer.specs.Planned.{imports_at, IsJoin}
 use Rattle.just_modules.specs.Resolved.{unresolved_numbers}

@@ -18,6 +18,7 @@ use Rattle.just_parts.specs.contracts.modulepath.ModulepathPartialEq.TheImpl as 
 use Rattle.just_parts.specs.declared.layers.ast.Ast.{Ast}
 use Rattle.just_parts.specs.declared.modulepath.Modulepath.{Modulepath}
 use Rattle.just_parts.specs.Asts.{AstKey, same_ast_key}
+use Rattle.just_parts.proofs.AstKeys.{key_same}
 use Rattle.just_loader.specs.Loaded.{AreToldApart}
 use Rattle.just_loader.specs.LoadedInPlaces.{AreAstsOf, file_at, key_at}
 use Rattle.just_loader.specs.Loading.{AreParsed}
@@ -28,20 +29,6 @@ use Rattle.just_loader.specs.declared.scanned.Scan.{Scan}
 use Rattle.just_loader.specs.declared.scanned.ScannedFile.{ScannedFile}
 use Rattle.just_loader.proofs.Numberings.{got, placed, get_map, map_get, get_more, get_last, some_same, none_some}
 use Rattle.just_loader.proofs.WholeScans.{read_at}
-
-texts_same : (a b : List (List ℕ)) → Decides (pointwise (pointwise nat_eq) a b) (a ≡ b)
-texts_same a b = slice_eq-Decides (λ x y. slice_eq-Decides Decides-eqb x y (pointwise nat_eq x y) refl) a b (pointwise (pointwise nat_eq) a b) refl
-
-path_same : (a b : Modulepath) → Decides (path_eq.ghosts.eq a b) (a ≡ b)
-path_same a b =
-    Decides-like (path_eq.ghosts.eq a b) (λ e. λ j. record { components = e.0 j; spaced = e.1 j }) (λ e. (ap (λ (m : Modulepath). m.components) e, ap (λ (m : Modulepath). m.spaced) e))
-    (Decides-and (pointwise (pointwise nat_eq) a.components b.components) (beq a.spaced b.spaced) (texts_same a.components b.components) (booleans_Decides a.spaced b.spaced))
-
--- two keys are the same where they are equal
-pub key_same : (a b : AstKey) → Decides (same_ast_key a b) (a ≡ b)
-key_same a b =
-    Decides-like (same_ast_key a b) (λ e. λ j. (e.0 j, e.1 j)) (λ e. (ap (λ (k : AstKey). k.0) e, ap (λ (k : AstKey). k.1) e))
-    (Decides-and (path_eq.ghosts.eq a.0 b.0) (pointwise nat_eq a.1 b.1) (path_same a.0 b.0) (slice_eq-Decides Decides-eqb a.1 b.1 (pointwise nat_eq a.1 b.1) refl))
 
 -- the nodes from a place on are held, and what is left are those before it
 pub record HeldFrom (scan : Scan) (nodes : List Unfolded) (asts left : List Ast) (table : AstKey → Option Ast) : Type 0 where

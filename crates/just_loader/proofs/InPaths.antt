@@ -27,7 +27,7 @@ use Rattle.just_loader.specs.declared.loaded.Loaded.{Loaded}
 use Rattle.just_loader.specs.declared.scanned.Scan.{Scan}
 use Rattle.just_loader.proofs.FileKeys.{file_key, from_key, from_steps, root_inside, same_keys, stands, step_inside, to_steps}
 use Rattle.just_loader.proofs.FileRows.{at, steps_here, text_step}
-use Rattle.just_loader.proofs.HeldAsts.{key_same}
+use Rattle.just_parts.proofs.AstKeys.{key_same}
 use Rattle.just_loader.proofs.LoadedPaths.{first_in}
 use Rattle.std.proofs.lemmas.Option.{get_or_from_slice_get}
 
