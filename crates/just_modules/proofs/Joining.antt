@@ -1,6 +1,6 @@
 -- Rows of places, as they are read, joined and set.
 use Rattle.std.proofs.Common.{◌≡◌, ◌≢◌, ◌⊎◌, inl, inr, subst, ℕ, zero, suc, ◌+◌, ◌-◌, ◌<◌, List, [], ◌∷◌, ◌++◌, take, length, get_or, set, slice_index, refl, sym, ap, ◌∙◌, ◌↔◌, arith}
-use Rattle.std.specs.Prelude.{flat_map, nat_eq}
+use Rattle.std.specs.Prelude.{flat_map, nat_eq, slice_get, Some}
 use Rattle.std.specs.List.{All, Contains}
 use Rattle.std.proofs.lemmas.Bool.{cases_eq, cases_lt}
 use Rattle.std.proofs.lemmas.List.Elements.{All-append, Contains-get_or}
@@ -138,3 +138,13 @@ no_circle R depth deeper ns c =
     let deep = deeper_at R depth deeper ns c.walk (length ns - 2) (omega (arith, c.steps)) in
     let last : slice_index ns (length ns - 2 + 1) ≡ slice_index ns 0 = ap (slice_index ns) (omega (arith, c.steps)) ∙ sym c.closed in
     omega (arith, deep, ap depth last)
+
+-- a row that is read and lent
+pub row_lent : (rows : List (Vec ℕ Global)) (a : ℕ) (row : Vec ℕ Global) (lent : List ℕ) → a < length rows → row ≡ get_or rows a row → lent ≡ row.items → lent ≡ targets rows a
+row_lent rows a row lent h is same = same ∙ sym (row_read rows a row h is)
+
+-- the element at a place
+pub some_at : {A : Type 0} (xs : List A) (i : ℕ) → i < length xs → (x : A) × (slice_get xs i ≡ Some x)
+some_at [] i h = absurd (omega arith)
+some_at (x ∷ xs) zero h = (x, refl)
+some_at (x ∷ xs) (suc i) h = some_at xs i (omega arith)

@@ -137,9 +137,9 @@ module _ (enabled : Item → Bool) (entries : List (AstKey × Ast)) (d : AstKey)
         let p = slice_index order k in
         let j = joins k l in
         let inner = trees_of (module_at p (below k l) j h).modules (targets joined.modules.items p) (inner_keys p (below k l) j) (λ q i g same.
-            let listed = first k q l (contained q (targets joined.modules.items p) i) in
-            let at = listed_at order k q l listed in
-            subst (λ r. TreeAt r g) at.2 (trees_below m at.0 (omega (arith, at.1.0, b)) (omega (arith, at.1.0, l)) g (same ∙ ap key_at (sym at.2)))) in
+        let listed = first k q l (contained q (targets joined.modules.items p) i) in
+        let at = listed_at order k q l listed in
+        subst (λ r. TreeAt r g) at.2 (trees_below m at.0 (omega (arith, at.1.0, b)) (omega (arith, at.1.0, l)) g (same ∙ ap key_at (sym at.2)))) in
         record { m = module_at p (below k l) j h; inside = inner.forest; are_modules = a_module (is_module p (below k l) j h e) inner.are_modules no_module }
 
     -- each listed place has its modules

@@ -13,3 +13,4 @@ pub mod Reading
 pub mod Resolved
 pub mod Rows
 pub mod Rules
+pub mod Steps

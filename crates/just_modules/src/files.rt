@@ -61,12 +61,21 @@ fn key_of_item<'src>(
     ensures { IfOk result (λ key. option_to_list key ≡ led inside path.now item.now) }
 {
     match (inside, item) {
-        (true, Item::Module { name, absolute: Some(file), .. }) => {
-            Ok(Some((path.join(name.lexeme())?, file.clone()?)))
-        }
-        (false, Item::Import { absolute: Some(file), .. }) => {
-            Ok(Some((path.clone()?, file.clone()?)))
-        }
+        (
+            true,
+            Item::Module {
+                name,
+                absolute: Some(file),
+                ..
+            },
+        ) => { Ok(Some((path.join(name.lexeme())?, file.clone()?))) }
+        (
+            false,
+            Item::Import {
+                absolute: Some(file),
+                ..
+            },
+        ) => { Ok(Some((path.clone()?, file.clone()?))) }
         _ => Ok(None),
     }
 }

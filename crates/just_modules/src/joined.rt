@@ -45,11 +45,7 @@ fn push_row(row: &[usize], all: &mut Vec<usize>) -> Result<(), AllocError>
 }
 
 // What files lead to, file after file.
-fn rows_after(
-    alloc: Global,
-    rows: &[Vec<usize>],
-    files: &[usize],
-) -> Result<Vec<usize>, AllocError>
+fn rows_after(alloc: Global, rows: &[Vec<usize>], files: &[usize]) -> Result<Vec<usize>, AllocError>
     requires { All (λ a. a < length rows.now) files.now }
     ensures { IfOk result (λ all. all.items ≡ flat_map (targets rows.now) files.now) }
 {
@@ -61,12 +57,7 @@ fn rows_after(
 }
 
 // Joins the files of the module whose own file stands at a place, where that is not done.
-fn join(
-    alloc: Global,
-    rows: &Rows,
-    place: usize,
-    joined: &mut Joined,
-) -> Result<(), AllocError>
+fn join(alloc: Global, rows: &Rows, place: usize, joined: &mut Joined) -> Result<(), AllocError>
     requires graphs { AreGraphs rows.now (length rows.now.imports.items) }
     requires place { place < length rows.now.imports.items }
     requires joined { AreJoined rows.now (length rows.now.imports.items) joined.old }

@@ -2,6 +2,7 @@
 #![tactic(auto)]
 
 pub mod analyzer;
+pub mod compiling;
 pub mod definitions;
 pub mod files;
 pub mod headers;

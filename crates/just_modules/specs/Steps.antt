@@ -1,0 +1,61 @@
+-- Modules that are compiled one after another, by the places of their own files.
+use Rattle.std.specs.Prelude.{◌≡◌, ◌<◌, ◌++◌, ℕ, Bool, List, map, flat_map, length, slice_get, slice_index, take, Option, None, Some}
+use Rattle.std.specs.List.{All, Contains}
+use Rattle.just_graph.specs.Graph.{HasEdge, targets}
+use Rattle.just_graph.specs.Steps.{IsOnce, IsOrder}
+use Rattle.just_parts.specs.Asts.{AstKey}
+use Rattle.just_parts.specs.Modulepath.{Text}
+use Rattle.just_parts.specs.declared.dependency.Dependency.{Dependency}
+use Rattle.just_parts.specs.declared.layers.ast.Ast.{Ast}
+use Rattle.just_parts.specs.declared.layers.ast.Item.{Item}
+use Rattle.just_parts.specs.declared.layers.ast.UnresolvedDependency.{UnresolvedDependency}
+use Rattle.just_parts.specs.declared.layers.name.Name.{Name}
+use Rattle.just_parts.specs.declared.recipe.Recipe.{Recipe}
+use Rattle.just_invoke.specs.declared.justfile.Justfile.{Justfile, out-Justfile}
+use Rattle.just_modules.specs.Analysis.{IsOf}
+use Rattle.just_modules.specs.Files.{asts_in, keys_in}
+use Rattle.just_modules.specs.Justfiles.{by_name, slot, with_names}
+use Rattle.just_modules.specs.Named.{KeepsRecipes, names_from, recipes_by, recipes_from}
+use Rattle.just_modules.specs.Outline.{outlines_of}
+use Rattle.just_modules.specs.Resolved.{AreResolved, HasPriors, unresolved_numbers}
+use Rattle.just_modules.specs.declared.files.Files.{Files}
+use Rattle.just_modules.specs.declared.joined.Joined.{Joined}
+
+-- the recipes of the module at a place, and the names of the modules in it
+abbrev pub recipes_of_place : (Item → Bool) → Files → Joined → ℕ → List (Recipe UnresolvedDependency)
+recipes_of_place enabled files joined p = recipes_from enabled (asts_in files) (targets joined.files.items p)
+
+abbrev pub names_of_place : (Item → Bool) → Files → Joined → ℕ → List Name
+names_of_place enabled files joined p = names_from enabled (asts_in files) (targets joined.files.items p)
+
+-- The module at a place can be compiled: its files have places, the numbers of its recipes are different, and the modules in it stand at different places, with a name for each.
+pub record CanCompile (enabled : Item → Bool) (files : Files) (joined : Joined) (p : ℕ) : Type 0 where
+  pub there : p < length files.asts.items
+  pub files_there : All (λ q. q < length files.asts.items) (targets joined.files.items p)
+  pub modules_there : All (λ q. q < length files.asts.items) (targets joined.modules.items p)
+  pub numbers : IsOnce (unresolved_numbers (recipes_of_place enabled files joined p))
+  pub priors : All HasPriors (recipes_of_place enabled files joined p)
+  pub apart : IsOnce (targets joined.modules.items p)
+  pub names : length (names_of_place enabled files joined p) ≡ length (targets joined.modules.items p)
+
+-- What the module at a place is compiled to, from the justfiles of the modules in it; it has no name yet.
+pub record IsCompiledAt (enabled : Item → Bool) (files : Files) (joined : Joined) (loaded : List Text) (p : ℕ) (inner : List Justfile) (made : List (Recipe Dependency)) (j : Justfile) : Type 0 where
+  pub own : Ast
+  pub own_said : slice_get (asts_in files) p ≡ Some own
+  pub key : AstKey
+  pub key_is : slice_get (keys_in files) p ≡ Some key
+  pub kept : KeepsRecipes (outlines_of (recipes_of_place enabled files joined p))
+  pub resolved : AreResolved (recipes_of_place enabled files joined p) own.module_path made
+  pub fields : IsOf (recipes_of_place enabled files joined p) (recipes_by enabled (Some own)) own loaded key.1 j
+  pub name : (out-Justfile j).name ≡ None
+  pub modules : (out-Justfile j).modules ≡ by_name (with_names inner (names_of_place enabled files joined p))
+
+-- One more module is compiled, from those that are held at the places of the modules in it.
+pub record CompilesPlace (enabled : Item → Bool) (files : Files) (joined : Joined) (loaded : List Text) (p : ℕ) (old new : List (Option Justfile)) (before after : List (Recipe Dependency)) : Type 0 where
+  pub made : List (Recipe Dependency)
+  pub justfile : Justfile
+  pub appended : after ≡ before ++ made
+  pub compiled : (inner : List Justfile) → map Some inner ≡ map (slot old) (targets joined.modules.items p) → IsCompiledAt enabled files joined loaded p inner made justfile
+  pub here : slot new p ≡ Some justfile
+  pub others : (q : ℕ) → (q ≡ p → ⊥) → (Contains (targets joined.modules.items p) q → ⊥) → slot new q ≡ slot old q
+  pub room : length new ≡ length old

@@ -1,0 +1,64 @@
+//! Compiles modules one after another, those in a module before it.
+
+ghost use Rattle.std.specs.Prelude.{◌≡◌, ◌<◌, ℕ, List, IfOk, IfErr, None, OnOk, Some, length, map};
+ghost use Rattle.std.specs.List.{Contains};
+ghost use Rattle.just_graph.specs.Graph.{targets};
+ghost use Rattle.just_parts.specs.Causes.{Reports};
+ghost use Rattle.just_invoke.specs.Recipes.{numbers};
+ghost use Rattle.just_invoke.specs.declared.justfile.Justfile.{Justfile};
+ghost use Rattle.just_modules.specs.Justfiles.{slot};
+ghost use Rattle.just_modules.specs.Named.{BreaksRecipes, KeepsRecipes};
+ghost use Rattle.just_modules.specs.Outline.{outlines_of};
+ghost use Rattle.just_modules.specs.Resolved.{unresolved_numbers};
+ghost use Rattle.just_modules.specs.Steps.{CanCompile, CompilesPlace, recipes_of_place};
+
+use crate::analyzer::Surroundings;
+use crate::files::Files;
+use crate::inner::take_inner;
+use crate::joined::Joined;
+use crate::module::analyze_module;
+use crate::module_names::module_names;
+use just_data::{Sequence, Shared, Text};
+use just_invoke::{Justfile, Recipes};
+use just_parts::layers::{Error, Syntax};
+use std::alloc::{AllocError, Global};
+
+// Compiles the module whose own file stands at a place, from those in it.
+fn compile_place<'a, 'src, S: Syntax>(
+    alloc: Global,
+    syntax: &S,
+    files: &Files<'a, 'src>,
+    joined: &Joined,
+    loaded: &Shared<Sequence<Text>>,
+    place: usize,
+    slots: &mut Vec<Option<Justfile<'src>>>,
+    recipes: &mut Recipes<'src>,
+) -> Result<(), Error<'src>>
+    requires keys { length files.now.keys.items ≡ length files.now.asts.items }
+    requires files { length joined.now.files.items ≡ length files.now.asts.items }
+    requires modules { length joined.now.modules.items ≡ length files.now.asts.items }
+    requires room { length slots.old.items ≡ length files.now.asts.items }
+    requires ready { CanCompile (S.answers syntax.now).enabled files.now joined.now place }
+    requires inner { (js : List Justfile) × (map Some js ≡ map (slot slots.old.items) (targets joined.now.modules.items place)) }
+    requires apart { (m : ℕ) → Contains (numbers recipes.old) m → Contains (unresolved_numbers (recipes_of_place (S.answers syntax.now).enabled files.now joined.now place)) m → ⊥ }
+    ensures compiled { OnOk result (CompilesPlace (S.answers syntax.now).enabled files.now joined.now loaded.now place slots.old.items slots.new.items recipes.old recipes.new) }
+    ensures named { IfErr result (Reports (BreaksRecipes (outlines_of (recipes_of_place (S.answers syntax.now).enabled files.now joined.now place)))) }
+{
+    let row = joined.files[place].as_slice();
+    let names = module_names(alloc, syntax, files, row)?;
+    let modules = take_inner(
+        alloc,
+        slots,
+        joined.modules[place].as_slice(),
+        names.as_slice(),
+    )?;
+    let surroundings = Surroundings {
+        loaded: loaded.clone()?,
+        name: None,
+        modules,
+        source: Text::from_str(alloc, files.keys[place].1.as_str())?,
+    };
+    let justfile = analyze_module(alloc, syntax, files, row, place, surroundings, recipes)?;
+    slots[place] = Some(justfile);
+    Ok(())
+}
