@@ -9,6 +9,7 @@ pub mod Makings
 pub mod ModuleNames
 pub mod ModulePaths
 pub mod ModulePlaces
+pub mod Ordered
 pub mod Outlines
 pub mod RecipeCircles
 pub mod Placing

@@ -2,8 +2,9 @@
 use Rattle.std.specs.Prelude.{◌≡◌, ◌<◌, ◌++◌, ℕ, Bool, List, map, flat_map, length, slice_get, slice_index, take, Option, None, Some}
 use Rattle.std.specs.List.{All, Contains}
 use Rattle.just_graph.specs.Graph.{HasEdge, targets}
-use Rattle.just_graph.specs.Steps.{IsOnce, IsOrder}
+use Rattle.just_graph.specs.Steps.{IsOnce, ListsStepsFirst}
 use Rattle.just_parts.specs.Asts.{AstKey}
+use Rattle.just_parts.specs.Causes.{Cause}
 use Rattle.just_parts.specs.Modulepath.{Text}
 use Rattle.just_parts.specs.declared.dependency.Dependency.{Dependency}
 use Rattle.just_parts.specs.declared.layers.ast.Ast.{Ast}
@@ -15,7 +16,7 @@ use Rattle.just_invoke.specs.declared.justfile.Justfile.{Justfile, out-Justfile}
 use Rattle.just_modules.specs.Analysis.{IsOf}
 use Rattle.just_modules.specs.Files.{asts_in, keys_in}
 use Rattle.just_modules.specs.Justfiles.{by_name, slot, with_names}
-use Rattle.just_modules.specs.Named.{KeepsRecipes, names_from, recipes_by, recipes_from}
+use Rattle.just_modules.specs.Named.{BreaksRecipes, KeepsRecipes, names_from, recipes_by, recipes_from}
 use Rattle.just_modules.specs.Outline.{outlines_of}
 use Rattle.just_modules.specs.Resolved.{AreResolved, HasPriors, unresolved_numbers}
 use Rattle.just_modules.specs.declared.files.Files.{Files}
@@ -59,3 +60,31 @@ pub record CompilesPlace (enabled : Item → Bool) (files : Files) (joined : Joi
   pub here : slot new p ≡ Some justfile
   pub others : (q : ℕ) → (q ≡ p → ⊥) → (Contains (targets joined.modules.items p) q → ⊥) → slot new q ≡ slot old q
   pub room : length new ≡ length old
+
+-- Modules that can be compiled in this order: each place once, after those of the modules in it, each of which stands in one module, and no number of a recipe in two modules.
+pub record CanCompileAll (enabled : Item → Bool) (files : Files) (joined : Joined) (order : List ℕ) : Type 0 where
+  pub keys : length files.keys.items ≡ length files.asts.items
+  pub files_room : length joined.files.items ≡ length files.asts.items
+  pub modules_room : length joined.modules.items ≡ length files.asts.items
+  pub each : (k : ℕ) → k < length order → CanCompile enabled files joined (slice_index order k)
+  pub once : IsOnce order
+  pub inner_first : ListsStepsFirst (HasEdge joined.modules.items) order
+  pub one_outer : (i k q : ℕ) → i < length order → k < length order → HasEdge joined.modules.items (slice_index order i) q → HasEdge joined.modules.items (slice_index order k) q → i ≡ k
+  pub apart : (i k m : ℕ) → i < k → k < length order → Contains (unresolved_numbers (recipes_of_place enabled files joined (slice_index order i))) m
+      → Contains (unresolved_numbers (recipes_of_place enabled files joined (slice_index order k))) m → ⊥
+
+-- The first n modules of an order are compiled: the recipes of each, one module after another, and its justfile, which is held until a module takes it.
+pub record HaveCompiled (enabled : Item → Bool) (files : Files) (joined : Joined) (loaded : List Text) (order : List ℕ) (n : ℕ) (slots : List (Option Justfile)) (recipes : List (Recipe Dependency)) : Type 0 where
+  pub made : ℕ → List (Recipe Dependency)
+  pub justfile : ℕ → Justfile
+  pub all : recipes ≡ flat_map made (take n order)
+  pub each : (k : ℕ) → k < n → IsCompiledAt enabled files joined loaded (slice_index order k) (map justfile (targets joined.modules.items (slice_index order k))) (made (slice_index order k)) (justfile (slice_index order k))
+  pub held : (k : ℕ) → k < n → ((i : ℕ) → i < n → HasEdge joined.modules.items (slice_index order i) (slice_index order k) → ⊥) → slot slots (slice_index order k) ≡ Some (justfile (slice_index order k))
+  pub room : length slots ≡ length files.asts.items
+
+-- A rule on recipes is broken in the module at a place of an order, and none is in those before it.
+pub record BreaksInOrder (enabled : Item → Bool) (files : Files) (joined : Joined) (order : List ℕ) (c : Cause) : Type 0 where
+  pub at : ℕ
+  pub there : at < length order
+  pub before : (k : ℕ) → k < at → KeepsRecipes (outlines_of (recipes_of_place enabled files joined (slice_index order k)))
+  pub broken : BreaksRecipes (outlines_of (recipes_of_place enabled files joined (slice_index order at))) c

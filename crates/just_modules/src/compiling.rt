@@ -10,7 +10,7 @@ ghost use Rattle.just_modules.specs.Justfiles.{slot};
 ghost use Rattle.just_modules.specs.Named.{BreaksRecipes, KeepsRecipes};
 ghost use Rattle.just_modules.specs.Outline.{outlines_of};
 ghost use Rattle.just_modules.specs.Resolved.{unresolved_numbers};
-ghost use Rattle.just_modules.specs.Steps.{CanCompile, CompilesPlace, recipes_of_place};
+ghost use Rattle.just_modules.specs.Steps.{BreaksInOrder, CanCompile, CanCompileAll, CompilesPlace, HaveCompiled, recipes_of_place};
 
 use crate::analyzer::Surroundings;
 use crate::files::Files;
@@ -61,4 +61,49 @@ fn compile_place<'a, 'src, S: Syntax>(
     let justfile = analyze_module(alloc, syntax, files, row, place, surroundings, recipes)?;
     slots[place] = Some(justfile);
     Ok(())
+}
+
+// No justfile at any of so many places.
+fn no_slots<'src>(
+    alloc: Global,
+    count: usize,
+) -> Result<Vec<Option<Justfile<'src>>>, AllocError>
+    ensures { IfOk result (λ slots. length slots.items ≡ count) }
+{
+    let mut slots = Vec::with_capacity(alloc, count)?;
+    for _ in 0..count {
+        slots.push(None)?;
+    }
+    Ok(slots)
+}
+
+/// Compiles the modules whose own files stand at the places of an order: the justfiles of those that stand in no other,
+/// without a name, and the recipes of all, one module after another.
+pub fn compile_in_order<'a, 'src, S: Syntax>(
+    alloc: Global,
+    syntax: &S,
+    files: &Files<'a, 'src>,
+    joined: &Joined,
+    loaded: &Shared<Sequence<Text>>,
+    order: &[usize],
+) -> Result<(Vec<Option<Justfile<'src>>>, Recipes<'src>), Error<'src>>
+    requires { CanCompileAll (S.answers syntax.now).enabled files.now joined.now order.now }
+    ensures compiled { IfOk result (λ made. HaveCompiled (S.answers syntax.now).enabled files.now joined.now loaded.now order.now (length order.now) made.0.items made.1) }
+    ensures named { IfErr result (Reports (BreaksInOrder (S.answers syntax.now).enabled files.now joined.now order.now)) }
+{
+    let mut slots = no_slots(alloc, files.asts.len())?;
+    let mut recipes = Recipes::new(alloc);
+    for place in order {
+        compile_place(
+            alloc,
+            syntax,
+            files,
+            joined,
+            loaded,
+            *place,
+            &mut slots,
+            &mut recipes,
+        )?;
+    }
+    Ok((slots, recipes))
 }

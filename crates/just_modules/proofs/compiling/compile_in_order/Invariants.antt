@@ -1,0 +1,5 @@
+use Rattle.just_modules.specs.Steps.{HaveCompiled}
+use Rattle.just_modules.proofs.compiling.compile_in_order.Given as goal
+
+abbrev pub invariant-loop-place : goal.invariant-loop-place
+invariant-loop-place g l = HaveCompiled (g.S.Syntax.answers l.syntax).enabled l.files l.joined l.loaded l.order l.place-index l.slots.items l.recipes
