@@ -150,8 +150,11 @@ module _ (enabled : Item → Bool) (entries : List (AstKey × Ast)) (d : AstKey)
         path = paths (key_at p) e.0.1 said;
       }
 
-  count : length files.asts.items ≡ length keys
+  pub count : length files.asts.items ≡ length keys
   count = sym (length-map files.asts.items (λ (a : Bor Ast). a.now)) ∙ ap length placed.asts ∙ length-values_of entries ∙ sym (length-keys_of entries)
+
+  pub key_count : length files.keys.items ≡ length files.asts.items
+  key_count = sym (length-map files.keys.items (λ (k : Bor AstKey). k.now)) ∙ ap length placed.keys ∙ sym count
 
   -- the keys to which the items of the file at a place lead
   led_here : (inside : Bool) (p : ℕ) → p < length keys → led_from inside enabled (asts_in files) p ≡ flat_map (led inside (key_at p).0) (items_in (R (key_at p)))

@@ -1,7 +1,10 @@
+pub mod BareOutlines
+pub mod Compilable
 pub mod Defaults
 pub mod Edges
 pub mod FilePlaces
 pub mod Held
+pub mod Holding
 pub mod Indexing
 pub mod Joining
 pub mod Keys
@@ -9,8 +12,10 @@ pub mod Makings
 pub mod ModuleNames
 pub mod ModulePaths
 pub mod ModulePlaces
+pub mod Numbers
 pub mod Ordered
 pub mod Outlines
+pub mod Ready
 pub mod RecipeCircles
 pub mod Placing
 pub mod Refuted

@@ -1,13 +1,13 @@
 -- The paths of modules: each is one name longer than that of the module which declares it, and leads to one module.
-use Rattle.std.proofs.Common.{◌≡◌, ◌≢◌, ◌<◌, ◌≤◌, ℕ, zero, suc, ◌+◌, nat_eq, Bool, List, [], ◌∷◌, ◌++◌, map, length, get_or, Option, Some, None, refl, sym, ap, subst, ◌∙◌, arith, inl, inr}
+use Rattle.std.proofs.Common.{◌≡◌, ◌≢◌, ◌<◌, ◌≤◌, ℕ, zero, suc, ◌+◌, nat_eq, Bool, List, [], ◌∷◌, ◌++◌, map, length, get_or, slice_index, Option, Some, None, refl, sym, ap, subst, ◌∙◌, arith, inl, inr}
 use Rattle.std.specs.Prelude.{flat_map, slice_get}
 use Rattle.std.specs.List.{All, Contains}
 use Rattle.std.specs.Map.{keys_of, lookup}
 use Rattle.std.proofs.lemmas.Bool.{cases_lt}
 use Rattle.std.proofs.lemmas.List.{length-append, length-map}
-use Rattle.std.proofs.lemmas.Option.{get_or_from_slice_get, slice_get_read, slice_get_within}
+use Rattle.std.proofs.lemmas.Option.{get_or_from_slice_get, slice_get-get_or, slice_get_read, slice_get_within}
 use Rattle.just_graph.specs.Graph.{HasEdge, targets}
-use Rattle.just_graph.specs.Steps.{Reached, from_member, from_start}
+use Rattle.just_graph.specs.Steps.{IsOnce, Reached, from_member, from_start}
 use Rattle.just_graph.proofs.Index.{get_map, got_in, map_get, some_same}
 use Rattle.just_graph.proofs.Mapped.{every_level}
 use Rattle.just_graph.proofs.Members.{In, contained, from_flat, from_map, in_cases, in_map, is_in}
@@ -90,7 +90,7 @@ module _ (enabled : Item → Bool) (entries : List (AstKey × Ast)) (d : AstKey)
   abbrev path_at : ℕ → Modulepath
   path_at p = (key_at p).0
 
-  abbrev subs_at : ℕ → List Submodule
+  abbrev pub subs_at : ℕ → List Submodule
   subs_at p = flat_map (submodules_of R) (map key_at (targets joined.files.items p))
 
   import_at : (a b : ℕ) → a < n → In b (targets rows.imports.items a) → path_at b ≡ path_at a
@@ -114,6 +114,14 @@ module _ (enabled : Item → Bool) (entries : List (AstKey × Ast)) (d : AstKey)
         let y = from_flat (declared x.0.0) s (items_in (R x.0)) x.2 in
         module_path x.0.0 s y.0 y.2 ∙ ap (λ m. path_to m (text_of_name s.name)) (ap (λ (k : AstKey). k.0) q.2 ∙ (file_path q.0 q.1).1)
 
+    -- the module at a place of the row
+    pub entered_at : (i b : ℕ) → slice_get (targets joined.modules.items p) i ≡ Some b → (s : Submodule) × (slice_get (subs_at p) i ≡ Some s) × (s.key ≡ key_at b) × (path_at b ≡ path_to (path_at p) (text_of_name s.name))
+    entered_at i b at =
+        let key : slice_get (map (λ (s : Submodule). s.key) (subs_at p)) i ≡ Some (key_at b) =
+        ap (λ ks. slice_get ks i) (inner_keys enabled entries d files placed rows are paths joined p inside j) ∙ map_get key_at (targets joined.modules.items p) i b at in
+        let sub = get_map (λ (s : Submodule). s.key) (subs_at p) i (key_at b) key in
+        (sub.0, sub.1, sym sub.2, ap (λ (k : AstKey). k.0) sub.2 ∙ sub_path sub.0 (is_in sub.0 (subs_at p) (got_in (subs_at p) i sub.0 sub.1)))
+
     -- A module is declared under a name, at a place of the row.
     pub record Entered (b : ℕ) : Type 0 where
       pub at : ℕ
@@ -127,17 +135,23 @@ module _ (enabled : Item → Bool) (entries : List (AstKey × Ast)) (d : AstKey)
     entered b e =
         let row = targets joined.modules.items p in
         let at : slice_get row e.0 ≡ Some b = slice_get_read row (length row) e.0 b refl e.1 (sym e.2) in
-        let key : slice_get (map (λ (s : Submodule). s.key) (subs_at p)) e.0 ≡ Some (key_at b) =
-        ap (λ ks. slice_get ks e.0) (inner_keys enabled entries d files placed rows are paths joined p inside j) ∙ map_get key_at row e.0 b at in
-        let sub = get_map (λ (s : Submodule). s.key) (subs_at p) e.0 (key_at b) key in
-        record {
-          at = e.0;
-          sub = sub.0;
-          row = at;
-          subs = sub.1;
-          key = sym sub.2;
-          path = ap (λ (k : AstKey). k.0) sub.2 ∙ sub_path sub.0 (is_in sub.0 (subs_at p) (got_in (subs_at p) e.0 sub.0 sub.1));
-        }
+        let x = entered_at e.0 b at in
+        record { at = e.0; sub = x.0; row = at; subs = x.1; key = x.2; path = x.3 }
+
+    names_at : (i : ℕ) (s : Submodule) → slice_get (subs_at p) i ≡ Some s → slice_get (texts_of_names (map (λ (s : Submodule). s.name) (subs_at p))) i ≡ Some (text_of_name s.name)
+    names_at i s e = map_get text_of_name (map (λ (s : Submodule). s.name) (subs_at p)) i s.name (map_get (λ (s : Submodule). s.name) (subs_at p) i s e)
+
+    -- where the names are different, the modules are
+    pub row_once : AreDifferent (texts_of_names (map (λ (s : Submodule). s.name) (subs_at p))) → IsOnce (targets joined.modules.items p)
+    row_once different i k l h same =
+        let row = targets joined.modules.items p in
+        let at_i : slice_get row i ≡ Some (slice_index row i) = slice_get-get_or row i 0 (omega (arith, l, h)) in
+        let at_k : slice_get row k ≡ Some (slice_index row k) = slice_get-get_or row k 0 h in
+        let x = entered_at i (slice_index row i) at_i in
+        let y = entered_at k (slice_index row k) at_k in
+        let text = (path_parts (path_at p) (path_at p) (text_of_name x.0.name) (text_of_name y.0.name) (sym x.3 ∙ ap path_at same ∙ y.3)).1 in
+        let one = one_name (texts_of_names (map (λ (s : Submodule). s.name) (subs_at p))) different i k (text_of_name x.0.name) (names_at i x.0 x.1) (names_at k y.0 y.1 ∙ ap Some (sym text)) in
+        omega (arith, l, one)
 
     -- a name leads to one place
     pub one_entered : AreDifferent (texts_of_names (map (λ (s : Submodule). s.name) (subs_at p))) → (b c : ℕ) (x : Entered b) (y : Entered c) → text_of_name x.sub.name ≡ text_of_name y.sub.name → b ≡ c
@@ -191,3 +205,12 @@ module _ (enabled : Item → Bool) (entries : List (AstKey × Ast)) (d : AstKey)
         one_path (from_start c) (from_member {a} {b} r on e) same = absurd (not_root r e (ap path_at (sym (from_root c)) ∙ same))
         one_path (from_member {a} {b} r on e) (from_start c) same = absurd (not_root r e (ap path_at (sym (from_root c)) ∙ sym same))
         one_path (from_member r on e) (from_member s off h) same = same_child _ _ _ _ r e h (one_path r s) same
+
+        -- a module stands in one module
+        pub one_outer : (a f b : ℕ) → IsReached a → IsReached f → HasEdge joined.modules.items a b → HasEdge joined.modules.items f b → a ≡ f
+        one_outer a f b r s e h =
+            let i = inside a b e in
+            let k = inside f b h in
+            let x = entered a i.0 i.1 b e in
+            let y = entered f k.0 k.1 b h in
+            one_path r s (path_parts (path_at a) (path_at f) (text_of_name x.sub.name) (text_of_name y.sub.name) (sym x.path ∙ y.path)).0

@@ -1,3 +1,4 @@
+pub mod Analyzable
 pub mod Analysis
 pub mod Contents
 pub mod Definitions

@@ -19,6 +19,8 @@ use Rattle.just_modules.specs.Justfiles.{by_name, slot, with_names}
 use Rattle.just_modules.specs.Named.{BreaksRecipes, KeepsRecipes, names_from, recipes_by, recipes_from}
 use Rattle.just_modules.specs.Outline.{outlines_of}
 use Rattle.just_modules.specs.Resolved.{AreResolved, HasPriors, unresolved_numbers}
+use Rattle.just_modules.specs.Contents.{of_names}
+use Rattle.just_modules.specs.Rules.{Headers}
 use Rattle.just_modules.specs.declared.files.Files.{Files}
 use Rattle.just_modules.specs.declared.joined.Joined.{Joined}
 
@@ -88,3 +90,9 @@ pub record BreaksInOrder (enabled : Item → Bool) (files : Files) (joined : Joi
   pub there : at < length order
   pub before : (k : ℕ) → k < at → KeepsRecipes (outlines_of (recipes_of_place enabled files joined (slice_index order k)))
   pub broken : BreaksRecipes (outlines_of (recipes_of_place enabled files joined (slice_index order at))) c
+
+-- Two modules have one name in the module at a place of an order.
+pub record RepeatsNames (enabled : Item → Bool) (files : Files) (joined : Joined) (order : List ℕ) (c : Cause) : Type 0 where
+  pub at : ℕ
+  pub there : at < length order
+  pub broken : Headers (of_names (names_of_place enabled files joined (slice_index order at))) c

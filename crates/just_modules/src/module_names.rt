@@ -5,11 +5,11 @@ ghost use Rattle.std.specs.List.{All};
 ghost use Rattle.std.specs.Option.{option_copied, option_to_list};
 ghost use Rattle.just_graph.specs.Graph.{targets};
 ghost use Rattle.just_parts.specs.Causes.{Reports};
-ghost use Rattle.just_modules.specs.Contents.{of_names, texts_of_names};
+ghost use Rattle.just_modules.specs.Contents.{texts_of_names};
 ghost use Rattle.just_modules.specs.Files.{asts_in};
 ghost use Rattle.just_modules.specs.Index.{AreDifferent};
 ghost use Rattle.just_modules.specs.Named.{name_by, names_from, names_said};
-ghost use Rattle.just_modules.specs.Rules.{Headers};
+ghost use Rattle.just_modules.specs.Steps.{RepeatsNames, names_of_place};
 
 use crate::files::{Files, ast_at};
 use crate::headers::check_modules;
@@ -66,4 +66,25 @@ pub fn module_names<'a, 'src, S: Syntax>(
         push_names(syntax, ast_at(files, *place).items.as_slice(), &mut names)?;
     }
     Ok(names)
+}
+
+/// Refuses the first module of an order in which two modules have one name.
+pub fn check_module_names<'a, 'src, S: Syntax>(
+    alloc: Global,
+    syntax: &S,
+    files: &Files<'a, 'src>,
+    joined: &Joined,
+    order: &[usize],
+) -> Result<(), Error<'src>>
+    requires places { All (λ p. p < length joined.now.files.items) order.now }
+    requires files { (k : ℕ) → k < length order.now → All (λ q. q < length files.now.asts.items) (targets joined.now.files.items (slice_index order.now k)) }
+    ensures kept { OnOk result ((k : ℕ) → k < length order.now → AreDifferent (texts_of_names (names_of_place (S.answers syntax.now).enabled files.now joined.now (slice_index order.now k)))) }
+    ensures named { IfErr result (Reports (RepeatsNames (S.answers syntax.now).enabled files.now joined.now order.now)) }
+{
+    for place in order {
+        let row = joined.files[*place].as_slice();
+        let names = module_names(alloc, syntax, files, row)?;
+        check_modules(alloc, names.as_slice())?;
+    }
+    Ok(())
 }
