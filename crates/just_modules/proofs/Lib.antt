@@ -3,10 +3,12 @@ pub mod Compilable
 pub mod Defaults
 pub mod Edges
 pub mod FilePlaces
+pub mod Headed
 pub mod Held
 pub mod Holding
 pub mod Indexing
 pub mod Joining
+pub mod Keeping
 pub mod Keys
 pub mod Makings
 pub mod ModuleNames

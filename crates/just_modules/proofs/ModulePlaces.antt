@@ -18,7 +18,7 @@ use Rattle.just_parts.specs.declared.layers.ast.Item.{Item}
 use Rattle.just_parts.proofs.AstKeys.{key_same}
 use Rattle.just_modules.specs.Files.{ArePlaced, AreRows}
 use Rattle.just_modules.specs.Joined.{IsJoined}
-use Rattle.just_modules.specs.Modules.{AreModules, Forest, Empty, Tree, Heading, IsModule, Module, a_module, no_module, heading_of}
+use Rattle.just_modules.specs.Modules.{AreModules, Forest, Empty, Tree, HasModule, Heading, IsModule, Module, a_module, after_it, first, heading_of, headings_in, in_it, no_module}
 use Rattle.just_modules.specs.Reading.{Reading, Submodule, imports_of, located_ast, reading_of, submodules_of}
 use Rattle.just_modules.specs.declared.files.Files.{Files}
 use Rattle.just_modules.specs.declared.files.Rows.{Rows}
@@ -48,6 +48,11 @@ all_read R f (x ∷ xs) each =
 -- the place of an element among the first
 listed_at : (xs : List ℕ) (k q : ℕ) → k < length xs → Contains (take k xs) q → (i : ℕ) × ((i < k) × (i < length xs)) × (slice_index xs i ≡ q)
 listed_at xs k q h c = let i = in_take xs k q (omega (arith, h)) c in (i.0, (i.1, omega (arith, i.1, h)), i.2)
+
+nobody : {f : Forest} {x : Module} {inside : Forest} → HasModule f x inside → f ≡ Empty → ⊥
+nobody first e = cc
+nobody (in_it i) e = cc
+nobody (after_it i) e = cc
 
 module _ (enabled : Item → Bool) (entries : List (AstKey × Ast)) (d : AstKey) (files : Files) (placed : ArePlaced entries files) (rows : Rows) (are : AreRows enabled files rows)
     (paths : (k : AstKey) (a : Ast) → lookup (same_ast_key k) entries ≡ Some a → a.module_path ≡ k.0) (joined : Joined) where
@@ -104,44 +109,82 @@ module _ (enabled : Item → Bool) (entries : List (AstKey × Ast)) (d : AstKey)
     }
 
   module _ (order : List ℕ) (below : (k : ℕ) → k < length order → slice_index order k < n) (joins : (k : ℕ) → k < length order → IsJoined rows joined (slice_index order k))
-      (first : ListsStepsFirst (HasEdge joined.modules.items) order) where
-    -- a module of the heading, and those in it
-    pub record TreeAt (p : ℕ) (h : Heading) : Type 0 where
-      m : Module
-      inside : Forest
-      are_modules : AreModules R (h ∷ []) (Tree m inside Empty)
+      (lists_first : ListsStepsFirst (HasEdge joined.modules.items) order) where
+    abbrev pub module_of : (k : ℕ) → k < length order → Heading → Module
+    module_of k l h = module_at (slice_index order k) (below k l) (joins k l) h
 
-    pub record TreesAt (hs : List Heading) : Type 0 where
-      forest : Forest
-      are_modules : AreModules R hs forest
+    -- a module whose own file is listed before a place
+    pub record IsListed (k : ℕ) (x : Module) : Type 0 where
+      pub at : ℕ
+      pub before : at < k
+      pub there : at < length order
+      pub h : Heading
+      pub key : h.key ≡ key_at (slice_index order at)
+      pub is : x ≡ module_of at there h
 
-    one_more : {h : Heading} {hs : List Heading} {m : Module} {inside : Forest} → AreModules R (h ∷ []) (Tree m inside Empty) → TreesAt hs → TreesAt (h ∷ hs)
-    one_more (a_module is inner rest) ts = record { forest = Tree _ _ ts.forest; are_modules = a_module is inner ts.are_modules }
+    later : {j k : ℕ} {x : Module} → j < k → IsListed j x → IsListed k x
+    later {j} {k} b i = record { at = i.at; before = omega (arith, b, i.before); there = i.there; h = i.h; key = i.key; is = i.is }
 
-    together : {h : Heading} {hs : List Heading} {p : ℕ} → TreeAt p h → TreesAt hs → TreesAt (h ∷ hs)
-    together t ts = one_more t.are_modules ts
+    -- of which something holds that holds of a tree where it holds of what is in it and after it
+    module _ (C : Forest → List Heading → List ℕ → Type 0) (c_none : C Empty [] [])
+        (c_more : (k : ℕ) (l : k < length order) (h : Heading) (inside after : Forest) (hs : List Heading) (row : List ℕ) → h.key ≡ key_at (slice_index order k) → C inside (headings_in (module_of k l h)) (targets joined.modules.items (slice_index order k)) → C after hs row
+        → C (Tree (module_of k l h) inside after) (h ∷ hs) (slice_index order k ∷ row)) where
+      -- the modules of headings at places, all of which are listed before a place
+      pub record TreesAt (k : ℕ) (hs : List Heading) (row : List ℕ) : Type 0 where
+        pub forest : Forest
+        pub are_modules : AreModules R hs forest
+        pub known : (x : Module) (inside : Forest) → HasModule forest x inside → IsListed k x
+        pub holds : C forest hs row
 
-    -- modules by the places of their own files
-    trees_of : (subs : List Submodule) (row : List ℕ) → map (λ (s : Submodule). s.key) subs ≡ map key_at row → ((q : ℕ) → In q row → (h : Heading) → h.key ≡ key_at q → TreeAt q h) → TreesAt (map heading_of subs)
-    trees_of [] [] e each = record { forest = Empty; are_modules = no_module }
-    trees_of [] (q ∷ row) e each = cc
-    trees_of (s ∷ subs) [] e each = cc
-    trees_of (s ∷ subs) (q ∷ row) e each =
-        let head : s.key ≡ key_at q = cc in
-        let rest : map (λ (s : Submodule). s.key) subs ≡ map key_at row = cc in
-        together (each q (inl refl) (heading_of s) head) (trees_of subs row rest (λ r i. each r (inr i)))
+      -- the module of a heading at a listed place, and those in it
+      pub record TreeAt (k : ℕ) (l : k < length order) (h : Heading) : Type 0 where
+        pub inside : Forest
+        pub are_modules : AreModules R (headings_in (module_of k l h)) inside
+        pub is : IsModule R h (module_of k l h)
+        pub known : (x : Module) (below : Forest) → HasModule inside x below → IsListed k x
+        pub holds : C inside (headings_in (module_of k l h)) (targets joined.modules.items (slice_index order k))
 
-    trees_below : (m k : ℕ) → k < m → (l : k < length order) → (h : Heading) → h.key ≡ key_at (slice_index order k) → TreeAt (slice_index order k) h
-    trees_below zero k b l h e = absurd (omega arith)
-    trees_below (suc m) k b l h e =
-        let p = slice_index order k in
-        let j = joins k l in
-        let inner = trees_of (module_at p (below k l) j h).modules (targets joined.modules.items p) (inner_keys p (below k l) j) (λ q i g same.
-        let listed = first k q l (contained q (targets joined.modules.items p) i) in
-        let at = listed_at order k q l listed in
-        subst (λ r. TreeAt r g) at.2 (trees_below m at.0 (omega (arith, at.1.0, b)) (omega (arith, at.1.0, l)) g (same ∙ ap key_at (sym at.2)))) in
-        record { m = module_at p (below k l) j h; inside = inner.forest; are_modules = a_module (is_module p (below k l) j h e) inner.are_modules no_module }
+      -- what a tree and those after it have
+      known_more : {k j : ℕ} {l : j < length order} {h : Heading} {hs : List Heading} {row : List ℕ} → j < k → h.key ≡ key_at (slice_index order j) → (t : TreeAt j l h) (ts : TreesAt k hs row)
+          → (x : Module) (inside : Forest) → HasModule (Tree (module_of j l h) t.inside ts.forest) x inside → IsListed k x
+      known_more {k} {j} {l} {h} b e t ts x inside first = record { at = j; before = b; there = l; h = h; key = e; is = refl }
+      known_more b e t ts x inside (in_it i) = later b (t.known x inside i)
+      known_more b e t ts x inside (after_it i) = ts.known x inside i
 
-    -- each listed place has its modules
-    pub tree_at : (k : ℕ) → k < length order → (h : Heading) → h.key ≡ key_at (slice_index order k) → TreeAt (slice_index order k) h
-    tree_at k l = trees_below (suc k) k (omega arith) l
+      together : {k j : ℕ} {l : j < length order} {h : Heading} {hs : List Heading} {row : List ℕ} → j < k → h.key ≡ key_at (slice_index order j) → TreeAt j l h → TreesAt k hs row → TreesAt k (h ∷ hs) (slice_index order j ∷ row)
+      together {k} {j} {l} {h} {hs} {row} b e t ts = record {
+        forest = Tree (module_of j l h) t.inside ts.forest;
+        are_modules = a_module t.is t.are_modules ts.are_modules;
+        known = known_more b e t ts;
+        holds = c_more j l h t.inside ts.forest hs row e t.holds ts.holds;
+      }
+
+      no_trees : {k : ℕ} → TreesAt k [] []
+      no_trees = record { forest = Empty; are_modules = no_module; known = λ x inside i. absurd (nobody i refl); holds = c_none }
+
+      -- modules by the places of their own files
+      trees_of : (k : ℕ) (subs : List Submodule) (row : List ℕ) → map (λ (s : Submodule). s.key) subs ≡ map key_at row
+          → ((q : ℕ) → In q row → (h : Heading) → h.key ≡ key_at q → (j : ℕ) × (j < k) × (l : j < length order) × (slice_index order j ≡ q) × TreeAt j l h) → TreesAt k (map heading_of subs) row
+      trees_of k [] [] e each = no_trees
+      trees_of k [] (q ∷ row) e each = cc
+      trees_of k (s ∷ subs) [] e each = cc
+      trees_of k (s ∷ subs) (q ∷ row) e each =
+          let head : s.key ≡ key_at q = cc in
+          let rest : map (λ (s : Submodule). s.key) subs ≡ map key_at row = cc in
+          let t = each q (inl refl) (heading_of s) head in
+          subst (λ r. TreesAt k (map heading_of (s ∷ subs)) (r ∷ row)) t.3 (together t.1 (head ∙ ap key_at (sym t.3)) t.4 (trees_of k subs row rest (λ r i. each r (inr i))))
+
+      trees_below : (m k : ℕ) → k < m → (l : k < length order) → (h : Heading) → h.key ≡ key_at (slice_index order k) → TreeAt k l h
+      trees_below zero k b l h e = absurd (omega arith)
+      trees_below (suc m) k b l h e =
+          let p = slice_index order k in
+          let j = joins k l in
+          let inner = trees_of k (module_of k l h).modules (targets joined.modules.items p) (inner_keys p (below k l) j) (λ q i g same.
+              let listed = lists_first k q l (contained q (targets joined.modules.items p) i) in
+              let at = listed_at order k q l listed in
+              (at.0, at.1.0, at.1.1, at.2, trees_below m at.0 (omega (arith, at.1.0, b)) at.1.1 g (same ∙ ap key_at (sym at.2)))) in
+          record { inside = inner.forest; are_modules = inner.are_modules; is = is_module p (below k l) j h e; known = inner.known; holds = inner.holds }
+
+      -- each listed place has its modules
+      pub tree_at : (k : ℕ) (l : k < length order) (h : Heading) → h.key ≡ key_at (slice_index order k) → TreeAt k l h
+      tree_at k l = trees_below (suc k) k (omega arith) l

@@ -10,6 +10,7 @@ use Rattle.just_parts.specs.declared.layers.ast.Item.{Item}
 use Rattle.just_parts.specs.declared.layers.ast.UnresolvedDependency.{UnresolvedDependency}
 use Rattle.just_parts.specs.declared.layers.name.Name.{Name}
 use Rattle.just_parts.specs.declared.recipe.Recipe.{Recipe}
+use Rattle.std.specs.List.{Contains}
 use Rattle.just_invoke.specs.Module.{module_name}
 use Rattle.just_invoke.specs.declared.justfile.Justfile.{Justfile, out-Justfile, roll-Justfile}
 use Rattle.just_modules.specs.Analysis.{IsOf}
@@ -31,6 +32,10 @@ held_by_name held (j ∷ js) = held_by_name (put (module_name j) j held) js
 abbrev pub by_name : List Justfile → List Justfile
 by_name js = values_of (held_by_name [] js)
 
+-- The recipes of modules that are compiled, each module under its key.
+abbrev pub Built : Type 0
+Built = AstKey × List (Recipe Dependency)
+
 -- What a module is compiled to: its recipes, each once, resolved and after those that it depends on, and its justfile, with the modules in it.
 pub record IsCompiled (enabled : Item → Bool) (asts : AstKey → Option Ast) (loaded : List Text) (m : Module) (inner : List Justfile) (made : List (Recipe Dependency)) (j : Justfile) : Type 0 where
   pub own : Ast
@@ -41,14 +46,17 @@ pub record IsCompiled (enabled : Item → Bool) (asts : AstKey → Option Ast) (
   pub modules : (out-Justfile j).modules ≡ by_name inner
 
 -- The modules of a forest are compiled to justfiles, one by one.
-pub data AreCompiled (enabled : Item → Bool) (asts : AstKey → Option Ast) (loaded : List Text) : Forest → List Justfile → Type 0 where
-  none : AreCompiled enabled asts loaded Empty []
-  one : {m : Module} {inside after : Forest} {inner js : List Justfile} {j : Justfile} (made : List (Recipe Dependency)) → AreCompiled enabled asts loaded inside inner
-      → IsCompiled enabled asts loaded m inner made j → AreCompiled enabled asts loaded after js → AreCompiled enabled asts loaded (Tree m inside after) (j ∷ js)
+pub data AreCompiled (enabled : Item → Bool) (asts : AstKey → Option Ast) (loaded : List Text) (built : List Built) : Forest → List Justfile → Type 0 where
+  none : AreCompiled enabled asts loaded built Empty []
+  one : {m : Module} {inside after : Forest} {inner js : List Justfile} {j : Justfile} (made : List (Recipe Dependency)) → Contains built (m.heading.key, made) → AreCompiled enabled asts loaded built inside inner
+      → IsCompiled enabled asts loaded m inner made j → AreCompiled enabled asts loaded built after js → AreCompiled enabled asts loaded built (Tree m inside after) (j ∷ js)
 
--- a justfile under a name
+-- a justfile under a name, or under none
+abbrev pub named_as : Option Name → Justfile → Justfile
+named_as name j = roll-Justfile (record (out-Justfile j) { name = name })
+
 abbrev pub with_name : Name → Justfile → Justfile
-with_name name j = roll-Justfile (record (out-Justfile j) { name = Some name })
+with_name name = named_as (Some name)
 
 -- each under the name beside it
 abbrev pub with_names : List Justfile → List Name → List Justfile
