@@ -1,8 +1,10 @@
 pub mod BareOutlines
+pub mod Closing
 pub mod Compilable
 pub mod Defaults
 pub mod Edges
 pub mod FilePlaces
+pub mod Forests
 pub mod Headed
 pub mod Held
 pub mod Holding

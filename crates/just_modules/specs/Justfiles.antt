@@ -40,6 +40,7 @@ Built = AstKey × List (Recipe Dependency)
 pub record IsCompiled (enabled : Item → Bool) (asts : AstKey → Option Ast) (loaded : List Text) (m : Module) (inner : List Justfile) (made : List (Recipe Dependency)) (j : Justfile) : Type 0 where
   pub own : Ast
   pub own_said : asts m.heading.key ≡ Some own
+  pub own_there : Contains m.files m.heading.key
   pub resolved : AreResolved (recipes_in enabled asts m.files) m.heading.key.0 made
   pub fields : IsOf (recipes_in enabled asts m.files) (recipes_of enabled own.items) own loaded m.heading.key.1 j
   pub name : (out-Justfile j).name ≡ m.heading.name

@@ -1,0 +1,160 @@
+-- The modules of headings are compiled to the justfiles at their places.
+use Rattle.std.proofs.Common.{◌≡◌, ◌<◌, ℕ, Bool, List, [], ◌∷◌, ◌++◌, map, length, get_or, slice_index, Option, Some, refl, sym, ap, subst, ◌∙◌, inl, inr, arith}
+use Rattle.std.specs.Prelude.{flat_map, slice_get}
+use Rattle.std.specs.List.{Contains}
+use Rattle.std.specs.Map.{keys_of, lookup}
+use Rattle.std.proofs.lemmas.List.{get_or_default, length-map}
+use Rattle.std.proofs.lemmas.Option.{slice_get-get_or}
+use Rattle.just_graph.specs.Graph.{HasEdge, targets}
+use Rattle.just_graph.specs.Steps.{ListsStepsFirst}
+use Rattle.just_graph.proofs.Index.{some_same}
+use Rattle.just_graph.proofs.Members.{In, contained, in_map, is_in}
+use Rattle.just_parts.specs.Asts.{AstKey, same_ast_key}
+use Rattle.just_parts.specs.Modulepath.{Text}
+use Rattle.just_parts.specs.declared.dependency.Dependency.{Dependency}
+use Rattle.just_parts.specs.declared.layers.ast.Ast.{Ast}
+use Rattle.just_parts.specs.declared.layers.ast.Item.{Item}
+use Rattle.just_parts.specs.declared.layers.ast.UnresolvedDependency.{UnresolvedDependency}
+use Rattle.just_parts.specs.declared.layers.name.Name.{Name}
+use Rattle.just_parts.specs.declared.recipe.Recipe.{Recipe}
+use Rattle.just_invoke.specs.declared.justfile.Justfile.{Justfile, out-Justfile, out-roll-Justfile}
+use Rattle.just_modules.specs.Analysis.{AreKeysOf, HasKeysOf, IsDefaultOf, IsOf}
+use Rattle.just_modules.specs.Files.{ArePlaced, AreRows, asts_in, keys_in}
+use Rattle.just_modules.specs.Joined.{IsJoined}
+use Rattle.just_modules.specs.Justfiles.{AreCompiled, Built, IsCompiled, by_name, named_as, none, one, recipes_in, with_names}
+use Rattle.just_modules.specs.Modules.{Empty, Forest, Heading, Module, Tree, heading_of, headings_in}
+use Rattle.just_modules.specs.Named.{names_from, recipes_by, recipes_from}
+use Rattle.just_modules.specs.Outline.{recipes_of}
+use Rattle.just_modules.specs.Reading.{Submodule, items_in}
+use Rattle.just_modules.specs.Resolved.{AreResolved}
+use Rattle.just_modules.specs.Steps.{HaveCompiled, IsCompiledAt, names_of_place, recipes_of_place}
+use Rattle.just_modules.specs.declared.files.Files.{Files}
+use Rattle.just_modules.specs.declared.files.Rows.{Rows}
+use Rattle.just_modules.specs.declared.joined.Joined.{Joined}
+use Rattle.just_parts.proofs.AstKeys.{keys_equivalent}
+use Rattle.just_modules.proofs.Closing.{own_joined}
+use Rattle.just_modules.proofs.FilePlaces.{says}
+use Rattle.just_modules.proofs.ModulePlaces.{TreeAt, file_inside, join_at, module_of, tree_at}
+use Rattle.just_modules.proofs.Ready.{names_are}
+
+-- the justfiles at places, under the names of headings
+abbrev pub under_names : (ℕ → Justfile) → List Heading → List ℕ → List Justfile
+under_names justfile [] row = []
+under_names justfile (h ∷ hs) [] = []
+under_names justfile (h ∷ hs) (q ∷ row) = named_as h.name (justfile q) ∷ under_names justfile hs row
+
+names_under : (justfile : ℕ → Justfile) (subs : List Submodule) (row : List ℕ) → length subs ≡ length row → with_names (map justfile row) (map (λ (s : Submodule). s.name) subs) ≡ under_names justfile (map heading_of subs) row
+names_under justfile [] [] e = refl
+names_under justfile [] (q ∷ row) e = cc
+names_under justfile (s ∷ subs) [] e = cc
+names_under justfile (s ∷ subs) (q ∷ row) e = ap (λ js. named_as (Some s.name) (justfile q) ∷ js) (names_under justfile subs row (omega (arith, e)))
+
+-- a name changes nothing else
+module _ (rs own : List (Recipe UnresolvedDependency)) (ast : Ast) (loaded : List Text) (source : Text) (name : Option Name) (j : Justfile) (is : IsOf rs own ast loaded source j) where
+  pub named_is_of : IsOf rs own ast loaded source (named_as name j)
+  named_is_of =
+      let out = out-roll-Justfile (record (out-Justfile j) { name = name }) in
+      record {
+        keys = subst (λ x. AreKeysOf rs (length rs) x.recipes) (sym out) is.keys;
+        held = subst (λ x. HasKeysOf rs (length rs) x.recipes) (sym out) is.held;
+        default = subst (λ x. IsDefaultOf own x.default) (sym out) is.default;
+        loaded_is = ap (λ x. x.loaded) out ∙ is.loaded_is;
+        source_is = ap (λ x. x.source) out ∙ is.source_is;
+        module_path = ap (λ x. x.module_path) out ∙ is.module_path;
+        working_directory = ap (λ x. x.working_directory) out ∙ is.working_directory;
+      }
+
+module _ (enabled : Item → Bool) (entries : List (AstKey × Ast)) (d : AstKey) (files : Files) (placed : ArePlaced entries files) (rows : Rows) (are : AreRows enabled files rows)
+    (paths : (k : AstKey) (a : Ast) → lookup (same_ast_key k) entries ≡ Some a → a.module_path ≡ k.0) (joined : Joined)
+    (order : List ℕ) (below : (k : ℕ) → k < length order → slice_index order k < length (keys_of entries)) (joins : (k : ℕ) → k < length order → IsJoined rows joined (slice_index order k))
+    (lists_first : ListsStepsFirst (HasEdge joined.modules.items) order) (loaded : List Text) (made : ℕ → List (Recipe Dependency)) (justfile : ℕ → Justfile)
+    (compiled : (k : ℕ) → k < length order → IsCompiledAt enabled files joined loaded (slice_index order k) (map justfile (targets joined.modules.items (slice_index order k))) (made (slice_index order k)) (justfile (slice_index order k)))
+    (many : (k : ℕ) → k < length order → length (names_of_place enabled files joined (slice_index order k)) ≡ length (targets joined.modules.items (slice_index order k))) where
+  abbrev asts : AstKey → Option Ast
+  asts k = lookup (same_ast_key k) entries
+
+  abbrev n : ℕ
+  n = length (keys_of entries)
+
+  abbrev key_at : ℕ → AstKey
+  key_at p = get_or (keys_of entries) p d
+
+  abbrev the_module : (k : ℕ) → k < length order → Heading → Module
+  the_module = module_of enabled entries d files placed rows are paths joined order below joins lists_first
+
+  abbrev pub built : List Built
+  built = map (λ q. (key_at q, made q)) order
+
+  -- the recipes of files by their keys
+  recipes_here : (q : ℕ) → q < n → recipes_by enabled (slice_get (asts_in files) q) ≡ recipes_of enabled (items_in (asts (key_at q)))
+  recipes_here q h =
+      let s = says enabled entries d files placed rows are paths q h in
+      ap (recipes_by enabled) s.listed ∙ ap (λ o. recipes_of enabled (items_in o)) (sym s.said)
+
+  recipes_same : (xs : List ℕ) → ((q : ℕ) → In q xs → q < n) → recipes_from enabled (asts_in files) xs ≡ recipes_in enabled asts (map key_at xs)
+  recipes_same [] inside = refl
+  recipes_same (q ∷ xs) inside = λ i. recipes_here q (inside q (inl refl)) i ++ recipes_same xs (λ r h. inside r (inr h)) i
+
+  module _ (k : ℕ) (l : k < length order) (h : Heading) (e : h.key ≡ key_at (slice_index order k)) where
+    abbrev p : ℕ
+    p = slice_index order k
+
+    abbrev m : Module
+    m = the_module k l h
+
+    abbrev at : IsCompiledAt enabled files joined loaded p (map justfile (targets joined.modules.items p)) (made p) (justfile p)
+    at = compiled k l
+
+    own_same : asts h.key ≡ Some at.own
+    own_same =
+        let s = says enabled entries d files placed rows are paths p (below k l) in
+        ap asts e ∙ s.said ∙ sym s.listed ∙ at.own_said
+
+    key_same : at.key ≡ h.key
+    key_same =
+        some_same (sym at.key_is ∙ ap (λ ks. slice_get ks p) placed.keys ∙ slice_get-get_or (keys_of entries) p d (below k l)) ∙ sym e
+
+    path_same : at.own.module_path ≡ h.key.0
+    path_same = paths h.key at.own own_same
+
+    rs_same : recipes_of_place enabled files joined p ≡ recipes_in enabled asts m.files
+    rs_same = recipes_same (targets joined.files.items p) (file_inside enabled entries d files placed rows are paths joined p (below k l) (joins k l))
+
+    names_same : names_of_place enabled files joined p ≡ map (λ (s : Submodule). s.name) m.modules
+    names_same = names_are enabled entries d files placed rows are paths joined (targets joined.files.items p) (file_inside enabled entries d files placed rows are paths joined p (below k l) (joins k l))
+
+    inner_same : with_names (map justfile (targets joined.modules.items p)) (names_of_place enabled files joined p) ≡ under_names justfile (headings_in m) (targets joined.modules.items p)
+    inner_same =
+        ap (with_names (map justfile (targets joined.modules.items p))) names_same
+        ∙ names_under justfile m.modules (targets joined.modules.items p) (sym (length-map m.modules (λ (s : Submodule). s.name)) ∙ ap length (sym names_same) ∙ many k l)
+
+    pub is_compiled : IsCompiled enabled asts loaded m (under_names justfile (headings_in m) (targets joined.modules.items p)) (made p) (named_as h.name (justfile p))
+    is_compiled =
+        let out = out-roll-Justfile (record (out-Justfile (justfile p)) { name = h.name }) in
+        record {
+          own = at.own;
+          own_said = own_same;
+          own_there = subst (λ k. Contains m.files k) (sym e) (own_joined same_ast_key keys_equivalent.refl _ (key_at p) m.files (join_at enabled entries d files placed rows are paths joined p (below k l) (joins k l)));
+          resolved = subst (λ path. AreResolved (recipes_in enabled asts m.files) path (made p)) path_same (subst (λ rs. AreResolved rs at.own.module_path (made p)) rs_same at.resolved);
+          fields = named_is_of (recipes_in enabled asts m.files) (recipes_of enabled at.own.items) at.own loaded h.key.1 h.name (justfile p)
+              (subst (λ rs. IsOf rs (recipes_of enabled at.own.items) at.own loaded h.key.1 (justfile p)) rs_same (subst (λ (x : AstKey). IsOf (recipes_of_place enabled files joined p) (recipes_of enabled at.own.items) at.own loaded x.1 (justfile p)) key_same at.fields));
+          name = ap (λ x. x.name) out;
+          modules = ap (λ x. x.modules) out ∙ at.modules ∙ ap by_name inner_same;
+        }
+
+    pub is_built : Contains built (h.key, made p)
+    is_built =
+        subst (λ x. Contains built (x, made p)) (sym e)
+        (contained (key_at p, made p) built (in_map (λ q. (key_at q, made q)) p order (is_in p order (k, l, get_or_default order k p 0 l))))
+
+  abbrev Compiled : Forest → List Heading → List ℕ → Type 0
+  Compiled f hs row = AreCompiled enabled asts loaded built f (under_names justfile hs row)
+
+  -- each module is compiled to the justfile at its place, under its name
+  pub forest_at : (k : ℕ) (l : k < length order) (h : Heading) → h.key ≡ key_at (slice_index order k) → TreeAt enabled entries d files placed rows are paths joined order below joins lists_first Compiled none
+      (λ k l h inside after hs row e a b. one (made (slice_index order k)) (is_built k l h e) a (is_compiled k l h e) b) k l h
+  forest_at = tree_at enabled entries d files placed rows are paths joined order below joins lists_first Compiled none (λ k l h inside after hs row e a b. one (made (slice_index order k)) (is_built k l h e) a (is_compiled k l h e) b)
+
+  -- so is the module of a heading itself
+  pub tree_compiled : (k : ℕ) (l : k < length order) (h : Heading) (e : h.key ≡ key_at (slice_index order k)) → AreCompiled enabled asts loaded built (Tree (the_module k l h) (forest_at k l h e).inside Empty) (named_as h.name (justfile (slice_index order k)) ∷ [])
+  tree_compiled k l h e = one (made (slice_index order k)) (is_built k l h e) (forest_at k l h e).holds (is_compiled k l h e) none
