@@ -37,7 +37,7 @@ module _ (enabled : Item → Bool) (entries : List (AstKey × Ast)) (d : AstKey)
   abbrev IsReached : ℕ → Type 0
   IsReached = Reached (HasEdge joined.modules.items) (root ∷ []) []
 
-  stands : {p : ℕ} → IsReached p → (p < n) × IsJoined rows joined p
+  pub stands : {p : ℕ} → IsReached p → (p < n) × IsJoined rows joined p
   stands r = reached_joined enabled entries d files placed rows are can.paths joined aj root inside root_joined inner_joined r
 
   abbrev names_there : ℕ → Type 0
@@ -51,7 +51,7 @@ module _ (enabled : Item → Bool) (entries : List (AstKey × Ast)) (d : AstKey)
   different_subs r different = subst (λ ns. AreDifferent (texts_of_names ns)) (names_same r) different
 
   -- a module that is reached can be compiled
-  can_compile : (p : ℕ) → (r : IsReached p) → names_there p → CanCompile enabled files joined p
+  pub can_compile : (p : ℕ) → (r : IsReached p) → names_there p → CanCompile enabled files joined p
   can_compile p r different =
       let s = stands r in
       let in_files = file_inside enabled entries d files placed rows are can.paths joined p s.0 s.1 in
@@ -70,7 +70,7 @@ module _ (enabled : Item → Bool) (entries : List (AstKey × Ast)) (d : AstKey)
 
   module _ (order : List ℕ) (ordered : IsOrder (HasEdge joined.modules.items) (length joined.modules.items) (root ∷ []) order) (reached : All IsReached order)
       (different : (k : ℕ) → k < length order → names_there (slice_index order k)) where
-    is_reached : (k : ℕ) → k < length order → IsReached (slice_index order k)
+    pub is_reached : (k : ℕ) → k < length order → IsReached (slice_index order k)
     is_reached k l = reached k 0 l
 
     goes_in : (a b : ℕ) → Contains order a → HasEdge joined.modules.items a b → Contains order b
@@ -79,22 +79,22 @@ module _ (enabled : Item → Bool) (entries : List (AstKey × Ast)) (d : AstKey)
         let x = in_take order c.0 b (omega (arith, c.1)) (ordered.steps_first c.0 b c.1 (subst (λ y. HasEdge joined.modules.items y b) (sym k) e)) in
         (x.0, omega (arith, x.1, c.1), sym (get_or_default order x.0 0 b (omega (arith, x.1, c.1))) ∙ x.2)
 
-    listed : {a : ℕ} → IsReached a → Contains order a
+    pub listed : {a : ℕ} → IsReached a → Contains order a
     listed (from_start {a} c) = elim (is_in a (root ∷ []) c) [ inl e ↦ subst (Contains order) (sym e) (ordered.roots_listed 0 root (omega arith)) | inr wrong ↦ absurd wrong ]
     listed (from_member {a} {b} r on e) = goes_in a b (listed r) e
 
     -- the order has all that is reached
-    all_different : (a : ℕ) → IsReached a → names_there a
+    pub all_different : (a : ℕ) → IsReached a → names_there a
     all_different a r =
         let c = listed r in
         let k : slice_index order c.0 ≡ a = sym (get_or_default order c.0 a 0 c.1) ∙ c.2 in
         subst names_there k (different c.0 c.1)
 
-    subs_differ : (a : ℕ) → IsReached a → AreDifferent (texts_of_names (map (λ (s : Submodule). s.name) (subs_at enabled entries d files placed rows are can.paths joined a)))
+    pub subs_differ : (a : ℕ) → IsReached a → AreDifferent (texts_of_names (map (λ (s : Submodule). s.name) (subs_at enabled entries d files placed rows are can.paths joined a)))
     subs_differ a r = different_subs r (all_different a r)
 
     -- one place of the order
-    one_at : (i k : ℕ) → i < length order → k < length order → slice_index order i ≡ slice_index order k → i ≡ k
+    pub one_at : (i k : ℕ) → i < length order → k < length order → slice_index order i ≡ slice_index order k → i ≡ k
     one_at i k h l same = elim (cases_lt i k) [
       | inl b ↦ absurd (ordered.once i k b l same)
       | inr b ↦ elim (cases_lt k i) [ inl c ↦ absurd (ordered.once k i c h (sym same)) | inr c ↦ omega (arith, b, c) ]

@@ -13,8 +13,8 @@ use Rattle.just_graph.specs.Levels.{AreLevels}
 use Rattle.just_graph.proofs.Targets.{targets_at}
 use Rattle.just_graph.specs.Graph.{HasEdge, IsGraph}
 use Rattle.just_graph.specs.Steps.{IsCircle, IsWalk, Reached, from_start, from_member}
-use Rattle.just_graph.proofs.Members.{is_in}
-use Rattle.just_modules.specs.Joined.{AreJoined, IsJoined, StaysJoined}
+use Rattle.just_graph.proofs.Members.{In, contained, from_flat, is_in}
+use Rattle.just_modules.specs.Joined.{AreGraphs, AreJoined, IsJoined, StaysJoined}
 use Rattle.just_modules.specs.declared.files.Rows.{Rows}
 use Rattle.just_modules.specs.declared.joined.Joined.{Joined}
 
@@ -148,3 +148,12 @@ pub some_at : {A : Type 0} (xs : List A) (i : ℕ) → i < length xs → (x : A)
 some_at [] i h = absurd (omega arith)
 some_at (x ∷ xs) zero h = (x, refl)
 some_at (x ∷ xs) (suc i) h = some_at xs i (omega arith)
+
+-- the modules in modules have places
+pub joined_graph : (rows : Rows) (joined : Joined) → AreGraphs rows (length rows.imports.items) → AreJoined rows (length rows.imports.items) joined → IsGraph joined.modules.items
+joined_graph rows joined graphs aj a b e = elim (aj.each a) [
+  | inl none ↦ (let wrong = is_in b [] (subst (λ xs. Contains xs b) none.1 e) in absurd wrong)
+  | inr j ↦
+      let x = from_flat (targets rows.modules.items) b (targets joined.files.items a) (subst (In b) j.modules (is_in b (targets joined.modules.items a) e)) in
+      omega (arith, graphs.module_graph x.0 b (contained b (targets rows.modules.items x.0) x.2), graphs.modules, aj.modules)
+]

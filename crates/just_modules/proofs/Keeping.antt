@@ -72,7 +72,7 @@ module _ (enabled : Item → Bool) (entries : List (AstKey × Ast)) (d : AstKey)
     keeps_groups k l h kept OfDependencies = subst (λ os. Keeps (Dependencies os)) (recipes_same k l h) kept.dependencies
 
     -- so do the modules listed before a place
-    keeps_listed : (k : ℕ) (x : Module) → ((j : ℕ) → j < k → KeepsRecipes (outlines_of (recipes_of_place enabled files joined (slice_index order j)))) → IsListed enabled entries d files placed rows are paths joined order below joins lists_first k x → KeepsGroups x
+    pub keeps_listed : (k : ℕ) (x : Module) → ((j : ℕ) → j < k → KeepsRecipes (outlines_of (recipes_of_place enabled files joined (slice_index order j)))) → IsListed enabled entries d files placed rows are paths joined order below joins lists_first k x → KeepsGroups x
     keeps_listed k x kept i = subst KeepsGroups (sym i.is) (keeps_groups i.at i.there i.h (kept i.at i.before))
 
     pub keeps_inside : (k : ℕ) (l : k < length order) (h : Heading) → ((j : ℕ) → j < k → KeepsRecipes (outlines_of (recipes_of_place enabled files joined (slice_index order j))))

@@ -181,11 +181,11 @@ module _ (enabled : Item → Bool) (entries : List (AstKey × Ast)) (d : AstKey)
       from_root : {p : ℕ} → Contains (root ∷ []) p → p ≡ root
       from_root {p} c = elim (is_in p (root ∷ []) c) [ inl e ↦ e | inr wrong ↦ absurd wrong ]
 
-      below_root : {p : ℕ} → IsReached p → depth root ≤ depth p
+      pub below_root : {p : ℕ} → IsReached p → depth root ≤ depth p
       below_root (from_start {a} c) = omega (arith, ap depth (from_root c))
       below_root (from_member {a} {b} r on e) = omega (arith, below_root r, deeper a b e)
 
-      not_root : {a b : ℕ} → IsReached a → HasEdge joined.modules.items a b → path_at root ≡ path_at b → ⊥
+      pub not_root : {a b : ℕ} → IsReached a → HasEdge joined.modules.items a b → path_at root ≡ path_at b → ⊥
       not_root {a} {b} r e same = omega (arith, below_root r, deeper a b e, ap (λ (m : Modulepath). length m.components) same)
 
       module _ (different : (a : ℕ) → IsReached a → AreDifferent (texts_of_names (map (λ (s : Submodule). s.name) (subs_at a)))) where

@@ -49,7 +49,7 @@ all_read R f (x ∷ xs) each =
 listed_at : (xs : List ℕ) (k q : ℕ) → k < length xs → Contains (take k xs) q → (i : ℕ) × ((i < k) × (i < length xs)) × (slice_index xs i ≡ q)
 listed_at xs k q h c = let i = in_take xs k q (omega (arith, h)) c in (i.0, (i.1, omega (arith, i.1, h)), i.2)
 
-nobody : {f : Forest} {x : Module} {inside : Forest} → HasModule f x inside → f ≡ Empty → ⊥
+pub nobody : {f : Forest} {x : Module} {inside : Forest} → HasModule f x inside → f ≡ Empty → ⊥
 nobody first e = cc
 nobody (in_it i) e = cc
 nobody (after_it i) e = cc

@@ -1,6 +1,8 @@
 -- The files of modules, by the places of their own files.
-use Rattle.std.specs.Prelude.{◌≡◌, ◌⊎◌, ℕ, List, [], length, flat_map, nat_eq}
-use Rattle.just_graph.specs.Graph.{IsGraph, targets}
+use Rattle.std.specs.Prelude.{◌≡◌, ◌<◌, ◌⊎◌, ℕ, List, [], ◌∷◌, length, flat_map, nat_eq}
+use Rattle.std.specs.List.{All}
+use Rattle.just_graph.specs.Graph.{HasEdge, IsGraph, targets}
+use Rattle.just_graph.specs.Steps.{IsOrder, Reached}
 use Rattle.just_graph.specs.Levels.{AreLevels}
 use Rattle.just_modules.specs.declared.joined.Joined.{Joined}
 use Rattle.just_modules.specs.declared.files.Rows.{Rows}
@@ -26,3 +28,15 @@ pub record AreJoined (rows : Rows) (n : ℕ) (joined : Joined) : Type 0 where
 -- what was joined stays
 abbrev pub StaysJoined : Rows → Joined → Joined → Type 0
 StaysJoined rows old new = (a : ℕ) → IsJoined rows old a → IsJoined rows new a
+
+-- The modules that are reached from the root's are joined, and listed, those in a module before it.
+pub record AreArranged (rows : Rows) (root : ℕ) (joined : Joined) (order : List ℕ) : Type 0 where
+  pub all : AreJoined rows (length rows.imports.items) joined
+  pub root_joined : IsJoined rows joined root
+  pub inner_joined : (a b : ℕ) → HasEdge rows.modules.items a b → IsJoined rows joined b
+  pub ordered : IsOrder (HasEdge joined.modules.items) (length joined.modules.items) (root ∷ []) order
+  pub reached : All (Reached (HasEdge joined.modules.items) (root ∷ []) []) order
+
+-- modules in a module lie deeper than it
+abbrev pub GoDeeper : Joined → Type 0
+GoDeeper joined = (depth : ℕ → ℕ) × ((a b : ℕ) → HasEdge joined.modules.items a b → depth a < depth b)

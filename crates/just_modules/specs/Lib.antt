@@ -1,5 +1,6 @@
 pub mod Analyzable
 pub mod Analysis
+pub mod Analyzed
 pub mod Contents
 pub mod Definitions
 pub mod Files

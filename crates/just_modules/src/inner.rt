@@ -5,7 +5,7 @@ ghost use Rattle.std.specs.List.{All, Contains};
 ghost use Rattle.std.specs.Map.{values_of};
 ghost use Rattle.just_graph.specs.Steps.{IsOnce};
 ghost use Rattle.just_invoke.specs.declared.justfile.Justfile.{Justfile};
-ghost use Rattle.just_modules.specs.Justfiles.{by_name, slot, with_name, with_names};
+ghost use Rattle.just_modules.specs.Justfiles.{by_name, named_as, slot, with_names};
 
 use just_data::Sequence;
 use just_invoke::Justfile;
@@ -13,14 +13,11 @@ use just_parts::Table;
 use just_parts::layers::Name;
 use std::alloc::{AllocError, Global};
 
-// A justfile under a name.
-fn named<'src>(justfile: Justfile<'src>, name: Name<'src>) -> Justfile<'src>
-    ensures { result ≡ with_name name.entry justfile.entry }
+/// A justfile under a name, or under none.
+pub fn named<'src>(justfile: Justfile<'src>, name: Option<Name<'src>>) -> Justfile<'src>
+    ensures { result ≡ named_as name.entry justfile.entry }
 {
-    Justfile {
-        name: Some(name),
-        ..justfile
-    }
+    Justfile { name, ..justfile }
 }
 
 // The values of a table, in the order of their names.
@@ -37,8 +34,8 @@ fn values<'src>(
     Ok(Sequence::from_vec(modules))
 }
 
-// Takes what is held at a place.
-fn take_at<'src>(slots: &mut Vec<Option<Justfile<'src>>>, place: usize) -> Justfile<'src>
+/// Takes what is held at a place.
+pub fn take_at<'src>(slots: &mut Vec<Option<Justfile<'src>>>, place: usize) -> Justfile<'src>
     requires inside { place < length slots.old.items }
     requires there { (j : Justfile) × (slot slots.old.items place ≡ Some j) }
     ensures taken { slot slots.old.items place ≡ Some result }
@@ -67,7 +64,7 @@ pub fn take_inner<'src>(
     let mut table = Table::new(alloc);
     for at in 0..row.len() {
         let justfile = take_at(slots, row[at]);
-        table.insert(named(justfile, names[at].copied()))?;
+        table.insert(named(justfile, Some(names[at].copied())))?;
     }
     let modules = values(alloc, table)?;
     Ok(modules)

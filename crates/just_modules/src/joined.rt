@@ -5,7 +5,8 @@ ghost use Rattle.std.specs.List.{All, Contains};
 ghost use Rattle.just_graph.specs.Building.{EachRow};
 ghost use Rattle.just_graph.specs.Graph.{HasEdge, IsGraph, targets};
 ghost use Rattle.just_graph.specs.Steps.{IsOrder, Reached};
-ghost use Rattle.just_modules.specs.Joined.{AreGraphs, AreJoined, IsJoined, StaysJoined};
+ghost use Rattle.just_modules.specs.declared.joined.Joined.{Joined};
+ghost use Rattle.just_modules.specs.Joined.{AreArranged, AreGraphs, AreJoined, GoDeeper, IsJoined, StaysJoined};
 
 use crate::files::Rows;
 use just_graph::levels::levels;
@@ -127,4 +128,20 @@ pub fn inner_first(
         Ok(order) => Ok(order),
         Err(_) => unreachable!(),
     }
+}
+
+/// Joins the modules that are reached from the root's, and lists them, those in a module before it.
+pub fn arrange(
+    alloc: Global,
+    rows: &Rows,
+    root: usize,
+) -> Result<(Joined, Vec<usize>), AllocError>
+    requires graphs { AreGraphs rows.now (length rows.now.imports.items) }
+    requires root { root < length rows.now.imports.items }
+    requires deeper { (joined : Joined) → AreJoined rows.now (length rows.now.imports.items) joined → GoDeeper joined }
+    ensures { IfOk result (λ made. AreArranged rows.now root made.0 made.1.items) }
+{
+    let joined = join_modules(alloc, rows, root)?;
+    let order = inner_first(alloc, joined.modules.as_slice(), root)?;
+    Ok((joined, order))
 }

@@ -1,0 +1,197 @@
+-- What an analysis answers, from what is compiled in an order.
+use Rattle.std.proofs.Common.{◌≡◌, ◌<◌, ◌≤◌, ℕ, zero, suc, ◌+◌, Bool, List, [], ◌∷◌, ◌++◌, map, take, length, get_or, slice_index, Option, Some, refl, sym, ap, subst, ◌∙◌, inl, inr, arith}
+use Rattle.std.specs.Prelude.{flat_map, slice_get}
+use Rattle.std.specs.List.{All, Contains}
+use Rattle.std.specs.Map.{keys_of, lookup}
+use Rattle.std.proofs.lemmas.List.{get_or_default, length-append, take_all}
+use Rattle.std.proofs.lemmas.List.Elements.{All-contains, Contains-get_or}
+use Rattle.std.proofs.lemmas.Option.{get_or_from_slice_get, slice_get_within}
+use Rattle.just_graph.specs.Graph.{HasEdge, targets}
+use Rattle.just_graph.specs.Steps.{Reached, from_member, from_start, in_take}
+use Rattle.just_graph.specs.Unfolded.{AreApart}
+use Rattle.just_graph.proofs.Index.{get_map, got_in, some_same}
+use Rattle.just_graph.proofs.Members.{In, contained, from_flat, from_map, is_in}
+use Rattle.just_parts.specs.Asts.{AstKey, same_ast_key}
+use Rattle.just_parts.specs.Causes.{Cause}
+use Rattle.just_parts.specs.Modulepath.{Text}
+use Rattle.just_parts.specs.Name.{text_of_name}
+use Rattle.just_parts.specs.declared.dependency.Dependency.{Dependency}
+use Rattle.just_parts.specs.declared.layers.ast.Ast.{Ast}
+use Rattle.just_parts.specs.declared.layers.ast.Item.{Item}
+use Rattle.just_parts.specs.declared.recipe.Recipe.{Recipe}
+use Rattle.just_invoke.specs.Closed.{AreClosed, IsResolved}
+use Rattle.just_invoke.specs.declared.justfile.Justfile.{Justfile}
+use Rattle.just_modules.specs.Analyzable.{AreAnalyzable}
+use Rattle.just_modules.specs.Analyzed.{ComeAfter, IsAnalyzed}
+use Rattle.just_modules.specs.Contents.{texts_of_names}
+use Rattle.just_modules.specs.Files.{ArePlaced, AreRows}
+use Rattle.just_modules.specs.Groups.{KeepsGroups, KeepsModules, NamesModules}
+use Rattle.just_modules.specs.Index.{AreDifferent}
+use Rattle.just_modules.specs.Joined.{AreArranged, AreJoined, GoDeeper, IsJoined}
+use Rattle.just_modules.specs.Justfiles.{AreCompiled, Built, named_as, slot}
+use Rattle.just_modules.specs.Modules.{AreModules, Empty, Forest, HasModule, Heading, IsHeading, Module, Tree, a_module, after_it, first, in_it, no_module}
+use Rattle.just_modules.specs.Reading.{Reading, reading_of}
+use Rattle.just_modules.specs.Steps.{BreaksInOrder, CanCompileAll, HaveCompiled, IsCompiledAt, RepeatsNames, names_of_place}
+use Rattle.just_modules.specs.declared.files.Files.{Files}
+use Rattle.just_modules.specs.declared.files.Rows.{Rows}
+use Rattle.just_modules.specs.declared.joined.Joined.{Joined}
+use Rattle.just_modules.proofs.Closing.{forest_closed}
+use Rattle.just_modules.proofs.Compilable.{can_compile, can_compile_all, listed, one_at, stands, subs_differ}
+use Rattle.just_modules.proofs.FilePlaces.{count, one_place}
+use Rattle.just_modules.proofs.Forests.{forest_at, tree_compiled}
+use Rattle.just_modules.proofs.Headed.{heading_at}
+use Rattle.just_modules.proofs.Keeping.{keeps_groups, keeps_listed, names_next, names_repeated}
+use Rattle.just_modules.proofs.ModulePaths.{below_root, deeper, entered, not_root, one_path, path_parts}
+use Rattle.just_modules.proofs.ModulePlaces.{IsListed, module_of, nobody}
+use Rattle.just_modules.proofs.Ready.{edge_joined}
+
+pair_flat : {A : Type 0} (f : ℕ → A) (made : ℕ → List (Recipe Dependency)) (xs : List ℕ) → flat_map made xs ≡ flat_map (λ (b : A × List (Recipe Dependency)). b.1) (map (λ q. (f q, made q)) xs)
+pair_flat f made [] = refl
+pair_flat f made (x ∷ xs) = ap (λ rs. made x ++ rs) (pair_flat f made xs)
+
+module _ (enabled : Item → Bool) (entries : List (AstKey × Ast)) (d : AstKey) (files : Files) (placed : ArePlaced entries files) (rows : Rows) (are : AreRows enabled files rows)
+    (can : AreAnalyzable enabled (λ k. lookup (same_ast_key k) entries)) where
+  abbrev n : ℕ
+  n = length (keys_of entries)
+
+  rows_many : length rows.imports.items ≡ n
+  rows_many = are.imports.count ∙ count enabled entries d files placed rows are can.paths
+
+  -- modules in a module lie deeper
+  pub go_deeper : (joined : Joined) → AreJoined rows (length rows.imports.items) joined → GoDeeper joined
+  go_deeper joined all =
+      let aj = subst (λ m. AreJoined rows m joined) rows_many all in
+      (λ p. length (get_or (keys_of entries) p d).0.components, deeper enabled entries d files placed rows are can.paths joined (edge_joined enabled entries d files placed rows are can.paths joined aj))
+
+  module _ (root : ℕ) (inside : root < n) (joined : Joined) (order : List ℕ) (arr : AreArranged rows root joined order) (top : Heading) (is_top : top.key ≡ get_or (keys_of entries) root d) where
+    abbrev R : Reading
+    R = reading_of enabled (λ k. lookup (same_ast_key k) entries)
+
+    abbrev key_at : ℕ → AstKey
+    key_at p = get_or (keys_of entries) p d
+
+    aj : AreJoined rows n joined
+    aj = subst (λ m. AreJoined rows m joined) rows_many arr.all
+
+    abbrev IsReached : ℕ → Type 0
+    IsReached = Reached (HasEdge joined.modules.items) (root ∷ []) []
+
+    stand : (p : ℕ) → IsReached p → (p < n) × IsJoined rows joined p
+    stand p r = stands enabled entries d files placed rows are can joined aj root inside arr.root_joined arr.inner_joined r
+
+    reached : (k : ℕ) → k < length order → IsReached (slice_index order k)
+    reached k l = arr.reached k 0 l
+
+    below : (k : ℕ) → k < length order → slice_index order k < n
+    below k l = (stand (slice_index order k) (reached k l)).0
+
+    joins : (k : ℕ) → k < length order → IsJoined rows joined (slice_index order k)
+    joins k l = (stand (slice_index order k) (reached k l)).1
+
+    heading : (k : ℕ) → k < length order → (h : Heading) × IsHeading R top h × (h.key ≡ key_at (slice_index order k))
+    heading k l = heading_at enabled entries d files placed rows are can.paths joined root stand top is_top (reached k l)
+
+    -- two modules of one name are named
+    pub repeats_named : (c : Cause) → RepeatsNames enabled files joined order c → NamesModules R top c
+    repeats_named c r =
+        let h = heading r.at r.there in
+        names_repeated enabled entries d files placed rows are can.paths joined order below joins arr.ordered.steps_first top r.at r.there h.0 h.2 h.1 c r.broken
+
+    module _ (different : (k : ℕ) → k < length order → AreDifferent (texts_of_names (names_of_place enabled files joined (slice_index order k)))) where
+      pub all_can : CanCompileAll enabled files joined order
+      all_can = can_compile_all enabled entries d files placed rows are can joined aj root inside arr.root_joined arr.inner_joined order arr.ordered arr.reached different
+
+      -- a broken rule of recipes is named
+      pub broken_named : (c : Cause) → BreaksInOrder enabled files joined order c → NamesModules R top c
+      broken_named c r =
+          let h = heading r.at r.there in
+          names_next enabled entries d files placed rows are can.paths joined order below joins arr.ordered.steps_first different top r.at r.there h.0 h.2 h.1 c r.before r.broken
+
+      -- the root's place in the order
+      root_listed : (k : ℕ) × (k < length order) × (slice_index order k ≡ root)
+      root_listed =
+          let c = listed enabled entries d files placed rows are can joined aj root inside arr.root_joined arr.inner_joined order arr.ordered arr.reached different (from_start (0, omega arith, refl)) in
+          (c.0, c.1, sym (get_or_default order c.0 root 0 c.1) ∙ c.2)
+
+      module _ (loaded : List Text) (slots : List (Option Justfile)) (recipes : List (Recipe Dependency)) (so : HaveCompiled enabled files joined loaded order (length order) slots recipes) where
+        -- the root's module is held
+        pub root_held : slot slots root ≡ Some (so.justfile root)
+        root_held =
+            let k = root_listed in
+            subst (λ q. slot slots q ≡ Some (so.justfile q)) k.2 (so.held k.0 k.1 (λ i l e.
+            not_root enabled entries d files placed rows are can.paths joined (edge_joined enabled entries d files placed rows are can.paths joined aj) root (reached i l) (subst (HasEdge joined.modules.items (slice_index order i)) k.2 e) refl))
+
+        many : (k : ℕ) → k < length order → length (names_of_place enabled files joined (slice_index order k)) ≡ length (targets joined.modules.items (slice_index order k))
+        many k l = (all_can.each k l).names
+
+        abbrev k0 : ℕ
+        k0 = root_listed.0
+
+        abbrev l0 : k0 < length order
+        l0 = root_listed.1
+
+        e0 : top.key ≡ key_at (slice_index order k0)
+        e0 = is_top ∙ ap key_at (sym root_listed.2)
+
+        abbrev m0 : Module
+        m0 = module_of enabled entries d files placed rows are can.paths joined order below joins arr.ordered.steps_first k0 l0 top
+
+        abbrev built : List Built
+        built = map (λ q. (key_at q, so.made q)) order
+
+        inside0 : Forest
+        inside0 = (forest_at enabled entries d files placed rows are can.paths joined order below joins arr.ordered.steps_first loaded so.made so.justfile so.each many k0 l0 top e0).inside
+
+        known : (k : ℕ) (x : Module) → IsListed enabled entries d files placed rows are can.paths joined order below joins arr.ordered.steps_first k x → k ≤ length order → KeepsGroups x
+        known k x i b = keeps_listed enabled entries d files placed rows are can.paths joined order below joins arr.ordered.steps_first different k x (λ j l. (so.each j (omega (arith, l, b))).kept) i
+
+        kept : (x : Module) (below' : Forest) → HasModule (Tree m0 inside0 Empty) x below' → KeepsGroups x
+        unfolding inside0
+        kept x below' first = keeps_groups enabled entries d files placed rows are can.paths joined order below joins arr.ordered.steps_first different k0 l0 top (so.each k0 l0).kept
+        kept x below' (in_it i) = known k0 x ((forest_at enabled entries d files placed rows are can.paths joined order below joins arr.ordered.steps_first loaded so.made so.justfile so.each many k0 l0 top e0).known x below' i) (omega (arith, l0))
+        kept x below' (after_it i) = absurd (nobody i refl)
+
+        are_modules : AreModules R (top ∷ []) (Tree m0 inside0 Empty)
+        unfolding inside0
+        are_modules =
+            let t = forest_at enabled entries d files placed rows are can.paths joined order below joins arr.ordered.steps_first loaded so.made so.justfile so.each many k0 l0 top e0 in
+            a_module t.is t.are_modules no_module
+
+        compiled : AreCompiled enabled (λ k. lookup (same_ast_key k) entries) loaded built (Tree m0 inside0 Empty) (named_as top.name (so.justfile root) ∷ [])
+        unfolding inside0
+        compiled =
+            subst (λ q. AreCompiled enabled (λ k. lookup (same_ast_key k) entries) loaded built (Tree m0 (forest_at enabled entries d files placed rows are can.paths joined order below joins arr.ordered.steps_first loaded so.made so.justfile so.each many k0 l0 top e0).inside Empty) (named_as top.name (so.justfile q) ∷ [])) root_listed.2
+            (tree_compiled enabled entries d files placed rows are can.paths joined order below joins arr.ordered.steps_first loaded so.made so.justfile so.each many k0 l0 top e0)
+
+        all : recipes ≡ flat_map (λ (b : Built). b.1) built
+        all = so.all ∙ ap (flat_map so.made) (take_all (length order) order (omega arith)) ∙ pair_flat key_at so.made order
+
+        resolved : All IsResolved recipes
+        resolved = λ i x l.
+            let r = get_or recipes i x in
+            let q = from_flat so.made r (take (length order) order) (subst (In r) so.all (is_in r recipes (Contains-get_or recipes i x l))) in
+            let k = in_take order (length order) q.0 (omega arith) (contained q.0 (take (length order) order) q.1) in
+            All-contains IsResolved (so.made (slice_index order k.0)) r (so.each k.0 k.1).resolved.resolved (subst (λ p. Contains (so.made p) r) (sym k.2) (contained r (so.made q.0) q.2))
+
+        -- what stands at a place of the list
+        built_at : (i : ℕ) (b : Built) → slice_get built i ≡ Some b → (i < length order) × (b ≡ (key_at (slice_index order i), so.made (slice_index order i)))
+        built_at i b e =
+            let x = get_map (λ q. (key_at q, so.made q)) order i b e in
+            (slice_get_within order i x.0 x.1, x.2 ∙ ap (λ q. (key_at q, so.made q)) (sym (get_or_from_slice_get order i x.0 0 x.1)))
+
+        once : AreApart (map (λ (b : Built). b.0) built)
+        once i j k a b =
+            let x = get_map (λ (b : Built). b.0) built i k a in
+            let y = get_map (λ (b : Built). b.0) built j k b in
+            let p = built_at i x.0 x.1 in
+            let q = built_at j y.0 y.1 in
+            one_at enabled entries d files placed rows are can joined aj root inside arr.root_joined arr.inner_joined order arr.ordered arr.reached different i j p.0 q.0
+            (one_place enabled entries d files placed rows are can.paths (slice_index order i) (slice_index order j) (below i p.0) (below j q.0) (sym (ap (λ (b : Built). b.0) p.1) ∙ sym x.2 ∙ y.2 ∙ ap (λ (b : Built). b.0) q.1))
+
+        each : (b : Built) → Contains built b → (h : Heading) × IsHeading R top h × (h.key ≡ b.0)
+        each b c =
+            let q = from_map (λ q. (key_at q, so.made q)) b order (is_in b built c) in
+            let o = contained q.0 order q.1 in
+            let at : slice_index order o.0 ≡ q.0 = sym (get_or_default order o.0 q.0 0 o.1) ∙ o.2 in
+            let h = heading o.0 o.1 in
+            (h.0, h.1, h.2 ∙ ap key_at at ∙ sym (ap (λ (x : Built). x.0) q.2))

@@ -1,0 +1,41 @@
+-- What an analysis answers.
+use Rattle.std.specs.Prelude.{◌≡◌, ◌<◌, ◌++◌, ℕ, Bool, List, [], ◌∷◌, flat_map, map, slice_get, Option, Some, Result, IfOk, IfErr}
+use Rattle.std.specs.List.{Contains}
+use Rattle.just_graph.specs.Unfolded.{AreApart}
+use Rattle.just_parts.specs.Asts.{AstKey}
+use Rattle.just_parts.specs.Causes.{Reports}
+use Rattle.just_parts.specs.Modulepath.{Text}
+use Rattle.just_parts.specs.declared.dependency.Dependency.{Dependency}
+use Rattle.just_parts.specs.declared.layers.ast.Ast.{Ast}
+use Rattle.just_parts.specs.declared.layers.ast.Item.{Item}
+use Rattle.just_parts.specs.declared.layers.error.Error.{Error}
+use Rattle.just_parts.specs.declared.recipe.Recipe.{Recipe}
+use Rattle.just_invoke.specs.Closed.{AreClosed}
+use Rattle.just_invoke.specs.declared.justfile.Justfile.{Justfile}
+use Rattle.just_modules.specs.Groups.{KeepsModules, NamesModules}
+use Rattle.just_modules.specs.Justfiles.{AreCompiled, Built}
+use Rattle.just_modules.specs.Modules.{AreModules, Empty, Forest, Heading, IsHeading, Module, Tree}
+use Rattle.just_modules.specs.Reading.{reading_of}
+
+-- a module comes after those in it
+abbrev pub ComeAfter : List Built → Type 0
+ComeAfter built = (i j : ℕ) (b inner : Built) (name : Text) → slice_get built i ≡ Some b → slice_get built j ≡ Some inner → inner.0.0.components ≡ b.0.0.components ++ name ∷ [] → j < i
+
+-- The module of a heading and those in it: they keep all groups, their recipes stand one module after another, each module once and after those in it, and their justfiles are a tree, which is closed.
+pub record IsAnalyzed (enabled : Item → Bool) (asts : AstKey → Option Ast) (loaded : List Text) (top : Heading) (justfile : Justfile) (recipes : List (Recipe Dependency)) : Type 0 where
+  pub m : Module
+  pub inside : Forest
+  pub are_modules : AreModules (reading_of enabled asts) (top ∷ []) (Tree m inside Empty)
+  pub kept : KeepsModules (Tree m inside Empty)
+  pub built : List Built
+  pub once : AreApart (map (λ (b : Built). b.0) built)
+  pub after : ComeAfter built
+  pub each : (b : Built) → Contains built b → (h : Heading) × IsHeading (reading_of enabled asts) top h × (h.key ≡ b.0)
+  pub all : recipes ≡ flat_map (λ (b : Built). b.1) built
+  pub compiled : AreCompiled enabled asts loaded built (Tree m inside Empty) (justfile ∷ [])
+  pub closed : AreClosed recipes justfile
+
+-- An analysis answers that, or an error that names a broken rule.
+pub record Analyzes (enabled : Item → Bool) (asts : AstKey → Option Ast) (loaded : List Text) (top : Heading) (result : Result (Justfile × List (Recipe Dependency)) Error) : Type 0 where
+  pub analyzed : IfOk result (λ made. IsAnalyzed enabled asts loaded top made.0 made.1)
+  pub named : IfErr result (Reports (NamesModules (reading_of enabled asts) top))
