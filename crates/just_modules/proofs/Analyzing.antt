@@ -18,6 +18,7 @@ use Rattle.just_parts.specs.Name.{text_of_name}
 use Rattle.just_parts.specs.declared.dependency.Dependency.{Dependency}
 use Rattle.just_parts.specs.declared.layers.ast.Ast.{Ast}
 use Rattle.just_parts.specs.declared.layers.ast.Item.{Item}
+use Rattle.just_parts.specs.declared.modulepath.Modulepath.{Modulepath}
 use Rattle.just_parts.specs.declared.recipe.Recipe.{Recipe}
 use Rattle.just_invoke.specs.Closed.{AreClosed, IsResolved}
 use Rattle.just_invoke.specs.declared.justfile.Justfile.{Justfile}
@@ -41,8 +42,8 @@ use Rattle.just_modules.proofs.FilePlaces.{count, one_place}
 use Rattle.just_modules.proofs.Forests.{forest_at, tree_compiled}
 use Rattle.just_modules.proofs.Headed.{heading_at}
 use Rattle.just_modules.proofs.Keeping.{keeps_groups, keeps_listed, names_next, names_repeated}
-use Rattle.just_modules.proofs.ModulePaths.{below_root, deeper, entered, not_root, one_path, path_parts}
-use Rattle.just_modules.proofs.ModulePlaces.{IsListed, module_of, nobody}
+use Rattle.just_modules.proofs.ModulePaths.{below_root, deeper, ends_same, entered, not_root, one_path}
+use Rattle.just_modules.proofs.ModulePlaces.{IsListed, file_inside, module_of, nobody}
 use Rattle.just_modules.proofs.Ready.{edge_joined}
 
 pair_flat : {A : Type 0} (f : ℕ → A) (made : ℕ → List (Recipe Dependency)) (xs : List ℕ) → flat_map made xs ≡ flat_map (λ (b : A × List (Recipe Dependency)). b.1) (map (λ q. (f q, made q)) xs)
@@ -54,7 +55,7 @@ module _ (enabled : Item → Bool) (entries : List (AstKey × Ast)) (d : AstKey)
   abbrev n : ℕ
   n = length (keys_of entries)
 
-  rows_many : length rows.imports.items ≡ n
+  pub rows_many : length rows.imports.items ≡ n
   rows_many = are.imports.count ∙ count enabled entries d files placed rows are can.paths
 
   -- modules in a module lie deeper
@@ -90,6 +91,13 @@ module _ (enabled : Item → Bool) (entries : List (AstKey × Ast)) (d : AstKey)
 
     heading : (k : ℕ) → k < length order → (h : Heading) × IsHeading R top h × (h.key ≡ key_at (slice_index order k))
     heading k l = heading_at enabled entries d files placed rows are can.paths joined root stand top is_top (reached k l)
+
+    -- the files of a listed module have places
+    pub files_there : (k : ℕ) → k < length order → All (λ q. q < length files.asts.items) (targets joined.files.items (slice_index order k))
+    files_there k l = λ i x h.
+        let in_files = file_inside enabled entries d files placed rows are can.paths joined (slice_index order k) (below k l) (joins k l) in
+        let row = targets joined.files.items (slice_index order k) in
+        omega (arith, in_files (get_or row i x) (is_in (get_or row i x) row (Contains-get_or row i x h)), count enabled entries d files placed rows are can.paths)
 
     -- two modules of one name are named
     pub repeats_named : (c : Cause) → RepeatsNames enabled files joined order c → NamesModules R top c
@@ -195,3 +203,50 @@ module _ (enabled : Item → Bool) (entries : List (AstKey × Ast)) (d : AstKey)
             let at : slice_index order o.0 ≡ q.0 = sym (get_or_default order o.0 q.0 0 o.1) ∙ o.2 in
             let h = heading o.0 o.1 in
             (h.0, h.1, h.2 ∙ ap key_at at ∙ sym (ap (λ (x : Built). x.0) q.2))
+
+        -- all paths are spaced alike
+        one_spacing : {q : ℕ} → IsReached q → (key_at q).0.spaced ≡ (key_at root).0.spaced
+        one_spacing (from_start {a} c) = elim (is_in a (root ∷ []) c) [ inl e ↦ ap (λ p. (key_at p).0.spaced) e | inr wrong ↦ absurd wrong ]
+        one_spacing (from_member {a} {b} r on e) =
+            let s = stand a r in
+            let x = entered enabled entries d files placed rows are can.paths joined a s.0 s.1 b e in
+            ap (λ (m : Modulepath). m.spaced) x.path ∙ one_spacing r
+
+        -- a module whose path is one name longer is in it
+        inner_before : (i : ℕ) (l : i < length order) {q : ℕ} → IsReached q → (name : Text) → (key_at q).0.components ≡ (key_at (slice_index order i)).0.components ++ name ∷ [] → (j : ℕ) × (j < i) × (slice_index order j ≡ q)
+        inner_before i l (from_start {a} c) name e =
+            let same : a ≡ root = elim (is_in a (root ∷ []) c) [ inl s ↦ s | inr wrong ↦ absurd wrong ] in
+            let low = below_root enabled entries d files placed rows are can.paths joined (edge_joined enabled entries d files placed rows are can.paths joined aj) root (reached i l) in
+            absurd (omega (arith, low, ap length (ap (λ p. (key_at p).0.components) (sym same) ∙ e), length-append (key_at (slice_index order i)).0.components (name ∷ [])))
+        inner_before i l (from_member {a} {b} r on e) name is =
+            let p = slice_index order i in
+            let s = stand a r in
+            let x = entered enabled entries d files placed rows are can.paths joined a s.0 s.1 b e in
+            let parts = ends_same (key_at a).0.components (key_at p).0.components (text_of_name x.sub.name) name (ap (λ (m : Modulepath). m.components) (sym x.path) ∙ is) in
+            let path : (key_at a).0 ≡ (key_at p).0 = λ y. record { components = parts.0 y; spaced = (one_spacing r ∙ sym (one_spacing (reached i l))) y } in
+            let outer : a ≡ p = one_path enabled entries d files placed rows are can.paths joined (edge_joined enabled entries d files placed rows are can.paths joined aj) root
+            (subs_differ enabled entries d files placed rows are can joined aj root inside arr.root_joined arr.inner_joined order arr.ordered arr.reached different) r (reached i l) path in
+            in_take order i b (omega (arith, l)) (arr.ordered.steps_first i b l (subst (λ y. HasEdge joined.modules.items y b) outer e))
+
+        after : ComeAfter built
+        after i j b inner name at_i at_j is =
+            let x = built_at i b at_i in
+            let y = built_at j inner at_j in
+            let k = inner_before i x.0 (reached j y.0) name (ap (λ (z : Built). z.0.0.components) (sym y.1) ∙ is ∙ ap (λ (z : Built). z.0.0.components ++ name ∷ []) x.1) in
+            let same = one_at enabled entries d files placed rows are can joined aj root inside arr.root_joined arr.inner_joined order arr.ordered arr.reached different k.0 j (omega (arith, k.1, x.0)) y.0 k.2 in
+            omega (arith, same, k.1)
+
+        pub is_analyzed : IsAnalyzed enabled (λ k. lookup (same_ast_key k) entries) loaded top (named_as top.name (so.justfile root)) recipes
+        is_analyzed = record {
+          m = m0;
+          inside = inside0;
+          are_modules = are_modules;
+          kept = kept;
+          built = built;
+          once = once;
+          after = after;
+          each = each;
+          all = all;
+          compiled = compiled;
+          closed = forest_closed enabled (λ k. lookup (same_ast_key k) entries) loaded built recipes all resolved compiled (named_as top.name (so.justfile root)) (inl refl);
+        }

@@ -48,7 +48,7 @@ module_path path s (item.Module name relative (Some file) optional) (inl e) = ap
 module_path path s (item.Module name relative (Some file) optional) (inr h) = absurd h
 module_path path s (item.Recipe r) h = absurd h
 
-ends_same : (xs ys : List Text) (x y : Text) → xs ++ x ∷ [] ≡ ys ++ y ∷ [] → (xs ≡ ys) × (x ≡ y)
+pub ends_same : (xs ys : List Text) (x y : Text) → xs ++ x ∷ [] ≡ ys ++ y ∷ [] → (xs ≡ ys) × (x ≡ y)
 ends_same [] [] x y e = (refl, cc)
 ends_same [] (b ∷ ys) x y e = let l = ap length e in absurd (omega (arith, l, length-append ys (y ∷ [])))
 ends_same (a ∷ xs) [] x y e = let l = ap length e in absurd (omega (arith, l, length-append xs (x ∷ [])))

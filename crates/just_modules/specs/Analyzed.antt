@@ -1,18 +1,16 @@
 -- What an analysis answers.
-use Rattle.std.specs.Prelude.{◌≡◌, ◌<◌, ◌++◌, ℕ, Bool, List, [], ◌∷◌, flat_map, map, slice_get, Option, Some, Result, IfOk, IfErr}
+use Rattle.std.specs.Prelude.{◌≡◌, ◌<◌, ◌++◌, ℕ, Bool, List, [], ◌∷◌, flat_map, map, slice_get, Option, Some}
 use Rattle.std.specs.List.{Contains}
 use Rattle.just_graph.specs.Unfolded.{AreApart}
 use Rattle.just_parts.specs.Asts.{AstKey}
-use Rattle.just_parts.specs.Causes.{Reports}
 use Rattle.just_parts.specs.Modulepath.{Text}
 use Rattle.just_parts.specs.declared.dependency.Dependency.{Dependency}
 use Rattle.just_parts.specs.declared.layers.ast.Ast.{Ast}
 use Rattle.just_parts.specs.declared.layers.ast.Item.{Item}
-use Rattle.just_parts.specs.declared.layers.error.Error.{Error}
 use Rattle.just_parts.specs.declared.recipe.Recipe.{Recipe}
 use Rattle.just_invoke.specs.Closed.{AreClosed}
 use Rattle.just_invoke.specs.declared.justfile.Justfile.{Justfile}
-use Rattle.just_modules.specs.Groups.{KeepsModules, NamesModules}
+use Rattle.just_modules.specs.Groups.{KeepsModules}
 use Rattle.just_modules.specs.Justfiles.{AreCompiled, Built}
 use Rattle.just_modules.specs.Modules.{AreModules, Empty, Forest, Heading, IsHeading, Module, Tree}
 use Rattle.just_modules.specs.Reading.{reading_of}
@@ -34,8 +32,3 @@ pub record IsAnalyzed (enabled : Item → Bool) (asts : AstKey → Option Ast) (
   pub all : recipes ≡ flat_map (λ (b : Built). b.1) built
   pub compiled : AreCompiled enabled asts loaded built (Tree m inside Empty) (justfile ∷ [])
   pub closed : AreClosed recipes justfile
-
--- An analysis answers that, or an error that names a broken rule.
-pub record Analyzes (enabled : Item → Bool) (asts : AstKey → Option Ast) (loaded : List Text) (top : Heading) (result : Result (Justfile × List (Recipe Dependency)) Error) : Type 0 where
-  pub analyzed : IfOk result (λ made. IsAnalyzed enabled asts loaded top made.0 made.1)
-  pub named : IfErr result (Reports (NamesModules (reading_of enabled asts) top))

@@ -15,6 +15,9 @@ pub record Heading : Type 0 where
   pub key : AstKey
   pub name : Option Name
 
+abbrev pub heading : AstKey → Option Name → Heading
+heading key name = record { key = key; name = name }
+
 -- A module: its files in join order, what each says, and the modules that these declare.
 pub record Module : Type 0 where
   pub heading : Heading

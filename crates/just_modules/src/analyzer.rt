@@ -5,12 +5,18 @@ ghost use Rattle.just_modules.specs.Definitions.{recipes_in, outlines_in};
 ghost use Rattle.just_modules.specs.Index.{AreDifferent};
 ghost use Rattle.just_modules.specs.Outline.{names_of, outline_of};
 
+use crate::compiling::compile_in_order;
 use crate::definitions::{Definitions, recipe_at};
+use crate::files::{file_rows, place_files, place_of};
+use crate::inner::{named, take_at};
+use crate::joined::arrange;
+use crate::module_names::check_module_names;
 use just_data::{Sequence, Shared, Text};
-use just_invoke::{Justfile, RecipeKey};
-use just_parts::layers::{Ast, Name};
-use just_parts::{Table, UnresolvedRecipe};
+use just_invoke::{Justfile, RecipeKey, Recipes};
+use just_parts::layers::{Ast, Error, Name, Syntax};
+use just_parts::{Modulepath, Table, UnresolvedRecipe};
 use std::alloc::{AllocError, Global};
+use std::collections::HashMap;
 
 // The keys of the recipes, under their names.
 fn recipe_keys<'a, 'src>(
@@ -105,4 +111,47 @@ pub fn make_justfile<'a, 'src>(
         source,
         working_directory: ast.working_directory.clone()?,
     })
+}
+
+/// Analyzes modules.
+pub struct Analyzer;
+
+impl Analyzer {
+    ghost use Rattle.std.specs.Prelude.{IfErr, IfOk, IsSome};
+    ghost use Rattle.std.specs.HashMap.{get};
+    ghost use Rattle.just_parts.specs.Asts.{same_ast_key};
+    ghost use Rattle.just_modules.specs.Analyzable.{AreAnalyzable};
+    ghost use Rattle.just_parts.specs.Causes.{Reports};
+    ghost use Rattle.just_modules.specs.Analyzed.{IsAnalyzed};
+    ghost use Rattle.just_modules.specs.Groups.{NamesModules};
+    ghost use Rattle.just_modules.specs.Modules.{heading};
+    ghost use Rattle.just_modules.specs.Reading.{reading_of};
+
+    /// The justfile of the module at `module_path`, whose own file is `root`, under the name that it is given, and the
+    /// recipes of it and of the modules in it, those of a module after those of the modules in it. An error names a rule
+    /// that one of them breaks.
+    pub fn analyze<'src, S: Syntax>(
+        alloc: Global,
+        syntax: &S,
+        asts: &HashMap<(Modulepath, Text), Ast<'src>>,
+        loaded: &Shared<Sequence<Text>>,
+        module_path: &Modulepath,
+        name: Option<Name<'src>>,
+        root: &str,
+    ) -> Result<(Justfile<'src>, Recipes<'src>), Error<'src>>
+        requires held { IsSome (get same_ast_key asts.now (module_path.now, root.now)) }
+        requires asts { AreAnalyzable (S.answers syntax.now).enabled (get same_ast_key asts.now) }
+        ensures analyzed { IfOk result (λ made. IsAnalyzed (S.answers syntax.now).enabled (get same_ast_key asts.now) loaded.now (heading (module_path.now, root.now) name.entry) made.0 made.1) }
+        ensures named { IfErr result (Reports (NamesModules (reading_of (S.answers syntax.now).enabled (get same_ast_key asts.now)) (heading (module_path.now, root.now) name.entry))) }
+    {
+        let files = place_files(alloc, asts)?;
+        let rows = file_rows(alloc, syntax, &files)?;
+        let place = place_of(alloc, &files, module_path, root)?;
+        let (joined, order) = arrange(alloc, &rows, place)?;
+        check_module_names(alloc, syntax, &files, &joined, order.as_slice())?;
+        let (mut slots, recipes) =
+            compile_in_order(alloc, syntax, &files, &joined, loaded, order.as_slice())?;
+        let justfile = take_at(&mut slots, place);
+        Ok((named(justfile, name), recipes))
+    }
 }

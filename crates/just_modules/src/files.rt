@@ -1,6 +1,6 @@
 //! The files of a compilation under places.
 
-ghost use Rattle.std.specs.Prelude.{◌≡◌, ◌<◌, Bool, ℕ, IfOk, Some, length, slice_get};
+ghost use Rattle.std.specs.Prelude.{◌≡◌, ◌<◌, Bool, ℕ, IfOk, IsSome, Some, length, slice_get};
 ghost use Rattle.std.specs.HashMap.{get};
 ghost use Rattle.std.specs.Option.{option_to_list};
 ghost use Rattle.just_graph.specs.Building.{EachRow};
@@ -146,4 +146,21 @@ pub fn file_rows<'a, 'src, S: Syntax>(
         imports: rows_of(alloc, syntax, files, false)?,
         modules: rows_of(alloc, syntax, files, true)?,
     })
+}
+
+/// The place of the file of a key that is held.
+pub fn place_of<'a, 'src>(
+    alloc: Global,
+    files: &Files<'a, 'src>,
+    module_path: &Modulepath,
+    file: &str,
+) -> Result<usize, AllocError>
+    requires { IsSome (get same_ast_key files.now.places (module_path.now, file.now)) }
+    ensures { IfOk result (λ place. get same_ast_key files.now.places (module_path.now, file.now) ≡ Some place) }
+{
+    let key = (module_path.clone()?, Text::from_str(alloc, file)?);
+    let Some(place) = files.places.get(&key) else {
+        unreachable!()
+    };
+    Ok(*place)
 }
