@@ -1,5 +1,5 @@
 -- What an analysis answers, from what is compiled in an order.
-use Rattle.std.proofs.Common.{◌≡◌, ◌<◌, ◌≤◌, ℕ, zero, suc, ◌+◌, Bool, List, [], ◌∷◌, ◌++◌, map, take, length, get_or, slice_index, Option, Some, refl, sym, ap, subst, ◌∙◌, inl, inr, arith}
+use Rattle.std.proofs.Common.{◌≡◌, ◌<◌, ◌≤◌, ℕ, Bool, List, [], ◌∷◌, ◌++◌, map, take, length, get_or, slice_index, Option, Some, refl, sym, ap, subst, ◌∙◌, inl, inr, arith}
 use Rattle.std.specs.Prelude.{flat_map, slice_get}
 use Rattle.std.specs.List.{All, Contains}
 use Rattle.std.specs.Map.{keys_of, lookup}
@@ -9,7 +9,7 @@ use Rattle.std.proofs.lemmas.Option.{get_or_from_slice_get, slice_get_within}
 use Rattle.just_graph.specs.Graph.{HasEdge, targets}
 use Rattle.just_graph.specs.Steps.{Reached, from_member, from_start, in_take}
 use Rattle.just_graph.specs.Unfolded.{AreApart}
-use Rattle.just_graph.proofs.Index.{get_map, got_in, some_same}
+use Rattle.just_graph.proofs.Index.{get_map}
 use Rattle.just_graph.proofs.Members.{In, contained, from_flat, from_map, is_in}
 use Rattle.just_parts.specs.Asts.{AstKey, same_ast_key}
 use Rattle.just_parts.specs.Causes.{Cause}
@@ -20,24 +20,24 @@ use Rattle.just_parts.specs.declared.layers.ast.Ast.{Ast}
 use Rattle.just_parts.specs.declared.layers.ast.Item.{Item}
 use Rattle.just_parts.specs.declared.modulepath.Modulepath.{Modulepath}
 use Rattle.just_parts.specs.declared.recipe.Recipe.{Recipe}
-use Rattle.just_invoke.specs.Closed.{AreClosed, IsResolved}
+use Rattle.just_invoke.specs.Closed.{IsResolved}
 use Rattle.just_invoke.specs.declared.justfile.Justfile.{Justfile}
 use Rattle.just_modules.specs.Analyzable.{AreAnalyzable}
 use Rattle.just_modules.specs.Analyzed.{ComeAfter, IsAnalyzed}
 use Rattle.just_modules.specs.Contents.{texts_of_names}
 use Rattle.just_modules.specs.Files.{ArePlaced, AreRows}
-use Rattle.just_modules.specs.Groups.{KeepsGroups, KeepsModules, NamesModules}
+use Rattle.just_modules.specs.Groups.{KeepsGroups, NamesModules}
 use Rattle.just_modules.specs.Index.{AreDifferent}
 use Rattle.just_modules.specs.Joined.{AreArranged, AreJoined, GoDeeper, IsJoined}
 use Rattle.just_modules.specs.Justfiles.{AreCompiled, Built, named_as, slot}
 use Rattle.just_modules.specs.Modules.{AreModules, Empty, Forest, HasModule, Heading, IsHeading, Module, Tree, a_module, after_it, first, in_it, no_module}
 use Rattle.just_modules.specs.Reading.{Reading, reading_of}
-use Rattle.just_modules.specs.Steps.{BreaksInOrder, CanCompileAll, HaveCompiled, IsCompiledAt, RepeatsNames, names_of_place}
+use Rattle.just_modules.specs.Steps.{BreaksInOrder, CanCompileAll, HaveCompiled, RepeatsNames, names_of_place}
 use Rattle.just_modules.specs.declared.files.Files.{Files}
 use Rattle.just_modules.specs.declared.files.Rows.{Rows}
 use Rattle.just_modules.specs.declared.joined.Joined.{Joined}
 use Rattle.just_modules.proofs.Closing.{forest_closed}
-use Rattle.just_modules.proofs.Compilable.{can_compile, can_compile_all, listed, one_at, stands, subs_differ}
+use Rattle.just_modules.proofs.Compilable.{can_compile_all, listed, one_at, stands, subs_differ}
 use Rattle.just_modules.proofs.FilePlaces.{count, one_place}
 use Rattle.just_modules.proofs.Forests.{forest_at, tree_compiled}
 use Rattle.just_modules.proofs.Headed.{heading_at}

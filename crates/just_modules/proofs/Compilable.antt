@@ -1,6 +1,5 @@
 -- An order of the modules that are reached can be compiled.
-use Rattle.std.proofs.Common.{nat_eq, ◌≡◌, ◌<◌, ℕ, zero, suc, ◌+◌, Bool, List, [], ◌∷◌, map, length, get_or, slice_index, Option, Some, refl, sym, ap, subst, ◌∙◌, arith, inl, inr}
-use Rattle.std.specs.Prelude.{flat_map}
+use Rattle.std.proofs.Common.{◌≡◌, ◌<◌, ℕ, Bool, List, [], ◌∷◌, map, length, get_or, slice_index, refl, sym, ap, subst, ◌∙◌, arith, inl, inr}
 use Rattle.std.specs.List.{All, Contains}
 use Rattle.std.specs.Map.{keys_of, lookup}
 use Rattle.std.proofs.lemmas.Bool.{cases_lt}
@@ -8,13 +7,13 @@ use Rattle.std.proofs.lemmas.List.Elements.{Contains-get_or}
 use Rattle.std.proofs.lemmas.List.{get_or_default, length-map}
 use Rattle.just_graph.specs.Graph.{HasEdge, targets}
 use Rattle.just_graph.specs.Steps.{IsOrder, Reached, from_member, from_start, in_take}
-use Rattle.just_graph.proofs.Members.{In, contained, is_in}
+use Rattle.just_graph.proofs.Members.{In, is_in}
 use Rattle.just_parts.specs.Asts.{AstKey, same_ast_key}
 use Rattle.just_parts.specs.declared.layers.ast.Ast.{Ast}
 use Rattle.just_parts.specs.declared.layers.ast.Item.{Item}
 use Rattle.just_modules.specs.Analyzable.{AreAnalyzable}
 use Rattle.just_modules.specs.Contents.{texts_of_names}
-use Rattle.just_modules.specs.Files.{ArePlaced, AreRows, asts_in}
+use Rattle.just_modules.specs.Files.{ArePlaced, AreRows}
 use Rattle.just_modules.specs.Index.{AreDifferent}
 use Rattle.just_modules.specs.Joined.{AreJoined, IsJoined}
 use Rattle.just_modules.specs.Reading.{Submodule}
@@ -22,7 +21,7 @@ use Rattle.just_modules.specs.Steps.{CanCompile, CanCompileAll, names_of_place}
 use Rattle.just_modules.specs.declared.files.Files.{Files}
 use Rattle.just_modules.specs.declared.files.Rows.{Rows}
 use Rattle.just_modules.specs.declared.joined.Joined.{Joined}
-use Rattle.just_modules.proofs.FilePlaces.{are_graphs, count, key_count}
+use Rattle.just_modules.proofs.FilePlaces.{count, key_count}
 use Rattle.just_modules.proofs.ModulePaths.{file_path, one_outer, one_path, row_once, subs_at}
 use Rattle.just_modules.proofs.ModulePlaces.{file_inside, inner_keys}
 use Rattle.just_modules.proofs.Numbers.{have_priors, levels_once, numbers_apart, numbers_once}

@@ -1,6 +1,5 @@
 -- Which of two recipes is the default before the other.
-use Rattle.std.proofs.Common.{◌≡◌, ◌≢◌, ℕ, ◌<◌, ◌≤◌, Bool, true, false, IsTrue, List, refl, sym, ap, subst, ◌∙◌, arith, is_lt, inl, inr, ◌+◌}
-use Rattle.std.specs.Cmp.{IsTotalOrder}
+use Rattle.std.proofs.Common.{◌≡◌, ◌≢◌, ℕ, ◌<◌, Bool, false, IsTrue, List, refl, sym, ap, subst, ◌∙◌, arith, is_lt, inl, inr, ◌+◌}
 use Rattle.std.specs.Cmp.Lexicographic.{slice_cmp}
 use Rattle.std.specs.Ordering.{nat_cmp, ordering_reverse}
 use Rattle.std.specs.declared.cmp.Ordering.{Ordering}

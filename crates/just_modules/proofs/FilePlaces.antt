@@ -1,6 +1,6 @@
 -- What the files at places lead to, by their keys.
 use Rattle.std.proofs.Common.{◌≡◌, ◌<◌, ℕ, zero, suc, Bool, true, false, cond, List, [], ◌∷◌, ◌++◌, map, length, get_or, Option, Some, None, refl, sym, ap, subst, ◌∙◌, arith, inl, inr}
-use Rattle.std.specs.Prelude.{filter, flat_map, slice_get, MatchOption, if◌then◌else◌}
+use Rattle.std.specs.Prelude.{flat_map, slice_get, MatchOption}
 use Rattle.std.specs.HashMap.{get}
 use Rattle.std.specs.Borrow.{Bor}
 use Rattle.std.specs.List.{All, AllByRecursion, IsDistinct}
@@ -8,7 +8,7 @@ use Rattle.std.specs.Option.{option_map}
 use Rattle.std.proofs.lemmas.Bool.{cases_lt, false≢true}
 use Rattle.std.specs.Map.{keys_of, lookup, values_of}
 use Rattle.std.proofs.lemmas.List.{length-map, map-append}
-use Rattle.std.proofs.lemmas.Map.Entries.{length-keys_of, length-values_of, lookup_from_place, place_from_lookup}
+use Rattle.std.proofs.lemmas.Map.Entries.{length-keys_of, length-values_of, lookup_from_place}
 use Rattle.std.proofs.lemmas.Option.{get_or_from_slice_get, slice_get-get_or, slice_get_within}
 use Rattle.just_graph.specs.Building.{targets_past}
 use Rattle.just_graph.specs.Graph.{targets}
@@ -21,8 +21,8 @@ use Rattle.just_parts.specs.declared.layers.ast.Item.{Item}
 use Rattle.just_parts.specs.declared.layers.ast.Item.TheVariants as item
 use Rattle.just_parts.specs.declared.modulepath.Modulepath.{Modulepath}
 use Rattle.just_parts.proofs.AstKeys.{key_same, keys_equivalent}
-use Rattle.just_modules.specs.Files.{ArePlaced, ArePlacesOf, AreRows, LeadsTo, all_led, asts_in, led, led_by, led_from, led_in}
-use Rattle.just_modules.specs.Reading.{Reading, Submodule, declared, enabled_items, imported, imports_of, items_in, located_ast, reading_of, submodules_of}
+use Rattle.just_modules.specs.Files.{ArePlaced, ArePlacesOf, AreRows, LeadsTo, all_led, asts_in, led, led_from, led_in}
+use Rattle.just_modules.specs.Reading.{Reading, Submodule, declared, enabled_items, imports_of, items_in, located_ast, reading_of, submodules_of}
 use Rattle.just_modules.specs.Joined.{AreGraphs}
 use Rattle.just_modules.proofs.Joining.{in_row}
 use Rattle.just_modules.specs.declared.files.Files.{Files}

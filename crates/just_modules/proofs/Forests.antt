@@ -1,6 +1,6 @@
 -- The modules of headings are compiled to the justfiles at their places.
 use Rattle.std.proofs.Common.{◌≡◌, ◌<◌, ℕ, Bool, List, [], ◌∷◌, ◌++◌, map, length, get_or, slice_index, Option, Some, refl, sym, ap, subst, ◌∙◌, inl, inr, arith}
-use Rattle.std.specs.Prelude.{flat_map, slice_get}
+use Rattle.std.specs.Prelude.{slice_get}
 use Rattle.std.specs.List.{Contains}
 use Rattle.std.specs.Map.{keys_of, lookup}
 use Rattle.std.proofs.lemmas.List.{get_or_default, length-map}
@@ -19,15 +19,15 @@ use Rattle.just_parts.specs.declared.layers.name.Name.{Name}
 use Rattle.just_parts.specs.declared.recipe.Recipe.{Recipe}
 use Rattle.just_invoke.specs.declared.justfile.Justfile.{Justfile, out-Justfile, out-roll-Justfile}
 use Rattle.just_modules.specs.Analysis.{AreKeysOf, HasKeysOf, IsDefaultOf, IsOf}
-use Rattle.just_modules.specs.Files.{ArePlaced, AreRows, asts_in, keys_in}
+use Rattle.just_modules.specs.Files.{ArePlaced, AreRows, asts_in}
 use Rattle.just_modules.specs.Joined.{IsJoined}
 use Rattle.just_modules.specs.Justfiles.{AreCompiled, Built, IsCompiled, by_name, named_as, none, one, recipes_in, with_names}
 use Rattle.just_modules.specs.Modules.{Empty, Forest, Heading, Module, Tree, heading_of, headings_in}
-use Rattle.just_modules.specs.Named.{names_from, recipes_by, recipes_from}
+use Rattle.just_modules.specs.Named.{recipes_by, recipes_from}
 use Rattle.just_modules.specs.Outline.{recipes_of}
 use Rattle.just_modules.specs.Reading.{Submodule, items_in}
 use Rattle.just_modules.specs.Resolved.{AreResolved}
-use Rattle.just_modules.specs.Steps.{HaveCompiled, IsCompiledAt, names_of_place, recipes_of_place}
+use Rattle.just_modules.specs.Steps.{IsCompiledAt, names_of_place, recipes_of_place}
 use Rattle.just_modules.specs.declared.files.Files.{Files}
 use Rattle.just_modules.specs.declared.files.Rows.{Rows}
 use Rattle.just_modules.specs.declared.joined.Joined.{Joined}

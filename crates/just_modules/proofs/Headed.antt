@@ -1,6 +1,5 @@
 -- The headings of the modules that are reached.
 use Rattle.std.proofs.Common.{◌≡◌, ◌<◌, ℕ, Bool, List, [], ◌∷◌, length, get_or, Some, sym, ap, ◌∙◌, inl, inr}
-use Rattle.std.specs.List.{Contains}
 use Rattle.std.specs.Map.{keys_of, lookup}
 use Rattle.just_graph.specs.Graph.{HasEdge}
 use Rattle.just_graph.specs.Steps.{Reached, from_member, from_start}

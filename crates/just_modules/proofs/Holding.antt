@@ -1,20 +1,19 @@
 -- The places of the keys to which items lead.
-use Rattle.std.proofs.Common.{◌≡◌, ◌⊎◌, ℕ, Bool, true, false, List, [], ◌∷◌, Option, Some, None, IsSome, refl, sym, ap, subst, ◌∙◌, inl, inr}
+use Rattle.std.proofs.Common.{◌≡◌, ℕ, Bool, true, false, List, [], ◌∷◌, Option, Some, None, IsSome, refl, sym, ap, ◌∙◌, inl, inr}
 use Rattle.std.specs.Prelude.{slice_get, MatchOption, if◌then◌else◌}
 use Rattle.std.specs.HashMap.{get}
-use Rattle.std.specs.List.{AllByRecursion, Contains}
-use Rattle.std.specs.Map.{keys_of, lookup, values_of}
+use Rattle.std.specs.List.{AllByRecursion}
+use Rattle.std.specs.Map.{keys_of, lookup}
 use Rattle.std.proofs.lemmas.Map.Entries.{lookup_from_place, place_from_lookup}
-use Rattle.just_graph.proofs.Index.{get_map, map_get, none_some, some_same}
+use Rattle.just_graph.proofs.Index.{get_map, map_get}
 use Rattle.just_graph.proofs.Members.{In, contained, from_flat}
 use Rattle.just_parts.specs.Asts.{AstKey, same_ast_key}
 use Rattle.just_parts.specs.Bare.{bare_item}
 use Rattle.just_parts.specs.declared.layers.ast.Ast.{Ast}
 use Rattle.just_parts.specs.declared.layers.ast.Item.{Item}
-use Rattle.just_parts.specs.declared.modulepath.Modulepath.{Modulepath}
 use Rattle.just_parts.proofs.AstKeys.{key_same, keys_equivalent}
 use Rattle.just_modules.specs.Analyzable.{AreAnalyzable}
-use Rattle.just_modules.specs.Files.{ArePlaced, HoldsAll, LeadsTo, all_led, asts_in, led, led_by, led_from, led_in}
+use Rattle.just_modules.specs.Files.{ArePlaced, HoldsAll, all_led, asts_in, led, led_by, led_from, led_in}
 use Rattle.just_modules.specs.declared.files.Files.{Files}
 
 all_by : (P : AstKey → Type 0) (xs : List AstKey) → ((x : AstKey) → In x xs → P x) → AllByRecursion P xs

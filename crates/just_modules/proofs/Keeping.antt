@@ -1,25 +1,23 @@
 -- The rules of the modules at places.
-use Rattle.std.proofs.Common.{◌≡◌, ◌<◌, ℕ, Bool, List, [], ◌∷◌, map, length, get_or, slice_index, Option, Some, refl, sym, ap, subst, ◌∙◌, arith}
-use Rattle.std.specs.Prelude.{flat_map}
-use Rattle.std.specs.List.{All, Contains}
+use Rattle.std.proofs.Common.{◌≡◌, ◌<◌, ℕ, Bool, List, length, get_or, slice_index, Some, refl, sym, subst, arith}
 use Rattle.std.specs.Map.{keys_of, lookup}
 use Rattle.just_graph.specs.Graph.{HasEdge, targets}
-use Rattle.just_graph.specs.Steps.{ListsStepsFirst, Reached, from_member, from_start}
+use Rattle.just_graph.specs.Steps.{ListsStepsFirst}
 use Rattle.just_parts.specs.Asts.{AstKey, same_ast_key}
 use Rattle.just_parts.specs.Causes.{Cause, Keeps}
 use Rattle.just_parts.specs.declared.layers.ast.Ast.{Ast}
 use Rattle.just_parts.specs.declared.layers.ast.Item.{Item}
 use Rattle.just_modules.specs.Contents.{Contents, of_names, texts_of_names}
-use Rattle.just_modules.specs.Files.{ArePlaced, AreRows, asts_in}
-use Rattle.just_modules.specs.Groups.{Breaks, Group, HasGround, KeepsGroups, KeepsModules, NamesModules, OfBodies, OfDependencies, OfHeaders, in_module, rank}
+use Rattle.just_modules.specs.Files.{ArePlaced, AreRows}
+use Rattle.just_modules.specs.Groups.{Breaks, Group, KeepsGroups, KeepsModules, NamesModules, OfBodies, OfDependencies, OfHeaders, in_module, rank}
 use Rattle.just_modules.specs.Index.{AreDifferent}
 use Rattle.just_modules.specs.Joined.{IsJoined}
-use Rattle.just_modules.specs.Modules.{Empty, Forest, HasModule, Heading, IsHeading, Module, Tree, a_module, contents_of, no_module}
+use Rattle.just_modules.specs.Modules.{Heading, IsHeading, Module, a_module, contents_of, no_module}
 use Rattle.just_modules.specs.Named.{BreaksRecipes, KeepsRecipes, in_bodies, in_dependencies, in_parameters}
-use Rattle.just_modules.specs.Outline.{Outline, outlines_of}
-use Rattle.just_modules.specs.Reading.{Reading, Submodule, reading_of}
+use Rattle.just_modules.specs.Outline.{outlines_of}
+use Rattle.just_modules.specs.Reading.{Reading, reading_of}
 use Rattle.just_modules.specs.Rules.{Bodies, Dependencies, Headers, Parameters, duplicate_parameter, module_redefinition, of_parameters}
-use Rattle.just_modules.specs.Steps.{BreaksInOrder, RepeatsNames, names_of_place, recipes_of_place}
+use Rattle.just_modules.specs.Steps.{names_of_place, recipes_of_place}
 use Rattle.just_modules.specs.declared.files.Files.{Files}
 use Rattle.just_modules.specs.declared.files.Rows.{Rows}
 use Rattle.just_modules.specs.declared.joined.Joined.{Joined}

@@ -1,5 +1,5 @@
 -- What is made of recipes: resolved ones, with their numbers, and a justfile.
-use Rattle.std.proofs.Common.{◌≡◌, ◌∙◌, ℕ, Bool, List, [], ◌∷◌, ap, inl, inr, length, Option, subst, sym}
+use Rattle.std.proofs.Common.{◌≡◌, ◌∙◌, ℕ, List, [], ◌∷◌, ap, inl, inr, length, Option, subst, sym}
 use Rattle.std.specs.List.{Contains}
 use Rattle.just_graph.proofs.Index.{got_in}
 use Rattle.just_graph.proofs.Members.{In, contained, in_map, is_in}

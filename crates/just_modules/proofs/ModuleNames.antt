@@ -1,14 +1,13 @@
 -- Modules of one name.
-use Rattle.std.proofs.Common.{◌≡◌, ℕ, ◌<◌, List, map, length, get_or, min, sym, ap, subst, ◌∙◌, arith, refl, Some}
+use Rattle.std.proofs.Common.{◌≡◌, ℕ, min, sym, subst, refl, Some}
 use Rattle.std.specs.List.{slice_get}
-use Rattle.std.proofs.lemmas.List.{length-map}
 use Rattle.just_parts.specs.Name.{text_of_name}
 use Rattle.just_parts.specs.declared.layers.name.Name.{Name}
 use Rattle.just_parts.specs.declared.layers.error.CompileErrorKind.{CompileErrorKind}
 use Rattle.just_parts.specs.declared.layers.error.CompileErrorKind.TheVariants as kind
 use Rattle.just_parts.specs.declared.layers.error.Definition.TheVariants as definition
 use Rattle.just_parts.specs.Causes.{Broken, Keeps}
-use Rattle.just_modules.specs.Contents.{Contents, of_names, texts_of_names}
+use Rattle.just_modules.specs.Contents.{Contents, texts_of_names}
 use Rattle.just_modules.specs.Index.{AreDifferent, Repeats}
 use Rattle.just_modules.specs.Rules.{Headers, Parameters, module_redefinition, of_parameters}
 

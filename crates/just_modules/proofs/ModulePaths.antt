@@ -1,23 +1,22 @@
 -- The paths of modules: each is one name longer than that of the module which declares it, and leads to one module.
-use Rattle.std.proofs.Common.{◌≡◌, ◌≢◌, ◌<◌, ◌≤◌, ℕ, zero, suc, ◌+◌, nat_eq, Bool, List, [], ◌∷◌, ◌++◌, map, length, get_or, slice_index, Option, Some, None, refl, sym, ap, subst, ◌∙◌, arith, inl, inr}
+use Rattle.std.proofs.Common.{◌≡◌, ◌<◌, ◌≤◌, ℕ, nat_eq, Bool, List, [], ◌∷◌, ◌++◌, map, length, get_or, slice_index, Some, None, refl, sym, ap, subst, ◌∙◌, arith, inl, inr}
 use Rattle.std.specs.Prelude.{flat_map, slice_get}
-use Rattle.std.specs.List.{All, Contains}
+use Rattle.std.specs.List.{Contains}
 use Rattle.std.specs.Map.{keys_of, lookup}
 use Rattle.std.proofs.lemmas.Bool.{cases_lt}
-use Rattle.std.proofs.lemmas.List.{length-append, length-map}
+use Rattle.std.proofs.lemmas.List.{length-append}
 use Rattle.std.proofs.lemmas.Option.{get_or_from_slice_get, slice_get-get_or, slice_get_read, slice_get_within}
 use Rattle.just_graph.specs.Graph.{HasEdge, targets}
 use Rattle.just_graph.specs.Steps.{IsOnce, Reached, from_member, from_start}
 use Rattle.just_graph.proofs.Index.{get_map, got_in, map_get, some_same}
 use Rattle.just_graph.proofs.Mapped.{every_level}
-use Rattle.just_graph.proofs.Members.{In, contained, from_flat, from_map, in_cases, in_map, is_in}
+use Rattle.just_graph.proofs.Members.{In, contained, from_flat, from_map, in_map, is_in}
 use Rattle.just_parts.specs.Asts.{AstKey, same_ast_key}
 use Rattle.just_parts.specs.Modulepath.{Text}
 use Rattle.just_parts.specs.Name.{text_of_name}
 use Rattle.just_parts.specs.declared.layers.ast.Ast.{Ast}
 use Rattle.just_parts.specs.declared.layers.ast.Item.{Item}
 use Rattle.just_parts.specs.declared.layers.ast.Item.TheVariants as item
-use Rattle.just_parts.specs.declared.layers.name.Name.{Name}
 use Rattle.just_parts.specs.declared.modulepath.Modulepath.{Modulepath}
 use Rattle.just_modules.specs.Contents.{texts_of_names}
 use Rattle.just_modules.specs.Files.{ArePlaced, AreRows}
@@ -30,7 +29,7 @@ use Rattle.just_modules.specs.declared.files.Rows.{Rows}
 use Rattle.just_modules.specs.declared.joined.Joined.{Joined}
 use Rattle.just_modules.proofs.FilePlaces.{import_inside, imports_here}
 use Rattle.just_modules.proofs.Joining.{in_row}
-use Rattle.just_modules.proofs.ModulePlaces.{agree, along, file_inside, inner_keys}
+use Rattle.just_modules.proofs.ModulePlaces.{agree, along, inner_keys}
 
 -- an import stays in its module
 import_path : (path : Modulepath) (k : AstKey) (i : Item) → In k (imported path i) → k.0 ≡ path

@@ -1,7 +1,7 @@
 -- The module whose own file stands at a place.
-use Rattle.std.proofs.Common.{◌≡◌, ◌≢◌, ◌<◌, ℕ, zero, suc, ◌+◌, nat_eq, Bool, true, false, List, [], ◌∷◌, ◌++◌, map, take, length, get_or, slice_index, Option, Some, None, refl, sym, ap, subst, ◌∙◌, arith, inl, inr}
+use Rattle.std.proofs.Common.{◌≡◌, ◌<◌, ℕ, zero, suc, nat_eq, Bool, true, false, List, [], ◌∷◌, ◌++◌, map, take, length, get_or, slice_index, Some, refl, sym, ap, subst, ◌∙◌, arith, inl, inr}
 use Rattle.std.specs.Prelude.{flat_map}
-use Rattle.std.specs.List.{All, Contains}
+use Rattle.std.specs.List.{Contains}
 use Rattle.std.specs.Map.{keys_of, lookup}
 use Rattle.std.specs.Option.{option_map, unwrap_or}
 use Rattle.std.proofs.lemmas.Bool.{eq-eqb, eqb-true, false_from_ne_true}
@@ -10,7 +10,7 @@ use Rattle.just_graph.specs.Graph.{HasEdge, targets}
 use Rattle.just_graph.specs.Levels.{AreLevels}
 use Rattle.just_graph.specs.Steps.{ListsStepsFirst, in_take}
 use Rattle.just_graph.proofs.Mapped.{every_level, levels_mapped}
-use Rattle.just_graph.proofs.Members.{In, contained, in_left, in_right, is_in}
+use Rattle.just_graph.proofs.Members.{In, contained}
 use Rattle.just_parts.specs.Asts.{AstKey, same_ast_key}
 use Rattle.just_parts.specs.Bare.{ast_of_items}
 use Rattle.just_parts.specs.declared.layers.ast.Ast.{Ast}
@@ -180,9 +180,9 @@ module _ (enabled : Item → Bool) (entries : List (AstKey × Ast)) (d : AstKey)
           let p = slice_index order k in
           let j = joins k l in
           let inner = trees_of k (module_of k l h).modules (targets joined.modules.items p) (inner_keys p (below k l) j) (λ q i g same.
-              let listed = lists_first k q l (contained q (targets joined.modules.items p) i) in
-              let at = listed_at order k q l listed in
-              (at.0, at.1.0, at.1.1, at.2, trees_below m at.0 (omega (arith, at.1.0, b)) at.1.1 g (same ∙ ap key_at (sym at.2)))) in
+          let listed = lists_first k q l (contained q (targets joined.modules.items p) i) in
+          let at = listed_at order k q l listed in
+          (at.0, at.1.0, at.1.1, at.2, trees_below m at.0 (omega (arith, at.1.0, b)) at.1.1 g (same ∙ ap key_at (sym at.2)))) in
           record { inside = inner.forest; are_modules = inner.are_modules; is = is_module p (below k l) j h e; known = inner.known; holds = inner.holds }
 
       -- each listed place has its modules

@@ -1,15 +1,15 @@
 -- Numbers of recipes, each once.
-use Rattle.std.proofs.Common.{nat_eq, ◌≡◌, ◌≢◌, ◌<◌, ℕ, zero, suc, ◌+◌, Bool, List, [], ◌∷◌, ◌++◌, map, length, get_or, slice_index, Option, Some, None, refl, sym, ap, subst, ◌∙◌, arith, inl, inr}
-use Rattle.std.specs.Prelude.{flat_map, slice_get}
+use Rattle.std.proofs.Common.{nat_eq, ◌≡◌, ◌<◌, ℕ, zero, suc, Bool, List, [], ◌∷◌, ◌++◌, length, get_or, refl, sym, subst, ◌∙◌, arith, inl, inr}
+use Rattle.std.specs.Prelude.{slice_get}
 use Rattle.std.specs.List.{All, Contains}
 use Rattle.std.specs.Map.{keys_of, lookup}
 use Rattle.std.proofs.lemmas.List.{get_or_default, map-append}
 use Rattle.std.proofs.lemmas.List.Elements.{All-append}
-use Rattle.just_graph.specs.Levels.{AreLevels, at_last, before, level, unlisted_targets}
+use Rattle.just_graph.specs.Levels.{AreLevels, before, level, unlisted_targets}
 use Rattle.just_graph.specs.Steps.{IsOnce}
 use Rattle.just_graph.proofs.Least.{before_level, one_level}
 use Rattle.just_graph.proofs.Leveling.{Once, once_append, once_at_last, is_once}
-use Rattle.just_graph.proofs.Members.{In, contained, from_flat, from_map, in_cases, in_map, is_in}
+use Rattle.just_graph.proofs.Members.{In, contained, in_cases, is_in}
 use Rattle.just_parts.specs.Asts.{AstKey, same_ast_key}
 use Rattle.just_parts.specs.declared.layers.ast.Ast.{Ast}
 use Rattle.just_parts.specs.declared.layers.ast.Item.{Item}

@@ -1,5 +1,5 @@
 -- What can be analyzed.
-use Rattle.std.specs.Prelude.{◌≡◌, ℕ, Bool, true, List, Option, Some, IsSome}
+use Rattle.std.specs.Prelude.{◌≡◌, ℕ, Bool, true, Option, Some, IsSome}
 use Rattle.std.specs.List.{All, Contains}
 use Rattle.just_graph.specs.Steps.{IsOnce}
 use Rattle.just_parts.specs.Asts.{AstKey}

@@ -1,5 +1,5 @@
 -- The rules of all modules, group by group.
-use Rattle.std.specs.Prelude.{◌≢◌, ◌<◌, ℕ, zero, suc, List, [], ◌∷◌}
+use Rattle.std.specs.Prelude.{◌≢◌, ◌<◌, ℕ, [], ◌∷◌}
 use Rattle.just_parts.specs.Causes.{Cause, Keeps}
 use Rattle.just_modules.specs.Modules.{Module, Heading, Forest, Empty, Tree, AreModules, HasModule, IsHeading, contents_of}
 use Rattle.just_modules.specs.Reading.{Reading}

@@ -4,7 +4,6 @@ use Rattle.std.specs.List.{Contains}
 use Rattle.just_graph.specs.Levels.{AreLevels}
 use Rattle.just_parts.specs.Asts.{AstKey, same_ast_key}
 use Rattle.just_parts.specs.declared.layers.ast.Ast.{Ast}
-use Rattle.just_parts.specs.declared.layers.ast.Item.{Item}
 use Rattle.just_parts.specs.declared.layers.name.Name.{Name}
 use Rattle.just_modules.specs.Contents.{Contents}
 use Rattle.just_modules.specs.Outline.{outlines_of, recipes_said}

@@ -1,6 +1,5 @@
 -- The modules and the recipes that files at places say.
-use Rattle.std.specs.Prelude.{◌≡◌, ◌++◌, ℕ, Bool, List, [], ◌∷◌, flat_map, length, map, slice_get, Option, None, Some, if◌then◌else◌}
-use Rattle.std.specs.List.{All}
+use Rattle.std.specs.Prelude.{◌≡◌, ◌++◌, ℕ, Bool, List, [], ◌∷◌, flat_map, slice_get, Option, None, Some, if◌then◌else◌}
 use Rattle.just_parts.specs.Bare.{bare_item}
 use Rattle.just_parts.specs.Causes.{Cause, Keeps}
 use Rattle.just_parts.specs.declared.dependency.Dependency.{Dependency}
@@ -11,8 +10,6 @@ use Rattle.just_parts.specs.declared.layers.ast.UnresolvedDependency.{Unresolved
 use Rattle.just_parts.specs.declared.layers.name.Name.{Name}
 use Rattle.just_parts.specs.declared.modulepath.Modulepath.{Modulepath}
 use Rattle.just_parts.specs.declared.recipe.Recipe.{Recipe}
-use Rattle.just_invoke.specs.declared.justfile.Justfile.{Justfile}
-use Rattle.just_modules.specs.Analysis.{IsOf}
 use Rattle.just_modules.specs.Outline.{Outline, recipes_of}
 use Rattle.just_modules.specs.Resolved.{AreResolved}
 use Rattle.just_modules.specs.Rules.{Bodies, Dependencies, Parameters}

@@ -1,10 +1,9 @@
 -- What the files of a compilation say, each under the path of its module and its own.
-use Rattle.std.specs.Prelude.{Bool, List, [], ◌∷◌, ◌++◌, map, filter, flat_map, Option, None, Some}
+use Rattle.std.specs.Prelude.{Bool, List, [], ◌∷◌, map, filter, flat_map, Option, None, Some}
 use Rattle.std.specs.Option.{option_map}
 use Rattle.just_parts.specs.Asts.{AstKey}
 use Rattle.just_parts.specs.Bare.{ast_of_items, bare_item}
 use Rattle.just_parts.specs.Located.{located_item}
-use Rattle.just_parts.specs.Modulepath.{Text}
 use Rattle.just_parts.specs.Name.{text_of_name}
 use Rattle.just_parts.specs.declared.layers.ast.Ast.{Ast}
 use Rattle.just_parts.specs.declared.layers.ast.Item.{Item}

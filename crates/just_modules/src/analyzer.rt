@@ -149,8 +149,14 @@ impl Analyzer {
         let place = place_of(alloc, &files, module_path, root)?;
         let (joined, order) = arrange(alloc, &rows, place)?;
         check_module_names(alloc, syntax, &files, &joined, order.as_slice())?;
-        let (mut slots, recipes) =
-            compile_in_order(alloc, syntax, &files, &joined, loaded, order.as_slice())?;
+        let (mut slots, recipes) = compile_in_order(
+            alloc,
+            syntax,
+            &files,
+            &joined,
+            loaded,
+            order.as_slice(),
+        )?;
         let justfile = take_at(&mut slots, place);
         Ok((named(justfile, name), recipes))
     }

@@ -64,10 +64,7 @@ fn compile_place<'a, 'src, S: Syntax>(
 }
 
 // No justfile at any of so many places.
-fn no_slots<'src>(
-    alloc: Global,
-    count: usize,
-) -> Result<Vec<Option<Justfile<'src>>>, AllocError>
+fn no_slots<'src>(alloc: Global, count: usize) -> Result<Vec<Option<Justfile<'src>>>, AllocError>
     ensures { IfOk result (λ slots. length slots.items ≡ count) }
 {
     let mut slots = Vec::with_capacity(alloc, count)?;

@@ -131,11 +131,7 @@ pub fn inner_first(
 }
 
 /// Joins the modules that are reached from the root's, and lists them, those in a module before it.
-pub fn arrange(
-    alloc: Global,
-    rows: &Rows,
-    root: usize,
-) -> Result<(Joined, Vec<usize>), AllocError>
+pub fn arrange(alloc: Global, rows: &Rows, root: usize) -> Result<(Joined, Vec<usize>), AllocError>
     requires graphs { AreGraphs rows.now (length rows.now.imports.items) }
     requires root { root < length rows.now.imports.items }
     requires deeper { (joined : Joined) → AreJoined rows.now (length rows.now.imports.items) joined → GoDeeper joined }

@@ -1,4 +1,4 @@
-use Rattle.std.proofs.Common.{rules, ◌≡◌, ◌<◌, ◌∙◌, ℕ, List, length, slice_index, map, sym, ap, subst, arith}
+use Rattle.std.proofs.Common.{rules, slice_index, map, arith}
 use Rattle.std.proofs.lemmas.Grind.{common_steps}
 use Rattle.std.proofs.lemmas.Result.{IfErr-weaker}
 use Rattle.just_graph.specs.Graph.{targets}
@@ -15,9 +15,10 @@ loop-place-init g c =
 
 pub compile_place-requires-clause-inner : goal.compile_place-requires-clause-inner
 compile_place-requires-clause-inner g c =
-    let so = c.loop-place.invariant in
-    (map so.justfile (targets c.args.joined.now.modules.items (slice_index c.args.order.now c.loop-place.place-index)),
-    inner_there (g.S.Syntax.answers c.args.syntax.now).enabled c.args.files.now c.args.joined.now c.args.loaded.now c.args.order.now c.requires c.loop-place.place-index (omega arith) c.loop-place.slots.items c.loop-place.recipes so)
+    let so = c.loop-place.invariant in (
+      map so.justfile (targets c.args.joined.now.modules.items (slice_index c.args.order.now c.loop-place.place-index)),
+      inner_there (g.S.Syntax.answers c.args.syntax.now).enabled c.args.files.now c.args.joined.now c.args.loaded.now c.args.order.now c.requires c.loop-place.place-index (omega arith) c.loop-place.slots.items c.loop-place.recipes so,
+    )
 
 pub compile_place-requires-clause-apart : goal.compile_place-requires-clause-apart
 compile_place-requires-clause-apart g c =

@@ -1,22 +1,18 @@
-use Rattle.std.proofs.Common.{rules, ◌≡◌, ◌<◌, ◌∙◌, ◌++◌, Bor, ℕ, List, Some, None, length, map, set, refl, sym, ap, subst, arith}
+use Rattle.std.proofs.Common.{rules, ◌≡◌, ◌<◌, ◌∙◌, Bor, ℕ, List, Some, None, length, map, refl, sym, ap, subst, arith}
 use Rattle.std.specs.List.{All, Contains, slice_get}
 use Rattle.std.proofs.lemmas.List.{get_or-set_other, get_or-set_same, length-map, length-set}
 use Rattle.std.proofs.lemmas.Option.{slice_get_read}
 use Rattle.std.proofs.lemmas.Result.{IfErr-weaker}
-use Rattle.just_graph.specs.Graph.{targets}
 use Rattle.just_graph.specs.Steps.{IsOnce}
 use Rattle.just_graph.proofs.Index.{map_get}
 use Rattle.just_parts.specs.Asts.{AstKey}
 use Rattle.just_parts.specs.Causes.{Reports}
 use Rattle.just_parts.specs.declared.layers.ast.Ast.{Ast}
-use Rattle.just_invoke.specs.declared.justfile.Justfile.{Justfile}
-use Rattle.just_modules.specs.Analysis.{IsOf}
 use Rattle.just_modules.specs.Files.{asts_in, keys_in}
 use Rattle.just_modules.specs.Justfiles.{by_name, slot, with_names}
 use Rattle.just_modules.specs.Named.{AreAdded, BreaksRecipes, KeepsRecipes, names_from, recipes_by, recipes_from}
 use Rattle.just_modules.specs.Outline.{outlines_of}
 use Rattle.just_modules.specs.Resolved.{HasPriors, unresolved_numbers}
-use Rattle.just_modules.specs.Steps.{CompilesPlace, IsCompiledAt}
 use Rattle.just_modules.proofs.Makings.{is_of_same}
 use Rattle.just_modules.proofs.Joining.{row_lent, some_at}
 use Rattle.just_modules.proofs.compiling.compile_place.Goals as goal

@@ -1,4 +1,4 @@
-use Rattle.std.proofs.Common.{◌≡◌, ◌++◌, Bor, length, map}
+use Rattle.std.proofs.Common.{◌≡◌, ◌++◌, Bor, map}
 use Rattle.std.specs.HashMap.{get}
 use Rattle.std.specs.Map.{keys_of, values_of}
 use Rattle.just_parts.specs.Asts.{AstKey, same_ast_key}

@@ -1,4 +1,4 @@
-use Rattle.std.proofs.Common.{◌≡◌, ◌∙◌, Some, sym, ap, subst}
+use Rattle.std.proofs.Common.{sym, subst}
 use Rattle.std.specs.HashMap.{get}
 use Rattle.just_graph.specs.Building.{each_row_push}
 use Rattle.just_parts.specs.Asts.{same_ast_key}

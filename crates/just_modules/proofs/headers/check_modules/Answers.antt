@@ -1,4 +1,4 @@
-use Rattle.std.proofs.Common.{◌≡◌, ◌<◌, ◌∙◌, List, ℕ, arith, length, map, refl, subst}
+use Rattle.std.proofs.Common.{◌<◌, ◌∙◌, List, ℕ, arith, length, map, refl, subst}
 use Rattle.std.proofs.lemmas.List.{length-map}
 use Rattle.std.proofs.lemmas.Option.{slice_get_read}
 use Rattle.just_parts.specs.Name.{text_of_name}

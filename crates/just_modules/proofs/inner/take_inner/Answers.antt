@@ -1,12 +1,11 @@
-use Rattle.std.proofs.Common.{rules, ◌≡◌, ◌∙◌, ℕ, List, [], ◌∷◌, Some, length, map, take, slice_index, get_or, refl, sym, ap, subst, arith}
+use Rattle.std.proofs.Common.{◌≡◌, ◌∙◌, [], length, take, slice_index, refl, sym, ap, subst, arith}
 use Rattle.std.specs.List.{Contains}
 use Rattle.std.proofs.lemmas.List.{take_all}
 use Rattle.std.proofs.lemmas.Option.{slice_get_read}
 use Rattle.just_parts.specs.Entries.{put}
 use Rattle.just_invoke.specs.Module.{module_name}
-use Rattle.just_invoke.specs.declared.justfile.Justfile.{Justfile}
 use Rattle.just_graph.proofs.Index.{some_same}
-use Rattle.just_modules.specs.Justfiles.{held_by_name, slot, with_name, with_names}
+use Rattle.just_modules.specs.Justfiles.{held_by_name, with_name, with_names}
 use Rattle.just_modules.proofs.Taking.{held_at, held_more, names_more, not_in_more, not_taken}
 use Rattle.just_modules.proofs.inner.take_inner.Goals as goal
 

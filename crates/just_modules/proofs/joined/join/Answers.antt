@@ -1,9 +1,9 @@
-use Rattle.std.proofs.Common.{rules, ◌≡◌, ◌<◌, ◌∙◌, nat_eq, [], List, ℕ, ap, length, refl, sym, subst, arith}
+use Rattle.std.proofs.Common.{rules, ◌≡◌, ◌<◌, ◌∙◌, nat_eq, List, ℕ, ap, length, refl, sym, subst, arith}
 use Rattle.std.specs.Prelude.{flat_map}
 use Rattle.std.proofs.lemmas.Grind.{common_steps}
 use Rattle.std.specs.declared.vec.Vec.{Vec}
 use Rattle.std.specs.declared.alloc.Global.{Global}
-use Rattle.just_graph.specs.Graph.{HasEdge, IsGraph, targets}
+use Rattle.just_graph.specs.Graph.{IsGraph, targets}
 use Rattle.just_graph.specs.Levels.{AreLevels}
 use Rattle.just_modules.proofs.Joining.{all_below, all_joined, joined_here, joined_unless, row_read, stays_joined}
 use Rattle.just_modules.proofs.joined.join.Goals as goal

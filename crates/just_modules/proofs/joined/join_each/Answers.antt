@@ -1,4 +1,4 @@
-use Rattle.std.proofs.Common.{slice_index, arith}
+use Rattle.std.proofs.Common.{arith}
 use Rattle.just_modules.proofs.Joining.{all_more}
 use Rattle.just_modules.proofs.joined.join_each.Goals as goal
 

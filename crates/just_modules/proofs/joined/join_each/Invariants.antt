@@ -1,4 +1,4 @@
-use Rattle.std.proofs.Common.{ℕ, length, take}
+use Rattle.std.proofs.Common.{length, take}
 use Rattle.std.specs.List.{All}
 use Rattle.just_modules.specs.Joined.{AreJoined, IsJoined, StaysJoined}
 use Rattle.just_modules.proofs.joined.join_each.Given as goal

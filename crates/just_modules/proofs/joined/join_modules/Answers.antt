@@ -1,9 +1,9 @@
-use Rattle.std.proofs.Common.{◌≡◌, ◌<◌, ◌∙◌, ℕ, ◌+◌, List, [], length, get_or, subst, sym, ap, inl, inr, arith}
+use Rattle.std.proofs.Common.{◌≡◌, ◌<◌, ◌∙◌, [], length, get_or, subst, sym, ap, inl, inr, arith}
 use Rattle.std.specs.List.{Contains}
 use Rattle.std.proofs.lemmas.Bool.{cases_lt}
 use Rattle.std.proofs.lemmas.Grind.{common_steps}
 use Rattle.just_graph.specs.Building.{targets_past}
-use Rattle.just_graph.specs.Graph.{HasEdge, targets}
+use Rattle.just_graph.specs.Graph.{targets}
 use Rattle.just_graph.proofs.Targets.{row_inside}
 use Rattle.just_modules.specs.Joined.{IsJoined}
 use Rattle.just_modules.proofs.Joining.{in_row, none_are_joined, row_read}

@@ -1,18 +1,15 @@
-use Rattle.std.proofs.Common.{◌≡◌, ◌∙◌, ℕ, List, length, refl, sym, ap, subst, rules}
-use Rattle.std.specs.List.{All, Contains}
+use Rattle.std.proofs.Common.{◌≡◌, ◌∙◌, length, sym, ap, subst, rules}
+use Rattle.std.specs.List.{All}
 use Rattle.std.proofs.lemmas.Result.{IfErr-weaker}
 use Rattle.just_graph.specs.Steps.{IsOnce}
 use Rattle.just_graph.proofs.Index.{some_same}
 use Rattle.just_parts.specs.Causes.{Reports}
 use Rattle.just_parts.specs.declared.layers.ast.Ast.{Ast}
-use Rattle.just_parts.specs.declared.layers.ast.UnresolvedDependency.{UnresolvedDependency}
-use Rattle.just_parts.specs.declared.modulepath.Modulepath.{Modulepath}
-use Rattle.just_parts.specs.declared.recipe.Recipe.{Recipe}
 use Rattle.just_parts.proofs.Lifts.{reports_by}
 use Rattle.just_modules.specs.Definitions.{outlines_in, recipes_in}
 use Rattle.just_modules.specs.Files.{asts_in}
 use Rattle.just_modules.specs.Named.{BreaksRecipes, in_bodies, in_dependencies, in_parameters, recipes_from}
-use Rattle.just_modules.specs.Outline.{Outline, outlines_of}
+use Rattle.just_modules.specs.Outline.{outlines_of}
 use Rattle.just_modules.specs.Resolved.{AreResolved, HasPriors, Resolving, unresolved_numbers}
 use Rattle.just_modules.specs.Rows.{IsOrderOf}
 use Rattle.just_modules.specs.Rules.{Bodies, Dependencies, Parameters}

@@ -1,6 +1,5 @@
-use Rattle.std.proofs.Common.{rules, ◌≡◌, ◌<◌, ◌∙◌, ℕ, List, Some, length, get_or, refl, sym, ap, subst, arith}
+use Rattle.std.proofs.Common.{rules, ◌≡◌, ◌∙◌, ℕ, List, length, sym, ap, subst, arith}
 use Rattle.std.specs.HashMap.{get}
-use Rattle.std.specs.List.{All}
 use Rattle.std.specs.Map.{keys_of}
 use Rattle.std.proofs.lemmas.Option.{get_or_from_slice_get, slice_get_within}
 use Rattle.std.proofs.lemmas.Result.{IfErr-weaker}
@@ -10,7 +9,6 @@ use Rattle.just_parts.specs.Asts.{AstKey, same_ast_key}
 use Rattle.just_parts.specs.Causes.{Reports}
 use Rattle.just_parts.proofs.Lifts.{reports_by}
 use Rattle.just_modules.specs.Analyzed.{IsAnalyzed}
-use Rattle.just_modules.specs.Groups.{NamesModules}
 use Rattle.just_modules.specs.Joined.{AreArranged, AreGraphs}
 use Rattle.just_modules.specs.Justfiles.{named_as}
 use Rattle.just_modules.specs.Modules.{heading}
@@ -98,8 +96,13 @@ take_at-justfile-requires-clause-inside g c =
     let enabled = (g.S.Syntax.answers c.args.syntax.now).enabled in
     let entries = c.args.asts.now.entries in
     let at = place_back (keys_of entries) key (get same_ast_key c.in_ok-files.files.places) c.in_ok-files.ensures.places key c.in_ok-place.place c.in_ok-place.ensures in
-    omega (arith, slice_get_within (keys_of entries) c.in_ok-place.place key at, rows_many enabled entries key c.in_ok-files.files c.in_ok-files.ensures c.in_ok-rows.rows c.in_ok-rows.ensures c.requires.asts,
-    c.in_ok-rows.ensures.imports.count, c.in_ok-slots.ensures.compiled.room)
+    omega (
+      arith,
+      slice_get_within (keys_of entries) c.in_ok-place.place key at,
+      rows_many enabled entries key c.in_ok-files.files c.in_ok-files.ensures c.in_ok-rows.rows c.in_ok-rows.ensures c.requires.asts,
+      c.in_ok-rows.ensures.imports.count,
+      c.in_ok-slots.ensures.compiled.room,
+    )
 
 pub take_at-justfile-requires-clause-there : goal.take_at-justfile-requires-clause-there
 take_at-justfile-requires-clause-there g c =
@@ -108,10 +111,12 @@ take_at-justfile-requires-clause-there g c =
     let entries = c.args.asts.now.entries in
     let at = place_back (keys_of entries) key (get same_ast_key c.in_ok-files.files.places) c.in_ok-files.ensures.places key c.in_ok-place.place c.in_ok-place.ensures in
     let arranged = subst (λ (o : List ℕ). AreArranged c.in_ok-rows.rows c.in_ok-place.place c.in_ok-joined.joined o) (sym c.as_slice.ensures.value) c.in_ok-joined.ensures in
-    let so = subst (λ (o : List ℕ). HaveCompiled enabled c.in_ok-files.files c.in_ok-joined.joined c.args.loaded.now o (length o) c.in_ok-slots.slots.items c.in_ok-slots.recipes) (c.as_slice-2.ensures.value ∙ sym c.as_slice.ensures.value) c.in_ok-slots.ensures.compiled in
-    (so.justfile c.in_ok-place.place, root_held enabled entries key c.in_ok-files.files c.in_ok-files.ensures c.in_ok-rows.rows c.in_ok-rows.ensures c.requires.asts c.in_ok-place.place
-    (slice_get_within (keys_of entries) c.in_ok-place.place key at) c.in_ok-joined.joined c.as_slice.result.now arranged (heading key c.args.name) (sym (get_or_from_slice_get (keys_of entries) c.in_ok-place.place key key at))
-    c.in_ok-check_module_names.ensures.kept c.args.loaded.now c.in_ok-slots.slots.items c.in_ok-slots.recipes so)
+    let so = subst (λ (o : List ℕ). HaveCompiled enabled c.in_ok-files.files c.in_ok-joined.joined c.args.loaded.now o (length o) c.in_ok-slots.slots.items c.in_ok-slots.recipes) (c.as_slice-2.ensures.value ∙ sym c.as_slice.ensures.value) c.in_ok-slots.ensures.compiled in (
+      so.justfile c.in_ok-place.place,
+      root_held enabled entries key c.in_ok-files.files c.in_ok-files.ensures c.in_ok-rows.rows c.in_ok-rows.ensures c.requires.asts c.in_ok-place.place
+          (slice_get_within (keys_of entries) c.in_ok-place.place key at) c.in_ok-joined.joined c.as_slice.result.now arranged (heading key c.args.name) (sym (get_or_from_slice_get (keys_of entries) c.in_ok-place.place key key at))
+          c.in_ok-check_module_names.ensures.kept c.args.loaded.now c.in_ok-slots.slots.items c.in_ok-slots.recipes so,
+    )
 
 pub returns-clause-analyzed : goal.returns-clause-analyzed
 returns-clause-analyzed g c =
