@@ -10,6 +10,7 @@ pub use compilation::Compilation;
 pub use compiler::Compiler;
 pub use just_invoke::{Invocation, InvocationParser, Justfile, RecipeKey, Recipes, Report};
 pub use just_loader::Sources;
+pub use just_modules::analyzer::Analyzer;
 pub use just_parts::{
     Dependency, Keyed, Modulepath, Recipe, Source, Table, UnresolvedRecipe, is_clean, layers,
 };
