@@ -13,6 +13,7 @@ use std::collections::HashMap;
 pub struct Compilation<'src> {
     /// What each file says, under the path of its module and its own.
     pub asts: HashMap<(Modulepath, Text), Ast<'src>>,
+    /// The root's module, with those in it.
     pub justfile: Justfile<'src>,
     /// The recipes of all modules, each after those that it depends on.
     pub recipes: Recipes<'src>,

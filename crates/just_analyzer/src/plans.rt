@@ -44,7 +44,9 @@ pub struct Plan<'src> {
 /// The plan of each own file, and the steps into the modules that its module's files declare.
 #[derive(Drop)]
 pub struct Plans<'src> {
+    /// The plan of each file that is a module's own.
     pub plans: Vec<Option<Plan<'src>>>,
+    /// The steps from each own file into modules.
     pub entries: Vec<Vec<Step>>,
 }
 

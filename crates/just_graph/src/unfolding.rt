@@ -21,6 +21,7 @@ use std::collections::HashMap;
 /// A step from a node: to its target, staying in the group, or entering the group of a name.
 #[derive(Clone, Copy, Debug, PartialEq, Eq)]
 pub struct Step {
+    /// The node that it leads to.
     pub target: usize,
     /// What is told of a step that stays in the group.
     pub offset: usize,
@@ -31,13 +32,16 @@ pub struct Step {
 /// Where a node of an unfolding came from: the place of an earlier one, and that of the step there.
 #[derive(Clone, Copy, Debug, PartialEq, Eq)]
 pub struct Origin {
+    /// The place of the node that it came from.
     pub parent: usize,
+    /// The place of the step in that node's row.
     pub step: usize,
 }
 
 /// A node of an unfolding.
 #[derive(Debug, Drop)]
 pub struct Unfolded {
+    /// The node that it stands for.
     pub node: usize,
     /// The names of the groups that were entered on the way.
     pub path: Vec<usize>,

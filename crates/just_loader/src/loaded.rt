@@ -9,6 +9,7 @@ use std::collections::HashMap;
 /// The files of a compilation.
 #[derive(Drop)]
 pub struct Loaded<'src> {
+    /// The reached files, and what leads from each to others.
     pub scan: Scan<'src>,
     /// The places of the reached files, each after those that it leads to.
     pub order: Vec<usize>,

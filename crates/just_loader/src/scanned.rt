@@ -8,11 +8,15 @@ use just_parts::layers::{Item, Name};
 /// those of two files are not told apart.
 #[derive(Debug, Drop)]
 pub struct ScannedFile<'src> {
+    /// The clean path.
     pub path: BorrowedText<'src>,
+    /// What the file holds.
     pub text: BorrowedText<'src>,
     /// The path from the root's folder, where it lies below it.
     pub relative: BorrowedText<'src>,
+    /// What its text says.
     pub items: Sequence<Item<'src>>,
+    /// The place of the file to which each item leads, where it leads to one.
     pub targets: Vec<Option<usize>>,
 }
 
@@ -20,7 +24,10 @@ pub struct ScannedFile<'src> {
 /// names.
 #[derive(Debug, Drop)]
 pub struct Scan<'src> {
+    /// The reached files, the root first.
     pub files: Vec<ScannedFile<'src>>,
+    /// The steps from each file.
     pub rows: Vec<Vec<Step>>,
+    /// The names of modules, under their numbers.
     pub names: Vec<Name<'src>>,
 }

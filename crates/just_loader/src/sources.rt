@@ -16,7 +16,9 @@ use std::marker::Model;
 /// A file of a source map.
 #[derive(Debug, PartialEq, Eq, Drop)]
 pub struct SourceFile<'src> {
+    /// The clean path.
     pub path: BorrowedText<'src>,
+    /// What the file holds.
     pub text: BorrowedText<'src>,
 }
 

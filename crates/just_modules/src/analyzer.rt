@@ -71,7 +71,9 @@ fn default_place<'a, 'src>(definitions: &Definitions<'a, 'src>) -> Option<usize>
 /// What a module has besides its recipes: the shared list of loaded files, its name, and the modules that it declares.
 #[derive(Drop)]
 pub struct Surroundings<'src> {
+    /// The relative paths of all loaded files.
     pub loaded: Shared<Sequence<Text>>,
+    /// The name; the root's module has none.
     pub name: Option<Name<'src>>,
     pub modules: Sequence<Justfile<'src>>,
     /// The path of its own file.

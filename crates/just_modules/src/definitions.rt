@@ -9,6 +9,7 @@ use std::alloc::{AllocError, Global};
 /// The recipes of a module, before they are resolved.
 #[derive(Drop)]
 pub struct Definitions<'a, 'src> {
+    /// The recipes, file after file.
     pub recipes: Vec<&'a UnresolvedRecipe<'src>>,
 }
 

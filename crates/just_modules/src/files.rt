@@ -16,15 +16,20 @@ use std::collections::HashMap;
 /// The files of a compilation, each at a place, what they say, and the places of their keys.
 #[derive(Drop)]
 pub struct Files<'a, 'src> {
+    /// The path of the module and that of the file, of each file.
     pub keys: Vec<&'a (Modulepath, Text)>,
+    /// What each file says.
     pub asts: Vec<&'a Ast<'src>>,
+    /// The place of each key.
     pub places: HashMap<(Modulepath, Text), usize>,
 }
 
 /// What each file imports, and which modules it declares, by the places of the files.
 #[derive(Drop)]
 pub struct Rows {
+    /// The places of the files that each file imports, in order.
     pub imports: Vec<Vec<usize>>,
+    /// The places of the own files of the modules that each file declares, in order.
     pub modules: Vec<Vec<usize>>,
 }
 

@@ -17,7 +17,9 @@ use std::alloc::{AllocError, Global};
 /// modules that these declare; for other files nothing.
 #[derive(Drop)]
 pub struct Joined {
+    /// The places of a module's files, in join order.
     pub files: Vec<Vec<usize>>,
+    /// The places of the own files of the modules in it.
     pub modules: Vec<Vec<usize>>,
 }
 
