@@ -1,23 +1,23 @@
 -- What a source map is compiled to.
-use Rattle.std.specs.Prelude.{◌≡◌, Result, IfOk, IfErr, IsSome}
+use Rattle.std.specs.Prelude.{◌≡◌, List, Result, IfOk, IfErr, IsSome}
 use Rattle.std.specs.HashMap.{get, IsEmpty}
-use Rattle.just_parts.specs.declared.layers.error.Error.{Error}
-use Rattle.just_invoke.specs.Closed.{IsClosed, AreClosed}
 use Rattle.just_parts.specs.Asts.{same_ast_key, root_ast_key}
 use Rattle.just_parts.specs.Causes.{Keeps, Reports}
-use Rattle.just_loader.specs.LoadedInPlaces.{IsLoadedInPlaces}
+use Rattle.just_parts.specs.Modulepath.{Text}
+use Rattle.just_parts.specs.declared.layers.error.Error.{Error}
+use Rattle.just_invoke.specs.Closed.{IsClosed, AreClosed}
+use Rattle.just_loader.specs.Loaded.{IsLoaded}
 use Rattle.just_loader.specs.Reached.{World}
-use Rattle.just_loader.specs.declared.loaded.Loaded.{Loaded}
-use Rattle.just_analyzer.specs.Modules.{AreCompiled}
+use Rattle.just_modules.specs.Analyzed.{IsAnalyzed}
+use Rattle.just_analyzer.specs.Readings.{root_heading}
 use Rattle.just_analyzer.specs.Rules.{KeepsAll, Names}
 use Rattle.just_analyzer.specs.declared.compilation.Compilation.{Compilation}
 
--- The files are loaded, what they say is held, and their modules are compiled.
+-- The files are loaded, what they say is held, and the root's module is analyzed, with those in it.
 pub record IsCompilation (w : World) (c : Compilation) : Type 0 where
-  pub loaded : Loaded
-  pub is_loaded : IsLoadedInPlaces w loaded
-  pub asts : c.asts ≡ loaded.asts
-  pub compiled : AreCompiled w loaded c.justfile c.recipes
+  pub loaded : List Text
+  pub is_loaded : IsLoaded w (get same_ast_key c.asts) loaded
+  pub analyzed : IsAnalyzed w.answers.enabled (get same_ast_key c.asts) loaded (root_heading w) c.justfile c.recipes
 
 -- What a compilation answers: no rule is broken, so that none is named, the files are compiled, each recipe that is named is held after those that it depends on, and the root's file is held, and nothing is overridden; or a rule that is broken.
 pub record Compiles (w : World) (result : Result Compilation Error) : Type 0 where

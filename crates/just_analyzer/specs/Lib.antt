@@ -1,8 +1,3 @@
 pub mod Compiled
-pub mod Compiling
-pub mod Contents
-pub mod JoinOrder
-pub mod Modules
-pub mod Places
-pub mod Planned
+pub mod Readings
 pub mod Rules

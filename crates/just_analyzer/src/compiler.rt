@@ -5,11 +5,11 @@ ghost use Rattle.just_loader.specs.Reached.{world_of};
 ghost use Rattle.just_analyzer.specs.Compiled.{Compiles};
 
 use crate::compilation::Compilation;
-use crate::modules::compile_modules;
-use crate::plans::plan_modules;
-use just_data::Text;
+use just_data::{Shared, Text};
 use just_loader::{Loaded, Sources, load};
-use just_parts::layers::{Config, Error, Evaluation, LoadError, Name, Syntax};
+use just_modules::analyzer::Analyzer;
+use just_parts::Modulepath;
+use just_parts::layers::{Config, Error, Evaluation, Name, Syntax};
 use std::alloc::Global;
 use std::collections::HashMap;
 
@@ -48,10 +48,11 @@ impl Compiler {
         ensures { Compiles (world_of sources.now config.now (S.answers syntax.now) root.now) result }
     {
         let path = Text::from_str(alloc, root)?;
-        let loaded = load(alloc, config, syntax, sources, root)?;
-        let plans = plan_modules(alloc, syntax, &loaded)?;
-        let (justfile, recipes) = compile_modules(alloc, syntax, &loaded, &plans)?;
-        let Loaded { asts, .. } = loaded;
+        let Loaded { asts, loaded, .. } = load(alloc, config, syntax, sources, root)?;
+        let loaded = Shared::new(alloc, loaded)?;
+        let module_path = Modulepath::root(alloc);
+        let (justfile, recipes) =
+            Analyzer::analyze(alloc, syntax, &asts, &loaded, &module_path, None, root)?;
         Ok(Compilation {
             asts,
             justfile,

@@ -3,8 +3,6 @@
 
 pub mod compilation;
 pub mod compiler;
-mod modules;
-mod plans;
 
 pub use compilation::Compilation;
 pub use compiler::Compiler;

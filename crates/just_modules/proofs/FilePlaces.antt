@@ -81,7 +81,8 @@ module _ (keys : List AstKey) (d : AstKey) (table : AstKey → Option ℕ) (lead
       let rest : map table found ≡ map Some row = cc in
       inside_more p row (slice_get_within keys p k (place_back k p head)) (places_inside found row rest)
 
-keys_flat : (path : Modulepath) (items : List Item) → map (λ (s : Submodule). s.key) (flat_map (declared path) items) ≡ flat_map (led true path) items
+-- the own files of the modules that items declare
+pub keys_flat : (path : Modulepath) (items : List Item) → map (λ (s : Submodule). s.key) (flat_map (declared path) items) ≡ flat_map (led true path) items
 keys_flat path [] = refl
 keys_flat path (i ∷ items) = map-append (λ (s : Submodule). s.key) (declared path i) (flat_map (declared path) items) ∙ ap (λ ks. led true path i ++ ks) (keys_flat path items)
 

@@ -21,7 +21,7 @@ all_by P [] f = tt
 all_by P (x ∷ xs) f = (f x (inl refl), all_by P xs (λ y h. f y (inr h)))
 
 -- an item that leads somewhere counts
-led_counts : (b : Bool) (l : AstKey) (ks : List AstKey) → In l (if b then ks else []) → (b ≡ true) × In l ks
+pub led_counts : (b : Bool) (l : AstKey) (ks : List AstKey) → In l (if b then ks else []) → (b ≡ true) × In l ks
 led_counts true l ks h = (refl, h)
 led_counts false l ks h = absurd h
 
@@ -29,7 +29,7 @@ known : (o : Option ℕ) (keys : List AstKey) (k : AstKey) (p : ℕ) → slice_g
 known None keys k p at m = absurd (m p at)
 known (Some q) keys k p at m = refl
 
-some_value : {A : Type 0} (o : Option A) → IsSome o → (x : A) × (o ≡ Some x)
+pub some_value : {A : Type 0} (o : Option A) → IsSome o → (x : A) × (o ≡ Some x)
 some_value None h = cc
 some_value (Some x) h = (x, refl)
 

@@ -1,3 +1,4 @@
+pub mod Agreeing
 pub mod Analyzing
 pub mod BareOutlines
 pub mod Closing

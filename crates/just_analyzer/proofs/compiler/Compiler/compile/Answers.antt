@@ -1,55 +1,75 @@
-use Rattle.std.proofs.Common.{IsSome, refl, sym, subst, rules}
+use Rattle.std.proofs.Common.{◌≡◌, ◌∙◌, false, [], None, IsSome, refl, sym, ap, subst, rules}
 use Rattle.std.specs.HashMap.{get}
 use Rattle.just_invoke.specs.Closed.{is_closed}
-use Rattle.just_parts.specs.Asts.{same_ast_key, root_ast_key}
+use Rattle.just_parts.specs.Asts.{AstKey, root_ast_key, same_ast_key}
+use Rattle.just_parts.specs.declared.modulepath.Modulepath.{Modulepath}
+use Rattle.just_parts.proofs.Lifts.{lifted}
 use Rattle.just_loader.specs.Keys.{NamesInFiles}
 use Rattle.just_loader.specs.Reached.{World, world_of}
-use Rattle.just_loader.proofs.FileCircles.{has_rows}
-use Rattle.just_parts.proofs.Lifts.{lifted}
-use Rattle.just_analyzer.specs.Rules.{KeepsAll, Names, in_files}
-use Rattle.just_analyzer.proofs.Compilations.{none_named, refused, root_there}
+use Rattle.just_loader.proofs.HeldKeys.{root_held}
+use Rattle.just_modules.specs.Analyzed.{IsAnalyzed}
+use Rattle.just_modules.specs.Groups.{NamesModules}
+use Rattle.just_modules.specs.Modules.{heading}
+use Rattle.just_modules.specs.Reading.{reading_of}
+use Rattle.just_analyzer.specs.Readings.{root_heading}
+use Rattle.just_analyzer.specs.Rules.{Names, in_files, in_modules}
+use Rattle.just_analyzer.proofs.Compilations.{all_kept, none_named, refused}
+use Rattle.just_analyzer.proofs.Readings.{are_analyzable, is_reading}
 use Rattle.just_analyzer.proofs.compiler.Compiler.compile.Goals as goal
-
-pub plan_modules-requires-clause-rows : goal.plan_modules-requires-clause-rows
-plan_modules-requires-clause-rows g c = has_rows _ c.in_ok-loaded.loaded.scan c.in_ok-loaded.ensures.in_places.scan
-
-pub plan_modules-requires-clause-order : goal.plan_modules-requires-clause-order
-plan_modules-requires-clause-order g c = c.in_ok-loaded.ensures.in_places.order
 
 pub returns-in_err-path : goal.returns-in_err-path
 returns-in_err-path g c =
     refused (world_of c.args.sources.now c.args.config.now (g.S.Syntax.answers c.args.syntax.now) c.args.root.now) c.from_residual.result (search rules) (search rules)
 
+pub returns-in_err-asts : goal.returns-in_err-asts
+returns-in_err-asts g c =
+    let w : World = world_of c.args.sources.now c.args.config.now (g.S.Syntax.answers c.args.syntax.now) c.args.root.now in
+    refused w c.from_residual-in_err-asts.result (search rules) (lifted (NamesInFiles w) (Names w) (λ _ n. in_files n) c.from_residual-in_err-asts.result (search rules))
+
 pub returns-in_err-loaded : goal.returns-in_err-loaded
 returns-in_err-loaded g c =
-    let w : World = world_of c.args.sources.now c.args.config.now (g.S.Syntax.answers c.args.syntax.now) c.args.root.now in
-    refused w c.from_residual-in_err-loaded.result (search rules) (lifted (NamesInFiles w) (Names w) (λ _ n. in_files n) c.from_residual-in_err-loaded.result (search rules))
+    refused (world_of c.args.sources.now c.args.config.now (g.S.Syntax.answers c.args.syntax.now) c.args.root.now) c.from_residual-in_err-loaded.result (search rules) (search rules)
 
-pub returns-in_err-plans : goal.returns-in_err-plans
-returns-in_err-plans g c =
-    refused (world_of c.args.sources.now c.args.config.now (g.S.Syntax.answers c.args.syntax.now) c.args.root.now) c.from_residual-in_err-plans.result (search rules) (search rules)
+pub analyze-requires-clause-held : goal.analyze-requires-clause-held
+analyze-requires-clause-held g c =
+    let w : World = world_of c.args.sources.now c.args.config.now (g.S.Syntax.answers c.args.syntax.now) c.args.root.now in
+    let asts = get same_ast_key c.in_ok-asts.field-0.asts in
+    let top : c.root-module_path.result ≡ record { components = []; spaced = false } = λ j. record { components = c.root-module_path.ensures.components j; spaced = c.root-module_path.ensures.spaced j } in
+    subst (λ o. IsSome o) (sym (ap (λ (m : Modulepath). asts (m, w.root)) top ∙ (root_held w asts c.in_ok-asts.field-0.loaded c.in_ok-asts.ensures.loaded).1)) refl
+
+pub analyze-requires-clause-asts : goal.analyze-requires-clause-asts
+analyze-requires-clause-asts g c =
+    let w : World = world_of c.args.sources.now c.args.config.now (g.S.Syntax.answers c.args.syntax.now) c.args.root.now in
+    are_analyzable w (get same_ast_key c.in_ok-asts.field-0.asts) c.in_ok-asts.field-0.loaded c.in_ok-asts.ensures.loaded
 
 pub returns-in_err-justfile : goal.returns-in_err-justfile
 returns-in_err-justfile g c =
-    refused (world_of c.args.sources.now c.args.config.now (g.S.Syntax.answers c.args.syntax.now) c.args.root.now) c.from_residual-in_err-justfile.result (search rules) (search rules)
+    let w : World = world_of c.args.sources.now c.args.config.now (g.S.Syntax.answers c.args.syntax.now) c.args.root.now in
+    let asts = get same_ast_key c.in_ok-asts.field-0.asts in
+    let reading = reading_of w.answers.enabled asts in
+    let top : c.root-module_path.result ≡ record { components = []; spaced = false } = λ j. record { components = c.root-module_path.ensures.components j; spaced = c.root-module_path.ensures.spaced j } in
+    refused w c.from_residual-in_err-justfile.result (search rules) (lifted (NamesModules reading (heading (c.root-module_path.result, c.args.root.now) None)) (Names w)
+    (λ x n. in_modules reading c.in_ok-asts.ensures.kept (is_reading w asts c.in_ok-asts.field-0.loaded c.in_ok-asts.ensures.loaded) (subst (λ m. NamesModules reading (heading (m, w.root) None) x) top n))
+    c.from_residual-in_err-justfile.result (search rules))
 
 pub returns : goal.returns
 returns g c =
     let w : World = world_of c.args.sources.now c.args.config.now (g.S.Syntax.answers c.args.syntax.now) c.args.root.now in
-    let kept : KeepsAll w = c.in_ok-plans.ensures.kept w refl c.in_ok-loaded.ensures.in_places c.in_ok-loaded.ensures.kept in
+    let asts = get same_ast_key c.in_ok-asts.field-0.asts in
+    let loaded = c.in_ok-asts.field-0.loaded in
+    let top : c.root-module_path.result ≡ record { components = []; spaced = false } = λ j. record { components = c.root-module_path.ensures.components j; spaced = c.root-module_path.ensures.spaced j } in
+    let shared : c.in_ok-loaded.loaded ≡ loaded = c.in_ok-loaded.ensures in
+    let analyzed : IsAnalyzed w.answers.enabled asts loaded (root_heading w) c.in_ok-justfile.justfile c.in_ok-justfile.recipes =
+    subst (λ l. IsAnalyzed w.answers.enabled asts l (root_heading w) c.in_ok-justfile.justfile c.in_ok-justfile.recipes) shared
+    (subst (λ m. IsAnalyzed w.answers.enabled asts c.in_ok-loaded.loaded (heading (m, w.root) None) c.in_ok-justfile.justfile c.in_ok-justfile.recipes) top c.in_ok-justfile.ensures.analyzed) in
     record {
-      kept = kept;
-      unnamed = none_named w kept;
-      compiled = record {
-        loaded = c.in_ok-loaded.loaded;
-        is_loaded = c.in_ok-loaded.ensures.in_places;
-        asts = refl;
-        compiled = c.in_ok-justfile.ensures.compiled w refl;
-      };
-      closed = is_closed c.in_ok-justfile.ensures.closed;
-      all_closed = search rules;
+      kept = all_kept w asts loaded c.in_ok-asts.ensures.loaded c.in_ok-asts.ensures.kept c.in_ok-justfile.justfile c.in_ok-justfile.recipes analyzed;
+      unnamed = none_named w asts loaded c.in_ok-asts.ensures.loaded c.in_ok-asts.ensures.kept c.in_ok-justfile.justfile c.in_ok-justfile.recipes analyzed;
+      compiled = record { loaded = loaded; is_loaded = c.in_ok-asts.ensures.loaded; analyzed = analyzed };
+      closed = is_closed analyzed.closed;
+      all_closed = analyzed.closed;
       root = c.in_ok-path.ensures;
       overrides = search rules;
-      root_ast = subst (λ r. IsSome (get same_ast_key c.in_ok-loaded.loaded.asts (root_ast_key r))) (sym c.in_ok-path.ensures) (root_there w c.in_ok-loaded.loaded c.in_ok-loaded.ensures.in_places);
+      root_ast = subst (λ r. IsSome (asts (root_ast_key r))) (sym c.in_ok-path.ensures) (subst (λ o. IsSome o) (sym (root_held w asts loaded c.in_ok-asts.ensures.loaded).1) refl);
       named = tt;
     }

@@ -1,0 +1,63 @@
+-- The numbers of recipes in a text.
+use Rattle.std.proofs.Common.{◌≡◌, ℕ, ◌+◌, ◌≤◌, Bool, true, false, List, [], ◌∷◌, ◌++◌, map, get_or, ◌⊎◌, inl, inr, refl, sym, ap, subst, arith}
+use Rattle.std.specs.Prelude.{if◌then◌else◌}
+use Rattle.std.specs.List.{All}
+use Rattle.std.proofs.lemmas.List.Elements.{All-contains, Contains-get_or}
+use Rattle.just_graph.proofs.Leveling.{Once}
+use Rattle.just_graph.proofs.Members.{In, contained, from_map, in_flat, is_in}
+use Rattle.just_parts.specs.Bare.{bare_item}
+use Rattle.just_parts.specs.Syntax.{AreRising, PriorsAreDependencies, item_numbers, numbers, parameter_numbers}
+use Rattle.just_parts.specs.declared.layers.ast.Item.{Item}
+use Rattle.just_parts.specs.declared.layers.ast.Item.TheVariants as item
+use Rattle.just_parts.specs.declared.layers.ast.UnresolvedDependency.{UnresolvedDependency}
+use Rattle.just_parts.specs.declared.recipe.Recipe.{Recipe}
+use Rattle.just_modules.specs.Outline.{recipes_of}
+use Rattle.just_modules.specs.Resolved.{HasPriors, unresolved_numbers}
+
+from_if : (b : Bool) (q r : Recipe UnresolvedDependency) (rs : List (Recipe UnresolvedDependency)) → In r (if b then q ∷ rs else rs) → (r ≡ q) ⊎ In r rs
+from_if true q r rs h = h
+from_if false q r rs h = inr h
+
+-- a recipe of items is one of them
+recipe_item : (enabled : Item → Bool) (r : Recipe UnresolvedDependency) (is : List Item) → In r (recipes_of enabled is) → In (item.Recipe r) is
+recipe_item enabled r [] h = absurd h
+recipe_item enabled r (item.Recipe q ∷ is) h = elim (from_if (enabled (bare_item (item.Recipe q))) q r (recipes_of enabled is) h) [ inl e ↦ inl (ap item.Recipe e) | inr i ↦ inr (recipe_item enabled r is i) ]
+recipe_item enabled r (_ ∷ is) h = inr (recipe_item enabled r is h)
+
+-- its number is one of theirs
+pub recipe_number_in : (enabled : Item → Bool) (x : ℕ) (is : List Item) → In x (unresolved_numbers (recipes_of enabled is)) → In x (numbers is)
+recipe_number_in enabled x is h =
+    let r = from_map (λ (r : Recipe UnresolvedDependency). r.number.0) x (recipes_of enabled is) h in
+    subst (λ n. In n (numbers is)) (sym r.2) (in_flat item_numbers r.0.number.0 (item.Recipe r.0) is (recipe_item enabled r.0 is r.1) (inl refl))
+
+-- rising numbers are at least the first bound
+rising_from : (low : ℕ) (ns : List ℕ) (high x : ℕ) → AreRising low ns high → In x ns → low ≤ x
+rising_from low [] high x r h = absurd h
+rising_from low (n ∷ ns) high x r (inl e) = omega (arith, r.0, e)
+rising_from low (n ∷ ns) high x r (inr h) = let l : n + 1 ≤ x = rising_from (n + 1) ns high x r.1 h in omega (arith, r.0, l)
+
+-- those after some of them rise from there
+rising_after : (low : ℕ) (ns ms : List ℕ) (high : ℕ) → AreRising low (ns ++ ms) high → (mid : ℕ) × (low ≤ mid) × AreRising mid ms high
+rising_after low [] ms high r = (low, omega arith, r)
+rising_after low (n ∷ ns) ms high r = let m = rising_after (n + 1) ns ms high r.1 in (m.0, omega (arith, r.0, m.1), m.2)
+
+once_if : (b : Bool) (r : Recipe UnresolvedDependency) (rs : List (Recipe UnresolvedDependency)) → (In r.number.0 (unresolved_numbers rs) → ⊥) → Once (unresolved_numbers rs) → Once (unresolved_numbers (if b then r ∷ rs else rs))
+once_if true r rs fresh once = (fresh, once)
+once_if false r rs fresh once = once
+
+-- recipes of rising items have no number twice
+pub once_recipes : (enabled : Item → Bool) (low : ℕ) (is : List Item) (high : ℕ) → AreRising low (numbers is) high → Once (unresolved_numbers (recipes_of enabled is))
+once_recipes enabled low [] high r = tt
+once_recipes enabled low (item.Recipe q ∷ is) high r =
+    let after = rising_after (q.number.0 + 1) (parameter_numbers q.parameters) (numbers is) high r.1 in
+    once_if (enabled (bare_item (item.Recipe q))) q (recipes_of enabled is)
+    (λ h. let l : after.0 ≤ q.number.0 = rising_from after.0 (numbers is) high q.number.0 after.2 (recipe_number_in enabled q.number.0 is h) in absurd (omega (arith, l, after.1)))
+    (once_recipes enabled after.0 is high after.2)
+once_recipes enabled low (_ ∷ is) high r = once_recipes enabled low is high r
+
+all_by : {A : Type 0} (P : A → Type 0) (xs : List A) → ((x : A) → In x xs → P x) → All P xs
+all_by P xs f = λ k d h. f (get_or xs k d) (is_in (get_or xs k d) xs (Contains-get_or xs k d h))
+
+-- recipes have no more priors than dependencies, where items have
+pub recipe_priors : (enabled : Item → Bool) (is : List Item) → All PriorsAreDependencies is → All HasPriors (recipes_of enabled is)
+recipe_priors enabled is all = all_by HasPriors (recipes_of enabled is) (λ r h. All-contains PriorsAreDependencies is (item.Recipe r) all (contained (item.Recipe r) is (recipe_item enabled r is h)))

@@ -1,0 +1,24 @@
+-- What the files of a source map say, as the modules that they belong to see it.
+use Rattle.std.specs.Prelude.{◌≡◌, ℕ, List, map, None, Some}
+use Rattle.just_parts.specs.Asts.{root_ast_key}
+use Rattle.just_parts.specs.Bare.{ast_of_items}
+use Rattle.just_parts.specs.Clean.{folder_of}
+use Rattle.just_parts.specs.Located.{with_depth}
+use Rattle.just_parts.specs.declared.layers.ast.Item.{Item}
+use Rattle.just_loader.specs.Keys.{FileKey, IsLeastFileDepth, ast_key, items_at}
+use Rattle.just_loader.specs.Loaded.{with_path}
+use Rattle.just_loader.specs.Reached.{World}
+use Rattle.just_modules.specs.Modules.{Heading, heading}
+use Rattle.just_modules.specs.Reading.{Reading, enabled_items}
+
+-- the items of a file that count, at a depth, with the paths of the files to which they lead
+abbrev pub items_read : World → FileKey → ℕ → List Item
+items_read w k depth = map (λ i. with_depth depth (with_path w (folder_of k.node) i)) (enabled_items w.answers.enabled (items_at w k.node))
+
+-- Each file is read under the path of its module and its own, at the least depth of that key.
+abbrev pub IsReadingOf : World → Reading → Type 0
+IsReadingOf w R = (k : FileKey) (depth : ℕ) → IsLeastFileDepth w k depth → R (ast_key k) ≡ Some (ast_of_items (items_read w k depth))
+
+-- the root's module, which has no name
+abbrev pub root_heading : World → Heading
+root_heading w = heading (root_ast_key w.root) None
