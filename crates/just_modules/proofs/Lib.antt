@@ -1,3 +1,4 @@
+pub mod Alike
 pub mod Analyzing
 pub mod BareOutlines
 pub mod Closing
@@ -19,9 +20,9 @@ pub mod ModulePaths
 pub mod ModulePlaces
 pub mod Numbers
 pub mod Ordered
-pub mod Outlines
 pub mod Ready
 pub mod RecipeCircles
+pub mod RecipePlaces
 pub mod Placing
 pub mod Refuted
 pub mod Resolving
