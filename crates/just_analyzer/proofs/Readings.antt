@@ -26,7 +26,7 @@ use Rattle.just_loader.specs.Reached.{World}
 use Rattle.just_loader.proofs.HeldKeys.{closed, held_key, held_path, key_held, path_led, said}
 use Rattle.just_modules.specs.Analyzable.{AreAnalyzable}
 use Rattle.just_modules.specs.Files.{led}
-use Rattle.just_modules.specs.Outline.{recipes_of}
+use Rattle.just_modules.specs.Recipes.{recipes_of}
 use Rattle.just_modules.specs.Reading.{Reading, enabled_items, located_ast, reading_of}
 use Rattle.just_modules.specs.Resolved.{unresolved_numbers}
 use Rattle.just_modules.proofs.Agreeing.{Holds}

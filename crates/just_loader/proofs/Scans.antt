@@ -60,7 +60,7 @@ module _ (w : World) (f : SourceFile) (file : find f.path w.files ≡ Some f) wh
   pub refused_at : (relative text : List ℕ) (e : Error) → relative ≡ relative_to_root w f.path → text ≡ f.text → Refuses w.answers relative text 0 e → Reports (NamesAt w f.path) e
   refused_at relative text (error.Load e) r t h = absurd h
   refused_at relative text (error.Compile e) r t h =
-      subst (λ k. NamesAt w f.path (Broken k)) (sym h.1) (no_grammar f.text text_there (ap (λ x. w.answers.parsed x f.text) (sym r) ∙ ap (w.answers.parsed relative) (sym t) ∙ h.0))
+      subst (λ k. NamesAt w f.path (Broken e.token k)) (sym h.1) (no_grammar f.text text_there (ap (λ x. w.answers.parsed x f.text) (sym r) ∙ ap (w.answers.parsed relative) (sym t) ∙ h.0))
   refused_at relative text (error.Invocation e) r t h = absurd h
   refused_at relative text (error.Run e) r t h = absurd h
   refused_at relative text error.Exhausted r t h = no_number f.text text_there (let same : w.answers.spends relative text ≡ w.answers.spends (relative_to_root w f.path) f.text = ap (w.answers.spends relative) t ∙ ap (λ x. w.answers.spends x f.text) r in omega (arith, same, h))

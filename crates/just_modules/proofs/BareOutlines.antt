@@ -5,12 +5,13 @@ use Rattle.std.specs.List.{list_any, fold}
 use Rattle.std.proofs.lemmas.List.{length-map}
 use Rattle.just_parts.specs.Bare.{bare_parameter, bare_recipe}
 use Rattle.just_parts.specs.Located.{located_recipe}
-use Rattle.just_parts.specs.Name.{text_of_name, texts_of_path}
+use Rattle.just_parts.specs.Name.{text_of_name}
 use Rattle.just_parts.specs.Parameter.{is_required, is_variadic, least_arguments, most_arguments}
 use Rattle.just_parts.specs.declared.layers.ast.UnresolvedDependency.{UnresolvedDependency}
 use Rattle.just_parts.specs.declared.layers.parameter.Parameter.{Parameter}
 use Rattle.just_parts.specs.declared.recipe.Recipe.{Recipe}
-use Rattle.just_modules.specs.Outline.{outline_of}
+use Rattle.just_modules.specs.Recipes.{dependency_paths}
+use Rattle.just_modules.proofs.Alike.{outline_of}
 
 names_bare : (ps : List Parameter) → map (λ (p : Parameter). text_of_name p.name) (map bare_parameter ps) ≡ map (λ (p : Parameter). text_of_name p.name) ps
 names_bare [] = refl
@@ -32,10 +33,9 @@ least_bare ps = count_from 0 ps
 
 pub outline_bare : (r : Recipe UnresolvedDependency) → outline_of (bare_recipe r) ≡ outline_of r
 outline_bare r = λ i. record {
-  name = text_of_name r.name;
-  line = r.name.token.line;
+  token = r.name.token;
   parameters = names_bare r.parameters i;
-  dependencies = map (λ (d : UnresolvedDependency). texts_of_path d.recipe) r.dependencies;
+  dependencies = dependency_paths r;
   least = least_bare r.parameters i;
   most = most_bare r.parameters i;
 }

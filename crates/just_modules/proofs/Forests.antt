@@ -24,7 +24,7 @@ use Rattle.just_modules.specs.Joined.{IsJoined}
 use Rattle.just_modules.specs.Justfiles.{AreCompiled, Built, IsCompiled, by_name, named_as, none, one, recipes_in, with_names}
 use Rattle.just_modules.specs.Modules.{Empty, Forest, Heading, Module, Tree, heading_of, headings_in}
 use Rattle.just_modules.specs.Named.{recipes_by, recipes_from}
-use Rattle.just_modules.specs.Outline.{recipes_of}
+use Rattle.just_modules.specs.Recipes.{recipes_of}
 use Rattle.just_modules.specs.Reading.{Submodule, items_in}
 use Rattle.just_modules.specs.Resolved.{AreResolved}
 use Rattle.just_modules.specs.Steps.{IsCompiledAt, names_of_place, recipes_of_place}

@@ -14,10 +14,10 @@ use Rattle.just_parts.specs.declared.layers.ast.UnresolvedDependency.{Unresolved
 use Rattle.just_parts.specs.declared.recipe.Recipe.{Recipe}
 use Rattle.just_invoke.specs.declared.justfile.RecipeKey.{RecipeKey}
 use Rattle.just_modules.specs.Index.{AreDifferent}
-use Rattle.just_modules.specs.Outline.{outlines_of, outline_at, names_of}
+use Rattle.just_modules.specs.Recipes.{name_of, recipe_at, names_of}
 use Rattle.just_modules.specs.Resolved.{number_at}
 use Rattle.just_modules.specs.Analysis.{HasKeysOf}
-use Rattle.just_modules.proofs.Outlines.{one_place}
+use Rattle.just_modules.proofs.RecipePlaces.{one_place}
 
 swap : {X : Type 0} (a b : Bool) (x y z : X) → (a ≡ true → b ≡ true → ⊥) → cond a x (cond b y z) ≡ cond b y (cond a x z)
 swap true true x y z apart = absurd (apart refl refl)
@@ -53,17 +53,17 @@ found true key o m here there = ap (λ n. Some n) (here refl)
 found false key o m here there = there refl
 
 -- one more key
-pub keys_held_more : (rs : List (Recipe UnresolvedDependency)) (n : ℕ) (k : List ℕ) (key : RecipeKey) (old new : List (List ℕ × RecipeKey)) → AreDifferent (names_of (outlines_of rs)) → n < length (outlines_of rs) → (outline_at (outlines_of rs) n).name ≡ k → key.number.0 ≡ number_at rs n
+pub keys_held_more : (rs : List (Recipe UnresolvedDependency)) (n : ℕ) (k : List ℕ) (key : RecipeKey) (old new : List (List ℕ × RecipeKey)) → AreDifferent (names_of rs) → n < length rs → name_of (recipe_at rs n) ≡ k → key.number.0 ≡ number_at rs n
     → HasKeysOf rs n old → new ≡ put k key old → HasKeysOf rs (n + 1) new
 keys_held_more rs n k key old new different inside named number held e = λ place h.
-    let name : List ℕ = (outline_at (outlines_of rs) place).name in
+    let name : List ℕ = name_of (recipe_at rs place) in
     subst (λ t. option_map number_of (find name t) ≡ Some (number_at rs place)) (sym e)
     (subst (λ o. option_map number_of o ≡ Some (number_at rs place)) (sym (find_put name k key old))
     (found (bytes_eq name k) key (find name old) (number_at rs place)
-    (λ at. let same : place ≡ n = one_place (outlines_of rs) different place n (omega (arith, h, inside)) inside ((bytes_eq-Decides name k).0 at ∙ sym named) in number ∙ ap (number_at rs) (sym same))
+    (λ at. let same : place ≡ n = one_place rs different place n (omega (arith, h, inside)) inside ((bytes_eq-Decides name k).0 at ∙ sym named) in number ∙ ap (number_at rs) (sym same))
     (λ other. elim (cases_lt place n) [
       | inl l ↦ held place l
       | inr m ↦ (let same : place ≡ n = omega (arith, h, m) in
-          let is : name ≡ k = ap (λ i. (outline_at (outlines_of rs) i).name) same ∙ named in
+          let is : name ≡ k = ap (λ i. name_of (recipe_at rs i)) same ∙ named in
           let wrong : false ≡ true = sym other ∙ (bytes_eq-Decides name k).1 is in cc)
     ])))

@@ -14,20 +14,20 @@ use Rattle.just_modules.specs.Index.{AreDifferent}
 use Rattle.just_modules.specs.Joined.{IsJoined}
 use Rattle.just_modules.specs.Modules.{Heading, IsHeading, Module, a_module, contents_of, no_module}
 use Rattle.just_modules.specs.Named.{BreaksRecipes, KeepsRecipes, in_bodies, in_dependencies, in_parameters}
-use Rattle.just_modules.specs.Outline.{outlines_of}
 use Rattle.just_modules.specs.Reading.{Reading, reading_of}
-use Rattle.just_modules.specs.Rules.{Bodies, Dependencies, Headers, Parameters, duplicate_parameter, module_redefinition, of_parameters}
+use Rattle.just_modules.specs.Rules.{Bodies, Headers, Parameters, duplicate_parameter, module_redefinition, of_parameters}
 use Rattle.just_modules.specs.Steps.{names_of_place, recipes_of_place}
 use Rattle.just_modules.specs.declared.files.Files.{Files}
 use Rattle.just_modules.specs.declared.files.Rows.{Rows}
 use Rattle.just_modules.specs.declared.joined.Joined.{Joined}
+use Rattle.just_modules.proofs.Alike.{AreAlike, bodies_alike, bodies_kept_alike, dependencies_alike, dependencies_kept_alike, parameters_alike, parameters_kept_alike}
 use Rattle.just_modules.proofs.ModuleNames.{headers_kept}
 use Rattle.just_modules.proofs.ModulePlaces.{IsListed, TreeAt, file_inside, module_of, tree_at}
 use Rattle.just_modules.proofs.Ready.{names_are, recipes_are}
 
 headers_more : (m : Contents) (c : Cause) → Headers (of_names m.modules) c → Headers m c
 headers_more m _ (of_parameters (duplicate_parameter i p q h a b d)) = absurd (omega arith)
-headers_more m c (module_redefinition i j first second r a b f g) = module_redefinition i j first second r a b f g
+headers_more m c (module_redefinition i j first second r a b f g l) = module_redefinition i j first second r a b f g l
 
 -- the groups before another
 earlier_headers : (m : Module) → Keeps (Headers (contents_of m)) → (f : Group) → rank f < 1 → Keeps (Breaks f m)
@@ -53,27 +53,27 @@ module _ (enabled : Item → Bool) (entries : List (AstKey × Ast)) (d : AstKey)
   abbrev the_module : (k : ℕ) → k < length order → Heading → Module
   the_module = module_of enabled entries d files placed rows are paths joined order below joins lists_first
 
-  recipes_same : (k : ℕ) (l : k < length order) (h : Heading) → outlines_of (recipes_of_place enabled files joined (slice_index order k)) ≡ (contents_of (the_module k l h)).recipes
+  recipes_same : (k : ℕ) (l : k < length order) (h : Heading) → AreAlike (recipes_of_place enabled files joined (slice_index order k)) (contents_of (the_module k l h)).recipes
   recipes_same k l h = recipes_are enabled entries d files placed rows are paths joined (targets joined.files.items (slice_index order k)) (file_inside enabled entries d files placed rows are paths joined (slice_index order k) (below k l) (joins k l))
 
   names_same : (k : ℕ) (l : k < length order) (h : Heading) → names_of_place enabled files joined (slice_index order k) ≡ (contents_of (the_module k l h)).modules
   names_same k l h = names_are enabled entries d files placed rows are paths joined (targets joined.files.items (slice_index order k)) (file_inside enabled entries d files placed rows are paths joined (slice_index order k) (below k l) (joins k l))
 
   module _ (different : (k : ℕ) → k < length order → AreDifferent (texts_of_names (names_of_place enabled files joined (slice_index order k)))) where
-    keeps_headers : (k : ℕ) (l : k < length order) (h : Heading) → Keeps (Parameters (outlines_of (recipes_of_place enabled files joined (slice_index order k)))) → Keeps (Headers (contents_of (the_module k l h)))
-    keeps_headers k l h kept = headers_kept (contents_of (the_module k l h)) (subst (λ os. Keeps (Parameters os)) (recipes_same k l h) kept) (subst (λ ns. AreDifferent (texts_of_names ns)) (names_same k l h) (different k l))
+    keeps_headers : (k : ℕ) (l : k < length order) (h : Heading) → Keeps (Parameters (recipes_of_place enabled files joined (slice_index order k))) → Keeps (Headers (contents_of (the_module k l h)))
+    keeps_headers k l h kept = headers_kept (contents_of (the_module k l h)) (parameters_kept_alike (recipes_of_place enabled files joined (slice_index order k)) (contents_of (the_module k l h)).recipes (recipes_same k l h) kept) (subst (λ ns. AreDifferent (texts_of_names ns)) (names_same k l h) (different k l))
 
     -- a module keeps all groups
-    pub keeps_groups : (k : ℕ) (l : k < length order) (h : Heading) → KeepsRecipes (outlines_of (recipes_of_place enabled files joined (slice_index order k))) → KeepsGroups (the_module k l h)
+    pub keeps_groups : (k : ℕ) (l : k < length order) (h : Heading) → KeepsRecipes (recipes_of_place enabled files joined (slice_index order k)) → KeepsGroups (the_module k l h)
     keeps_groups k l h kept OfHeaders = keeps_headers k l h kept.parameters
-    keeps_groups k l h kept OfBodies = subst (λ os. Keeps (Bodies os)) (recipes_same k l h) kept.bodies
-    keeps_groups k l h kept OfDependencies = subst (λ os. Keeps (Dependencies os)) (recipes_same k l h) kept.dependencies
+    keeps_groups k l h kept OfBodies = bodies_kept_alike (recipes_of_place enabled files joined (slice_index order k)) (contents_of (the_module k l h)).recipes (recipes_same k l h) kept.bodies
+    keeps_groups k l h kept OfDependencies = dependencies_kept_alike (recipes_of_place enabled files joined (slice_index order k)) (contents_of (the_module k l h)).recipes (recipes_same k l h) kept.dependencies
 
     -- so do the modules listed before a place
-    pub keeps_listed : (k : ℕ) (x : Module) → ((j : ℕ) → j < k → KeepsRecipes (outlines_of (recipes_of_place enabled files joined (slice_index order j)))) → IsListed enabled entries d files placed rows are paths joined order below joins lists_first k x → KeepsGroups x
+    pub keeps_listed : (k : ℕ) (x : Module) → ((j : ℕ) → j < k → KeepsRecipes (recipes_of_place enabled files joined (slice_index order j))) → IsListed enabled entries d files placed rows are paths joined order below joins lists_first k x → KeepsGroups x
     keeps_listed k x kept i = subst KeepsGroups (sym i.is) (keeps_groups i.at i.there i.h (kept i.at i.before))
 
-    pub keeps_inside : (k : ℕ) (l : k < length order) (h : Heading) → ((j : ℕ) → j < k → KeepsRecipes (outlines_of (recipes_of_place enabled files joined (slice_index order j))))
+    pub keeps_inside : (k : ℕ) (l : k < length order) (h : Heading) → ((j : ℕ) → j < k → KeepsRecipes (recipes_of_place enabled files joined (slice_index order j)))
         → (t : TreeAt enabled entries d files placed rows are paths joined order below joins lists_first (λ f hs row. Unit {0}) tt (λ k l h inside after hs row e a b. tt) k l h) → KeepsModules t.inside
     keeps_inside k l h kept t x inside i = keeps_listed k x kept (t.known x inside i)
 
@@ -82,15 +82,15 @@ module _ (enabled : Item → Bool) (entries : List (AstKey × Ast)) (d : AstKey)
       t = tree_at enabled entries d files placed rows are paths joined order below joins lists_first (λ f hs row. Unit {0}) tt (λ k l h inside after hs row e a b. tt) k l h e
 
       -- what the next module breaks is named
-      pub names_next : (c : Cause) → ((j : ℕ) → j < k → KeepsRecipes (outlines_of (recipes_of_place enabled files joined (slice_index order j)))) → BreaksRecipes (outlines_of (recipes_of_place enabled files joined (slice_index order k))) c → NamesModules R root c
+      pub names_next : (c : Cause) → ((j : ℕ) → j < k → KeepsRecipes (recipes_of_place enabled files joined (slice_index order j))) → BreaksRecipes (recipes_of_place enabled files joined (slice_index order k)) c → NamesModules R root c
       names_next c kept (in_parameters b) =
           in_module OfHeaders reached (a_module t.is t.are_modules no_module) (record { earlier = λ f lt. absurd (omega (arith, lt)); below = λ ne. absurd (ne refl) })
-          (of_parameters (subst (λ os. Parameters os c) (recipes_same k l h) b))
+          (of_parameters (parameters_alike (recipes_of_place enabled files joined (slice_index order k)) (contents_of (the_module k l h)).recipes (recipes_same k l h) c b))
       names_next c kept (in_bodies parameters b) =
-          in_module OfBodies reached (a_module t.is t.are_modules no_module) (record { earlier = earlier_headers (the_module k l h) (keeps_headers k l h parameters); below = λ ne. keeps_inside k l h kept t }) (subst (λ os. Bodies os c) (recipes_same k l h) b)
+          in_module OfBodies reached (a_module t.is t.are_modules no_module) (record { earlier = earlier_headers (the_module k l h) (keeps_headers k l h parameters); below = λ ne. keeps_inside k l h kept t }) (bodies_alike (recipes_of_place enabled files joined (slice_index order k)) (contents_of (the_module k l h)).recipes (recipes_same k l h) c b)
       names_next c kept (in_dependencies parameters bodies b) =
           in_module OfDependencies reached (a_module t.is t.are_modules no_module)
-          (record { earlier = earlier_both (the_module k l h) (keeps_headers k l h parameters) (subst (λ os. Keeps (Bodies os)) (recipes_same k l h) bodies); below = λ ne. keeps_inside k l h kept t }) (subst (λ os. Dependencies os c) (recipes_same k l h) b)
+          (record { earlier = earlier_both (the_module k l h) (keeps_headers k l h parameters) (bodies_kept_alike (recipes_of_place enabled files joined (slice_index order k)) (contents_of (the_module k l h)).recipes (recipes_same k l h) bodies); below = λ ne. keeps_inside k l h kept t }) (dependencies_alike (recipes_of_place enabled files joined (slice_index order k)) (contents_of (the_module k l h)).recipes (recipes_same k l h) c b)
 
   -- two modules of one name are named
   pub names_repeated : (root : Heading) (k : ℕ) (l : k < length order) (h : Heading) → h.key ≡ key_at (slice_index order k) → IsHeading R root h → (c : Cause) → Headers (of_names (names_of_place enabled files joined (slice_index order k))) c → NamesModules R root c

@@ -1,4 +1,5 @@
 pub mod Agreeing
+pub mod Alike
 pub mod Analyzing
 pub mod BareOutlines
 pub mod Closing
@@ -20,9 +21,9 @@ pub mod ModulePaths
 pub mod ModulePlaces
 pub mod Numbers
 pub mod Ordered
-pub mod Outlines
 pub mod Ready
 pub mod RecipeCircles
+pub mod RecipePlaces
 pub mod Placing
 pub mod Refuted
 pub mod Resolving

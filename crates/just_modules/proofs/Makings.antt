@@ -13,7 +13,6 @@ use Rattle.just_invoke.specs.Recipes.{numbers}
 use Rattle.just_invoke.specs.declared.justfile.Justfile.{Justfile, out-Justfile}
 use Rattle.just_invoke.specs.declared.justfile.RecipeKey.{RecipeKey}
 use Rattle.just_modules.specs.Analysis.{AreKeysOf, HasKeysOf, IsDefaultOf, IsOf}
-use Rattle.just_modules.specs.Outline.{outlines_of}
 use Rattle.just_modules.specs.Resolved.{AreMadeOf, Resolving, AreResolved, unresolved_numbers}
 use Rattle.just_modules.specs.Rows.{IsOrderOf}
 use Rattle.just_modules.proofs.Resolving.{all_resolved}
@@ -28,7 +27,7 @@ made_numbers rs path (place ∷ order) (r ∷ made) all n (inl e) =
     subst (λ m. In m (unresolved_numbers rs)) (sym (e ∙ ap (λ x. x.0) (all.0).resolves.number)) (in_map (λ (q : Recipe UnresolvedDependency). q.number.0) (all.0).source rs i)
 made_numbers rs path (place ∷ order) (r ∷ made) all n (inr h) = made_numbers rs path order made all.1 n h
 
-module _ (rs qs : List (Recipe UnresolvedDependency)) (path : Modulepath) (order : List ℕ) (made : List (Recipe Dependency)) (is_order : IsOrderOf (outlines_of qs) order) (so : Resolving rs path order (length order) made) (same : rs ≡ qs) where
+module _ (rs qs : List (Recipe UnresolvedDependency)) (path : Modulepath) (order : List ℕ) (made : List (Recipe Dependency)) (is_order : IsOrderOf qs order) (so : Resolving rs path order (length order) made) (same : rs ≡ qs) where
   -- all are resolved
   pub resolved_as : AreResolved qs path made
   resolved_as = all_resolved qs path order made is_order (subst (λ (xs : List (Recipe UnresolvedDependency)). Resolving xs path order (length order) made) same so)

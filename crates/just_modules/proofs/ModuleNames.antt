@@ -7,16 +7,17 @@ use Rattle.just_parts.specs.declared.layers.error.CompileErrorKind.{CompileError
 use Rattle.just_parts.specs.declared.layers.error.CompileErrorKind.TheVariants as kind
 use Rattle.just_parts.specs.declared.layers.error.Definition.TheVariants as definition
 use Rattle.just_parts.specs.Causes.{Broken, Keeps}
+use Rattle.just_parts.specs.Token.{Place}
 use Rattle.just_modules.specs.Contents.{Contents, texts_of_names}
 use Rattle.just_modules.specs.Index.{AreDifferent, Repeats}
-use Rattle.just_modules.specs.Rules.{Headers, Parameters, module_redefinition, of_parameters}
+use Rattle.just_modules.specs.Rules.{Headers, IsLater, Parameters, module_redefinition, of_parameters}
 
 -- two modules of one name
-pub modules_redefined : (m : Contents) (i j : ℕ) (first second : Name) (k : CompileErrorKind) → Repeats (texts_of_names m.modules) i j → slice_get m.modules i ≡ Some first → slice_get m.modules j ≡ Some second
-    → k ≡ kind.Redefinition definition.Module definition.Module (text_of_name second) (min first.token.line second.token.line) → Headers m (Broken k)
-modules_redefined m i j first second k repeats a b is = subst (λ x. Headers m (Broken x)) (sym is) (module_redefinition i j first second repeats a b refl refl)
+pub modules_redefined : (m : Contents) (i j : ℕ) (first second : Name) (place : Place) (k : CompileErrorKind) → Repeats (texts_of_names m.modules) i j → slice_get m.modules i ≡ Some first → slice_get m.modules j ≡ Some second
+    → k ≡ kind.Redefinition definition.Module definition.Module (text_of_name second) (min first.token.line second.token.line) → IsLater first.token second.token place → Headers m (Broken place k)
+modules_redefined m i j first second place k repeats a b is later = subst (λ x. Headers m (Broken place x)) (sym is) (module_redefinition i j first second repeats a b refl refl later)
 
 -- the headers of a module
 pub headers_kept : (m : Contents) → Keeps (Parameters m.recipes) → AreDifferent (texts_of_names m.modules) → Keeps (Headers m)
 headers_kept m kept different c (of_parameters h) = kept c h
-headers_kept m kept different _ (module_redefinition i j first second r a b e f) = different i j r.apart r.within r.same
+headers_kept m kept different _ (module_redefinition i j first second r a b e f l) = different i j r.apart r.within r.same

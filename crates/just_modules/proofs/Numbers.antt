@@ -18,7 +18,7 @@ use Rattle.just_parts.specs.declared.recipe.Recipe.{Recipe}
 use Rattle.just_modules.specs.Analyzable.{AreAnalyzable}
 use Rattle.just_modules.specs.Files.{ArePlaced, AreRows, asts_in}
 use Rattle.just_modules.specs.Named.{recipes_by, recipes_from}
-use Rattle.just_modules.specs.Outline.{recipes_of}
+use Rattle.just_modules.specs.Recipes.{recipes_of}
 use Rattle.just_modules.specs.Resolved.{HasPriors, unresolved_numbers}
 use Rattle.just_modules.specs.declared.files.Files.{Files}
 use Rattle.just_modules.specs.declared.files.Rows.{Rows}

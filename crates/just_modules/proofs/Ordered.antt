@@ -18,7 +18,6 @@ use Rattle.just_invoke.specs.Recipes.{numbers}
 use Rattle.just_invoke.specs.declared.justfile.Justfile.{Justfile, roll-Justfile}
 use Rattle.just_modules.specs.Justfiles.{slot}
 use Rattle.just_modules.specs.Named.{BreaksRecipes}
-use Rattle.just_modules.specs.Outline.{outlines_of}
 use Rattle.just_modules.specs.Resolved.{unresolved_numbers}
 use Rattle.just_modules.specs.Steps.{BreaksInOrder, CanCompileAll, CompilesPlace, HaveCompiled, IsCompiledAt, recipes_of_place}
 use Rattle.just_modules.specs.declared.files.Files.{Files}
@@ -164,7 +163,7 @@ compiled_none enabled files joined loaded order slots recipes room none = record
 
 -- what the next breaks
 pub breaks_next : (enabled : Item → Bool) (files : Files) (joined : Joined) (loaded : List Text) (order : List ℕ) (n : ℕ) → n < length order → (slots : List (Option Justfile)) (recipes : List (Recipe Dependency)) → HaveCompiled enabled files joined loaded order n slots recipes
-    → (e : Error) → Reports (BreaksRecipes (outlines_of (recipes_of_place enabled files joined (slice_index order n)))) e → Reports (BreaksInOrder enabled files joined order) e
+    → (e : Error) → Reports (BreaksRecipes (recipes_of_place enabled files joined (slice_index order n))) e → Reports (BreaksInOrder enabled files joined order) e
 breaks_next enabled files joined loaded order n h slots recipes so e r =
-    reports_by (BreaksRecipes (outlines_of (recipes_of_place enabled files joined (slice_index order n)))) (BreaksInOrder enabled files joined order)
+    reports_by (BreaksRecipes (recipes_of_place enabled files joined (slice_index order n))) (BreaksInOrder enabled files joined order)
     (λ c b. record { at = n; there = h; before = λ k l. (so.each k l).kept; broken = b }) e r

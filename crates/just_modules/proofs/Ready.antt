@@ -23,11 +23,12 @@ use Rattle.just_parts.specs.declared.recipe.Recipe.{Recipe}
 use Rattle.just_modules.specs.Files.{ArePlaced, AreRows, asts_in}
 use Rattle.just_modules.specs.Joined.{AreJoined, IsJoined}
 use Rattle.just_modules.specs.Named.{name_by, names_from, names_in, names_said, recipes_by, recipes_from}
-use Rattle.just_modules.specs.Outline.{outline_of, outlines_of, recipes_of, recipes_said}
+use Rattle.just_modules.specs.Recipes.{recipes_of, recipes_said}
 use Rattle.just_modules.specs.Reading.{Reading, Submodule, declared, enabled_items, items_in, located_ast, reading_of, submodules_of}
 use Rattle.just_modules.specs.declared.files.Files.{Files}
 use Rattle.just_modules.specs.declared.files.Rows.{Rows}
 use Rattle.just_modules.specs.declared.joined.Joined.{Joined}
+use Rattle.just_modules.proofs.Alike.{AreAlike, outline_of, outlines_of}
 use Rattle.just_modules.proofs.BareOutlines.{outline_located}
 use Rattle.just_modules.proofs.FilePlaces.{are_graphs, says}
 use Rattle.just_modules.proofs.ModulePlaces.{no_ast}
@@ -54,8 +55,8 @@ module _ (enabled : Item → Bool) (path : Modulepath) where
 
 -- the recipes of located items
 module _ (enabled : Item → Bool) where
-  one_recipe : (b : Bool) (r : Recipe UnresolvedDependency) (items : List Item) → outlines_of (recipes_of enabled items) ≡ outlines_of (recipes_said (map located_item (enabled_items enabled items)))
-      → outlines_of (if b then r ∷ recipes_of enabled items else recipes_of enabled items) ≡ outlines_of (recipes_said (map located_item (cond b (item.Recipe r ∷ enabled_items enabled items) (enabled_items enabled items))))
+  one_recipe : (b : Bool) (r : Recipe UnresolvedDependency) (items : List Item) → AreAlike (recipes_of enabled items) (recipes_said (map located_item (enabled_items enabled items)))
+      → AreAlike (if b then r ∷ recipes_of enabled items else recipes_of enabled items) (recipes_said (map located_item (cond b (item.Recipe r ∷ enabled_items enabled items) (enabled_items enabled items))))
   one_recipe true r items e = λ i. sym (outline_located r) i ∷ e i
   one_recipe false r items e = e
 
@@ -65,7 +66,7 @@ module _ (enabled : Item → Bool) where
   no_recipe true (item.Recipe r) items e = cc
   no_recipe false i items e = refl
 
-  recipes_counted : (items : List Item) → outlines_of (recipes_of enabled items) ≡ outlines_of (recipes_said (map located_item (enabled_items enabled items)))
+  recipes_counted : (items : List Item) → AreAlike (recipes_of enabled items) (recipes_said (map located_item (enabled_items enabled items)))
   recipes_counted [] = refl
   recipes_counted (item.Recipe r ∷ items) = one_recipe (enabled (bare_item (item.Recipe r))) r items (recipes_counted items)
   recipes_counted (item.Import relative absolute optional ∷ items) =
@@ -102,15 +103,15 @@ module _ (enabled : Item → Bool) (entries : List (AstKey × Ast)) (d : AstKey)
   names_are (q ∷ xs) inside =
       (λ i. names_here q (inside q (inl refl)) i ++ names_are xs (λ r h. inside r (inr h)) i) ∙ sym (map-append name_of (submodules_of R (key_at q)) (flat_map (submodules_of R) (map key_at xs)))
 
-  recipes_here : (q : ℕ) → q < n → outlines_of (recipes_by enabled (slice_get (asts_in files) q)) ≡ outlines_of (recipes_said (unwrap_or (R (key_at q)) no_ast).items)
+  recipes_here : (q : ℕ) → q < n → AreAlike (recipes_by enabled (slice_get (asts_in files) q)) (recipes_said (unwrap_or (R (key_at q)) no_ast).items)
   recipes_here q h =
       let s = says enabled entries d files placed rows are paths q h in
       ap (λ o. outlines_of (recipes_by enabled o)) s.listed ∙ recipes_counted enabled s.ast.items
       ∙ ap (λ o. outlines_of (recipes_said (unwrap_or (option_map (located_ast enabled) o) no_ast).items)) (sym s.said)
 
-  -- the recipes of a module, as the rules read them
+  -- the recipes of a module are alike with and without their numbers
   pub recipes_are : (xs : List ℕ) → ((q : ℕ) → In q xs → q < n)
-      → outlines_of (recipes_from enabled (asts_in files) xs) ≡ outlines_of (recipes_said (flat_map (λ (ast : Ast). ast.items) (map (λ k. unwrap_or (R k) no_ast) (map key_at xs))))
+      → AreAlike (recipes_from enabled (asts_in files) xs) (recipes_said (flat_map (λ (ast : Ast). ast.items) (map (λ k. unwrap_or (R k) no_ast) (map key_at xs))))
   recipes_are [] inside = refl
   recipes_are (q ∷ xs) inside =
       let rest = flat_map (λ (ast : Ast). ast.items) (map (λ k. unwrap_or (R k) no_ast) (map key_at xs)) in

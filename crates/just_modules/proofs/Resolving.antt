@@ -15,7 +15,7 @@ use Rattle.just_parts.specs.declared.recipe.Recipe.{Recipe}
 use Rattle.just_invoke.specs.Recipes.{numbers, needs, IsNew}
 use Rattle.just_invoke.specs.Closed.{IsResolved}
 use Rattle.just_modules.specs.Index.{AreDifferent}
-use Rattle.just_modules.specs.Outline.{outlines_of, names_of, Depends}
+use Rattle.just_modules.specs.Recipes.{names_of, Depends}
 use Rattle.just_modules.specs.Rows.{IsRow, IsOrderOf}
 use Rattle.just_modules.specs.Resolved.{unresolved_numbers, number_at, HasPriors, linked, Resolves, IsMadeOf, AreMadeOf, Resolving, AreResolved}
 use Rattle.just_modules.proofs.Edges.{row_steps}
@@ -65,10 +65,7 @@ made_more rs path [] (x ∷ made) place r so m = absurd so
 made_more rs path (p ∷ order) [] place r so m = absurd so
 made_more rs path (p ∷ order) (x ∷ made) place r so m = (so.0, made_more rs path order made place r so.1 m)
 
-module _ (rs : List (Recipe UnresolvedDependency)) (order : List ℕ) (different : AreDifferent (names_of (outlines_of rs))) (once : IsOnce (unresolved_numbers rs)) (o : IsOrderOf (outlines_of rs) order) (n : ℕ) (inside : n < length order) (made : List (Recipe Dependency)) (path : Modulepath) (so : Resolving rs path order n made) where
-  many : length (outlines_of rs) ≡ length rs
-  many = length-map rs _
-
+module _ (rs : List (Recipe UnresolvedDependency)) (order : List ℕ) (different : AreDifferent (names_of rs)) (once : IsOnce (unresolved_numbers rs)) (o : IsOrderOf rs order) (n : ℕ) (inside : n < length order) (made : List (Recipe Dependency)) (path : Modulepath) (so : Resolving rs path order n made) where
   count : length (unresolved_numbers rs) ≡ length rs
   count = length-map rs (λ (r : Recipe UnresolvedDependency). r.number.0)
 
@@ -81,8 +78,8 @@ module _ (rs : List (Recipe UnresolvedDependency)) (order : List ℕ) (different
       let at : number_at rs (slice_index (take n order) c'.0) ≡ number = sym (get_or-map (number_at rs) (take n order) c'.0 0 number h) ∙ c'.2 in
       let earlier : slice_index (take n order) c'.0 ≡ slice_index order c'.0 = get_or-take n order c'.0 0 (omega arith) in
       let same : number_at rs (slice_index order c'.0) ≡ number_at rs (slice_index order n) = ap (number_at rs) (sym earlier) ∙ (at ∙ is) in
-      let first : slice_index order c'.0 < length rs = omega (arith, o.below c'.0 (omega arith), many) in
-      let second : slice_index order n < length rs = omega (arith, o.below n inside, many) in
+      let first : slice_index order c'.0 < length rs = o.below c'.0 (omega arith) in
+      let second : slice_index order n < length rs = o.below n inside in
       elim (cases_lt (slice_index order c'.0) (slice_index order n)) [
         | inl l ↦ once (slice_index order c'.0) (slice_index order n) l (omega (arith, count)) same
         | inr l ↦ elim (cases_lt (slice_index order n) (slice_index order c'.0)) [
@@ -91,12 +88,12 @@ module _ (rs : List (Recipe UnresolvedDependency)) (order : List ℕ) (different
         ]
       ]
 
-  module _ (row : List ℕ) (targets : IsRow (outlines_of rs) (slice_index order n) row) where
+  module _ (row : List ℕ) (targets : IsRow rs (slice_index order n) row) where
     -- what the next depends on stands before it
     pub are_there : (needed : List ℕ) → needed ≡ map (number_at rs) row → All (Contains (numbers made)) needed
     are_there needed e = λ k d h.
         let in_row : k < length row = omega (arith, ap length e, length-map row (number_at rs)) in
-        let step : Depends (outlines_of rs) (slice_index order n) (slice_index row k) = row_steps (outlines_of rs) different (slice_index order n) (slice_index row k) row (o.below n inside) targets (Contains-get_or row k 0 in_row) in
+        let step : Depends rs (slice_index order n) (slice_index row k) = row_steps rs different (slice_index order n) (slice_index row k) row (o.below n inside) targets (Contains-get_or row k 0 in_row) in
         let before : (j : ℕ) × (j < n) × (slice_index order j ≡ slice_index row k) = in_take order n (slice_index row k) (omega arith) (o.first n (slice_index row k) inside step) in
         let is : get_or needed k d ≡ number_at rs (slice_index row k) = ap (λ ns. get_or ns k d) e ∙ get_or-map (number_at rs) row k 0 d in_row in
         let long : before.0 < length (take n order) = omega (arith, before.1, length-take-le n order (omega arith)) in
@@ -115,14 +112,13 @@ module _ (rs : List (Recipe UnresolvedDependency)) (order : List ℕ) (different
   }
 
 -- all are resolved
-pub all_resolved : (rs : List (Recipe UnresolvedDependency)) (path : Modulepath) (order : List ℕ) (made : List (Recipe Dependency)) → IsOrderOf (outlines_of rs) order → Resolving rs path order (length order) made → AreResolved rs path made
+pub all_resolved : (rs : List (Recipe UnresolvedDependency)) (path : Modulepath) (order : List ℕ) (made : List (Recipe Dependency)) → IsOrderOf rs order → Resolving rs path order (length order) made → AreResolved rs path made
 all_resolved rs path order made o so = record {
   order = order;
   is_order = o;
   made_of = subst (λ ps. AreMadeOf rs path ps made) (take_all (length order) order (omega arith)) so.made_of;
   there = λ place h.
-      let many : length (outlines_of rs) ≡ length rs = length-map rs _ in
-      let c : Contains order place = o.all place (omega arith) in
+      let c : Contains order place = o.all place h in
       let is : slice_index order c.0 ≡ place = get_or_default order c.0 0 place c.1 ∙ c.2 in
       let whole : numbers made ≡ map (number_at rs) order = so.numbered ∙ ap (map (number_at rs)) (take_all (length order) order (omega arith)) in
       let h' : c.0 < length (map (number_at rs) order) = omega (arith, c.1, length-map order (number_at rs)) in

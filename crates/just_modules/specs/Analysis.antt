@@ -13,12 +13,12 @@ use Rattle.just_invoke.specs.declared.justfile.Justfile.{Justfile, out-Justfile}
 use Rattle.just_parts.specs.declared.layers.ast.UnresolvedDependency.{UnresolvedDependency}
 use Rattle.just_parts.specs.declared.recipe.Recipe.{Recipe}
 use Rattle.just_invoke.specs.declared.justfile.RecipeKey.{RecipeKey}
-use Rattle.just_modules.specs.Outline.{Outline, outlines_of, outline_at}
+use Rattle.just_modules.specs.Recipes.{name_of, line_of, recipe_at}
 use Rattle.just_modules.specs.Resolved.{number_at}
 
 -- a key has the number and the name of one of the first n recipes
 abbrev pub IsKeyOf : List (Recipe UnresolvedDependency) → ℕ → RecipeKey → Type 0
-IsKeyOf recipes n key = (place : ℕ) × (place < n) × (number_at recipes place ≡ key.number.0) × ((outline_at (outlines_of recipes) place).name ≡ text_of_name key.name)
+IsKeyOf recipes n key = (place : ℕ) × (place < n) × (number_at recipes place ≡ key.number.0) × (name_of (recipe_at recipes place) ≡ text_of_name key.name)
 
 -- so has each key of the table
 abbrev pub AreKeysOf : List (Recipe UnresolvedDependency) → ℕ → List (List ℕ × RecipeKey) → Type 0
@@ -26,17 +26,17 @@ AreKeysOf recipes n table = AllByRecursion (λ entry. IsKeyOf recipes n entry.1)
 
 -- the table has each of the first n recipes under its name
 abbrev pub HasKeysOf : List (Recipe UnresolvedDependency) → ℕ → List (List ℕ × RecipeKey) → Type 0
-HasKeysOf recipes n table = (place : ℕ) → place < n → option_map (λ (key : RecipeKey). key.number.0) (find (outline_at (outlines_of recipes) place).name table) ≡ Some (number_at recipes place)
+HasKeysOf recipes n table = (place : ℕ) → place < n → option_map (λ (key : RecipeKey). key.number.0) (find (name_of (recipe_at recipes place)) table) ≡ Some (number_at recipes place)
 
 -- a stands on a smaller line than b, or on the same with a name that is no less
-pub record IsBefore (a b : Outline) : Type 0 where
-  pub line : a.line ≤ b.line
-  pub name : a.line ≡ b.line → slice_cmp nat_cmp a.name b.name ≢ Less
+pub record IsBefore (a b : Recipe UnresolvedDependency) : Type 0 where
+  pub line : line_of a ≤ line_of b
+  pub name : line_of a ≡ line_of b → slice_cmp nat_cmp (name_of a) (name_of b) ≢ Less
 
 -- no recipe stands on a smaller line, and none on the same line has a greater name
 pub record IsDefault (recipes : List (Recipe UnresolvedDependency)) (place : ℕ) : Type 0 where
   pub there : place < length recipes
-  pub least : (k : ℕ) → k < length recipes → IsBefore (outline_at (outlines_of recipes) place) (outline_at (outlines_of recipes) k)
+  pub least : (k : ℕ) → k < length recipes → IsBefore (recipe_at recipes place) (recipe_at recipes k)
 
 -- the default: none where there are no recipes, else the recipe on the least line
 abbrev pub IsDefaultOf : List (Recipe UnresolvedDependency) → Option Number → Type 0

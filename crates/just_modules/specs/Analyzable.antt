@@ -7,7 +7,7 @@ use Rattle.just_parts.specs.Bare.{bare_item}
 use Rattle.just_parts.specs.declared.layers.ast.Ast.{Ast}
 use Rattle.just_parts.specs.declared.layers.ast.Item.{Item}
 use Rattle.just_modules.specs.Files.{led}
-use Rattle.just_modules.specs.Outline.{recipes_of}
+use Rattle.just_modules.specs.Recipes.{recipes_of}
 use Rattle.just_modules.specs.Resolved.{HasPriors, unresolved_numbers}
 
 -- Asts hold every key that an enabled item leads to, each under the path of its module; no two recipes have one number, and none has more priors than dependencies.

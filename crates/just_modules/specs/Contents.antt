@@ -3,11 +3,12 @@ use Rattle.std.specs.Prelude.{List, [], map}
 use Rattle.just_parts.specs.Modulepath.{Text}
 use Rattle.just_parts.specs.Name.{text_of_name}
 use Rattle.just_parts.specs.declared.layers.name.Name.{Name}
-use Rattle.just_modules.specs.Outline.{Outline}
+use Rattle.just_parts.specs.declared.layers.ast.UnresolvedDependency.{UnresolvedDependency}
+use Rattle.just_parts.specs.declared.recipe.Recipe.{Recipe}
 
 -- The recipes of a module, and the names of the modules that it declares, in the order of its files and then of their texts.
 pub record Contents : Type 0 where
-  pub recipes : List Outline
+  pub recipes : List (Recipe UnresolvedDependency)
   pub modules : List Name
 
 -- the texts of names

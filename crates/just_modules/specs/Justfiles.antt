@@ -15,7 +15,7 @@ use Rattle.just_invoke.specs.Module.{module_name}
 use Rattle.just_invoke.specs.declared.justfile.Justfile.{Justfile, out-Justfile, roll-Justfile}
 use Rattle.just_modules.specs.Analysis.{IsOf}
 use Rattle.just_modules.specs.Modules.{Module, Forest, Empty, Tree}
-use Rattle.just_modules.specs.Outline.{recipes_of}
+use Rattle.just_modules.specs.Recipes.{recipes_of}
 use Rattle.just_modules.specs.Reading.{items_in}
 use Rattle.just_modules.specs.Resolved.{AreResolved}
 

@@ -10,8 +10,8 @@ pub mod Joined
 pub mod Justfiles
 pub mod Modules
 pub mod Named
-pub mod Outline
 pub mod Reading
+pub mod Recipes
 pub mod Resolved
 pub mod Rows
 pub mod Rules

@@ -6,7 +6,7 @@ use Rattle.just_parts.specs.Asts.{AstKey, same_ast_key}
 use Rattle.just_parts.specs.declared.layers.ast.Ast.{Ast}
 use Rattle.just_parts.specs.declared.layers.name.Name.{Name}
 use Rattle.just_modules.specs.Contents.{Contents}
-use Rattle.just_modules.specs.Outline.{outlines_of, recipes_said}
+use Rattle.just_modules.specs.Recipes.{recipes_said}
 use Rattle.just_modules.specs.Reading.{Reading, Submodule, imports_of, submodules_of}
 
 -- The path and the own file of a module, and its name; the root has none.
@@ -34,7 +34,7 @@ headings_in m = map heading_of m.modules
 -- what the rules read of it
 abbrev pub contents_of : Module → Contents
 contents_of m = record {
-  recipes = outlines_of (recipes_said (flat_map (λ (ast : Ast). ast.items) m.asts));
+  recipes = recipes_said (flat_map (λ (ast : Ast). ast.items) m.asts);
   modules = map (λ (s : Submodule). s.name) m.modules;
 }
 

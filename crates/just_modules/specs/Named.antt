@@ -10,7 +10,7 @@ use Rattle.just_parts.specs.declared.layers.ast.UnresolvedDependency.{Unresolved
 use Rattle.just_parts.specs.declared.layers.name.Name.{Name}
 use Rattle.just_parts.specs.declared.modulepath.Modulepath.{Modulepath}
 use Rattle.just_parts.specs.declared.recipe.Recipe.{Recipe}
-use Rattle.just_modules.specs.Outline.{Outline, recipes_of}
+use Rattle.just_modules.specs.Recipes.{recipes_of}
 use Rattle.just_modules.specs.Resolved.{AreResolved}
 use Rattle.just_modules.specs.Rules.{Bodies, Dependencies, Parameters}
 
@@ -40,16 +40,16 @@ abbrev pub recipes_from : (Item → Bool) → List Ast → List ℕ → List (Re
 recipes_from enabled asts files = flat_map (λ p. recipes_by enabled (slice_get asts p)) files
 
 -- What is broken in a module whose modules have different names: in its parameters; where these are kept, in its bodies; and where these are kept too, in its dependencies.
-pub data BreaksRecipes (os : List Outline) : Cause → Type 0 where
-  in_parameters : {c : Cause} → Parameters os c → BreaksRecipes os c
-  in_bodies : {c : Cause} → Keeps (Parameters os) → Bodies os c → BreaksRecipes os c
-  in_dependencies : {c : Cause} → Keeps (Parameters os) → Keeps (Bodies os) → Dependencies os c → BreaksRecipes os c
+pub data BreaksRecipes (rs : List (Recipe UnresolvedDependency)) : Cause → Type 0 where
+  in_parameters : {c : Cause} → Parameters rs c → BreaksRecipes rs c
+  in_bodies : {c : Cause} → Keeps (Parameters rs) → Bodies rs c → BreaksRecipes rs c
+  in_dependencies : {c : Cause} → Keeps (Parameters rs) → Keeps (Bodies rs) → Dependencies rs c → BreaksRecipes rs c
 
 -- no rule on recipes is broken
-pub record KeepsRecipes (os : List Outline) : Type 0 where
-  pub parameters : Keeps (Parameters os)
-  pub bodies : Keeps (Bodies os)
-  pub dependencies : Keeps (Dependencies os)
+pub record KeepsRecipes (rs : List (Recipe UnresolvedDependency)) : Type 0 where
+  pub parameters : Keeps (Parameters rs)
+  pub bodies : Keeps (Bodies rs)
+  pub dependencies : Keeps (Dependencies rs)
 
 -- What is made of the recipes of a module: resolved ones, that come after the old ones.
 pub record AreAdded (rs : List (Recipe UnresolvedDependency)) (path : Modulepath) (old new : List (Recipe Dependency)) : Type 0 where

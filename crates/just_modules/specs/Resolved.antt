@@ -8,7 +8,6 @@ use Rattle.just_parts.specs.declared.modulepath.Modulepath.{Modulepath}
 use Rattle.just_parts.specs.declared.recipe.Recipe.{Recipe}
 use Rattle.just_invoke.specs.Recipes.{numbers}
 use Rattle.just_invoke.specs.Closed.{IsResolved}
-use Rattle.just_modules.specs.Outline.{outlines_of}
 use Rattle.just_modules.specs.Rows.{IsRow, IsOrderOf}
 
 -- the numbers of recipes that are not resolved
@@ -51,7 +50,7 @@ pub record IsMadeOf (rs : List (Recipe UnresolvedDependency)) (path : Modulepath
   pub source : Recipe UnresolvedDependency
   pub places : List ℕ
   pub there : slice_get rs place ≡ Some source
-  pub targets : IsRow (outlines_of rs) place places
+  pub targets : IsRow rs place places
   pub resolves : Resolves rs path source places made
 
 -- each is made of the recipe at the place beside it
@@ -70,7 +69,7 @@ pub record Resolving (rs : List (Recipe UnresolvedDependency)) (path : Modulepat
 -- The recipes of the source, each once, after those that it depends on, and resolved under its number.
 pub record AreResolved (rs : List (Recipe UnresolvedDependency)) (path : Modulepath) (made : List (Recipe Dependency)) : Type 0 where
   pub order : List ℕ
-  pub is_order : IsOrderOf (outlines_of rs) order
+  pub is_order : IsOrderOf rs order
   pub made_of : AreMadeOf rs path order made
   pub there : (place : ℕ) → place < length rs → Contains (numbers made) (number_at rs place)
   pub resolved : All IsResolved made

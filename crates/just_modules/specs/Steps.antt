@@ -17,7 +17,6 @@ use Rattle.just_modules.specs.Analysis.{IsOf}
 use Rattle.just_modules.specs.Files.{asts_in, keys_in}
 use Rattle.just_modules.specs.Justfiles.{by_name, slot, with_names}
 use Rattle.just_modules.specs.Named.{BreaksRecipes, KeepsRecipes, names_from, recipes_by, recipes_from}
-use Rattle.just_modules.specs.Outline.{outlines_of}
 use Rattle.just_modules.specs.Resolved.{AreResolved, HasPriors, unresolved_numbers}
 use Rattle.just_modules.specs.Contents.{of_names}
 use Rattle.just_modules.specs.Rules.{Headers}
@@ -47,7 +46,7 @@ pub record IsCompiledAt (enabled : Item → Bool) (files : Files) (joined : Join
   pub own_said : slice_get (asts_in files) p ≡ Some own
   pub key : AstKey
   pub key_is : slice_get (keys_in files) p ≡ Some key
-  pub kept : KeepsRecipes (outlines_of (recipes_of_place enabled files joined p))
+  pub kept : KeepsRecipes (recipes_of_place enabled files joined p)
   pub resolved : AreResolved (recipes_of_place enabled files joined p) own.module_path made
   pub fields : IsOf (recipes_of_place enabled files joined p) (recipes_by enabled (Some own)) own loaded key.1 j
   pub name : (out-Justfile j).name ≡ None
@@ -88,8 +87,8 @@ pub record HaveCompiled (enabled : Item → Bool) (files : Files) (joined : Join
 pub record BreaksInOrder (enabled : Item → Bool) (files : Files) (joined : Joined) (order : List ℕ) (c : Cause) : Type 0 where
   pub at : ℕ
   pub there : at < length order
-  pub before : (k : ℕ) → k < at → KeepsRecipes (outlines_of (recipes_of_place enabled files joined (slice_index order k)))
-  pub broken : BreaksRecipes (outlines_of (recipes_of_place enabled files joined (slice_index order at))) c
+  pub before : (k : ℕ) → k < at → KeepsRecipes (recipes_of_place enabled files joined (slice_index order k))
+  pub broken : BreaksRecipes (recipes_of_place enabled files joined (slice_index order at)) c
 
 -- Two modules have one name in the module at a place of an order.
 pub record RepeatsNames (enabled : Item → Bool) (files : Files) (joined : Joined) (order : List ℕ) (c : Cause) : Type 0 where

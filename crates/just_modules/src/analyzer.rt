@@ -1,9 +1,9 @@
 ghost use Rattle.std.specs.Prelude.{◌≡◌, ◌<◌, ℕ, [], false, IsTrue, IfOk, IfSome, IfNone, length};
 ghost use Rattle.just_invoke.specs.declared.justfile.Justfile.{out-Justfile};
 ghost use Rattle.just_modules.specs.Analysis.{AreKeysOf, HasKeysOf, IsBefore, IsDefault, IsOf};
-ghost use Rattle.just_modules.specs.Definitions.{recipes_in, outlines_in};
+ghost use Rattle.just_modules.specs.Definitions.{recipes_in};
 ghost use Rattle.just_modules.specs.Index.{AreDifferent};
-ghost use Rattle.just_modules.specs.Outline.{names_of, outline_of};
+ghost use Rattle.just_modules.specs.Recipes.{names_of};
 
 use crate::compiling::compile_in_order;
 use crate::definitions::{Definitions, recipe_at};
@@ -23,7 +23,7 @@ fn recipe_keys<'a, 'src>(
     alloc: Global,
     definitions: &Definitions<'a, 'src>,
 ) -> Result<Table<'src, RecipeKey<'src>>, AllocError>
-    requires { AreDifferent (names_of (outlines_in definitions.now)) }
+    requires { AreDifferent (names_of (recipes_in definitions.now)) }
     ensures keys { IfOk result (AreKeysOf (recipes_in definitions.now) (length definitions.now.recipes.items)) }
     ensures held { IfOk result (HasKeysOf (recipes_in definitions.now) (length definitions.now.recipes.items)) }
 {
@@ -41,8 +41,8 @@ fn recipe_keys<'a, 'src>(
 
 // Whether a recipe is the default before another: by line, and on equal lines by the greater name.
 fn comes_before<'src>(recipe: &UnresolvedRecipe<'src>, other: &UnresolvedRecipe<'src>) -> bool
-    ensures yes { IsTrue result → IsBefore (outline_of recipe.now) (outline_of other.now) }
-    ensures no { result ≡ false → IsBefore (outline_of other.now) (outline_of recipe.now) }
+    ensures yes { IsTrue result → IsBefore recipe.now other.now }
+    ensures no { result ≡ false → IsBefore other.now recipe.now }
 {
     if recipe.name.line() == other.name.line() {
         return other.name.lexeme() < recipe.name.lexeme();
@@ -88,7 +88,7 @@ pub fn make_justfile<'a, 'src>(
     ast: &Ast<'src>,
     surroundings: Surroundings<'src>,
 ) -> Result<Justfile<'src>, AllocError>
-    requires { AreDifferent (names_of (outlines_in definitions.now)) }
+    requires { AreDifferent (names_of (recipes_in definitions.now)) }
     ensures fields { IfOk result (λ j. IsOf (recipes_in definitions.now) (recipes_in own.now) ast.now surroundings.entry.loaded surroundings.entry.source j) }
     ensures name { IfOk result (λ j. (out-Justfile j).name ≡ surroundings.entry.name) }
     ensures modules { IfOk result (λ j. (out-Justfile j).modules ≡ surroundings.entry.modules) }

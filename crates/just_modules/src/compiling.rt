@@ -8,7 +8,6 @@ ghost use Rattle.just_invoke.specs.Recipes.{numbers};
 ghost use Rattle.just_invoke.specs.declared.justfile.Justfile.{Justfile};
 ghost use Rattle.just_modules.specs.Justfiles.{slot};
 ghost use Rattle.just_modules.specs.Named.{BreaksRecipes, KeepsRecipes};
-ghost use Rattle.just_modules.specs.Outline.{outlines_of};
 ghost use Rattle.just_modules.specs.Resolved.{unresolved_numbers};
 ghost use Rattle.just_modules.specs.Steps.{BreaksInOrder, CanCompile, CanCompileAll, CompilesPlace, HaveCompiled, recipes_of_place};
 
@@ -42,7 +41,7 @@ fn compile_place<'a, 'src, S: Syntax>(
     requires inner { (js : List Justfile) × (map Some js ≡ map (slot slots.old.items) (targets joined.now.modules.items place)) }
     requires apart { (m : ℕ) → Contains (numbers recipes.old) m → Contains (unresolved_numbers (recipes_of_place (S.answers syntax.now).enabled files.now joined.now place)) m → ⊥ }
     ensures compiled { OnOk result (CompilesPlace (S.answers syntax.now).enabled files.now joined.now loaded.now place slots.old.items slots.new.items recipes.old recipes.new) }
-    ensures named { IfErr result (Reports (BreaksRecipes (outlines_of (recipes_of_place (S.answers syntax.now).enabled files.now joined.now place)))) }
+    ensures named { IfErr result (Reports (BreaksRecipes (recipes_of_place (S.answers syntax.now).enabled files.now joined.now place))) }
 {
     let row = joined.files[place].as_slice();
     let names = module_names(alloc, syntax, files, row)?;

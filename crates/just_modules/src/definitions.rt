@@ -1,6 +1,6 @@
 ghost use Rattle.std.specs.Prelude.{◌≡◌, ◌<◌, IfOk, Some, length, slice_get};
-ghost use Rattle.just_modules.specs.Outline.{outline_of, outline_at, recipes_of};
-ghost use Rattle.just_modules.specs.Definitions.{recipes_in, outlines_in};
+ghost use Rattle.just_modules.specs.Recipes.{recipes_of, recipe_at};
+ghost use Rattle.just_modules.specs.Definitions.{recipes_in};
 
 use just_parts::UnresolvedRecipe;
 use just_parts::layers::{Item, Syntax};
@@ -61,7 +61,7 @@ pub fn recipe_at<'b, 'a, 'src>(
 ) -> &'b UnresolvedRecipe<'src>
     requires { place < length definitions.now.recipes.items }
     ensures recipe { slice_get (recipes_in definitions.now) place ≡ Some result.now }
-    ensures outline { outline_of result.now ≡ outline_at (outlines_in definitions.now) place }
+    ensures there { result.now ≡ recipe_at (recipes_in definitions.now) place }
 {
     lent_at(definitions, place)
 }

@@ -6,11 +6,11 @@ ghost use Rattle.just_parts.specs.declared.layers.parameter.Parameter.{Parameter
 ghost use Rattle.just_parts.specs.declared.layers.error.CompileErrorKind.TheVariants as kind;
 ghost use Rattle.just_parts.specs.declared.layers.error.Definition.TheVariants as definition;
 ghost use Rattle.just_modules.specs.Index.{AreDifferent, IsIndex};
-ghost use Rattle.just_modules.specs.Outline.{outline_at, names_of};
-ghost use Rattle.just_modules.specs.Definitions.{outlines_in};
+ghost use Rattle.just_modules.specs.Recipes.{line_of, name_of, names_of, parameter_names, recipe_at, token_of};
+ghost use Rattle.just_modules.specs.Definitions.{recipes_in};
 ghost use Rattle.just_parts.specs.Causes.{Keeps, Reports};
 ghost use Rattle.just_modules.specs.Contents.{of_names};
-ghost use Rattle.just_modules.specs.Rules.{Bodies, Headers, Parameters};
+ghost use Rattle.just_modules.specs.Rules.{Bodies, Headers, IsLater, Parameters};
 
 use crate::definitions::{Definitions, recipe_at};
 use crate::names::index_names;
@@ -25,7 +25,7 @@ fn recipe_names<'a, 'src>(
     alloc: Global,
     definitions: &Definitions<'a, 'src>,
 ) -> Result<Vec<BorrowedText<'src>>, AllocError>
-    ensures { IfOk result (λ names. names.items ≡ names_of (outlines_in definitions.now)) }
+    ensures { IfOk result (λ names. names.items ≡ names_of (recipes_in definitions.now)) }
 {
     let mut names = Vec::new(alloc);
     for place in 0..definitions.recipes.len() {
@@ -54,8 +54,8 @@ fn check_parameters_at<'a, 'src>(
     place: usize,
 ) -> Result<(), Error<'src>>
     requires { place < length definitions.now.recipes.items }
-    ensures kept { OnOk result (AreDifferent (outline_at (outlines_in definitions.now) place).parameters) }
-    ensures named { IfErr result (Reports (Parameters (outlines_in definitions.now))) }
+    ensures kept { OnOk result (AreDifferent (parameter_names (recipe_at (recipes_in definitions.now) place))) }
+    ensures named { IfErr result (Reports (Parameters (recipes_in definitions.now))) }
 {
     let recipe = recipe_at(definitions, place);
     let parameters = recipe.parameters.as_slice();
@@ -77,8 +77,8 @@ pub fn check_parameters<'a, 'src>(
     alloc: Global,
     definitions: &Definitions<'a, 'src>,
 ) -> Result<(), Error<'src>>
-    ensures kept { OnOk result (Keeps (Parameters (outlines_in definitions.now))) }
-    ensures named { IfErr result (Reports (Parameters (outlines_in definitions.now))) }
+    ensures kept { OnOk result (Keeps (Parameters (recipes_in definitions.now))) }
+    ensures named { IfErr result (Reports (Parameters (recipes_in definitions.now))) }
 {
     for place in 0..definitions.recipes.len() {
         check_parameters_at(alloc, definitions, place)?;
@@ -91,7 +91,8 @@ fn redefinition<'src>(
     first: &UnresolvedRecipe<'src>,
     second: &UnresolvedRecipe<'src>,
 ) -> CompileError<'src>
-    ensures { result.kind ≡ kind.Redefinition definition.Recipe definition.Recipe (text_of_name second.now.name) (min first.now.name.token.line second.now.name.token.line) }
+    ensures token { IsLater (token_of first.now) (token_of second.now) result.token }
+    ensures kind { result.kind ≡ kind.Redefinition definition.Recipe definition.Recipe (name_of second.now) (min (line_of first.now) (line_of second.now)) }
 {
     let later = if second.name.line() < first.name.line() {
         first
@@ -114,10 +115,10 @@ pub fn index_recipes<'a, 'src>(
     alloc: Global,
     definitions: &Definitions<'a, 'src>,
 ) -> Result<HashMap<BorrowedText<'src>, usize>, Error<'src>>
-    ensures kept { IfOk result (λ _. Keeps (Bodies (outlines_in definitions.now))) }
-    ensures different { IfOk result (λ _. AreDifferent (names_of (outlines_in definitions.now))) }
-    ensures index { IfOk result (λ index. IsIndex (names_of (outlines_in definitions.now)) (get bytes_eq index)) }
-    ensures named { IfErr result (Reports (Bodies (outlines_in definitions.now))) }
+    ensures kept { IfOk result (λ _. Keeps (Bodies (recipes_in definitions.now))) }
+    ensures different { IfOk result (λ _. AreDifferent (names_of (recipes_in definitions.now))) }
+    ensures index { IfOk result (λ index. IsIndex (names_of (recipes_in definitions.now)) (get bytes_eq index)) }
+    ensures named { IfErr result (Reports (Bodies (recipes_in definitions.now))) }
 {
     let names = recipe_names(alloc, definitions)?;
     match index_names(alloc, names.as_slice())? {
@@ -145,7 +146,8 @@ fn texts_of<'src>(
 
 // The error of two modules of one name: the one on the smaller line is the first.
 fn module_redefinition<'src>(first: &Name<'src>, second: &Name<'src>) -> CompileError<'src>
-    ensures { result.kind ≡ kind.Redefinition definition.Module definition.Module (text_of_name second.now) (min first.now.token.line second.now.token.line) }
+    ensures token { IsLater first.now.token second.now.token result.token }
+    ensures kind { result.kind ≡ kind.Redefinition definition.Module definition.Module (text_of_name second.now) (min first.now.token.line second.now.token.line) }
 {
     let later = if second.line() < first.line() {
         first

@@ -11,7 +11,6 @@ ghost use Rattle.just_modules.specs.Analysis.{IsOf};
 ghost use Rattle.just_modules.specs.Definitions.{recipes_in};
 ghost use Rattle.just_modules.specs.Files.{asts_in, keys_in};
 ghost use Rattle.just_modules.specs.Named.{AreAdded, BreaksRecipes, KeepsRecipes, recipes_by, recipes_from};
-ghost use Rattle.just_modules.specs.Outline.{outlines_of};
 ghost use Rattle.just_modules.specs.Resolved.{HasPriors, unresolved_numbers};
 
 use crate::analyzer::{Surroundings, make_justfile};
@@ -56,12 +55,12 @@ pub fn analyze_module<'a, 'src, S: Syntax>(
     requires once { IsOnce (unresolved_numbers (recipes_from (S.answers syntax.now).enabled (asts_in files.now) places.now)) }
     requires priors { All HasPriors (recipes_from (S.answers syntax.now).enabled (asts_in files.now) places.now) }
     requires apart { (m : ℕ) → Contains (numbers recipes.old) m → Contains (unresolved_numbers (recipes_from (S.answers syntax.now).enabled (asts_in files.now) places.now)) m → ⊥ }
-    ensures kept { IfOk result (λ _. KeepsRecipes (outlines_of (recipes_from (S.answers syntax.now).enabled (asts_in files.now) places.now))) }
+    ensures kept { IfOk result (λ _. KeepsRecipes (recipes_from (S.answers syntax.now).enabled (asts_in files.now) places.now)) }
     ensures added { IfOk result (λ _. (own_ast : Ast) → slice_get (asts_in files.now) own ≡ Some own_ast → AreAdded (recipes_from (S.answers syntax.now).enabled (asts_in files.now) places.now) own_ast.module_path recipes.old recipes.new) }
     ensures fields { IfOk result (λ j. (own_ast : Ast) → slice_get (asts_in files.now) own ≡ Some own_ast → IsOf (recipes_from (S.answers syntax.now).enabled (asts_in files.now) places.now) (recipes_by (S.answers syntax.now).enabled (Some own_ast)) own_ast surroundings.entry.loaded surroundings.entry.source j) }
     ensures name { IfOk result (λ j. (out-Justfile j).name ≡ surroundings.entry.name) }
     ensures modules { IfOk result (λ j. (out-Justfile j).modules ≡ surroundings.entry.modules) }
-    ensures named { IfErr result (Reports (BreaksRecipes (outlines_of (recipes_from (S.answers syntax.now).enabled (asts_in files.now) places.now)))) }
+    ensures named { IfErr result (Reports (BreaksRecipes (recipes_from (S.answers syntax.now).enabled (asts_in files.now) places.now))) }
 {
     let definitions = definitions_at(alloc, syntax, files, places)?;
     check_parameters(alloc, &definitions)?;

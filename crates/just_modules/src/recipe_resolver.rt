@@ -7,8 +7,8 @@ ghost use Rattle.just_graph.specs.Building.{EachRow};
 ghost use Rattle.just_graph.specs.Graph.{targets};
 ghost use Rattle.just_graph.specs.Steps.{IsOnce};
 ghost use Rattle.just_modules.specs.Index.{AreDifferent, IsIndex, place_in};
-ghost use Rattle.just_modules.specs.Outline.{outline_at, names_of};
-ghost use Rattle.just_modules.specs.Definitions.{recipes_in, outlines_in};
+ghost use Rattle.just_modules.specs.Recipes.{name_of, dependency_paths, recipe_at, names_of};
+ghost use Rattle.just_modules.specs.Definitions.{recipes_in};
 ghost use Rattle.just_modules.specs.Resolved.{unresolved_numbers, HasPriors, Resolving, AreResolved};
 ghost use Rattle.just_modules.specs.Rows.{IsTarget, IsRow, IsOrderOf};
 ghost use Rattle.just_parts.specs.Causes.{Keeps, Reports};
@@ -43,11 +43,11 @@ fn target<'a, 'src>(
     place: usize,
     at: usize,
 ) -> Result<usize, Error<'src>>
-    requires index { IsIndex (names_of (outlines_in definitions.now)) (get bytes_eq index.now) }
+    requires index { IsIndex (names_of (recipes_in definitions.now)) (get bytes_eq index.now) }
     requires place { place < length definitions.now.recipes.items }
-    requires at { at < length (outline_at (outlines_in definitions.now) place).dependencies }
-    ensures target { IfOk result (IsTarget (outlines_in definitions.now) (get_or (outline_at (outlines_in definitions.now) place).dependencies at [])) }
-    ensures named { IfErr result (Reports (Dependencies (outlines_in definitions.now))) }
+    requires at { at < length (dependency_paths (recipe_at (recipes_in definitions.now) place)) }
+    ensures target { IfOk result (IsTarget (recipes_in definitions.now) (get_or (dependency_paths (recipe_at (recipes_in definitions.now) place)) at [])) }
+    ensures named { IfErr result (Reports (Dependencies (recipes_in definitions.now))) }
 {
     let recipe = recipe_at(definitions, place);
     let dependency = &recipe.dependencies.as_slice()[at];
@@ -83,10 +83,10 @@ fn row<'a, 'src>(
     index: &HashMap<BorrowedText<'src>, usize>,
     place: usize,
 ) -> Result<Vec<usize>, Error<'src>>
-    requires index { IsIndex (names_of (outlines_in definitions.now)) (get bytes_eq index.now) }
+    requires index { IsIndex (names_of (recipes_in definitions.now)) (get bytes_eq index.now) }
     requires place { place < length definitions.now.recipes.items }
-    ensures row { IfOk result (λ row. IsRow (outlines_in definitions.now) place row.items) }
-    ensures named { IfErr result (Reports (Dependencies (outlines_in definitions.now))) }
+    ensures row { IfOk result (λ row. IsRow (recipes_in definitions.now) place row.items) }
+    ensures named { IfErr result (Reports (Dependencies (recipes_in definitions.now))) }
 {
     let mut row = Vec::new(alloc);
     for at in 0..recipe_at(definitions, place).dependencies.len() {
@@ -101,9 +101,9 @@ fn rows<'a, 'src>(
     definitions: &Definitions<'a, 'src>,
     index: &HashMap<BorrowedText<'src>, usize>,
 ) -> Result<Vec<Vec<usize>>, Error<'src>>
-    requires index { IsIndex (names_of (outlines_in definitions.now)) (get bytes_eq index.now) }
-    ensures rows { IfOk result (λ rows. EachRow (IsRow (outlines_in definitions.now)) (length definitions.now.recipes.items) rows.items) }
-    ensures named { IfErr result (Reports (Dependencies (outlines_in definitions.now))) }
+    requires index { IsIndex (names_of (recipes_in definitions.now)) (get bytes_eq index.now) }
+    ensures rows { IfOk result (λ rows. EachRow (IsRow (recipes_in definitions.now)) (length definitions.now.recipes.items) rows.items) }
+    ensures named { IfErr result (Reports (Dependencies (recipes_in definitions.now))) }
 {
     let mut rows = Vec::new(alloc);
     for place in 0..definitions.recipes.len() {
@@ -131,7 +131,7 @@ fn names_at<'a, 'src>(
     places: &[usize],
 ) -> Result<Sequence<BorrowedText<'src>>, AllocError>
     requires { All (λ place. place < length definitions.now.recipes.items) places.now }
-    ensures { IfOk result (λ names. names ≡ map (λ place. (outline_at (outlines_in definitions.now) place).name) places.now) }
+    ensures { IfOk result (λ names. names ≡ map (λ place. name_of (recipe_at (recipes_in definitions.now) place)) places.now) }
 {
     let mut names = Sequence::new(alloc);
     for place in places {
@@ -167,11 +167,11 @@ fn ordered<'a, 'src>(
     definitions: &Definitions<'a, 'src>,
     rows: &[Vec<usize>],
 ) -> Result<Vec<usize>, Error<'src>>
-    requires different { AreDifferent (names_of (outlines_in definitions.now)) }
-    requires rows { EachRow (IsRow (outlines_in definitions.now)) (length definitions.now.recipes.items) rows.now }
-    ensures kept { IfOk result (λ _. Keeps (Dependencies (outlines_in definitions.now))) }
-    ensures ordered { IfOk result (λ order. IsOrderOf (outlines_in definitions.now) order.items) }
-    ensures named { IfErr result (Reports (Dependencies (outlines_in definitions.now))) }
+    requires different { AreDifferent (names_of (recipes_in definitions.now)) }
+    requires rows { EachRow (IsRow (recipes_in definitions.now)) (length definitions.now.recipes.items) rows.now }
+    ensures kept { IfOk result (λ _. Keeps (Dependencies (recipes_in definitions.now))) }
+    ensures ordered { IfOk result (λ order. IsOrderOf (recipes_in definitions.now) order.items) }
+    ensures named { IfErr result (Reports (Dependencies (recipes_in definitions.now))) }
 {
     let roots = places_below(alloc, definitions.recipes.len())?;
     match just_graph::order(alloc, rows, roots.as_slice())? {
@@ -208,11 +208,11 @@ pub fn resolve_in_order<'a, 'src>(
     order: &[usize],
     module_path: &Modulepath,
 ) -> Result<Recipes<'src>, AllocError>
-    requires different { AreDifferent (names_of (outlines_in definitions.now)) }
+    requires different { AreDifferent (names_of (recipes_in definitions.now)) }
     requires once { IsOnce (unresolved_numbers (recipes_in definitions.now)) }
     requires priors { All HasPriors (recipes_in definitions.now) }
-    requires rows { EachRow (IsRow (outlines_in definitions.now)) (length definitions.now.recipes.items) rows.now }
-    requires order { IsOrderOf (outlines_in definitions.now) order.now }
+    requires rows { EachRow (IsRow (recipes_in definitions.now)) (length definitions.now.recipes.items) rows.now }
+    requires order { IsOrderOf (recipes_in definitions.now) order.now }
     ensures { IfOk result (λ recipes. Resolving (recipes_in definitions.now) module_path.now order.now (length order.now) recipes) }
 {
     let mut recipes = Recipes::new(alloc);
@@ -232,12 +232,12 @@ pub fn order_recipes<'a, 'src>(
     definitions: &Definitions<'a, 'src>,
     index: &HashMap<BorrowedText<'src>, usize>,
 ) -> Result<(Vec<Vec<usize>>, Vec<usize>), Error<'src>>
-    requires different { AreDifferent (names_of (outlines_in definitions.now)) }
-    requires index { IsIndex (names_of (outlines_in definitions.now)) (get bytes_eq index.now) }
-    ensures kept { IfOk result (λ _. Keeps (Dependencies (outlines_in definitions.now))) }
-    ensures rows { IfOk result (λ made. EachRow (IsRow (outlines_in definitions.now)) (length definitions.now.recipes.items) made.0.items) }
-    ensures ordered { IfOk result (λ made. IsOrderOf (outlines_in definitions.now) made.1.items) }
-    ensures named { IfErr result (Reports (Dependencies (outlines_in definitions.now))) }
+    requires different { AreDifferent (names_of (recipes_in definitions.now)) }
+    requires index { IsIndex (names_of (recipes_in definitions.now)) (get bytes_eq index.now) }
+    ensures kept { IfOk result (λ _. Keeps (Dependencies (recipes_in definitions.now))) }
+    ensures rows { IfOk result (λ made. EachRow (IsRow (recipes_in definitions.now)) (length definitions.now.recipes.items) made.0.items) }
+    ensures ordered { IfOk result (λ made. IsOrderOf (recipes_in definitions.now) made.1.items) }
+    ensures named { IfErr result (Reports (Dependencies (recipes_in definitions.now))) }
 {
     let rows = rows(alloc, definitions, index)?;
     let order = ordered(alloc, definitions, rows.as_slice())?;

@@ -7,7 +7,7 @@ use Rattle.just_parts.specs.declared.layers.error.CompileErrorKind.{CompileError
 use Rattle.just_parts.specs.declared.layers.error.Error.{Error}
 use Rattle.just_parts.specs.declared.layers.error.Error.TheVariants as error
 
--- What reports a broken rule: an error without its token. That there are not as many numbers as wanted counts as one.
+-- What reports a broken rule: an error; of a rule of compilation, where it is told, and its kind. That there are not as many numbers as wanted counts as one.
 pub data Cause : Type 0 where
   NoFile : List ℕ → Cause
   NoHome : Cause
@@ -15,7 +15,7 @@ pub data Cause : Type 0 where
   NoModule : Name → Cause
   SeveralFiles : Name → List (List ℕ) → Cause
   LeadsBack : List ℕ → List ℕ → Cause
-  Broken : CompileErrorKind → Cause
+  Broken : Place → CompileErrorKind → Cause
   NoNumber : Cause
 
 -- a group of rules is kept where no cause is named
@@ -30,7 +30,7 @@ Reports group (error.Load (load.MissingImportFile path)) = group (NoImport path)
 Reports group (error.Load (load.MissingModuleFile name)) = group (NoModule name)
 Reports group (error.Load (load.AmbiguousModuleFile name found)) = group (SeveralFiles name found)
 Reports group (error.Load (load.CircularImport current next)) = group (LeadsBack current next)
-Reports group (error.Compile e) = group (Broken e.kind)
+Reports group (error.Compile e) = group (Broken e.token e.kind)
 Reports group (error.Invocation e) = ⊥
 Reports group (error.Run e) = ⊥
 Reports group error.Exhausted = group NoNumber

@@ -3,7 +3,7 @@ use Rattle.just_invoke.specs.declared.justfile.Justfile.TheViews.{the_lemmas}
 use Rattle.just_modules.specs.Analysis.{IsDefaultOf}
 use Rattle.just_modules.specs.Definitions.{recipes_in}
 use Rattle.just_modules.proofs.Makings.{is_of}
-use Rattle.just_modules.proofs.Outlines.{length-lent}
+use Rattle.just_modules.proofs.RecipePlaces.{length-lent}
 use Rattle.just_modules.proofs.Resolving.{number_read}
 use Rattle.just_modules.proofs.analyzer.make_justfile.Goals.{in-Some, in-None}
 use Rattle.just_modules.proofs.analyzer.make_justfile.Goals as goal

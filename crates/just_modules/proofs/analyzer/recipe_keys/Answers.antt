@@ -1,9 +1,9 @@
 use Rattle.std.proofs.Common.{◌≡◌, ◌∙◌, refl, sym, ap, length, arith}
 use Rattle.just_parts.specs.Name.{text_of_name}
 use Rattle.just_parts.specs.Token.{lexeme}
-use Rattle.just_modules.specs.Definitions.{recipes_in, outlines_in}
-use Rattle.just_modules.specs.Outline.{Outline, outline_at}
-use Rattle.just_modules.proofs.Outlines.{length-outlines}
+use Rattle.just_modules.specs.Definitions.{recipes_in}
+use Rattle.just_modules.specs.Recipes.{name_of, recipe_at}
+use Rattle.just_modules.proofs.RecipePlaces.{length-lent}
 use Rattle.just_modules.proofs.Resolving.{number_read}
 use Rattle.just_modules.proofs.Keys.{keys_more}
 use Rattle.just_modules.proofs.Held.{keys_held_more}
@@ -11,9 +11,9 @@ use Rattle.just_modules.proofs.analyzer.recipe_keys.Goals as goal
 
 pub loop-place-preserved : goal.loop-place-preserved
 loop-place-preserved c =
-    let long : length (outlines_in c.args.definitions.now) ≡ length c.args.definitions.now.recipes.items = length-outlines c.args.definitions.now.recipes.items in
-    let named : (outline_at (outlines_in c.args.definitions.now) c.loop-place.place).name ≡ text_of_name c.recipe_at-recipe.result.now.name = sym (ap (λ (o : Outline). o.name) c.recipe_at-recipe.ensures.outline) in
-    let copied : (outline_at (outlines_in c.args.definitions.now) c.loop-place.place).name ≡ lexeme c.copied.result.token = named ∙ ap text_of_name (sym c.copied.ensures) in (
+    let long : length (recipes_in c.args.definitions.now) ≡ length c.args.definitions.now.recipes.items = length-lent c.args.definitions.now.recipes.items in
+    let named : name_of (recipe_at (recipes_in c.args.definitions.now) c.loop-place.place) ≡ text_of_name c.recipe_at-recipe.result.now.name = sym (ap name_of c.recipe_at-recipe.ensures.there) in
+    let copied : name_of (recipe_at (recipes_in c.args.definitions.now) c.loop-place.place) ≡ lexeme c.copied.result.token = named ∙ ap text_of_name (sym c.copied.ensures) in (
       keys_more (recipes_in c.args.definitions.now) c.loop-place.place c.recipe_at-recipe.result.now (lexeme c.copied.result.token) (record { name = c.copied.result; number = c.recipe_at-recipe.result.now.number }) c.loop-place.keys c.insert.new.self c.loop-place.invariant.0
           c.recipe_at-recipe.ensures.recipe refl copied c.in_ok-insert.ensures.new,
       keys_held_more (recipes_in c.args.definitions.now) c.loop-place.place (lexeme c.copied.result.token) (record { name = c.copied.result; number = c.recipe_at-recipe.result.now.number }) c.loop-place.keys c.insert.new.self c.requires (omega (arith, long, c.loop-place-test.true)) copied

@@ -1,14 +1,13 @@
 use Rattle.std.proofs.Common.{◌∙◌, List, ℕ, subst}
 use Rattle.just_modules.specs.Index.{Repeats, AreDifferent}
-use Rattle.just_modules.specs.Outline.{outline_of}
-use Rattle.just_modules.specs.Definitions.{outlines_in}
-use Rattle.just_modules.proofs.Outlines.{is_redefined, bodies_kept}
+use Rattle.just_modules.specs.Definitions.{recipes_in}
+use Rattle.just_modules.proofs.RecipePlaces.{is_redefined, bodies_kept}
 use Rattle.just_modules.proofs.headers.index_recipes.Goals as goal
 
 pub returns-in-Ok-clause-kept : goal.returns-in-Ok-clause-kept
 returns-in-Ok-clause-kept c = λ _ h.
     let different : AreDifferent c.as_slice.result.now = rw c.in-Ok.is at c.in_ok-index.ensures.different in
-    bodies_kept (outlines_in c.args.definitions.now) (subst (λ (ns : List (List ℕ)). AreDifferent ns) (c.as_slice.ensures.value ∙ c.in_ok-names.ensures) different) h
+    bodies_kept (recipes_in c.args.definitions.now) (subst (λ (ns : List (List ℕ)). AreDifferent ns) (c.as_slice.ensures.value ∙ c.in_ok-names.ensures) different) h
 
 pub returns-in-Ok-clause-different : goal.returns-in-Ok-clause-different
 returns-in-Ok-clause-different c =
@@ -18,6 +17,6 @@ returns-in-Ok-clause-different c =
 pub returns-clause-named : goal.returns-clause-named
 returns-clause-named c =
     let repeats : Repeats c.as_slice.result.now c.in-Err.first c.in-Err.second = rw c.in-Err.is at c.in_ok-index.ensures.repeated in
-    is_redefined (outlines_in c.args.definitions.now) c.in-Err.first c.in-Err.second (outline_of c.recipe_at.result.now) (outline_of c.recipe_at-in-Err.result.now) c.redefinition.result.kind
+    is_redefined (recipes_in c.args.definitions.now) c.in-Err.first c.in-Err.second c.recipe_at.result.now c.recipe_at-in-Err.result.now c.redefinition.result.token c.redefinition.result.kind
     (subst (λ (ns : List (List ℕ)). Repeats ns c.in-Err.first c.in-Err.second) (c.as_slice.ensures.value ∙ c.in_ok-names.ensures) repeats)
-    c.recipe_at.ensures.outline c.recipe_at-in-Err.ensures.outline c.redefinition.ensures
+    c.recipe_at.ensures.there c.recipe_at-in-Err.ensures.there c.redefinition.ensures.kind c.redefinition.ensures.token

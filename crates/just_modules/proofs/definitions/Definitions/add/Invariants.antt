@@ -1,6 +1,6 @@
 use Rattle.std.proofs.Common.{◌≡◌, ◌++◌, drop}
 use Rattle.just_modules.specs.Definitions.{recipes_in}
-use Rattle.just_modules.specs.Outline.{recipes_of}
+use Rattle.just_modules.specs.Recipes.{recipes_of}
 use Rattle.just_modules.proofs.definitions.Definitions.add.Given as goal
 
 abbrev pub invariant-loop-item : goal.invariant-loop-item
