@@ -3,7 +3,9 @@ use crate::invocation_parser::InvocationParser;
 use crate::recipes::Recipes;
 use crate::running::{Report, run_invocations};
 use just_data::{Exact, Sequence, Shared, Text};
-use just_parts::layers::{Config, Error, Evaluation, Host, Name, Number, Output, RunError, Syntax};
+use just_parts::layers::{
+    Config, Error, Evaluation, Host, Name, Number, Output, RunError, StringLiteral, Syntax,
+};
 use just_parts::{Keyed, Modulepath, Table};
 use std::alloc::Global;
 use std::collections::HashMap;
@@ -38,6 +40,10 @@ impl<'src> Exact for RecipeKey<'src> {
 pub struct Justfile<'src> {
     /// The recipe that is run without words.
     pub default: Option<Number>,
+    /// What a listing says of it.
+    pub doc: Option<Text>,
+    /// The groups that a listing has it in.
+    pub groups: Sequence<StringLiteral<'src>>,
     /// The relative paths of the files, each once, in the order of loading.
     pub loaded: Shared<Sequence<Text>>,
     /// Its path; without names of the root's module.
@@ -46,6 +52,8 @@ pub struct Justfile<'src> {
     pub modules: Sequence<Justfile<'src>>,
     /// The name of the module; none of the root's.
     pub name: Option<Name<'src>>,
+    /// Whether a listing leaves it out.
+    pub private: bool,
     /// The recipes of the module, by their names.
     pub recipes: Table<'src, RecipeKey<'src>>,
     /// The path of the module's own file.

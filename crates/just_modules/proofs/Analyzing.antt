@@ -29,7 +29,7 @@ use Rattle.just_modules.specs.Files.{ArePlaced, AreRows}
 use Rattle.just_modules.specs.Groups.{KeepsGroups, NamesModules}
 use Rattle.just_modules.specs.Index.{AreDifferent}
 use Rattle.just_modules.specs.Joined.{AreArranged, AreJoined, GoDeeper, IsJoined}
-use Rattle.just_modules.specs.Justfiles.{AreCompiled, Built, named_as, slot}
+use Rattle.just_modules.specs.Justfiles.{AreCompiled, Built, labelled_as, slot}
 use Rattle.just_modules.specs.Modules.{AreModules, Empty, Forest, HasModule, Heading, IsHeading, Module, Tree, a_module, after_it, first, in_it, no_module}
 use Rattle.just_modules.specs.Reading.{Reading, reading_of}
 use Rattle.just_modules.specs.Steps.{BreaksInOrder, CanCompileAll, HaveCompiled, RepeatsNames, names_of_place}
@@ -165,10 +165,10 @@ module _ (enabled : Item → Bool) (entries : List (AstKey × Ast)) (d : AstKey)
             let t = forest_at enabled entries d files placed rows are can.paths joined order below joins arr.ordered.steps_first loaded so.made so.justfile so.each many k0 l0 top e0 in
             a_module t.is t.are_modules no_module
 
-        compiled : AreCompiled enabled (λ k. lookup (same_ast_key k) entries) loaded built (Tree m0 inside0 Empty) (named_as top.name (so.justfile root) ∷ [])
+        compiled : AreCompiled enabled (λ k. lookup (same_ast_key k) entries) loaded built (Tree m0 inside0 Empty) (labelled_as top.label (so.justfile root) ∷ [])
         unfolding inside0
         compiled =
-            subst (λ q. AreCompiled enabled (λ k. lookup (same_ast_key k) entries) loaded built (Tree m0 (forest_at enabled entries d files placed rows are can.paths joined order below joins arr.ordered.steps_first loaded so.made so.justfile so.each many k0 l0 top e0).inside Empty) (named_as top.name (so.justfile q) ∷ [])) root_listed.2
+            subst (λ q. AreCompiled enabled (λ k. lookup (same_ast_key k) entries) loaded built (Tree m0 (forest_at enabled entries d files placed rows are can.paths joined order below joins arr.ordered.steps_first loaded so.made so.justfile so.each many k0 l0 top e0).inside Empty) (labelled_as top.label (so.justfile q) ∷ [])) root_listed.2
             (tree_compiled enabled entries d files placed rows are can.paths joined order below joins arr.ordered.steps_first loaded so.made so.justfile so.each many k0 l0 top e0)
 
         all : recipes ≡ flat_map (λ (b : Built). b.1) built
@@ -236,7 +236,7 @@ module _ (enabled : Item → Bool) (entries : List (AstKey × Ast)) (d : AstKey)
             let same = one_at enabled entries d files placed rows are can joined aj root inside arr.root_joined arr.inner_joined order arr.ordered arr.reached different k.0 j (omega (arith, k.1, x.0)) y.0 k.2 in
             omega (arith, same, k.1)
 
-        pub is_analyzed : IsAnalyzed enabled (λ k. lookup (same_ast_key k) entries) loaded top (named_as top.name (so.justfile root)) recipes
+        pub is_analyzed : IsAnalyzed enabled (λ k. lookup (same_ast_key k) entries) loaded top (labelled_as top.label (so.justfile root)) recipes
         is_analyzed = record {
           m = m0;
           inside = inside0;
@@ -248,5 +248,5 @@ module _ (enabled : Item → Bool) (entries : List (AstKey × Ast)) (d : AstKey)
           each = each;
           all = all;
           compiled = compiled;
-          closed = forest_closed enabled (λ k. lookup (same_ast_key k) entries) loaded built recipes all resolved compiled (named_as top.name (so.justfile root)) (inl refl);
+          closed = forest_closed enabled (λ k. lookup (same_ast_key k) entries) loaded built recipes all resolved compiled (labelled_as top.label (so.justfile root)) (inl refl);
         }

@@ -21,7 +21,7 @@ use Rattle.just_invoke.specs.declared.justfile.Justfile.{Justfile, out-Justfile,
 use Rattle.just_modules.specs.Analysis.{AreKeysOf, HasKeysOf, IsDefaultOf, IsOf}
 use Rattle.just_modules.specs.Files.{ArePlaced, AreRows, asts_in}
 use Rattle.just_modules.specs.Joined.{IsJoined}
-use Rattle.just_modules.specs.Justfiles.{AreCompiled, Built, IsCompiled, by_name, named_as, none, one, recipes_in, with_names}
+use Rattle.just_modules.specs.Justfiles.{AreCompiled, Built, IsCompiled, by_name, labelled_as, none, one, recipes_in, with_name, with_names}
 use Rattle.just_modules.specs.Modules.{Empty, Forest, Heading, Module, Tree, heading_of, headings_in}
 use Rattle.just_modules.specs.Named.{recipes_by, recipes_from}
 use Rattle.just_modules.specs.Recipes.{recipes_of}
@@ -29,6 +29,7 @@ use Rattle.just_modules.specs.Reading.{Submodule, items_in}
 use Rattle.just_modules.specs.Resolved.{AreResolved}
 use Rattle.just_modules.specs.Steps.{IsCompiledAt, names_of_place, recipes_of_place}
 use Rattle.just_modules.specs.declared.files.Files.{Files}
+use Rattle.just_modules.specs.declared.inner.Label.{Label}
 use Rattle.just_modules.specs.declared.files.Rows.{Rows}
 use Rattle.just_modules.specs.declared.joined.Joined.{Joined}
 use Rattle.just_parts.proofs.AstKeys.{keys_equivalent}
@@ -41,19 +42,19 @@ use Rattle.just_modules.proofs.Ready.{names_are}
 abbrev pub under_names : (ℕ → Justfile) → List Heading → List ℕ → List Justfile
 under_names justfile [] row = []
 under_names justfile (h ∷ hs) [] = []
-under_names justfile (h ∷ hs) (q ∷ row) = named_as h.name (justfile q) ∷ under_names justfile hs row
+under_names justfile (h ∷ hs) (q ∷ row) = labelled_as h.label (justfile q) ∷ under_names justfile hs row
 
 names_under : (justfile : ℕ → Justfile) (subs : List Submodule) (row : List ℕ) → length subs ≡ length row → with_names (map justfile row) (map (λ (s : Submodule). s.name) subs) ≡ under_names justfile (map heading_of subs) row
 names_under justfile [] [] e = refl
 names_under justfile [] (q ∷ row) e = cc
 names_under justfile (s ∷ subs) [] e = cc
-names_under justfile (s ∷ subs) (q ∷ row) e = ap (λ js. named_as (Some s.name) (justfile q) ∷ js) (names_under justfile subs row (omega (arith, e)))
+names_under justfile (s ∷ subs) (q ∷ row) e = ap (λ js. with_name s.name (justfile q) ∷ js) (names_under justfile subs row (omega (arith, e)))
 
--- a name changes nothing else
-module _ (rs own : List (Recipe UnresolvedDependency)) (ast : Ast) (loaded : List Text) (source : Text) (name : Option Name) (j : Justfile) (is : IsOf rs own ast loaded source j) where
-  pub named_is_of : IsOf rs own ast loaded source (named_as name j)
-  named_is_of =
-      let out = out-roll-Justfile (record (out-Justfile j) { name = name }) in
+-- a label changes nothing else
+module _ (rs own : List (Recipe UnresolvedDependency)) (ast : Ast) (loaded : List Text) (source : Text) (label : Label) (j : Justfile) (is : IsOf rs own ast loaded source j) where
+  pub labelled_is_of : IsOf rs own ast loaded source (labelled_as label j)
+  labelled_is_of =
+      let out = out-roll-Justfile (record (out-Justfile j) { name = label.name; doc = label.doc; groups = label.groups; private = label.private }) in
       record {
         keys = subst (λ x. AreKeysOf rs (length rs) x.recipes) (sym out) is.keys;
         held = subst (λ x. HasKeysOf rs (length rs) x.recipes) (sym out) is.held;
@@ -128,17 +129,17 @@ module _ (enabled : Item → Bool) (entries : List (AstKey × Ast)) (d : AstKey)
         ap (with_names (map justfile (targets joined.modules.items p))) names_same
         ∙ names_under justfile m.modules (targets joined.modules.items p) (sym (length-map m.modules (λ (s : Submodule). s.name)) ∙ ap length (sym names_same) ∙ many k l)
 
-    pub is_compiled : IsCompiled enabled asts loaded m (under_names justfile (headings_in m) (targets joined.modules.items p)) (made p) (named_as h.name (justfile p))
+    pub is_compiled : IsCompiled enabled asts loaded m (under_names justfile (headings_in m) (targets joined.modules.items p)) (made p) (labelled_as h.label (justfile p))
     is_compiled =
-        let out = out-roll-Justfile (record (out-Justfile (justfile p)) { name = h.name }) in
+        let out = out-roll-Justfile (record (out-Justfile (justfile p)) { name = h.label.name; doc = h.label.doc; groups = h.label.groups; private = h.label.private }) in
         record {
           own = at.own;
           own_said = own_same;
           own_there = subst (λ k. Contains m.files k) (sym e) (own_joined same_ast_key keys_equivalent.refl _ (key_at p) m.files (join_at enabled entries d files placed rows are paths joined p (below k l) (joins k l)));
           resolved = subst (λ path. AreResolved (recipes_in enabled asts m.files) path (made p)) path_same (subst (λ rs. AreResolved rs at.own.module_path (made p)) rs_same at.resolved);
-          fields = named_is_of (recipes_in enabled asts m.files) (recipes_of enabled at.own.items) at.own loaded h.key.1 h.name (justfile p)
+          fields = labelled_is_of (recipes_in enabled asts m.files) (recipes_of enabled at.own.items) at.own loaded h.key.1 h.label (justfile p)
               (subst (λ rs. IsOf rs (recipes_of enabled at.own.items) at.own loaded h.key.1 (justfile p)) rs_same (subst (λ (x : AstKey). IsOf (recipes_of_place enabled files joined p) (recipes_of enabled at.own.items) at.own loaded x.1 (justfile p)) key_same at.fields));
-          name = ap (λ x. x.name) out;
+          label = ap (λ x. let label : Label = record { name = x.name; doc = x.doc; groups = x.groups; private = x.private } in label) out;
           modules = ap (λ x. x.modules) out ∙ at.modules ∙ ap by_name inner_same;
         }
 
@@ -156,5 +157,5 @@ module _ (enabled : Item → Bool) (entries : List (AstKey × Ast)) (d : AstKey)
   forest_at = tree_at enabled entries d files placed rows are paths joined order below joins lists_first Compiled none (λ k l h inside after hs row e a b. one (made (slice_index order k)) (is_built k l h e) a (is_compiled k l h e) b)
 
   -- so is the module of a heading itself
-  pub tree_compiled : (k : ℕ) (l : k < length order) (h : Heading) (e : h.key ≡ key_at (slice_index order k)) → AreCompiled enabled asts loaded built (Tree (the_module k l h) (forest_at k l h e).inside Empty) (named_as h.name (justfile (slice_index order k)) ∷ [])
+  pub tree_compiled : (k : ℕ) (l : k < length order) (h : Heading) (e : h.key ≡ key_at (slice_index order k)) → AreCompiled enabled asts loaded built (Tree (the_module k l h) (forest_at k l h e).inside Empty) (labelled_as h.label (justfile (slice_index order k)) ∷ [])
   tree_compiled k l h e = one (made (slice_index order k)) (is_built k l h e) (forest_at k l h e).holds (is_compiled k l h e) none

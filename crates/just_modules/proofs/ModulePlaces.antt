@@ -49,6 +49,20 @@ all_read R f (x ∷ xs) each =
 listed_at : (xs : List ℕ) (k q : ℕ) → k < length xs → Contains (take k xs) q → (i : ℕ) × ((i < k) × (i < length xs)) × (slice_index xs i ≡ q)
 listed_at xs k q h c = let i = in_take xs k q (omega (arith, h)) c in (i.0, (i.1, omega (arith, i.1, h)), i.2)
 
+-- lists that are one, by their parts
+both : {A : Type 0} (x y : A) (xs ys : List A) → x ∷ xs ≡ y ∷ ys → (x ≡ y) × (xs ≡ ys)
+both x y xs ys e = (cc, cc)
+
+none_some : {A : Type 0} (x : A) (xs : List A) → [] ≡ x ∷ xs → ⊥
+none_some x xs e = cc
+
+some_none : {A : Type 0} (x : A) (xs : List A) → x ∷ xs ≡ [] → ⊥
+some_none x xs e = cc
+
+heading_keys : (subs : List Submodule) → map (λ (h : Heading). h.key) (map heading_of subs) ≡ map (λ (s : Submodule). s.key) subs
+heading_keys [] = refl
+heading_keys (s ∷ subs) = ap (λ ks. s.key ∷ ks) (heading_keys subs)
+
 pub nobody : {f : Forest} {x : Module} {inside : Forest} → HasModule f x inside → f ≡ Empty → ⊥
 nobody first e = cc
 nobody (in_it i) e = cc
@@ -162,27 +176,36 @@ module _ (enabled : Item → Bool) (entries : List (AstKey × Ast)) (d : AstKey)
       no_trees : {k : ℕ} → TreesAt k [] []
       no_trees = record { forest = Empty; are_modules = no_module; known = λ x inside i. absurd (nobody i refl); holds = c_none }
 
+      -- the tree of a heading at a place that is listed before another
+      record HasTree (k q : ℕ) (h : Heading) : Type 0 where
+        j : ℕ
+        before : j < k
+        there : j < length order
+        at : slice_index order j ≡ q
+        tree : TreeAt j there h
+
+      -- before those of other headings
+      more_trees : {k : ℕ} (q : ℕ) (h : Heading) (hs : List Heading) (row : List ℕ) → h.key ≡ key_at q → HasTree k q h → TreesAt k hs row → TreesAt k (h ∷ hs) (q ∷ row)
+      more_trees {k} q h hs row e t ts = subst (λ r. TreesAt k (h ∷ hs) (r ∷ row)) t.at (together {k = k} {j = t.j} {l = t.there} {h = h} {hs = hs} {row = row} t.before (e ∙ ap key_at (sym t.at)) t.tree ts)
+
       -- modules by the places of their own files
-      trees_of : (k : ℕ) (subs : List Submodule) (row : List ℕ) → map (λ (s : Submodule). s.key) subs ≡ map key_at row
-          → ((q : ℕ) → In q row → (h : Heading) → h.key ≡ key_at q → (j : ℕ) × (j < k) × (l : j < length order) × (slice_index order j ≡ q) × TreeAt j l h) → TreesAt k (map heading_of subs) row
+      trees_of : (k : ℕ) (hs : List Heading) (row : List ℕ) → map (λ (h : Heading). h.key) hs ≡ map key_at row → ((q : ℕ) → In q row → (h : Heading) → h.key ≡ key_at q → HasTree k q h) → TreesAt k hs row
       trees_of k [] [] e each = no_trees
-      trees_of k [] (q ∷ row) e each = cc
-      trees_of k (s ∷ subs) [] e each = cc
-      trees_of k (s ∷ subs) (q ∷ row) e each =
-          let head : s.key ≡ key_at q = cc in
-          let rest : map (λ (s : Submodule). s.key) subs ≡ map key_at row = cc in
-          let t = each q (inl refl) (heading_of s) head in
-          subst (λ r. TreesAt k (map heading_of (s ∷ subs)) (r ∷ row)) t.3 (together t.1 (head ∙ ap key_at (sym t.3)) t.4 (trees_of k subs row rest (λ r i. each r (inr i))))
+      trees_of k [] (q ∷ row) e each = absurd (none_some (key_at q) (map key_at row) e)
+      trees_of k (h ∷ hs) [] e each = absurd (some_none h.key (map (λ (g : Heading). g.key) hs) e)
+      trees_of k (h ∷ hs) (q ∷ row) e each =
+          let parts = both h.key (key_at q) (map (λ (g : Heading). g.key) hs) (map key_at row) e in
+          more_trees q h hs row parts.0 (each q (inl refl) h parts.0) (trees_of k hs row parts.1 (λ r i. each r (inr i)))
 
       trees_below : (m k : ℕ) → k < m → (l : k < length order) → (h : Heading) → h.key ≡ key_at (slice_index order k) → TreeAt k l h
       trees_below zero k b l h e = absurd (omega arith)
       trees_below (suc m) k b l h e =
           let p = slice_index order k in
           let j = joins k l in
-          let inner = trees_of k (module_of k l h).modules (targets joined.modules.items p) (inner_keys p (below k l) j) (λ q i g same.
+          let inner = trees_of k (headings_in (module_of k l h)) (targets joined.modules.items p) (heading_keys (module_of k l h).modules ∙ inner_keys p (below k l) j) (λ q i g same.
           let listed = lists_first k q l (contained q (targets joined.modules.items p) i) in
           let at = listed_at order k q l listed in
-          (at.0, at.1.0, at.1.1, at.2, trees_below m at.0 (omega (arith, at.1.0, b)) at.1.1 g (same ∙ ap key_at (sym at.2)))) in
+          record { j = at.0; before = at.1.0; there = at.1.1; at = at.2; tree = trees_below m at.0 (omega (arith, at.1.0, b)) at.1.1 g (same ∙ ap key_at (sym at.2)) }) in
           record { inside = inner.forest; are_modules = inner.are_modules; is = is_module p (below k l) j h e; known = inner.known; holds = inner.holds }
 
       -- each listed place has its modules

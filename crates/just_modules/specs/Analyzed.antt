@@ -1,19 +1,25 @@
 -- What an analysis answers.
 use Rattle.std.specs.Prelude.{◌≡◌, ◌<◌, ◌++◌, ℕ, Bool, List, [], ◌∷◌, flat_map, map, slice_get, Option, Some}
+use Rattle.std.specs.HashMap.{HashMap, get}
 use Rattle.std.specs.List.{Contains}
 use Rattle.just_graph.specs.Unfolded.{AreApart}
-use Rattle.just_parts.specs.Asts.{AstKey}
+use Rattle.just_parts.specs.Asts.{AstKey, same_ast_key}
+use Rattle.just_parts.specs.Causes.{Reports}
 use Rattle.just_parts.specs.Modulepath.{Text}
 use Rattle.just_parts.specs.declared.dependency.Dependency.{Dependency}
 use Rattle.just_parts.specs.declared.layers.ast.Ast.{Ast}
 use Rattle.just_parts.specs.declared.layers.ast.Item.{Item}
+use Rattle.just_parts.specs.Syntax.{SyntaxAnswers}
+use Rattle.just_parts.specs.declared.layers.error.Error.{Error}
+use Rattle.just_parts.specs.declared.modulepath.Modulepath.{Modulepath}
 use Rattle.just_parts.specs.declared.recipe.Recipe.{Recipe}
 use Rattle.just_invoke.specs.Closed.{AreClosed}
 use Rattle.just_invoke.specs.declared.justfile.Justfile.{Justfile}
-use Rattle.just_modules.specs.Groups.{KeepsModules}
+use Rattle.just_modules.specs.Groups.{KeepsModules, NamesModules}
 use Rattle.just_modules.specs.Justfiles.{AreCompiled, Built}
-use Rattle.just_modules.specs.Modules.{AreModules, Empty, Forest, Heading, IsHeading, Module, Tree}
+use Rattle.just_modules.specs.Modules.{AreModules, Empty, Forest, Heading, IsHeading, Module, Tree, heading}
 use Rattle.just_modules.specs.Reading.{reading_of}
+use Rattle.just_modules.specs.declared.inner.Label.{Label}
 
 -- a module comes after those in it
 abbrev pub ComeAfter : List Built → Type 0
@@ -32,3 +38,10 @@ pub record IsAnalyzed (enabled : Item → Bool) (asts : AstKey → Option Ast) (
   pub all : recipes ≡ flat_map (λ (b : Built). b.1) built
   pub compiled : AreCompiled enabled asts loaded built (Tree m inside Empty) (justfile ∷ [])
   pub closed : AreClosed recipes justfile
+
+-- What an analysis answers of the module at a path, with its own file and a label: it and those in it are analyzed, or one of them breaks a rule.
+abbrev pub Analyzes : {H : Type 0} → SyntaxAnswers → HashMap AstKey Ast H → List Text → Modulepath → Text → Label → Justfile × List (Recipe Dependency) → Type 0
+Analyzes answers asts loaded path root label made = IsAnalyzed answers.enabled (get same_ast_key asts) loaded (heading (path, root) label) made.0 made.1
+
+abbrev pub NamesAnalyzed : {H : Type 0} → SyntaxAnswers → HashMap AstKey Ast H → Modulepath → Text → Label → Error → Type 0
+NamesAnalyzed answers asts path root label = Reports (NamesModules (reading_of answers.enabled (get same_ast_key asts)) (heading (path, root) label))

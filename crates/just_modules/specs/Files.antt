@@ -4,6 +4,8 @@ use Rattle.std.specs.Borrow.{Bor}
 use Rattle.std.specs.HashMap.{get}
 use Rattle.std.specs.List.{AllByRecursion, IsDistinct}
 use Rattle.std.specs.Map.{keys_of, values_of}
+use Rattle.std.specs.declared.alloc.Global.{Global}
+use Rattle.std.specs.declared.vec.Vec.{Vec}
 use Rattle.just_graph.specs.Building.{EachRow}
 use Rattle.just_parts.specs.Asts.{AstKey, same_ast_key}
 use Rattle.just_parts.specs.Bare.{bare_item}
@@ -44,6 +46,9 @@ led_by inside enabled path i = if enabled (bare_item i) then led inside path i e
 abbrev pub all_led : Bool → (Item → Bool) → Modulepath → List Item → List AstKey
 all_led inside enabled path items = flat_map (led_by inside enabled path) items
 
+abbrev pub led_of : Bool → (Item → Bool) → Ast → List AstKey
+led_of inside enabled ast = all_led inside enabled ast.module_path ast.items
+
 abbrev pub led_in : Bool → (Item → Bool) → Option Ast → List AstKey
 led_in inside enabled None = []
 led_in inside enabled (Some ast) = all_led inside enabled ast.module_path ast.items
@@ -59,6 +64,14 @@ HoldsAll table found = AllByRecursion (λ k. IsSome (table k)) found
 -- the places that a table has for keys
 abbrev pub ArePlacesOf : (AstKey → Option ℕ) → List AstKey → List ℕ → Type 0
 ArePlacesOf table found places = map table found ≡ map Some places
+
+-- a row of places for each file: those of the keys to which its items lead
+abbrev pub AreRowsOf : Bool → (Item → Bool) → Files → List (Vec ℕ Global) → Type 0
+AreRowsOf inside enabled files rows = EachRow (λ p row. ArePlacesOf (get same_ast_key files.places) (led_from inside enabled (asts_in files) p) row) (length files.asts.items) rows
+
+-- the keys to which items lead have places
+abbrev pub HoldsEach : (Item → Bool) → Files → Type 0
+HoldsEach enabled files = (inside : Bool) (p : ℕ) → HoldsAll (get same_ast_key files.places) (led_from inside enabled (asts_in files) p)
 
 -- the row of each file: the places of the keys to which its items lead
 pub record AreRows (enabled : Item → Bool) (files : Files) (rows : Rows) : Type 0 where

@@ -1,5 +1,5 @@
 -- What modules are compiled to.
-use Rattle.std.specs.Prelude.{◌≡◌, ℕ, Bool, List, [], ◌∷◌, flat_map, get_or, Option, None, Some}
+use Rattle.std.specs.Prelude.{◌≡◌, ℕ, Bool, List, [], ◌∷◌, map, flat_map, get_or, Option, None, Some}
 use Rattle.std.specs.Map.{values_of}
 use Rattle.just_parts.specs.Asts.{AstKey}
 use Rattle.just_parts.specs.Entries.{put}
@@ -14,7 +14,8 @@ use Rattle.std.specs.List.{Contains}
 use Rattle.just_invoke.specs.Module.{module_name}
 use Rattle.just_invoke.specs.declared.justfile.Justfile.{Justfile, out-Justfile, roll-Justfile}
 use Rattle.just_modules.specs.Analysis.{IsOf}
-use Rattle.just_modules.specs.Modules.{Module, Forest, Empty, Tree}
+use Rattle.just_modules.specs.Modules.{Module, Forest, Empty, Tree, label_of}
+use Rattle.just_modules.specs.declared.inner.Label.{Label}
 use Rattle.just_modules.specs.Recipes.{recipes_of}
 use Rattle.just_modules.specs.Reading.{items_in}
 use Rattle.just_modules.specs.Resolved.{AreResolved}
@@ -32,6 +33,10 @@ held_by_name held (j ∷ js) = held_by_name (put (module_name j) j held) js
 abbrev pub by_name : List Justfile → List Justfile
 by_name js = values_of (held_by_name [] js)
 
+-- the label that a justfile has
+abbrev pub label_in : Justfile → Label
+label_in j = record { name = (out-Justfile j).name; doc = (out-Justfile j).doc; groups = (out-Justfile j).groups; private = (out-Justfile j).private }
+
 -- The recipes of modules that are compiled, each module under its key.
 abbrev pub Built : Type 0
 Built = AstKey × List (Recipe Dependency)
@@ -43,7 +48,7 @@ pub record IsCompiled (enabled : Item → Bool) (asts : AstKey → Option Ast) (
   pub own_there : Contains m.files m.heading.key
   pub resolved : AreResolved (recipes_in enabled asts m.files) m.heading.key.0 made
   pub fields : IsOf (recipes_in enabled asts m.files) (recipes_of enabled own.items) own loaded m.heading.key.1 j
-  pub name : (out-Justfile j).name ≡ m.heading.name
+  pub label : label_in j ≡ m.heading.label
   pub modules : (out-Justfile j).modules ≡ by_name inner
 
 -- The modules of a forest are compiled to justfiles, one by one.
@@ -52,12 +57,12 @@ pub data AreCompiled (enabled : Item → Bool) (asts : AstKey → Option Ast) (l
   one : {m : Module} {inside after : Forest} {inner js : List Justfile} {j : Justfile} (made : List (Recipe Dependency)) → Contains built (m.heading.key, made) → AreCompiled enabled asts loaded built inside inner
       → IsCompiled enabled asts loaded m inner made j → AreCompiled enabled asts loaded built after js → AreCompiled enabled asts loaded built (Tree m inside after) (j ∷ js)
 
--- a justfile under a name, or under none
-abbrev pub named_as : Option Name → Justfile → Justfile
-named_as name j = roll-Justfile (record (out-Justfile j) { name = name })
+-- a justfile under a label
+abbrev pub labelled_as : Label → Justfile → Justfile
+labelled_as label j = roll-Justfile (record (out-Justfile j) { name = label.name; doc = label.doc; groups = label.groups; private = label.private })
 
 abbrev pub with_name : Name → Justfile → Justfile
-with_name name = named_as (Some name)
+with_name name = labelled_as (label_of name)
 
 -- each under the name beside it
 abbrev pub with_names : List Justfile → List Name → List Justfile
@@ -68,3 +73,7 @@ with_names (j ∷ js) (name ∷ names) = with_name name j ∷ with_names js name
 -- what is held at a place
 abbrev pub slot : List (Option Justfile) → ℕ → Option Justfile
 slot slots q = get_or slots q None
+
+-- what is held at the places of a row, each under the name beside it, by their names
+abbrev pub AreTaken : List (Option Justfile) → List ℕ → List Name → List Justfile → Type 0
+AreTaken slots row names modules = (js : List Justfile) → map Some js ≡ map (slot slots) row → modules ≡ by_name (with_names js names)

@@ -1,21 +1,31 @@
 -- The modules of a compilation, as data.
-use Rattle.std.specs.Prelude.{◌≡◌, List, [], ◌∷◌, map, flat_map, Option, Some}
+use Rattle.std.specs.Prelude.{◌≡◌, Bool, false, List, [], ◌∷◌, map, flat_map, Option, None, Some}
 use Rattle.std.specs.List.{Contains}
 use Rattle.just_graph.specs.Levels.{AreLevels}
 use Rattle.just_parts.specs.Asts.{AstKey, same_ast_key}
+use Rattle.just_parts.specs.Modulepath.{Text}
 use Rattle.just_parts.specs.declared.layers.ast.Ast.{Ast}
+use Rattle.just_parts.specs.declared.layers.ast.StringLiteral.{StringLiteral}
 use Rattle.just_parts.specs.declared.layers.name.Name.{Name}
 use Rattle.just_modules.specs.Contents.{Contents}
 use Rattle.just_modules.specs.Recipes.{recipes_said}
 use Rattle.just_modules.specs.Reading.{Reading, Submodule, imports_of, submodules_of}
+use Rattle.just_modules.specs.declared.inner.Label.{Label}
 
--- The path and the own file of a module, and its name; the root has none.
+-- the label of a module that is declared by its name alone
+abbrev pub label_of : Name → Label
+label_of name = record { name = Some name; doc = None; groups = []; private = false }
+
+abbrev pub label : Option Name → Option Text → List StringLiteral → Bool → Label
+label name doc groups private = record { name = name; doc = doc; groups = groups; private = private }
+
+-- The path and the own file of a module, and its label.
 pub record Heading : Type 0 where
   pub key : AstKey
-  pub name : Option Name
+  pub label : Label
 
-abbrev pub heading : AstKey → Option Name → Heading
-heading key name = record { key = key; name = name }
+abbrev pub heading : AstKey → Label → Heading
+heading key label = record { key = key; label = label }
 
 -- A module: its files in join order, what each says, and the modules that these declare.
 pub record Module : Type 0 where
@@ -25,7 +35,7 @@ pub record Module : Type 0 where
   pub modules : List Submodule
 
 abbrev pub heading_of : Submodule → Heading
-heading_of s = record { key = s.key; name = Some s.name }
+heading_of s = heading s.key (label_of s.name)
 
 -- the headings of the modules in a module
 abbrev pub headings_in : Module → List Heading

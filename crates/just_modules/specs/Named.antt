@@ -10,9 +10,14 @@ use Rattle.just_parts.specs.declared.layers.ast.UnresolvedDependency.{Unresolved
 use Rattle.just_parts.specs.declared.layers.name.Name.{Name}
 use Rattle.just_parts.specs.declared.modulepath.Modulepath.{Modulepath}
 use Rattle.just_parts.specs.declared.recipe.Recipe.{Recipe}
+use Rattle.just_parts.specs.Modulepath.{Text}
+use Rattle.just_invoke.specs.declared.justfile.Justfile.{Justfile}
+use Rattle.just_modules.specs.Analysis.{IsOf}
+use Rattle.just_modules.specs.Files.{asts_in}
 use Rattle.just_modules.specs.Recipes.{recipes_of}
 use Rattle.just_modules.specs.Resolved.{AreResolved}
 use Rattle.just_modules.specs.Rules.{Bodies, Dependencies, Parameters}
+use Rattle.just_modules.specs.declared.files.Files.{Files}
 
 -- the name of the module that an item declares
 abbrev pub name_by : Item → List Name
@@ -56,3 +61,12 @@ pub record AreAdded (rs : List (Recipe UnresolvedDependency)) (path : Modulepath
   pub made : List (Recipe Dependency)
   pub appended : new ≡ old ++ made
   pub resolved : AreResolved rs path made
+
+-- the same of files, of which one is the module's own
+abbrev pub AreAddedAt : (Item → Bool) → Files → ℕ → List ℕ → List (Recipe Dependency) → List (Recipe Dependency) → Type 0
+AreAddedAt enabled files own places old new = (ast : Ast) → slice_get (asts_in files) own ≡ Some ast → AreAdded (recipes_from enabled (asts_in files) places) ast.module_path old new
+
+-- a module has what these files say, of which one is its own
+abbrev pub IsOfFiles : (Item → Bool) → Files → ℕ → List ℕ → List Text → Text → Justfile → Type 0
+IsOfFiles enabled files own places loaded source j = (ast : Ast) → slice_get (asts_in files) own ≡ Some ast
+    → IsOf (recipes_from enabled (asts_in files) places) (recipes_by enabled (Some ast)) ast loaded source j

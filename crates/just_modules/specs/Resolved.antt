@@ -14,6 +14,10 @@ use Rattle.just_modules.specs.Rows.{IsRow, IsOrderOf}
 abbrev pub unresolved_numbers : List (Recipe UnresolvedDependency) → List ℕ
 unresolved_numbers = map (λ r. r.number.0)
 
+-- no recipe that is held has a number of these
+abbrev pub AreNew : List (Recipe Dependency) → List (Recipe UnresolvedDependency) → Type 0
+AreNew held rs = (m : ℕ) → Contains (numbers held) m → Contains (unresolved_numbers rs) m → ⊥
+
 -- the number of the recipe at a place
 abbrev pub number_at : List (Recipe UnresolvedDependency) → ℕ → ℕ
 number_at recipes place = slice_index (unresolved_numbers recipes) place

@@ -25,6 +25,10 @@ pub record IsLater (first second later : Place) : Type 0 where
   pub greater : second.line < first.line → later ≡ first
   pub not_greater : first.line ≤ second.line → later ≡ second
 
+-- the smaller line of two names
+abbrev pub first_line : Name → Name → ℕ
+first_line first second = min first.token.line second.token.line
+
 -- What is broken in the headers of a module: those of its recipes, or two modules that it declares have one name.
 pub data Headers (m : Contents) : Cause → Type 0 where
   of_parameters : {c : Cause} → Parameters m.recipes c → Headers m c

@@ -1,6 +1,8 @@
 -- Modules that are compiled one after another, by the places of their own files.
 use Rattle.std.specs.Prelude.{◌≡◌, ◌<◌, ◌++◌, ℕ, Bool, List, map, flat_map, length, slice_get, slice_index, take, Option, None, Some}
 use Rattle.std.specs.List.{All, Contains}
+use Rattle.std.specs.declared.alloc.Global.{Global}
+use Rattle.std.specs.declared.vec.Vec.{Vec}
 use Rattle.just_graph.specs.Graph.{HasEdge, targets}
 use Rattle.just_graph.specs.Steps.{IsOnce, ListsStepsFirst}
 use Rattle.just_parts.specs.Asts.{AstKey}
@@ -18,7 +20,8 @@ use Rattle.just_modules.specs.Files.{asts_in, keys_in}
 use Rattle.just_modules.specs.Justfiles.{by_name, slot, with_names}
 use Rattle.just_modules.specs.Named.{BreaksRecipes, KeepsRecipes, names_from, recipes_by, recipes_from}
 use Rattle.just_modules.specs.Resolved.{AreResolved, HasPriors, unresolved_numbers}
-use Rattle.just_modules.specs.Contents.{of_names}
+use Rattle.just_modules.specs.Contents.{of_names, texts_of_names}
+use Rattle.just_modules.specs.Index.{AreDifferent}
 use Rattle.just_modules.specs.Rules.{Headers}
 use Rattle.just_modules.specs.declared.files.Files.{Files}
 use Rattle.just_modules.specs.declared.joined.Joined.{Joined}
@@ -40,7 +43,7 @@ pub record CanCompile (enabled : Item → Bool) (files : Files) (joined : Joined
   pub apart : IsOnce (targets joined.modules.items p)
   pub names : length (names_of_place enabled files joined p) ≡ length (targets joined.modules.items p)
 
--- What the module at a place is compiled to, from the justfiles of the modules in it; it has no name yet.
+-- What the module at a place is compiled to, from the justfiles of the modules in it; it has no label yet.
 pub record IsCompiledAt (enabled : Item → Bool) (files : Files) (joined : Joined) (loaded : List Text) (p : ℕ) (inner : List Justfile) (made : List (Recipe Dependency)) (j : Justfile) : Type 0 where
   pub own : Ast
   pub own_said : slice_get (asts_in files) p ≡ Some own
@@ -49,7 +52,6 @@ pub record IsCompiledAt (enabled : Item → Bool) (files : Files) (joined : Join
   pub kept : KeepsRecipes (recipes_of_place enabled files joined p)
   pub resolved : AreResolved (recipes_of_place enabled files joined p) own.module_path made
   pub fields : IsOf (recipes_of_place enabled files joined p) (recipes_by enabled (Some own)) own loaded key.1 j
-  pub name : (out-Justfile j).name ≡ None
   pub modules : (out-Justfile j).modules ≡ by_name (with_names inner (names_of_place enabled files joined p))
 
 -- One more module is compiled, from those that are held at the places of the modules in it.
@@ -61,6 +63,9 @@ pub record CompilesPlace (enabled : Item → Bool) (files : Files) (joined : Joi
   pub here : slot new p ≡ Some justfile
   pub others : (q : ℕ) → (q ≡ p → ⊥) → (Contains (targets joined.modules.items p) q → ⊥) → slot new q ≡ slot old q
   pub room : length new ≡ length old
+
+abbrev pub CompilesAt : (Item → Bool) → Files → Joined → List Text → ℕ → Vec (Option Justfile) Global → Vec (Option Justfile) Global → List (Recipe Dependency) → List (Recipe Dependency) → Type 0
+CompilesAt enabled files joined loaded p old new before after = CompilesPlace enabled files joined loaded p old.items new.items before after
 
 -- Modules that can be compiled in this order: each place once, after those of the modules in it, each of which stands in one module, and no number of a recipe in two modules.
 pub record CanCompileAll (enabled : Item → Bool) (files : Files) (joined : Joined) (order : List ℕ) : Type 0 where
@@ -83,6 +88,9 @@ pub record HaveCompiled (enabled : Item → Bool) (files : Files) (joined : Join
   pub held : (k : ℕ) → k < n → ((i : ℕ) → i < n → HasEdge joined.modules.items (slice_index order i) (slice_index order k) → ⊥) → slot slots (slice_index order k) ≡ Some (justfile (slice_index order k))
   pub room : length slots ≡ length files.asts.items
 
+abbrev pub HaveCompiledAll : (Item → Bool) → Files → Joined → List Text → List ℕ → Vec (Option Justfile) Global × List (Recipe Dependency) → Type 0
+HaveCompiledAll enabled files joined loaded order made = HaveCompiled enabled files joined loaded order (length order) made.0.items made.1
+
 -- A rule on recipes is broken in the module at a place of an order, and none is in those before it.
 pub record BreaksInOrder (enabled : Item → Bool) (files : Files) (joined : Joined) (order : List ℕ) (c : Cause) : Type 0 where
   pub at : ℕ
@@ -95,3 +103,11 @@ pub record RepeatsNames (enabled : Item → Bool) (files : Files) (joined : Join
   pub at : ℕ
   pub there : at < length order
   pub broken : Headers (of_names (names_of_place enabled files joined (slice_index order at))) c
+
+-- the files of each module of an order have places
+abbrev pub HaveFiles : Files → Joined → List ℕ → Type 0
+HaveFiles files joined order = (k : ℕ) → k < length order → All (λ q. q < length files.asts.items) (targets joined.files.items (slice_index order k))
+
+-- the modules in each module of an order have different names
+abbrev pub HaveNames : (Item → Bool) → Files → Joined → List ℕ → Type 0
+HaveNames enabled files joined order = (k : ℕ) → k < length order → AreDifferent (texts_of_names (names_of_place enabled files joined (slice_index order k)))

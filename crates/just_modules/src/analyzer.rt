@@ -1,165 +1,180 @@
-ghost use Rattle.std.specs.Prelude.{◌≡◌, ◌<◌, ℕ, [], false, IsTrue, IfOk, IfSome, IfNone, length};
-ghost use Rattle.just_invoke.specs.declared.justfile.Justfile.{out-Justfile};
-ghost use Rattle.just_modules.specs.Analysis.{AreKeysOf, HasKeysOf, IsBefore, IsDefault, IsOf};
+//! The analysis of a module, and of the modules in it.
+
+ghost use Rattle.std.specs.Prelude.{◌≡◌, ◌<◌, ℕ, IfErr, IfOk, IsSome, Some, length, slice_get};
+ghost use Rattle.std.specs.HashMap.{get};
+ghost use Rattle.std.specs.List.{All, Contains};
+ghost use Rattle.just_graph.specs.Steps.{IsOnce};
+ghost use Rattle.just_parts.specs.Asts.{same_ast_key};
+ghost use Rattle.just_parts.specs.Causes.{Reports};
+ghost use Rattle.just_parts.specs.declared.layers.ast.Ast.{Ast};
+ghost use Rattle.just_invoke.specs.Recipes.{numbers};
+ghost use Rattle.just_invoke.specs.declared.justfile.Justfile.{Justfile, out-Justfile};
+ghost use Rattle.just_modules.specs.Analyzable.{AreAnalyzable};
+ghost use Rattle.just_modules.specs.Analyzed.{Analyzes, NamesAnalyzed};
 ghost use Rattle.just_modules.specs.Definitions.{recipes_in};
-ghost use Rattle.just_modules.specs.Index.{AreDifferent};
-ghost use Rattle.just_modules.specs.Recipes.{names_of};
+ghost use Rattle.just_modules.specs.Files.{asts_in};
+ghost use Rattle.just_modules.specs.Named.{AreAddedAt, BreaksRecipes, IsOfFiles, KeepsRecipes, recipes_from};
+ghost use Rattle.just_modules.specs.Resolved.{AreNew, HasPriors, unresolved_numbers};
 
 use crate::compiling::compile_in_order;
-use crate::definitions::{Definitions, recipe_at};
-use crate::files::{file_rows, place_files, place_of};
-use crate::inner::{named, take_at};
+use crate::definitions::Definitions;
+use crate::files::{Files, ast_at, file_rows, place_files, place_of};
+use crate::headers::{check_parameters, index_recipes};
+use crate::inner::{Label, labelled, take_at};
 use crate::joined::arrange;
+use crate::making::{Surroundings, make_justfile};
 use crate::module_names::check_module_names;
+use crate::recipe_resolver::{order_recipes, resolve_in_order};
 use just_data::{Sequence, Shared, Text};
-use just_invoke::{Justfile, RecipeKey, Recipes};
-use just_parts::layers::{Ast, Error, Name, Syntax};
-use just_parts::{Modulepath, Table, UnresolvedRecipe};
+use just_invoke::{Justfile, Recipes};
+use just_parts::Modulepath;
+use just_parts::layers::{Ast, Config, Error, Evaluation, Name, Number, StringLiteral, Syntax};
 use std::alloc::{AllocError, Global};
 use std::collections::HashMap;
 
-// The keys of the recipes, under their names.
-fn recipe_keys<'a, 'src>(
+// The recipes that the files at places say, file after file.
+fn definitions_at<'b, 'a, 'src, S: Syntax>(
     alloc: Global,
-    definitions: &Definitions<'a, 'src>,
-) -> Result<Table<'src, RecipeKey<'src>>, AllocError>
-    requires { AreDifferent (names_of (recipes_in definitions.now)) }
-    ensures keys { IfOk result (AreKeysOf (recipes_in definitions.now) (length definitions.now.recipes.items)) }
-    ensures held { IfOk result (HasKeysOf (recipes_in definitions.now) (length definitions.now.recipes.items)) }
+    syntax: &S,
+    files: &'b Files<'a, 'src>,
+    places: &[usize],
+) -> Result<Definitions<'b, 'src>, AllocError>
+    requires { All (λ p. p < length files.now.asts.items) places.now }
+    ensures { IfOk result (λ definitions. recipes_in definitions ≡ recipes_from (S.answers syntax.now).enabled (asts_in files.now) places.now) }
 {
-    let mut keys = Table::new(alloc);
-    for place in 0..definitions.recipes.len() {
-        let recipe = recipe_at(definitions, place);
-        let key = RecipeKey {
-            name: recipe.name.copied(),
-            number: recipe.number,
-        };
-        keys.insert(key)?;
+    let mut definitions = Definitions::new(alloc);
+    for place in places {
+        definitions.add(syntax, ast_at(files, *place).items.as_slice())?;
     }
-    Ok(keys)
+    Ok(definitions)
 }
 
-// Whether a recipe is the default before another: by line, and on equal lines by the greater name.
-fn comes_before<'src>(recipe: &UnresolvedRecipe<'src>, other: &UnresolvedRecipe<'src>) -> bool
-    ensures yes { IsTrue result → IsBefore recipe.now other.now }
-    ensures no { result ≡ false → IsBefore other.now recipe.now }
-{
-    if recipe.name.line() == other.name.line() {
-        return other.name.lexeme() < recipe.name.lexeme();
-    }
-    recipe.name.line() < other.name.line()
-}
-
-// The place of the recipe on the least line, and of those there of the greatest name.
-fn default_place<'a, 'src>(definitions: &Definitions<'a, 'src>) -> Option<usize>
-    ensures found { IfSome result (IsDefault (recipes_in definitions.now)) }
-    ensures missing { IfNone result (recipes_in definitions.now ≡ []) }
-{
-    if definitions.recipes.is_empty() {
-        return None;
-    }
-    let mut best = 0;
-    for place in 0..definitions.recipes.len() {
-        if !comes_before(recipe_at(definitions, place), recipe_at(definitions, best)) {
-            continue;
-        }
-        best = place;
-    }
-    Some(best)
-}
-
-/// What a module has besides its recipes: the shared list of loaded files, its name, and the modules that it declares.
-#[derive(Drop)]
-pub struct Surroundings<'src> {
-    /// The relative paths of all loaded files.
-    pub loaded: Shared<Sequence<Text>>,
-    /// The name; the root's module has none.
-    pub name: Option<Name<'src>>,
-    pub modules: Sequence<Justfile<'src>>,
-    /// The path of its own file.
-    pub source: Text,
-}
-
-/// The justfile of a module with these recipes, of which its own file says `own`.
-pub fn make_justfile<'a, 'src>(
+/// Analyzes the module of these files, whose own stands at `own`: checks its recipes, resolves them, and adds them to the
+/// others. An error names a rule on recipes that is broken.
+pub fn analyze_module<'a, 'src, S: Syntax>(
     alloc: Global,
-    definitions: &Definitions<'a, 'src>,
-    own: &Definitions<'a, 'src>,
-    ast: &Ast<'src>,
+    syntax: &S,
+    files: &Files<'a, 'src>,
+    places: &[usize],
+    own: usize,
     surroundings: Surroundings<'src>,
-) -> Result<Justfile<'src>, AllocError>
-    requires { AreDifferent (names_of (recipes_in definitions.now)) }
-    ensures fields { IfOk result (λ j. IsOf (recipes_in definitions.now) (recipes_in own.now) ast.now surroundings.entry.loaded surroundings.entry.source j) }
-    ensures name { IfOk result (λ j. (out-Justfile j).name ≡ surroundings.entry.name) }
+    recipes: &mut Recipes<'src>,
+) -> Result<Justfile<'src>, Error<'src>>
+    requires places { All (λ p. p < length files.now.asts.items) places.now }
+    requires own { own < length files.now.asts.items }
+    requires once { IsOnce (unresolved_numbers (recipes_from (S.answers syntax.now).enabled (asts_in files.now) places.now)) }
+    requires priors { All HasPriors (recipes_from (S.answers syntax.now).enabled (asts_in files.now) places.now) }
+    requires apart { AreNew recipes.old (recipes_from (S.answers syntax.now).enabled (asts_in files.now) places.now) }
+    ensures kept { IfOk result (λ _. KeepsRecipes (recipes_from (S.answers syntax.now).enabled (asts_in files.now) places.now)) }
+    ensures added { IfOk result (λ _. AreAddedAt (S.answers syntax.now).enabled files.now own places.now recipes.old recipes.new) }
+    ensures fields { IfOk result (IsOfFiles (S.answers syntax.now).enabled files.now own places.now surroundings.entry.loaded surroundings.entry.source) }
     ensures modules { IfOk result (λ j. (out-Justfile j).modules ≡ surroundings.entry.modules) }
+    ensures named { IfErr result (Reports (BreaksRecipes (recipes_from (S.answers syntax.now).enabled (asts_in files.now) places.now))) }
 {
-    let default = match default_place(own) {
-        Some(place) => Some(recipe_at(own, place).number),
-        None => None,
-    };
-    let Surroundings {
+    let definitions = definitions_at(alloc, syntax, files, places)?;
+    check_parameters(alloc, &definitions)?;
+    let index = index_recipes(alloc, &definitions)?;
+    let (rows, order) = order_recipes(alloc, &definitions, &index)?;
+    let ast = ast_at(files, own);
+    let path = &ast.module_path;
+    let mut made = resolve_in_order(alloc, &definitions, rows.as_slice(), order.as_slice(), path)?;
+    let mut own_definitions = Definitions::new(alloc);
+    own_definitions.add(syntax, ast.items.as_slice())?;
+    recipes.append(&mut made)?;
+    let justfile = make_justfile(alloc, &definitions, &own_definitions, ast, surroundings)?;
+    Ok(justfile)
+}
+
+// Copies of quoted texts.
+fn literals<'src>(
+    alloc: Global,
+    texts: &[StringLiteral<'src>],
+) -> Result<Sequence<StringLiteral<'src>>, AllocError>
+    ensures { IfOk result (λ copies. copies ≡ texts.now) }
+{
+    let mut copies = Sequence::new(alloc);
+    for text in texts {
+        copies.push(text.clone()?)?;
+    }
+    Ok(copies)
+}
+
+// The justfile of the module of a key, under a label, and the recipes of it and of the modules in it.
+fn analyze_modules<'src, S: Syntax>(
+    alloc: Global,
+    syntax: &S,
+    asts: &HashMap<(Modulepath, Text), Ast<'src>>,
+    loaded: &Shared<Sequence<Text>>,
+    module_path: &Modulepath,
+    root: &str,
+    label: Label<'src>,
+) -> Result<(Justfile<'src>, Recipes<'src>), Error<'src>>
+    requires held { IsSome (get same_ast_key asts.now (module_path.now, root.now)) }
+    requires asts { AreAnalyzable (S.answers syntax.now).enabled (get same_ast_key asts.now) }
+    ensures analyzed { IfOk result (Analyzes (S.answers syntax.now) asts.now loaded.now module_path.now root.now label.entry) }
+    ensures named { IfErr result (NamesAnalyzed (S.answers syntax.now) asts.now module_path.now root.now label.entry) }
+{
+    let files = place_files(alloc, asts)?;
+    let rows = file_rows(alloc, syntax, &files)?;
+    let place = place_of(alloc, &files, module_path, root)?;
+    let (joined, order) = arrange(alloc, &rows, place)?;
+    check_module_names(alloc, syntax, &files, &joined, order.as_slice())?;
+    let (mut slots, recipes) = compile_in_order(
+        alloc,
+        syntax,
+        &files,
+        &joined,
         loaded,
-        name,
-        modules,
-        source,
-    } = surroundings;
-    Ok(Justfile {
-        default,
-        loaded,
-        module_path: ast.module_path.clone()?,
-        modules,
-        name,
-        recipes: recipe_keys(alloc, definitions)?,
-        source,
-        working_directory: ast.working_directory.clone()?,
-    })
+        order.as_slice(),
+    )?;
+    let justfile = take_at(&mut slots, place);
+    Ok((labelled(justfile, label), recipes))
 }
 
 /// Analyzes modules.
 pub struct Analyzer;
 
 impl Analyzer {
-    ghost use Rattle.std.specs.Prelude.{IfErr, IfOk, IsSome};
+    ghost use Rattle.std.specs.Prelude.{◌≡◌, IfErr, IfOk, IsSome};
     ghost use Rattle.std.specs.HashMap.{get};
     ghost use Rattle.just_parts.specs.Asts.{same_ast_key};
     ghost use Rattle.just_modules.specs.Analyzable.{AreAnalyzable};
-    ghost use Rattle.just_parts.specs.Causes.{Reports};
-    ghost use Rattle.just_modules.specs.Analyzed.{IsAnalyzed};
-    ghost use Rattle.just_modules.specs.Groups.{NamesModules};
-    ghost use Rattle.just_modules.specs.Modules.{heading};
-    ghost use Rattle.just_modules.specs.Reading.{reading_of};
+    ghost use Rattle.just_modules.specs.Analyzed.{Analyzes, NamesAnalyzed};
+    ghost use Rattle.just_modules.specs.Modules.{label};
 
-    /// The justfile of the module at `module_path`, whose own file is `root`, under the name that it is given, and the
-    /// recipes of it and of the modules in it, those of a module after those of the modules in it. An error names a rule
-    /// that one of them breaks.
-    pub fn analyze<'src, S: Syntax>(
+    /// The justfile of the module at `module_path`, whose own file is `root`, with the label that it is given (`name`,
+    /// `doc`, `groups`, `private`), and the recipes of it and of the modules in it, those of a module after those of the
+    /// modules in it. An error names a rule that one of them breaks.
+    ///
+    /// Neither `config` nor the evaluation is asked anything yet, and `overrides` stays as it is.
+    pub fn analyze<'src, S: Syntax, E: Evaluation>(
         alloc: Global,
-        syntax: &S,
         asts: &HashMap<(Modulepath, Text), Ast<'src>>,
+        config: &Config,
+        doc: Option<Text>,
+        groups: &[StringLiteral<'src>],
         loaded: &Shared<Sequence<Text>>,
         module_path: &Modulepath,
         name: Option<Name<'src>>,
+        overrides: &mut HashMap<Number, Text>,
+        private: bool,
         root: &str,
+        syntax: &S,
+        evaluation: &E,
     ) -> Result<(Justfile<'src>, Recipes<'src>), Error<'src>>
         requires held { IsSome (get same_ast_key asts.now (module_path.now, root.now)) }
         requires asts { AreAnalyzable (S.answers syntax.now).enabled (get same_ast_key asts.now) }
-        ensures analyzed { IfOk result (λ made. IsAnalyzed (S.answers syntax.now).enabled (get same_ast_key asts.now) loaded.now (heading (module_path.now, root.now) name.entry) made.0 made.1) }
-        ensures named { IfErr result (Reports (NamesModules (reading_of (S.answers syntax.now).enabled (get same_ast_key asts.now)) (heading (module_path.now, root.now) name.entry))) }
+        ensures analyzed { IfOk result (Analyzes (S.answers syntax.now) asts.now loaded.now module_path.now root.now (label name.entry doc groups.now private)) }
+        ensures named { IfErr result (NamesAnalyzed (S.answers syntax.now) asts.now module_path.now root.now (label name.entry doc groups.now private)) }
+        ensures overrides { overrides.new ≡ overrides.old }
     {
-        let files = place_files(alloc, asts)?;
-        let rows = file_rows(alloc, syntax, &files)?;
-        let place = place_of(alloc, &files, module_path, root)?;
-        let (joined, order) = arrange(alloc, &rows, place)?;
-        check_module_names(alloc, syntax, &files, &joined, order.as_slice())?;
-        let (mut slots, recipes) = compile_in_order(
-            alloc,
-            syntax,
-            &files,
-            &joined,
-            loaded,
-            order.as_slice(),
-        )?;
-        let justfile = take_at(&mut slots, place);
-        Ok((named(justfile, name), recipes))
+        let groups = literals(alloc, groups)?;
+        let label = Label {
+            name,
+            doc,
+            groups,
+            private,
+        };
+        analyze_modules(alloc, syntax, asts, loaded, module_path, root, label)
     }
 }

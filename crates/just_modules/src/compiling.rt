@@ -1,21 +1,19 @@
 //! Compiles modules one after another, those in a module before it.
 
 ghost use Rattle.std.specs.Prelude.{◌≡◌, ◌<◌, ℕ, List, IfOk, IfErr, None, OnOk, Some, length, map};
-ghost use Rattle.std.specs.List.{Contains};
 ghost use Rattle.just_graph.specs.Graph.{targets};
 ghost use Rattle.just_parts.specs.Causes.{Reports};
-ghost use Rattle.just_invoke.specs.Recipes.{numbers};
 ghost use Rattle.just_invoke.specs.declared.justfile.Justfile.{Justfile};
 ghost use Rattle.just_modules.specs.Justfiles.{slot};
 ghost use Rattle.just_modules.specs.Named.{BreaksRecipes, KeepsRecipes};
-ghost use Rattle.just_modules.specs.Resolved.{unresolved_numbers};
-ghost use Rattle.just_modules.specs.Steps.{BreaksInOrder, CanCompile, CanCompileAll, CompilesPlace, HaveCompiled, recipes_of_place};
+ghost use Rattle.just_modules.specs.Resolved.{AreNew};
+ghost use Rattle.just_modules.specs.Steps.{BreaksInOrder, CanCompile, CanCompileAll, CompilesAt, HaveCompiledAll, recipes_of_place};
 
-use crate::analyzer::Surroundings;
+use crate::analyzer::analyze_module;
 use crate::files::Files;
 use crate::inner::take_inner;
 use crate::joined::Joined;
-use crate::module::analyze_module;
+use crate::making::Surroundings;
 use crate::module_names::module_names;
 use just_data::{Sequence, Shared, Text};
 use just_invoke::{Justfile, Recipes};
@@ -39,8 +37,8 @@ fn compile_place<'a, 'src, S: Syntax>(
     requires room { length slots.old.items ≡ length files.now.asts.items }
     requires ready { CanCompile (S.answers syntax.now).enabled files.now joined.now place }
     requires inner { (js : List Justfile) × (map Some js ≡ map (slot slots.old.items) (targets joined.now.modules.items place)) }
-    requires apart { (m : ℕ) → Contains (numbers recipes.old) m → Contains (unresolved_numbers (recipes_of_place (S.answers syntax.now).enabled files.now joined.now place)) m → ⊥ }
-    ensures compiled { OnOk result (CompilesPlace (S.answers syntax.now).enabled files.now joined.now loaded.now place slots.old.items slots.new.items recipes.old recipes.new) }
+    requires apart { AreNew recipes.old (recipes_of_place (S.answers syntax.now).enabled files.now joined.now place) }
+    ensures compiled { OnOk result (CompilesAt (S.answers syntax.now).enabled files.now joined.now loaded.now place slots.old slots.new recipes.old recipes.new) }
     ensures named { IfErr result (Reports (BreaksRecipes (recipes_of_place (S.answers syntax.now).enabled files.now joined.now place))) }
 {
     let row = joined.files[place].as_slice();
@@ -53,7 +51,6 @@ fn compile_place<'a, 'src, S: Syntax>(
     )?;
     let surroundings = Surroundings {
         loaded: loaded.clone()?,
-        name: None,
         modules,
         source: Text::from_str(alloc, files.keys[place].1.as_str())?,
     };
@@ -84,7 +81,7 @@ pub fn compile_in_order<'a, 'src, S: Syntax>(
     order: &[usize],
 ) -> Result<(Vec<Option<Justfile<'src>>>, Recipes<'src>), Error<'src>>
     requires { CanCompileAll (S.answers syntax.now).enabled files.now joined.now order.now }
-    ensures compiled { IfOk result (λ made. HaveCompiled (S.answers syntax.now).enabled files.now joined.now loaded.now order.now (length order.now) made.0.items made.1) }
+    ensures compiled { IfOk result (HaveCompiledAll (S.answers syntax.now).enabled files.now joined.now loaded.now order.now) }
     ensures named { IfErr result (Reports (BreaksInOrder (S.answers syntax.now).enabled files.now joined.now order.now)) }
 {
     let mut slots = no_slots(alloc, files.asts.len())?;

@@ -5,7 +5,7 @@ ghost use Rattle.std.specs.HashMap.{get};
 ghost use Rattle.std.specs.Option.{option_to_list};
 ghost use Rattle.just_graph.specs.Building.{EachRow};
 ghost use Rattle.just_parts.specs.Asts.{same_ast_key};
-ghost use Rattle.just_modules.specs.Files.{ArePlaced, ArePlacesOf, AreRows, HoldsAll, all_led, asts_in, led, led_from};
+ghost use Rattle.just_modules.specs.Files.{ArePlaced, ArePlacesOf, AreRows, AreRowsOf, HoldsAll, HoldsEach, asts_in, led, led_from, led_of};
 
 use just_data::Text;
 use just_parts::Modulepath;
@@ -93,8 +93,8 @@ fn row<'src, S: Syntax>(
     inside: bool,
     ast: &Ast<'src>,
 ) -> Result<Vec<usize>, AllocError>
-    requires { HoldsAll (get same_ast_key places.now) (all_led inside (S.answers syntax.now).enabled ast.now.module_path ast.now.items) }
-    ensures { IfOk result (λ row. ArePlacesOf (get same_ast_key places.now) (all_led inside (S.answers syntax.now).enabled ast.now.module_path ast.now.items) row.items) }
+    requires { HoldsAll (get same_ast_key places.now) (led_of inside (S.answers syntax.now).enabled ast.now) }
+    ensures { IfOk result (λ row. ArePlacesOf (get same_ast_key places.now) (led_of inside (S.answers syntax.now).enabled ast.now) row.items) }
 {
     let mut row = Vec::new(alloc);
     for item in ast.items.as_slice() {
@@ -128,7 +128,7 @@ fn rows_of<'a, 'src, S: Syntax>(
     inside: bool,
 ) -> Result<Vec<Vec<usize>>, AllocError>
     requires { (p : ℕ) → HoldsAll (get same_ast_key files.now.places) (led_from inside (S.answers syntax.now).enabled (asts_in files.now) p) }
-    ensures { IfOk result (λ rows. EachRow (λ p row. ArePlacesOf (get same_ast_key files.now.places) (led_from inside (S.answers syntax.now).enabled (asts_in files.now) p) row) (length files.now.asts.items) rows.items) }
+    ensures { IfOk result (λ rows. AreRowsOf inside (S.answers syntax.now).enabled files.now rows.items) }
 {
     let mut rows = Vec::new(alloc);
     for place in 0..files.asts.len() {
@@ -144,7 +144,7 @@ pub fn file_rows<'a, 'src, S: Syntax>(
     syntax: &S,
     files: &Files<'a, 'src>,
 ) -> Result<Rows, AllocError>
-    requires { (inside : Bool) (p : ℕ) → HoldsAll (get same_ast_key files.now.places) (led_from inside (S.answers syntax.now).enabled (asts_in files.now) p) }
+    requires { HoldsEach (S.answers syntax.now).enabled files.now }
     ensures { IfOk result (AreRows (S.answers syntax.now).enabled files.now) }
 {
     Ok(Rows {

@@ -10,7 +10,7 @@ ghost use Rattle.just_modules.specs.Recipes.{line_of, name_of, names_of, paramet
 ghost use Rattle.just_modules.specs.Definitions.{recipes_in};
 ghost use Rattle.just_parts.specs.Causes.{Keeps, Reports};
 ghost use Rattle.just_modules.specs.Contents.{of_names};
-ghost use Rattle.just_modules.specs.Rules.{Bodies, Headers, IsLater, Parameters};
+ghost use Rattle.just_modules.specs.Rules.{Bodies, Headers, IsLater, Parameters, first_line};
 
 use crate::definitions::{Definitions, recipe_at};
 use crate::names::index_names;
@@ -147,7 +147,7 @@ fn texts_of<'src>(
 // The error of two modules of one name: the one on the smaller line is the first.
 fn module_redefinition<'src>(first: &Name<'src>, second: &Name<'src>) -> CompileError<'src>
     ensures token { IsLater first.now.token second.now.token result.token }
-    ensures kind { result.kind ≡ kind.Redefinition definition.Module definition.Module (text_of_name second.now) (min first.now.token.line second.now.token.line) }
+    ensures kind { result.kind ≡ kind.Redefinition definition.Module definition.Module (text_of_name second.now) (first_line first.now second.now) }
 {
     let later = if second.line() < first.line() {
         first

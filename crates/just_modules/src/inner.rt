@@ -5,19 +5,57 @@ ghost use Rattle.std.specs.List.{All, Contains};
 ghost use Rattle.std.specs.Map.{values_of};
 ghost use Rattle.just_graph.specs.Steps.{IsOnce};
 ghost use Rattle.just_invoke.specs.declared.justfile.Justfile.{Justfile};
-ghost use Rattle.just_modules.specs.Justfiles.{by_name, named_as, slot, with_names};
+ghost use Rattle.just_modules.specs.Justfiles.{AreTaken, labelled_as, slot};
+ghost use Rattle.just_modules.specs.Modules.{label_of};
 
-use just_data::Sequence;
+use just_data::{Sequence, Text};
 use just_invoke::Justfile;
 use just_parts::Table;
-use just_parts::layers::Name;
+use just_parts::layers::{Name, StringLiteral};
 use std::alloc::{AllocError, Global};
 
-/// A justfile under a name, or under none.
-pub fn named<'src>(justfile: Justfile<'src>, name: Option<Name<'src>>) -> Justfile<'src>
-    ensures { result ≡ named_as name.entry justfile.entry }
+/// What the declaration of a module says of it.
+#[derive(Drop)]
+pub struct Label<'src> {
+    /// The name; the root's module has none.
+    pub name: Option<Name<'src>>,
+    /// What a listing says of it.
+    pub doc: Option<Text>,
+    /// The groups that a listing has it in.
+    pub groups: Sequence<StringLiteral<'src>>,
+    /// Whether a listing leaves it out.
+    pub private: bool,
+}
+
+/// A justfile under a label.
+pub fn labelled<'src>(justfile: Justfile<'src>, label: Label<'src>) -> Justfile<'src>
+    ensures { result ≡ labelled_as label.entry justfile.entry }
 {
-    Justfile { name, ..justfile }
+    let Label {
+        name,
+        doc,
+        groups,
+        private,
+    } = label;
+    Justfile {
+        name,
+        doc,
+        groups,
+        private,
+        ..justfile
+    }
+}
+
+// What is said of a module that is declared by its name alone.
+fn declared<'src>(alloc: Global, name: &Name<'src>) -> Label<'src>
+    ensures { result ≡ label_of name.now }
+{
+    Label {
+        name: Some(name.copied()),
+        doc: None,
+        groups: Sequence::new(alloc),
+        private: false,
+    }
 }
 
 // The values of a table, in the order of their names.
@@ -57,14 +95,14 @@ pub fn take_inner<'src>(
     requires once { IsOnce row.now }
     requires there { (js : List Justfile) × (map Some js ≡ map (slot slots.old.items) row.now) }
     requires names { length names.now ≡ length row.now }
-    ensures modules { IfOk result (λ modules. (js : List Justfile) → map Some js ≡ map (slot slots.old.items) row.now → modules ≡ by_name (with_names js names.now)) }
+    ensures modules { IfOk result (AreTaken slots.old.items row.now names.now) }
     ensures room { OnOk result (length slots.new.items ≡ length slots.old.items) }
     ensures others { OnOk result ((q : ℕ) → (Contains row.now q → ⊥) → slot slots.new.items q ≡ slot slots.old.items q) }
 {
     let mut table = Table::new(alloc);
     for at in 0..row.len() {
         let justfile = take_at(slots, row[at]);
-        table.insert(named(justfile, Some(names[at].copied())))?;
+        table.insert(labelled(justfile, declared(alloc, &names[at])))?;
     }
     let modules = values(alloc, table)?;
     Ok(modules)

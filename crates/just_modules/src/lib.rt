@@ -8,7 +8,7 @@ pub mod files;
 pub mod headers;
 pub mod inner;
 pub mod joined;
-pub mod module;
+pub mod making;
 pub mod module_names;
 mod names;
 pub mod recipe_resolver;

@@ -1,15 +1,12 @@
 //! The names of modules.
 
-ghost use Rattle.std.specs.Prelude.{◌≡◌, ◌<◌, ◌++◌, ℕ, IfOk, IfErr, OnOk, length, slice_index};
+ghost use Rattle.std.specs.Prelude.{◌≡◌, ◌<◌, ◌++◌, ℕ, IfOk, IfErr, OnOk, length};
 ghost use Rattle.std.specs.List.{All};
 ghost use Rattle.std.specs.Option.{option_copied, option_to_list};
-ghost use Rattle.just_graph.specs.Graph.{targets};
 ghost use Rattle.just_parts.specs.Causes.{Reports};
-ghost use Rattle.just_modules.specs.Contents.{texts_of_names};
 ghost use Rattle.just_modules.specs.Files.{asts_in};
-ghost use Rattle.just_modules.specs.Index.{AreDifferent};
 ghost use Rattle.just_modules.specs.Named.{name_by, names_from, names_said};
-ghost use Rattle.just_modules.specs.Steps.{RepeatsNames, names_of_place};
+ghost use Rattle.just_modules.specs.Steps.{HaveFiles, HaveNames, RepeatsNames};
 
 use crate::files::{Files, ast_at};
 use crate::headers::check_modules;
@@ -77,8 +74,8 @@ pub fn check_module_names<'a, 'src, S: Syntax>(
     order: &[usize],
 ) -> Result<(), Error<'src>>
     requires places { All (λ p. p < length joined.now.files.items) order.now }
-    requires files { (k : ℕ) → k < length order.now → All (λ q. q < length files.now.asts.items) (targets joined.now.files.items (slice_index order.now k)) }
-    ensures kept { OnOk result ((k : ℕ) → k < length order.now → AreDifferent (texts_of_names (names_of_place (S.answers syntax.now).enabled files.now joined.now (slice_index order.now k)))) }
+    requires files { HaveFiles files.now joined.now order.now }
+    ensures kept { OnOk result (HaveNames (S.answers syntax.now).enabled files.now joined.now order.now) }
     ensures named { IfErr result (Reports (RepeatsNames (S.answers syntax.now).enabled files.now joined.now order.now)) }
 {
     for place in order {

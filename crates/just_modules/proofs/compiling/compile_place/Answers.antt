@@ -92,7 +92,6 @@ returns-clause-compiled g c =
         resolved = added.resolved;
         fields = is_of_same (recipes_from enabled asts c.as_slice-row.result.now) _ (recipes_by enabled (Some own.0)) (recipes_by enabled (Some own.0)) own.0 c.in_ok-clone.field-0 c.args.loaded.now c.in_ok-from_str.field-0 c.index-3.result.now.now.1 c.in_ok-justfile.justfile
             (ap (recipes_from enabled asts) row) refl c.in_ok-clone.ensures.cases (c.in_ok-from_str.ensures ∙ c.as_str.ensures) (c.in_ok-justfile.ensures.fields own.0 own.1);
-        name = c.in_ok-justfile.ensures.name;
         modules = c.in_ok-justfile.ensures.modules ∙ c.modules.view_is ∙ c.in_ok-modules.ensures.modules inner (e ∙ ap (map (slot c.args.slots.now.items)) (sym inner_row))
             ∙ ap (λ names. by_name (with_names inner names)) (c.as_slice-2.ensures.value ∙ c.in_ok-names.ensures ∙ ap (names_from enabled asts) row);
       };

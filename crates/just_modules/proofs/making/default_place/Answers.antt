@@ -3,7 +3,7 @@ use Rattle.just_modules.specs.Analysis.{IsBefore}
 use Rattle.just_modules.specs.Definitions.{recipes_in}
 use Rattle.just_modules.specs.Recipes.{recipe_at}
 use Rattle.just_modules.proofs.Defaults.{becomes_best, read_before, stays_best}
-use Rattle.just_modules.proofs.analyzer.default_place.Goals as goal
+use Rattle.just_modules.proofs.making.default_place.Goals as goal
 
 pub loop-place-preserved : goal.loop-place-preserved
 loop-place-preserved c =

@@ -13,7 +13,7 @@ use Rattle.just_modules.specs.Resolved.{AreResolved, HasPriors, Resolving, unres
 use Rattle.just_modules.specs.Rows.{IsOrderOf}
 use Rattle.just_modules.specs.Rules.{Bodies, Dependencies, Parameters}
 use Rattle.just_modules.proofs.Makings.{numbers_as, resolved_as}
-use Rattle.just_modules.proofs.module.analyze_module.Goals as goal
+use Rattle.just_modules.proofs.analyzer.analyze_module.Goals as goal
 
 pub returns-in_err-check_parameters-clause-named : goal.returns-in_err-check_parameters-clause-named
 returns-in_err-check_parameters-clause-named g c =

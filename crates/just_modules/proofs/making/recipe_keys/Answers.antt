@@ -7,7 +7,7 @@ use Rattle.just_modules.proofs.RecipePlaces.{length-lent}
 use Rattle.just_modules.proofs.Resolving.{number_read}
 use Rattle.just_modules.proofs.Keys.{keys_more}
 use Rattle.just_modules.proofs.Held.{keys_held_more}
-use Rattle.just_modules.proofs.analyzer.recipe_keys.Goals as goal
+use Rattle.just_modules.proofs.making.recipe_keys.Goals as goal
 
 pub loop-place-preserved : goal.loop-place-preserved
 loop-place-preserved c =

@@ -10,13 +10,13 @@ use Rattle.just_parts.specs.Causes.{Reports}
 use Rattle.just_parts.proofs.Lifts.{reports_by}
 use Rattle.just_modules.specs.Analyzed.{IsAnalyzed}
 use Rattle.just_modules.specs.Joined.{AreArranged, AreGraphs}
-use Rattle.just_modules.specs.Justfiles.{named_as}
+use Rattle.just_modules.specs.Justfiles.{labelled_as}
 use Rattle.just_modules.specs.Modules.{heading}
 use Rattle.just_modules.specs.Steps.{BreaksInOrder, CanCompileAll, HaveCompiled, RepeatsNames}
 use Rattle.just_modules.proofs.Analyzing.{all_can, broken_named, files_there, go_deeper, is_analyzed, repeats_named, root_held, rows_many}
 use Rattle.just_modules.proofs.FilePlaces.{are_graphs, place_back}
 use Rattle.just_modules.proofs.Holding.{holds_all, place_known}
-use Rattle.just_modules.proofs.analyzer.Analyzer.analyze.Goals as goal
+use Rattle.just_modules.proofs.analyzer.analyze_modules.Goals as goal
 
 pub file_rows-requires : goal.file_rows-requires
 file_rows-requires g c = holds_all (g.S.Syntax.answers c.args.syntax.now).enabled c.args.asts.now.entries c.in_ok-files.files c.in_ok-files.ensures c.requires.asts
@@ -52,7 +52,7 @@ check_module_names-requires-clause-files g c =
     files_there (g.S.Syntax.answers c.args.syntax.now).enabled entries key c.in_ok-files.files c.in_ok-files.ensures c.in_ok-rows.rows c.in_ok-rows.ensures c.requires.asts c.in_ok-place.place
     (slice_get_within (keys_of entries) c.in_ok-place.place key at) c.in_ok-joined.joined c.as_slice.result.now
     (subst (λ (o : List ℕ). AreArranged c.in_ok-rows.rows c.in_ok-place.place c.in_ok-joined.joined o) (sym c.as_slice.ensures.value) c.in_ok-joined.ensures)
-    (heading key c.args.name) (sym (get_or_from_slice_get (keys_of entries) c.in_ok-place.place key key at))
+    (heading key c.args.label) (sym (get_or_from_slice_get (keys_of entries) c.in_ok-place.place key key at))
 
 pub returns-in_err-check_module_names-clause-named : goal.returns-in_err-check_module_names-clause-named
 returns-in_err-check_module_names-clause-named g c =
@@ -63,7 +63,7 @@ returns-in_err-check_module_names-clause-named g c =
     let arranged = subst (λ (o : List ℕ). AreArranged c.in_ok-rows.rows c.in_ok-place.place c.in_ok-joined.joined o) (sym c.as_slice.ensures.value) c.in_ok-joined.ensures in
     IfErr-weaker c.from_residual-in_err-check_module_names.result (Reports (RepeatsNames enabled c.in_ok-files.files c.in_ok-joined.joined c.as_slice.result.now)) _
     (reports_by _ _ (repeats_named enabled entries key c.in_ok-files.files c.in_ok-files.ensures c.in_ok-rows.rows c.in_ok-rows.ensures c.requires.asts c.in_ok-place.place
-    (slice_get_within (keys_of entries) c.in_ok-place.place key at) c.in_ok-joined.joined c.as_slice.result.now arranged (heading key c.args.name) (sym (get_or_from_slice_get (keys_of entries) c.in_ok-place.place key key at))))
+    (slice_get_within (keys_of entries) c.in_ok-place.place key at) c.in_ok-joined.joined c.as_slice.result.now arranged (heading key c.args.label) (sym (get_or_from_slice_get (keys_of entries) c.in_ok-place.place key key at))))
     (search rules)
 
 pub compile_in_order-requires : goal.compile_in_order-requires
@@ -74,7 +74,7 @@ compile_in_order-requires g c =
     let arranged = subst (λ (o : List ℕ). AreArranged c.in_ok-rows.rows c.in_ok-place.place c.in_ok-joined.joined o) (sym c.as_slice.ensures.value) c.in_ok-joined.ensures in
     subst (CanCompileAll (g.S.Syntax.answers c.args.syntax.now).enabled c.in_ok-files.files c.in_ok-joined.joined) (c.as_slice.ensures.value ∙ sym c.as_slice-2.ensures.value)
     (all_can (g.S.Syntax.answers c.args.syntax.now).enabled entries key c.in_ok-files.files c.in_ok-files.ensures c.in_ok-rows.rows c.in_ok-rows.ensures c.requires.asts c.in_ok-place.place
-    (slice_get_within (keys_of entries) c.in_ok-place.place key at) c.in_ok-joined.joined c.as_slice.result.now arranged (heading key c.args.name) (sym (get_or_from_slice_get (keys_of entries) c.in_ok-place.place key key at))
+    (slice_get_within (keys_of entries) c.in_ok-place.place key at) c.in_ok-joined.joined c.as_slice.result.now arranged (heading key c.args.label) (sym (get_or_from_slice_get (keys_of entries) c.in_ok-place.place key key at))
     c.in_ok-check_module_names.ensures.kept)
 
 pub returns-in_err-slots-clause-named : goal.returns-in_err-slots-clause-named
@@ -86,7 +86,7 @@ returns-in_err-slots-clause-named g c =
     let arranged = subst (λ (o : List ℕ). AreArranged c.in_ok-rows.rows c.in_ok-place.place c.in_ok-joined.joined o) (sym c.as_slice.ensures.value) c.in_ok-joined.ensures in
     IfErr-weaker c.from_residual-in_err-slots.result (Reports (BreaksInOrder enabled c.in_ok-files.files c.in_ok-joined.joined c.as_slice-2.result.now)) _
     (λ e h. reports_by _ _ (broken_named enabled entries key c.in_ok-files.files c.in_ok-files.ensures c.in_ok-rows.rows c.in_ok-rows.ensures c.requires.asts c.in_ok-place.place
-    (slice_get_within (keys_of entries) c.in_ok-place.place key at) c.in_ok-joined.joined c.as_slice.result.now arranged (heading key c.args.name) (sym (get_or_from_slice_get (keys_of entries) c.in_ok-place.place key key at))
+    (slice_get_within (keys_of entries) c.in_ok-place.place key at) c.in_ok-joined.joined c.as_slice.result.now arranged (heading key c.args.label) (sym (get_or_from_slice_get (keys_of entries) c.in_ok-place.place key key at))
     c.in_ok-check_module_names.ensures.kept) e (subst (λ (o : List ℕ). Reports (BreaksInOrder enabled c.in_ok-files.files c.in_ok-joined.joined o) e) (c.as_slice-2.ensures.value ∙ sym c.as_slice.ensures.value) h))
     (search rules)
 
@@ -114,7 +114,7 @@ take_at-justfile-requires-clause-there g c =
     let so = subst (λ (o : List ℕ). HaveCompiled enabled c.in_ok-files.files c.in_ok-joined.joined c.args.loaded.now o (length o) c.in_ok-slots.slots.items c.in_ok-slots.recipes) (c.as_slice-2.ensures.value ∙ sym c.as_slice.ensures.value) c.in_ok-slots.ensures.compiled in (
       so.justfile c.in_ok-place.place,
       root_held enabled entries key c.in_ok-files.files c.in_ok-files.ensures c.in_ok-rows.rows c.in_ok-rows.ensures c.requires.asts c.in_ok-place.place
-          (slice_get_within (keys_of entries) c.in_ok-place.place key at) c.in_ok-joined.joined c.as_slice.result.now arranged (heading key c.args.name) (sym (get_or_from_slice_get (keys_of entries) c.in_ok-place.place key key at))
+          (slice_get_within (keys_of entries) c.in_ok-place.place key at) c.in_ok-joined.joined c.as_slice.result.now arranged (heading key c.args.label) (sym (get_or_from_slice_get (keys_of entries) c.in_ok-place.place key key at))
           c.in_ok-check_module_names.ensures.kept c.args.loaded.now c.in_ok-slots.slots.items c.in_ok-slots.recipes so,
     )
 
@@ -127,10 +127,10 @@ returns-clause-analyzed g c =
     let arranged = subst (λ (o : List ℕ). AreArranged c.in_ok-rows.rows c.in_ok-place.place c.in_ok-joined.joined o) (sym c.as_slice.ensures.value) c.in_ok-joined.ensures in
     let so = subst (λ (o : List ℕ). HaveCompiled enabled c.in_ok-files.files c.in_ok-joined.joined c.args.loaded.now o (length o) c.in_ok-slots.slots.items c.in_ok-slots.recipes) (c.as_slice-2.ensures.value ∙ sym c.as_slice.ensures.value) c.in_ok-slots.ensures.compiled in
     let held = root_held enabled entries key c.in_ok-files.files c.in_ok-files.ensures c.in_ok-rows.rows c.in_ok-rows.ensures c.requires.asts c.in_ok-place.place
-    (slice_get_within (keys_of entries) c.in_ok-place.place key at) c.in_ok-joined.joined c.as_slice.result.now arranged (heading key c.args.name) (sym (get_or_from_slice_get (keys_of entries) c.in_ok-place.place key key at))
+    (slice_get_within (keys_of entries) c.in_ok-place.place key at) c.in_ok-joined.joined c.as_slice.result.now arranged (heading key c.args.label) (sym (get_or_from_slice_get (keys_of entries) c.in_ok-place.place key key at))
     c.in_ok-check_module_names.ensures.kept c.args.loaded.now c.in_ok-slots.slots.items c.in_ok-slots.recipes so in
     let taken : c.take_at-justfile.result ≡ so.justfile c.in_ok-place.place = some_same (sym c.take_at-justfile.ensures.taken ∙ held) in
-    subst (λ (j : Justfile). IsAnalyzed enabled (get same_ast_key c.args.asts.now) c.args.loaded.now (heading key c.args.name) j c.in_ok-slots.recipes) (sym (c.named.ensures ∙ ap (named_as c.args.name) taken))
+    subst (λ (j : Justfile). IsAnalyzed enabled (get same_ast_key c.args.asts.now) c.args.loaded.now (heading key c.args.label) j c.in_ok-slots.recipes) (sym (c.labelled.ensures ∙ ap (labelled_as c.args.label) taken))
     (is_analyzed enabled entries key c.in_ok-files.files c.in_ok-files.ensures c.in_ok-rows.rows c.in_ok-rows.ensures c.requires.asts c.in_ok-place.place
-    (slice_get_within (keys_of entries) c.in_ok-place.place key at) c.in_ok-joined.joined c.as_slice.result.now arranged (heading key c.args.name) (sym (get_or_from_slice_get (keys_of entries) c.in_ok-place.place key key at))
+    (slice_get_within (keys_of entries) c.in_ok-place.place key at) c.in_ok-joined.joined c.as_slice.result.now arranged (heading key c.args.label) (sym (get_or_from_slice_get (keys_of entries) c.in_ok-place.place key key at))
     c.in_ok-check_module_names.ensures.kept c.args.loaded.now c.in_ok-slots.slots.items c.in_ok-slots.recipes so)

@@ -5,8 +5,8 @@ use Rattle.just_modules.specs.Definitions.{recipes_in}
 use Rattle.just_modules.proofs.Makings.{is_of}
 use Rattle.just_modules.proofs.RecipePlaces.{length-lent}
 use Rattle.just_modules.proofs.Resolving.{number_read}
-use Rattle.just_modules.proofs.analyzer.make_justfile.Goals.{in-Some, in-None}
-use Rattle.just_modules.proofs.analyzer.make_justfile.Goals as goal
+use Rattle.just_modules.proofs.making.make_justfile.Goals.{in-Some, in-None}
+use Rattle.just_modules.proofs.making.make_justfile.Goals as goal
 
 pub returns-clause-fields : goal.returns-clause-fields
 returns-clause-fields c =

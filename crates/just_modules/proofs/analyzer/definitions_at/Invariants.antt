@@ -2,7 +2,7 @@ use Rattle.std.proofs.Common.{◌≡◌, take}
 use Rattle.just_modules.specs.Definitions.{recipes_in}
 use Rattle.just_modules.specs.Files.{asts_in}
 use Rattle.just_modules.specs.Named.{recipes_from}
-use Rattle.just_modules.proofs.module.definitions_at.Given as goal
+use Rattle.just_modules.proofs.analyzer.definitions_at.Given as goal
 
 abbrev pub invariant-loop-place : goal.invariant-loop-place
 invariant-loop-place g l = recipes_in l.definitions ≡ recipes_from (g.S.Syntax.answers l.syntax).enabled (asts_in l.files) (take l.place-index l.places)
