@@ -22,7 +22,7 @@ use Rattle.just_parts.specs.declared.layers.name.Name.{Name}
 use Rattle.just_parts.specs.declared.layers.name.Namepath.{Namepath}
 use Rattle.just_parts.specs.declared.source.Source.{Source}
 use Rattle.just_loader.specs.Loaded.{entered}
-use Rattle.just_loader.specs.LoadedInPlaces.{CameInPlaces, file_at, name_at, own_after_places}
+use Rattle.just_loader.specs.Placed.{CameInPlaces, file_at, name_at, own_after_places}
 use Rattle.just_loader.specs.Loading.{AreNodes, AreUnfolded, CameInSoFar, ComesNext, components_after, folder_after}
 use Rattle.just_loader.specs.Numbering.{texts_of}
 use Rattle.just_loader.specs.Reached.{World}

@@ -7,7 +7,7 @@ use Rattle.just_graph.specs.declared.unfolding.Step.{Step}
 use Rattle.just_graph.proofs.KeySteps.{steps_back, steps_keep, steps_mapped}
 use Rattle.just_graph.proofs.Members.{In, contained, in_cases, in_map}
 use Rattle.just_loader.specs.Keys.{FileKey, FileKeySteps, FileStep, IsKey, root_file_key, steps_of}
-use Rattle.just_loader.specs.LoadedInPlaces.{file_at, name_at}
+use Rattle.just_loader.specs.Placed.{file_at, name_at}
 use Rattle.just_loader.specs.Reached.{World}
 use Rattle.just_loader.specs.Scanned.{IsScan, paths_in}
 use Rattle.just_loader.specs.declared.scanned.Scan.{Scan}

@@ -18,7 +18,7 @@ use Rattle.just_parts.specs.Modulepath.{Text}
 use Rattle.just_parts.specs.declared.layers.ast.Item.{Item}
 use Rattle.just_loader.specs.Keys.{FileStep, end_of, items_at, steps_by, steps_of}
 use Rattle.just_loader.specs.Links.{Link, Nowhere, To, Fault}
-use Rattle.just_loader.specs.LoadedInPlaces.{file_at, name_at}
+use Rattle.just_loader.specs.Placed.{file_at, name_at}
 use Rattle.just_loader.specs.Numbering.{texts_of}
 use Rattle.just_loader.specs.Reached.{World, link}
 use Rattle.just_loader.specs.Scanned.{IsPlaceOf, ArePlacesOf, IsStepTo, IsStepOf, AreSteps, IsScan, IsScanned, paths_in}

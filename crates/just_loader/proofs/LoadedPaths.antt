@@ -8,7 +8,7 @@ use Rattle.std.proofs.lemmas.List.Elements.{filter-append}
 use Rattle.std.proofs.lemmas.Option.{get_or_from_slice_get, slice_get_read}
 use Rattle.just_graph.specs.declared.unfolding.Unfolded.{Unfolded}
 use Rattle.just_graph.proofs.Members.{In, in_left, in_right, in_cases}
-use Rattle.just_loader.specs.LoadedInPlaces.{at_first_places, file_at}
+use Rattle.just_loader.specs.Placed.{at_first_places, file_at}
 use Rattle.just_loader.specs.Parsed.{relative_at}
 use Rattle.just_loader.specs.Reached.{World, relative_to_root}
 use Rattle.just_loader.specs.Scanned.{IsScan, paths_in}

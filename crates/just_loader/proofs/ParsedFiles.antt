@@ -17,7 +17,7 @@ use Rattle.just_parts.specs.declared.layers.error.Error.TheVariants as error
 use Rattle.just_parts.proofs.Edges.{same_priors}
 use Rattle.just_loader.specs.Keys.{spends_at}
 use Rattle.just_loader.specs.Loaded.{path_of_link, with_path}
-use Rattle.just_loader.specs.LoadedInPlaces.{file_at}
+use Rattle.just_loader.specs.Placed.{file_at}
 use Rattle.just_loader.specs.Loading.{IsScanBy, StopsAt}
 use Rattle.just_loader.specs.Numbering.{texts_of}
 use Rattle.just_loader.specs.Reached.{World, ast_of, items_said, link, relative_to_root}

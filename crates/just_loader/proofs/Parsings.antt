@@ -18,7 +18,7 @@ use Rattle.just_parts.specs.declared.layers.error.Error.{Error}
 use Rattle.just_parts.specs.declared.layers.error.Error.TheVariants as error
 use Rattle.just_parts.specs.declared.source.Source.{Source}
 use Rattle.just_loader.specs.Keys.{spends_at}
-use Rattle.just_loader.specs.LoadedInPlaces.{IsAstOfPlace, file_at}
+use Rattle.just_loader.specs.Placed.{IsAstOfPlace, file_at}
 use Rattle.just_loader.specs.Loading.{AreNodes, AreParsedSoFar, AreSources, AreUnfolded, IsSaid, Stops, StopsAt, spent_by}
 use Rattle.just_loader.specs.Reached.{World}
 use Rattle.just_loader.specs.Scanned.{IsScan}

@@ -16,7 +16,7 @@ use Rattle.just_parts.specs.declared.layers.error.Error.TheVariants as error
 use Rattle.just_parts.specs.declared.source.Source.{Source}
 use Rattle.just_loader.specs.Keys.{spends_at}
 use Rattle.just_loader.specs.Loaded.{with_path}
-use Rattle.just_loader.specs.LoadedInPlaces.{CameInPlaces, IsAstOfPlace, file_at, name_at}
+use Rattle.just_loader.specs.Placed.{CameInPlaces, IsAstOfPlace, file_at, name_at}
 use Rattle.just_loader.specs.Reached.{World, ast_of, link}
 use Rattle.just_loader.specs.Scanned.{ArePlacesOf, IsScan, paths_in}
 use Rattle.just_loader.specs.declared.scanned.Scan.{Scan}
@@ -100,6 +100,10 @@ StopsAt given spends (error.Invocation e) = ⊥
 StopsAt given spends (error.Run e) = ⊥
 StopsAt given spends error.Exhausted = 2 ^ 64 ≤ given + spends
 StopsAt given spends error.Memory = Unit {0}
+
+-- the same of the text of the file at a place
+abbrev pub StopsInFile : Scan → SyntaxAnswers → ℕ → ℕ → Error → Type 0
+StopsInFile scan answers place given e = InWorlds scan answers (λ w. StopsAt given (spends_at w (file_at scan place)) e)
 
 -- the same of the first texts of elements together
 abbrev pub Stops : World → Scan → List Unfolded → Error → Type 0

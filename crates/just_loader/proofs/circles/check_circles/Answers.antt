@@ -16,14 +16,13 @@ order-requires-clause-graph c =
 pub returns-in-Ok-clause-ordered : goal.returns-in-Ok-clause-ordered
 returns-in-Ok-clause-ordered c =
     let are : AreEdges c.args.scan.now.rows.items c.as_slice-2.result.now = edges_lent c.as_slice.ensures.value c.as_slice-2.ensures.value c.in_ok-edges.ensures in
-    let o : IsOrder (HasEdge c.as_slice-2.result.now) (length c.as_slice-2.result.now) c.as_slice-3.result.now c.in-Ok.order.items = rw c.in-Ok.is at c.in_ok-order.ensures.ordered in
+    let order = c.in-Ok.field-0.items in
+    let o : IsOrder (HasEdge c.as_slice-2.result.now) (length c.as_slice-2.result.now) c.as_slice-3.result.now order = rw c.in-Ok.is at c.in_ok-order.ensures.ordered in
     let roots : Contains c.as_slice-3.result.now 0 = subst (λ xs. Contains xs 0) (sym c.as_slice-3.ensures) (0, lit< tt, refl) in
-    (c.as_slice-3.result.now, roots, steps_order c.args.scan.now.rows.items c.as_slice-2.result.now c.as_slice-3.result.now c.in-Ok.order.items are o)
+    (c.as_slice-3.result.now, order, roots, steps_order c.args.scan.now.rows.items c.as_slice-2.result.now c.as_slice-3.result.now order are o)
 
 pub returns-in-Ok-clause-none : goal.returns-in-Ok-clause-none
-returns-in-Ok-clause-none c =
-    let o = returns-in-Ok-clause-ordered c in
-    λ w is f r l. none_leads_back w c.args.scan.now is (o.0, c.in-Ok.order.items, o.1, o.2) f r l
+returns-in-Ok-clause-none c = λ w is f r l. none_leads_back w c.args.scan.now is (returns-in-Ok-clause-ordered c) f r l
 
 pub path_at-requires : goal.path_at-requires
 path_at-requires c =

@@ -6,7 +6,7 @@ use Rattle.just_parts.specs.Syntax.{AreRising, PriorsAreDependencies, numbers}
 use Rattle.just_parts.specs.declared.layers.ast.Ast.{Ast}
 use Rattle.just_parts.specs.declared.layers.error.Error.{Error}
 use Rattle.just_loader.specs.Keys.{spends_at}
-use Rattle.just_loader.specs.LoadedInPlaces.{file_at}
+use Rattle.just_loader.specs.Placed.{file_at}
 use Rattle.just_loader.specs.Loading.{IsScanBy, Stops, StopsAt, spent_by}
 use Rattle.just_loader.specs.Reached.{World}
 use Rattle.just_loader.proofs.Parsings.{all_more, ast_at, err_by, node_inside, parsed_more, parsed_none, read, rising_more, spent_more, stops_at_last}

@@ -2,7 +2,7 @@ use Rattle.std.proofs.Common.{◌≡◌, ◌∙◌, ◌<◌, length, IfSome, ap,
 use Rattle.just_graph.specs.declared.unfolding.Step.{Step}
 use Rattle.just_parts.specs.Clean.{IsClean}
 use Rattle.just_parts.specs.declared.source.Source.{Source}
-use Rattle.just_loader.specs.LoadedInPlaces.{CameInPlaces, file_at}
+use Rattle.just_loader.specs.Placed.{CameInPlaces, file_at}
 use Rattle.just_loader.proofs.ComingIn.{came_by, came_over, came_root, element_is, over, path_clean, path_is, root_inside, row_inside, step_inside, step_is}
 use Rattle.just_loader.proofs.loading.source_of.Goals as goal
 use Rattle.just_loader.proofs.loading.source_of.Goals.{in-None+in_ok-source-in-None, in-Some+in_ok-source-in-Some}

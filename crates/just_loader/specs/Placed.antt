@@ -1,22 +1,18 @@
--- What the keys of a compilation hold, by places of files and numbers of names.
-use Rattle.std.specs.Prelude.{◌≡◌, ◌==◌, ℕ, not, false, IsTrue, List, [], ◌∷◌, map, filter, get_or, Option, Some}
-use Rattle.std.specs.HashMap.{get}
-use Rattle.std.specs.List.{All, Contains}
-use Rattle.just_graph.specs.Unfolding.{Key, Node, KeySteps, AreFirst, IsLeastDepth, key, root_key, steps}
+-- How files come in and what they say, by places of files and numbers of names.
+use Rattle.std.specs.Prelude.{◌≡◌, ◌==◌, ℕ, not, false, List, [], ◌∷◌, map, filter, get_or, Some}
+use Rattle.just_graph.specs.Unfolding.{Node, IsLeastDepth, key, steps}
 use Rattle.just_graph.specs.declared.unfolding.Step.{Step}
 use Rattle.just_parts.specs.Bare.{bare_ast}
 use Rattle.just_parts.specs.Clean.{folder_of}
-use Rattle.just_parts.specs.Syntax.{IsFrom, PriorsAreDependencies, components_of}
+use Rattle.just_parts.specs.Syntax.{IsFrom, components_of}
 use Rattle.just_parts.specs.Modulepath.{Text}
 use Rattle.just_parts.specs.declared.layers.ast.Ast.{Ast}
 use Rattle.just_parts.specs.declared.source.Source.{Source}
-use Rattle.just_parts.specs.Asts.{AstKey, same_ast_key}
-use Rattle.just_loader.specs.FileCircles.{IsFileOrder}
-use Rattle.just_loader.specs.Loaded.{AreToldApart, entered, with_path}
+use Rattle.just_parts.specs.Asts.{AstKey}
+use Rattle.just_loader.specs.Loaded.{entered, with_path}
 use Rattle.just_loader.specs.Numbering.{texts_of}
-use Rattle.just_loader.specs.Reached.{World, ast_of, relative_to_root}
-use Rattle.just_loader.specs.Scanned.{IsScan, paths_in}
-use Rattle.just_loader.specs.declared.loaded.Loaded.{Loaded}
+use Rattle.just_loader.specs.Reached.{World, ast_of}
+use Rattle.just_loader.specs.Scanned.{paths_in}
 use Rattle.just_loader.specs.declared.scanned.Scan.{Scan}
 
 -- the path of the file at a place, and the text of a name under its number
@@ -55,24 +51,7 @@ pub record IsAstOfPlace (w : World) (scan : Scan) (n : Node) (ast : Ast) : Type 
   pub module_path : ast.module_path ≡ parsed.module_path
   pub working_directory : ast.working_directory ≡ parsed.working_directory
 
--- Each node's text is held under its key, and nothing else is.
-pub record AreAstsOf (w : World) (scan : Scan) (nodes : List Node) (asts : AstKey → Option Ast) : Type 0 where
-  pub held : (n : Node) → Contains nodes n → (ast : Ast) × (asts (key_at scan n.path n.node) ≡ Some ast) × IsAstOfPlace w scan n ast
-  pub only : (k : AstKey) (ast : Ast) → asts k ≡ Some ast → (n : Node) × Contains nodes n × IsTrue (same_ast_key (key_at scan n.path n.node) k)
-
 -- each number once, at its first place
 abbrev pub at_first_places : List ℕ → List ℕ
 at_first_places [] = []
 at_first_places (x ∷ xs) = x ∷ filter (λ y. not (y == x)) (at_first_places xs)
-
--- What is loaded: the reached files, an order of them, the first node of each key of the unfolding, what the keys hold, and the relative paths of the files in the order of loading.
-pub record IsLoadedInPlaces (w : World) (loaded : Loaded) : Type 0 where
-  pub scan : IsScan w loaded.scan
-  pub order : IsFileOrder loaded.scan.rows.items loaded.order.items
-  pub nodes : List Node
-  pub first : AreFirst (steps loaded.scan.rows.items) 0 nodes
-  pub keys : (k : Key) (n : ℕ) → KeySteps (steps loaded.scan.rows.items) (root_key 0) k n → (node : Node) × Contains nodes node × (key node ≡ k)
-  pub asts : AreAstsOf w loaded.scan nodes (get same_ast_key loaded.asts)
-  pub numbers : AreToldApart (get same_ast_key loaded.asts)
-  pub priors : (k : AstKey) (ast : Ast) → get same_ast_key loaded.asts k ≡ Some ast → All PriorsAreDependencies ast.items
-  pub loaded_is : loaded.loaded ≡ map (λ place. relative_to_root w (file_at loaded.scan place)) (at_first_places (map (λ (n : Node). n.node) nodes))
