@@ -31,8 +31,7 @@ use Rattle.just_loader.specs.declared.scanned.Scan.{Scan}
 use Rattle.just_loader.specs.declared.scanned.ScannedFile.{ScannedFile}
 use Rattle.just_loader.proofs.FileRows.{known_here, numbered}
 use Rattle.just_loader.proofs.FileCircles.{has_rows}
-use Rattle.just_loader.proofs.Numberings.{get_cases, got, map_get, none_some}
-use Rattle.just_loader.proofs.WholeScans.{read_at}
+use Rattle.just_loader.proofs.Numberings.{get_cases, got, map_get, none_some, read_at}
 
 -- the file at a place
 pub file_is : (files : List ScannedFile) (k : ℕ) (f : ScannedFile) → k < length files → f ≡ get_or files k f → slice_get (paths_in files) k ≡ Some f.path

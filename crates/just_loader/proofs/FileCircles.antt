@@ -29,8 +29,7 @@ use Rattle.just_loader.specs.Scanned.{IsScan, paths_in}
 use Rattle.just_loader.specs.declared.scanned.Scan.{Scan}
 use Rattle.just_loader.specs.declared.scanned.ScannedFile.{ScannedFile}
 use Rattle.just_loader.proofs.FileRows.{at, said, steps_here, text_step}
-use Rattle.just_loader.proofs.Numberings.{got, some_same}
-use Rattle.just_loader.proofs.WholeScans.{read_at}
+use Rattle.just_loader.proofs.Numberings.{got, read_at, some_same}
 
 pub has_rows : (w : World) (scan : Scan) → IsScan w scan → HasRows scan
 has_rows w scan is = record {

@@ -24,8 +24,8 @@ use Rattle.just_loader.specs.Reached.{World, link}
 use Rattle.just_loader.specs.Scanned.{IsPlaceOf, ArePlacesOf, IsStepTo, IsStepOf, AreSteps, IsScan, IsScanned, paths_in}
 use Rattle.just_loader.specs.declared.scanned.Scan.{Scan}
 use Rattle.just_loader.specs.declared.scanned.ScannedFile.{ScannedFile}
-use Rattle.just_loader.proofs.Numberings.{map_get}
-use Rattle.just_loader.proofs.WholeScans.{one_target, read_at, row_at}
+use Rattle.just_loader.proofs.Numberings.{map_get, read_at}
+use Rattle.just_loader.proofs.WholeScans.{one_target, row_at}
 
 -- where links lead
 pub no_end : (paths : List Text) (l : Link) → IsPlaceOf paths l None → end_of l ≡ []

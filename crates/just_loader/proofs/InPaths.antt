@@ -34,9 +34,8 @@ use Rattle.just_loader.proofs.FileKeys.{file_key, from_key, from_steps, root_ins
 use Rattle.just_loader.proofs.FileRows.{at, steps_here, text_step}
 use Rattle.just_loader.proofs.HeldAsts.{are_told_apart, held_each}
 use Rattle.just_loader.proofs.LoadedPaths.{first_in, places_of, relative_paths}
-use Rattle.just_loader.proofs.Numberings.{get_map, got, map_get, placed}
+use Rattle.just_loader.proofs.Numberings.{get_map, got, map_get, placed, read_at}
 use Rattle.just_loader.proofs.WholeLoads.{IsWhole, nodes_inside}
-use Rattle.just_loader.proofs.WholeScans.{read_at}
 use Rattle.std.proofs.lemmas.Option.{get_or_from_slice_get}
 
 -- a node by texts

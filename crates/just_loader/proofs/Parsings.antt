@@ -3,7 +3,7 @@ use Rattle.std.proofs.Common.{◌≡◌, ℕ, ◌+◌, ◌<◌, ◌≤◌, List,
 use Rattle.std.specs.List.{All, flat_map, slice_get}
 use Rattle.std.proofs.lemmas.Grind.{flat_map-append}
 use Rattle.std.proofs.lemmas.List.{append-nil}
-use Rattle.std.proofs.lemmas.List.Elements.{All-contains}
+use Rattle.std.proofs.lemmas.List.Elements.{All-push, All-same}
 use Rattle.std.proofs.lemmas.List.Sums.{sum_by_more}
 use Rattle.std.proofs.lemmas.Option.{slice_get_read, slice_get_within}
 use Rattle.just_graph.specs.Unfolding.{HasStep, Node, root_node, steps}
@@ -25,8 +25,7 @@ use Rattle.just_loader.specs.Scanned.{IsScan}
 use Rattle.just_loader.specs.declared.scanned.Scan.{Scan}
 use Rattle.just_loader.proofs.ComingIn.{root_first}
 use Rattle.just_loader.proofs.FileCircles.{has_rows}
-use Rattle.just_loader.proofs.Numberings.{get_cases, got, none_some}
-use Rattle.just_loader.proofs.WholeScans.{all_at, read_at}
+use Rattle.just_loader.proofs.Numberings.{get_cases, got, none_some, read_at}
 
 -- the file of each node is scanned
 module _ (w : World) (scan : Scan) (is : IsScan w scan) (us : List Unfolded) (are : AreUnfolded scan us) (k : ℕ) where
@@ -80,10 +79,7 @@ parsed_more w scan ns old new ast so one is k n a at here = elim (get_cases old 
 
 -- what holds of one more element
 pub all_more : {A : Type 0} (P : A → Type 0) (old new : List A) (x : A) → All P old → P x → new ≡ old ++ x ∷ [] → All P new
-all_more P old new x all one is = all_at P new (λ k y e. elim (get_cases old x y k (ap (λ xs. slice_get xs k) (sym is) ∙ e)) [
-  | inl before ↦ All-contains P old y all (got old k y before)
-  | inr last ↦ subst P last.1 one
-])
+all_more P old new x all one is = All-same P new (old ++ x ∷ []) is (All-push P old x all one)
 
 -- numbers that rise, and then more
 rising_from : (low less : ℕ) (ns : List ℕ) (high : ℕ) → less ≤ low → AreRising low ns high → AreRising less ns high

@@ -25,7 +25,7 @@ use Rattle.just_loader.specs.Sources.{text_at}
 use Rattle.just_loader.specs.declared.loaded.Loaded.{Loaded}
 use Rattle.just_loader.specs.declared.scanned.Scan.{Scan}
 use Rattle.just_loader.proofs.KeySums.{node_inside, one_place, many, files_kept}
-use Rattle.just_loader.proofs.WholeScans.{read_at}
+use Rattle.just_loader.proofs.Numberings.{read_at}
 
 -- what unfolding tells of the nodes
 pub record IsWhole (rows : List (Vec Step Global)) (us : List Unfolded) : Type 0 where

@@ -30,7 +30,7 @@ use Rattle.just_loader.specs.declared.found.Found.{Found}
 use Rattle.just_loader.specs.declared.scanned.Scan.{Scan}
 use Rattle.just_loader.specs.declared.scanned.ScannedFile.{ScannedFile}
 use Rattle.just_loader.specs.declared.sources.SourceFile.{SourceFile}
-use Rattle.just_loader.proofs.Numberings.{got, placed, get_cases, get_map, get_more, map_get, none_some, some_same}
+use Rattle.just_loader.proofs.Numberings.{get_cases, get_map, get_more, got, map_get, none_some, placed, read_at, some_same}
 use Rattle.just_loader.proofs.Scanning.{places_more, steps_more}
 
 -- The files so far: those that are found are reached, and the first of them are scanned.
@@ -171,12 +171,6 @@ pub row_at : (rows : List (Vec Step Global)) (a : ℕ) (s : Step) → In s (step
 row_at [] a s h = absurd h
 row_at (row ∷ rows) zero s h = (row, refl, h)
 row_at (row ∷ rows) (suc a) s h = row_at rows a s h
-
--- an element that is inside
-pub read_at : {A : Type 0} (xs : List A) (k : ℕ) → k < length xs → (x : A) × (slice_get xs k ≡ Some x)
-read_at [] k h = absurd (omega arith)
-read_at (x ∷ xs) zero h = (x, refl)
-read_at (x ∷ xs) (suc k) h = read_at xs k (omega arith)
 
 module _ (w : World) (paths names : List (List ℕ)) (files : List ScannedFile) (rows : List (Vec Step Global)) (so : ScannedSoFar w paths names files rows) (all : length paths ≤ length files) where
   all_paths : paths_in files ≡ paths
