@@ -2,17 +2,17 @@
 use Rattle.std.proofs.Common.{◌≡◌, ℕ, ◌<◌, List, [], ◌∷◌, map, length, Option, None, Some, inl, inr, refl, sym, ap, subst, ◌∙◌, arith}
 use Rattle.std.proofs.lemmas.List.{length-map}
 use Rattle.std.proofs.lemmas.Option.{slice_get_within, get_or_from_slice_get}
-use Rattle.just_graph.specs.Unfolding.{Key, KeySteps, IsReachedKey, path_after, root_key, steps}
+use Rattle.just_graph.specs.Unfolding.{Key, KeySteps, IsLeastDepth, IsReachedKey, path_after, root_key, steps}
 use Rattle.just_graph.specs.declared.unfolding.Step.{Step}
 use Rattle.just_graph.proofs.KeySteps.{steps_back, steps_keep, steps_mapped}
 use Rattle.just_graph.proofs.Members.{In, contained, in_cases, in_map}
-use Rattle.just_loader.specs.Keys.{FileKey, FileKeySteps, FileStep, IsKey, root_file_key, steps_of}
-use Rattle.just_loader.specs.Placed.{file_at, name_at}
+use Rattle.just_loader.specs.Keys.{FileKey, FileKeySteps, FileStep, IsKey, IsLeastFileDepth, root_file_key, steps_of}
+use Rattle.just_loader.specs.Placed.{file_at, name_at, text_step}
 use Rattle.just_loader.specs.Reached.{World}
 use Rattle.just_loader.specs.Scanned.{IsScan, paths_in}
 use Rattle.just_loader.specs.declared.scanned.Scan.{Scan}
 use Rattle.just_loader.specs.declared.scanned.ScannedFile.{ScannedFile}
-use Rattle.just_loader.proofs.FileRows.{IsKnown, at, known_here, steps_here, text_step}
+use Rattle.just_loader.proofs.FileRows.{IsKnown, at, known_here, steps_here}
 
 -- the key of a file, by texts
 abbrev pub file_key : Scan → Key → FileKey
@@ -50,8 +50,11 @@ module _ (w : World) (scan : Scan) (is : IsScan w scan) where
   pub root_inside : inside 0
   root_inside = omega (arith, length-map scan.files.items (λ (f : ScannedFile). f.path), slice_get_within (paths_in scan.files.items) 0 w.root is.root)
 
+  pub root_at : file_at scan 0 ≡ w.root
+  root_at = get_or_from_slice_get (paths_in scan.files.items) 0 w.root [] is.root
+
   root_is : root_file_key w ≡ file_key scan (root_key 0)
-  root_is = ap (λ p. let k : FileKey = record { path = []; node = p } in k) (sym (get_or_from_slice_get (paths_in scan.files.items) 0 w.root [] is.root))
+  root_is = ap (λ p. let k : FileKey = record { path = []; node = p } in k) (sym root_at)
 
   -- what is inside leads inside
   pub stands_on : {k l : Key} {n : ℕ} → KeySteps S k l n → Stands scan k → Stands scan l
@@ -95,3 +98,12 @@ module _ (w : World) (scan : Scan) (is : IsScan w scan) where
       let node : k.node ≡ l.node = is.once k.node l.node (file_at scan k.node) (at w scan is k.node a.inside).path_is ((at w scan is l.node b.inside).path_is ∙ ap Some (sym file)) in
       let path : k.path ≡ l.path = same_paths k.path l.path a.known b.known (ap (λ (x : FileKey). x.path) e) in
       λ j. record { path = path j; node = node j }
+
+  -- the least depth of a key
+  pub least_mapped : (k : Key) (d : ℕ) → IsLeastDepth S 0 k d → IsLeastFileDepth w (file_key scan k) d
+  least_mapped k d h = (
+    to_steps k d h.0,
+    λ m way.
+        let b = from_steps (file_key scan k) m way in
+        h.1 m (subst (λ l. KeySteps S (root_key 0) l m) (same_keys b.0 k (m, b.1) (d, h.0) b.2) b.1),
+  )

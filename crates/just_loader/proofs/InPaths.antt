@@ -1,14 +1,13 @@
 -- What is loaded, by paths and names.
-use Rattle.std.proofs.Common.{◌≡◌, ◌==◌, ℕ, ◌<◌, Bool, true, false, cond, not, List, [], ◌∷◌, map, length, Option, None, Some, inl, inr, refl, sym, ap, subst, ◌∙◌, arith}
+use Rattle.std.proofs.Common.{◌≡◌, ◌==◌, ℕ, ◌<◌, Bool, true, false, cond, not, List, [], ◌∷◌, map, length, Option, Some, inl, inr, refl, sym, ap, subst, ◌∙◌, arith}
 use Rattle.std.specs.List.{All, Contains, filter, flat_map, slice_get}
-use Rattle.std.specs.Option.{option_map}
 use Rattle.std.specs.Str.{bytes_eq}
 use Rattle.std.proofs.lemmas.Bool.Decides.{eqb_tells}
 use Rattle.std.proofs.lemmas.Bool.{false_from_ne_true}
 use Rattle.std.proofs.lemmas.Option.{slice_get_within}
 use Rattle.std.proofs.lemmas.Simd.{map-map}
 use Rattle.std.proofs.lemmas.Slice.Eq.{bytes_eq-Decides}
-use Rattle.just_graph.specs.Unfolding.{Key, Node, AreFirst, IsLeastDepth, IsReachedKey, IsUnfolding, KeySteps, UnfoldsOf, key, key_of, root_key, root_node, root_node_of, steps}
+use Rattle.just_graph.specs.Unfolding.{Key, Node, AreFirst, IsReachedKey, IsUnfolding, KeySteps, UnfoldsOf, key, key_of, root_node, root_node_of, steps}
 use Rattle.just_graph.specs.Unfolded.{unfolded_key}
 use Rattle.just_graph.specs.declared.unfolding.Step.{Step}
 use Rattle.just_graph.specs.declared.unfolding.Unfolded.{Unfolded}
@@ -17,42 +16,23 @@ use Rattle.just_graph.proofs.MappedUnfolding.{firsts_mapped, unfolds_mapped}
 use Rattle.just_graph.proofs.Members.{In, contained, is_in, in_map, from_map}
 use Rattle.just_graph.proofs.Trails.{steps_to}
 use Rattle.just_parts.specs.Asts.{AstKey}
-use Rattle.just_parts.specs.Clean.{folder_of}
 use Rattle.just_parts.specs.Modulepath.{Text}
 use Rattle.just_parts.specs.Syntax.{AreRising, PriorsAreDependencies, numbers}
 use Rattle.just_parts.specs.declared.layers.ast.Ast.{Ast}
-use Rattle.just_parts.specs.declared.source.Source.{Source}
-use Rattle.just_loader.specs.Keys.{AreFirstFiles, FileNode, FileStep, IsLeastFileDepth, ast_key, steps_of}
-use Rattle.just_loader.specs.Loaded.{CameIn, IsAstOf, IsLoaded, at_first, entered, own_after}
-use Rattle.just_loader.specs.Placed.{CameInPlaces, IsAstOfPlace, at_first_places, file_at, key_at, name_at, own_after_places}
+use Rattle.just_loader.specs.Keys.{AreFirstFiles, FileNode, FileStep, ast_key, steps_of}
+use Rattle.just_loader.specs.Loaded.{IsAstOf, IsLoaded, at_first}
+use Rattle.just_loader.specs.Placed.{at_first_places, file_at, file_node, key_at, name_at, text_step}
 use Rattle.just_loader.specs.Loading.{AreParsed}
 use Rattle.just_loader.specs.Parsed.{AreHeld, relative_at}
 use Rattle.just_loader.specs.Reached.{World, relative_to_root}
-use Rattle.just_loader.specs.Scanned.{IsScan, paths_in}
+use Rattle.just_loader.specs.Scanned.{IsScan}
 use Rattle.just_loader.specs.declared.scanned.Scan.{Scan}
-use Rattle.just_loader.proofs.FileKeys.{file_key, from_key, from_steps, root_inside, same_keys, step_inside, to_steps}
-use Rattle.just_loader.proofs.FileRows.{at, steps_here, text_step}
+use Rattle.just_loader.proofs.FileKeys.{file_key, from_key, root_at, root_inside, same_keys, step_inside}
+use Rattle.just_loader.proofs.FileRows.{at, steps_here}
 use Rattle.just_loader.proofs.HeldAsts.{are_told_apart, held_each}
 use Rattle.just_loader.proofs.LoadedPaths.{first_in, places_of, relative_paths}
 use Rattle.just_loader.proofs.Numberings.{get_map, got, map_get, placed, read_at}
 use Rattle.just_loader.proofs.WholeLoads.{IsWhole, nodes_inside}
-use Rattle.std.proofs.lemmas.Option.{get_or_from_slice_get}
-
--- a node by texts
-abbrev pub file_node : Scan → Node → FileNode
-file_node scan n = record { path = map (name_at scan) n.path; node = file_at scan n.node; offsets = n.offsets; trail = map (text_step scan) n.trail }
-
-ends_mapped : (scan : Scan) (ss : List Step) → map (λ (s : Step). file_at scan s.target) ss ≡ map (λ (s : FileStep). s.to) (map (text_step scan) ss)
-ends_mapped scan [] = refl
-ends_mapped scan (s ∷ ss) = ap (λ fs. file_at scan s.target ∷ fs) (ends_mapped scan ss)
-
-entered_mapped : (scan : Scan) (own target : ℕ) (o : Option ℕ) → file_at scan (entered own o target) ≡ entered (file_at scan own) (option_map (name_at scan) o) (file_at scan target)
-entered_mapped scan own target None = refl
-entered_mapped scan own target (Some number) = refl
-
-own_mapped : (scan : Scan) (own : ℕ) (ss : List Step) → file_at scan (own_after_places own ss) ≡ own_after (file_at scan own) (map (text_step scan) ss)
-own_mapped scan own [] = refl
-own_mapped scan own (s ∷ ss) = own_mapped scan (entered own s.enters s.target) ss ∙ ap (λ f. own_after f (map (text_step scan) ss)) (entered_mapped scan own s.target s.enters)
 
 map_cond : (f : ℕ → Text) (a b : Bool) (x : ℕ) (xs : List ℕ) (ys : List Text) → a ≡ b → map f xs ≡ ys → map f (cond a (x ∷ xs) xs) ≡ cond b (f x ∷ ys) ys
 map_cond f true b x xs ys e p = ap (λ zs. f x ∷ zs) p ∙ ap (λ c. cond c (f x ∷ ys) ys) e
@@ -83,42 +63,8 @@ module _ (w : World) (scan : Scan) (is : IsScan w scan) where
   abbrev Is : Node → Type 0
   Is n = IsReachedKey (steps scan.rows.items) 0 (key n)
 
-  root_at : file_at scan 0 ≡ w.root
-  root_at = get_or_from_slice_get (paths_in scan.files.items) 0 w.root [] is.root
-
   files_apart : (a b : ℕ) → a < length scan.files.items → b < length scan.files.items → file_at scan a ≡ file_at scan b → a ≡ b
   files_apart a b h g e = is.once a b (file_at scan a) (at w scan is a h).path_is ((at w scan is b g).path_is ∙ ap Some (sym e))
-
-  least_mapped : (n : Node) (d : ℕ) → IsLeastDepth (steps scan.rows.items) 0 (key n) d → IsLeastFileDepth w (key_of (file_node scan n)) d
-  least_mapped n d h = (
-    to_steps w scan is (key n) d h.0,
-    λ m way.
-        let b = from_steps w scan is (key_of (file_node scan n)) m way in
-        let same : b.0 ≡ key n = same_keys w scan is b.0 (key n) (m, b.1) (d, h.0) b.2 in
-        h.1 m (subst (λ k. KeySteps (steps scan.rows.items) (root_key 0) k m) same b.1),
-  )
-
-  came_mapped : (n : Node) (source : Source) → CameInPlaces scan n source → CameIn w (file_node scan n) source
-  came_mapped n source came = record {
-    chain = came.chain ∙ (λ i. root_at i ∷ ends_mapped scan n.trail i);
-    offsets = came.offsets;
-    components = came.components;
-    path = came.path;
-    folder = came.folder ∙ ap folder_of (own_mapped scan 0 n.trail ∙ ap (λ f. own_after f (map (text_step scan) n.trail)) root_at);
-    depth = least_mapped n source.file_depth came.depth;
-  }
-
-  ast_mapped : (n : Node) (ast : Ast) → IsAstOfPlace w scan n ast → IsAstOf w (file_node scan n) ast
-  ast_mapped n ast of = record {
-    source = of.source;
-    came = came_mapped n of.source of.came;
-    parsed = of.parsed;
-    from = of.from;
-    said = of.said;
-    items = of.items;
-    module_path = of.module_path;
-    working_directory = of.working_directory;
-  }
 
   node_is : (pre : List Node) → IsUnfolding (steps scan.rows.items) 0 pre → (n : Node) → In n pre → Is n
   node_is pre u n i =
@@ -132,7 +78,7 @@ module _ (w : World) (scan : Scan) (is : IsScan w scan) where
   nodes_apart a b p q e = same_keys w scan is (key a) (key b) p q e
 
   root_mapped : file_node scan (root_node 0) ≡ root_node_of w.root
-  root_mapped = λ i. record { path = []; node = root_at i; offsets = []; trail = [] }
+  root_mapped = λ i. record { path = []; node = root_at w scan is i; offsets = []; trail = [] }
 
   are_first : (ns : List Node) → AreFirst (steps scan.rows.items) 0 ns → AreFirstFiles w (map (file_node scan) ns)
   are_first ns f =
@@ -174,7 +120,7 @@ is_loaded w scan is us whole asts parsed high rising priors table held loaded pa
           let ast = read_at asts at.0 (omega (arith, parsed.count, slice_get_within ns at.0 m.0 at.1)) in (
             ast.0,
             ap (λ (x : FileNode). table (ast_key (key_of x))) m.2 ∙ ap (λ (k : Key). table (key_at scan k.path k.node)) (sym u.2) ∙ held.found at.0 u.0 ast.0 u.1 ast.1,
-            subst (λ x. IsAstOf w x ast.0) (sym m.2) (ast_mapped w scan is m.0 ast.0 (parsed.each at.0 m.0 ast.0 at.1 ast.1)),
+            subst (λ x. IsAstOf w x ast.0) (sym m.2) (parsed.each at.0 m.0 ast.0 at.1 ast.1),
           );
       only = λ k ast e.
           let r = held.only k ast e in

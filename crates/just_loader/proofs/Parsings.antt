@@ -18,7 +18,8 @@ use Rattle.just_parts.specs.declared.layers.error.Error.{Error}
 use Rattle.just_parts.specs.declared.layers.error.Error.TheVariants as error
 use Rattle.just_parts.specs.declared.source.Source.{Source}
 use Rattle.just_loader.specs.Keys.{spends_at}
-use Rattle.just_loader.specs.Placed.{IsAstOfPlace, file_at}
+use Rattle.just_loader.specs.Loaded.{IsAstOf}
+use Rattle.just_loader.specs.Placed.{file_at, file_node}
 use Rattle.just_loader.specs.Loading.{AreNodes, AreParsedSoFar, AreSources, AreUnfolded, IsSaid, Stops, StopsAt, spent_by}
 use Rattle.just_loader.specs.Reached.{World}
 use Rattle.just_loader.specs.Scanned.{IsScan}
@@ -51,15 +52,15 @@ pub read : {A : Type 0} (xs : List A) (k : ℕ) (x : A) → k < length xs → x 
 read xs k x h is = slice_get_read xs (length xs) k x refl h is
 
 -- what a node's text says, as its file came in
-pub ast_at : (w : World) (scan : Scan) (us : List Unfolded) (ns : List Node) (sources : List Source) → AreNodes scan us ns → AreSources scan ns sources → (k : ℕ) (u : Unfolded) (source : Source) (n : Node) (ast : Ast) → k < length us → u ≡ get_or us k u
-    → source ≡ get_or sources k source → slice_get ns k ≡ Some n → IsSaid w (file_at scan (get_or us k u).node) source ast → IsAstOfPlace w scan n ast
-ast_at w scan us ns sources nodes are k u source n ast h is_u is_source here said =
+pub ast_at : (w : World) (scan : Scan) → IsScan w scan → (us : List Unfolded) (ns : List Node) (sources : List Source) → AreNodes scan us ns → AreSources scan ns sources → (k : ℕ) (u : Unfolded) (source : Source) (n : Node) (ast : Ast) → k < length us → u ≡ get_or us k u
+    → source ≡ get_or sources k source → slice_get ns k ≡ Some n → IsSaid w (file_at scan (get_or us k u).node) source ast → IsAstOf w (file_node scan n) ast
+ast_at w scan is us ns sources nodes are k u source n ast h is_u is_source here said =
     let told = nodes.1.tells k u n (read us k u h is_u) here in
     let same : (get_or us k u).node ≡ n.node = ap (λ (x : Unfolded). x.node) (sym is_u) ∙ told.node in
     let s : IsSaid w (file_at scan n.node) source ast = subst (λ x. IsSaid w (file_at scan x) source ast) same said in
     record {
       source = source;
-      came = are.came k n source here (read sources k source (omega (arith, h, are.count, nodes.1.count)) is_source);
+      came = are.came k n source here (read sources k source (omega (arith, h, are.count, nodes.1.count)) is_source) w is;
       parsed = s.parsed;
       from = s.from;
       said = s.said;
@@ -71,10 +72,10 @@ ast_at w scan us ns sources nodes are k u source n ast h is_u is_source here sai
 pub parsed_none : (w : World) (scan : Scan) (ns : List Node) (asts : List Ast) → asts ≡ [] → AreParsedSoFar w scan ns asts
 parsed_none w scan ns asts e k n ast at here = absurd (none_some (ap (λ xs. slice_get xs k) (sym e) ∙ here))
 
-pub parsed_more : (w : World) (scan : Scan) (ns : List Node) (old new : List Ast) (ast : Ast) → AreParsedSoFar w scan ns old → ((n : Node) → slice_get ns (length old) ≡ Some n → IsAstOfPlace w scan n ast) → new ≡ old ++ ast ∷ [] → AreParsedSoFar w scan ns new
+pub parsed_more : (w : World) (scan : Scan) (ns : List Node) (old new : List Ast) (ast : Ast) → AreParsedSoFar w scan ns old → ((n : Node) → slice_get ns (length old) ≡ Some n → IsAstOf w (file_node scan n) ast) → new ≡ old ++ ast ∷ [] → AreParsedSoFar w scan ns new
 parsed_more w scan ns old new ast so one is k n a at here = elim (get_cases old ast a k (ap (λ xs. slice_get xs k) (sym is) ∙ here)) [
   | inl before ↦ so k n a at before
-  | inr last ↦ subst (IsAstOfPlace w scan n) last.1 (one n (ap (slice_get ns) (sym last.0) ∙ at))
+  | inr last ↦ subst (IsAstOf w (file_node scan n)) last.1 (one n (ap (slice_get ns) (sym last.0) ∙ at))
 ]
 
 -- what holds of one more element

@@ -1,17 +1,12 @@
--- How files come in and what they say, by places of files and numbers of names.
-use Rattle.std.specs.Prelude.{◌≡◌, ◌==◌, ℕ, not, false, List, [], ◌∷◌, map, filter, get_or, Some}
-use Rattle.just_graph.specs.Unfolding.{Node, IsLeastDepth, key, steps}
+-- Files by their places and names by their numbers.
+use Rattle.std.specs.Prelude.{◌==◌, ℕ, not, false, List, [], ◌∷◌, map, filter, get_or}
+use Rattle.std.specs.Option.{option_map}
+use Rattle.just_graph.specs.Unfolding.{Node}
 use Rattle.just_graph.specs.declared.unfolding.Step.{Step}
-use Rattle.just_parts.specs.Bare.{bare_ast}
-use Rattle.just_parts.specs.Clean.{folder_of}
-use Rattle.just_parts.specs.Syntax.{IsFrom, components_of}
 use Rattle.just_parts.specs.Modulepath.{Text}
-use Rattle.just_parts.specs.declared.layers.ast.Ast.{Ast}
-use Rattle.just_parts.specs.declared.source.Source.{Source}
 use Rattle.just_parts.specs.Asts.{AstKey}
-use Rattle.just_loader.specs.Loaded.{entered, with_path}
+use Rattle.just_loader.specs.Keys.{FileNode, FileStep}
 use Rattle.just_loader.specs.Numbering.{texts_of}
-use Rattle.just_loader.specs.Reached.{World, ast_of}
 use Rattle.just_loader.specs.Scanned.{paths_in}
 use Rattle.just_loader.specs.declared.scanned.Scan.{Scan}
 
@@ -26,30 +21,12 @@ name_at scan number = get_or (texts_of scan.names.items) number []
 abbrev pub key_at : Scan → List ℕ → ℕ → AstKey
 key_at scan path place = (record { components = map (name_at scan) path; spaced = false }, file_at scan place)
 
--- the file that steps entered last: that of the module in which they end
-abbrev pub own_after_places : ℕ → List Step → ℕ
-own_after_places own [] = own
-own_after_places own (s ∷ ss) = own_after_places (entered own s.enters s.target) ss
+-- a step and a node by texts
+abbrev pub text_step : Scan → Step → FileStep
+text_step scan s = record { to = file_at scan s.target; offset = s.offset; enters = option_map (name_at scan) s.enters }
 
--- How a node's file came in: the files of its trail, the offsets since its module was entered, that module and the folder of its own file, and the least depth of its key.
-pub record CameInPlaces (scan : Scan) (n : Node) (source : Source) : Type 0 where
-  pub chain : source.file_path ≡ file_at scan 0 ∷ map (λ (s : Step). file_at scan s.target) n.trail
-  pub offsets : source.import_offsets ≡ n.offsets
-  pub components : components_of source.namepath ≡ map (name_at scan) n.path
-  pub path : source.path ≡ file_at scan n.node
-  pub folder : source.working_directory ≡ folder_of (file_at scan (own_after_places 0 n.trail))
-  pub depth : IsLeastDepth (steps scan.rows.items) 0 (key n) source.file_depth
-
--- What a node's text says, as it came in, with the absolute paths of what it leads to.
-pub record IsAstOfPlace (w : World) (scan : Scan) (n : Node) (ast : Ast) : Type 0 where
-  pub source : Source
-  pub came : CameInPlaces scan n source
-  pub parsed : Ast
-  pub from : IsFrom source parsed
-  pub said : ast_of w (file_at scan n.node) ≡ Some (bare_ast parsed)
-  pub items : ast.items ≡ map (with_path w (folder_of (file_at scan n.node))) parsed.items
-  pub module_path : ast.module_path ≡ parsed.module_path
-  pub working_directory : ast.working_directory ≡ parsed.working_directory
+abbrev pub file_node : Scan → Node → FileNode
+file_node scan n = record { path = map (name_at scan) n.path; node = file_at scan n.node; offsets = n.offsets; trail = map (text_step scan) n.trail }
 
 -- each number once, at its first place
 abbrev pub at_first_places : List ℕ → List ℕ

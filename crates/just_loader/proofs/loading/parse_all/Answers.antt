@@ -48,7 +48,7 @@ loop-place-preserved g c =
     record {
       count = omega (arith, c.loop-place.invariant.count, ap length c.in_ok-push.ensures.items, length_push c.loop-place.asts.items c.in_ok-parse_file.field-0);
       parsed = λ w ns by nodes. parsed_more w c.args.scan.now ns c.loop-place.asts.items c.push.new.self.items c.in_ok-parse_file.field-0 (c.loop-place.invariant.parsed w ns by nodes)
-          (λ n here. ast_at w c.args.scan.now c.args.nodes.now ns c.in_ok-sources.sources.items nodes (c.in_ok-sources.ensures.sources ns nodes) c.loop-place.place c.index-nodes-place.result c.index-source.result.now n c.in_ok-parse_file.field-0
+          (λ n here. ast_at w c.args.scan.now by.is_scan c.args.nodes.now ns c.in_ok-sources.sources.items nodes (c.in_ok-sources.ensures.sources ns nodes) c.loop-place.place c.index-nodes-place.result c.index-source.result.now n c.in_ok-parse_file.field-0
           c.loop-place-test.true c.index-nodes-place.is c.index-source.ensures (ap (slice_get ns) (sym c.loop-place.invariant.count) ∙ here) (c.in_ok-parse_file.ensures.said w by))
           c.in_ok-push.ensures.items;
       spent = λ w by. c.in_ok-parse_file.ensures.spent w by ∙ ap (λ m. m + spends_at w (file_at c.args.scan.now (get_or c.args.nodes.now c.loop-place.place c.index-nodes-place.result).node)) (c.loop-place.invariant.spent w by)
