@@ -33,7 +33,6 @@ use Rattle.just_loader.specs.declared.scanned.Scan.{Scan}
 use Rattle.just_loader.specs.declared.scanned.ScannedFile.{ScannedFile}
 use Rattle.just_loader.proofs.FileKeys.{least_mapped, root_at, to_steps}
 use Rattle.just_loader.proofs.FileRows.{known_here, numbered}
-use Rattle.just_loader.proofs.FileCircles.{has_rows}
 use Rattle.just_loader.proofs.Numberings.{get_cases, got, map_get, none_some, read_at}
 
 -- the file at a place
@@ -249,13 +248,6 @@ module _ (w : World) (scan : Scan) (is : IsScan w scan) (us : List Unfolded) (ar
 
     pub over : (o : Origin) → u.origin ≡ Some o → CameOver scan us sources node_here.0 o
     over o from = came_over firsts (are.unfolded.1, are.unfolded.2) node_here.0 node_here.1 (so firsts (are.unfolded.1, are.unfolded.2)) o from
-
-    pub root_inside : u.origin ≡ None → u.node < length scan.files.items
-    root_inside e =
-        let rows = has_rows w scan is in
-        let root : node_here.0 ≡ root_node 0 = is_root firsts (are.unfolded.1, are.unfolded.2) node_here.0 node_here.1 e in
-        let node : u.node ≡ 0 = (told firsts (are.unfolded.1, are.unfolded.2) node_here.0 node_here.1).node ∙ ap (λ (x : Node). x.node) root in
-        omega (arith, node, rows.some, rows.count)
 
 -- what is listed of rows that are lent
 pub are_unfolded : (scan : Scan) (rows : List (Vec Step Global)) (us lent : List Unfolded) → rows ≡ scan.rows.items → lent ≡ us → IsUnfolded (steps rows) 0 us → AreLeast (steps rows) 0 us

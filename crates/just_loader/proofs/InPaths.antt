@@ -7,14 +7,13 @@ use Rattle.std.proofs.lemmas.Bool.{false_from_ne_true}
 use Rattle.std.proofs.lemmas.Option.{slice_get_within}
 use Rattle.std.proofs.lemmas.Simd.{map-map}
 use Rattle.std.proofs.lemmas.Slice.Eq.{bytes_eq-Decides}
-use Rattle.just_graph.specs.Unfolding.{Key, Node, AreFirst, IsReachedKey, IsUnfolding, KeySteps, UnfoldsOf, key, key_of, root_node, root_node_of, steps}
+use Rattle.just_graph.specs.Unfolding.{Key, Node, AreFirst, IsReachedKey, UnfoldsOf, key, key_of, root_node, root_node_of, steps}
 use Rattle.just_graph.specs.Unfolded.{unfolded_key}
 use Rattle.just_graph.specs.declared.unfolding.Step.{Step}
 use Rattle.just_graph.specs.declared.unfolding.Unfolded.{Unfolded}
 use Rattle.just_graph.proofs.Index.{told_same}
 use Rattle.just_graph.proofs.MappedUnfolding.{firsts_mapped, unfolds_mapped}
 use Rattle.just_graph.proofs.Members.{In, contained, is_in, in_map, from_map}
-use Rattle.just_graph.proofs.Trails.{steps_to}
 use Rattle.just_parts.specs.Asts.{AstKey}
 use Rattle.just_parts.specs.Modulepath.{Text}
 use Rattle.just_parts.specs.Syntax.{AreRising, PriorsAreDependencies, numbers}
@@ -27,7 +26,7 @@ use Rattle.just_loader.specs.Parsed.{AreHeld, relative_at}
 use Rattle.just_loader.specs.Reached.{World, relative_to_root}
 use Rattle.just_loader.specs.Scanned.{IsScan}
 use Rattle.just_loader.specs.declared.scanned.Scan.{Scan}
-use Rattle.just_loader.proofs.FileKeys.{file_key, from_key, root_at, root_inside, same_keys, step_inside}
+use Rattle.just_loader.proofs.FileKeys.{file_key, from_key, node_reached, root_at, root_inside, same_keys, step_inside}
 use Rattle.just_loader.proofs.FileRows.{at, steps_here}
 use Rattle.just_loader.proofs.HeldAsts.{are_told_apart, held_each}
 use Rattle.just_loader.proofs.LoadedPaths.{first_in, places_of, relative_paths}
@@ -66,14 +65,6 @@ module _ (w : World) (scan : Scan) (is : IsScan w scan) where
   files_apart : (a b : ℕ) → a < length scan.files.items → b < length scan.files.items → file_at scan a ≡ file_at scan b → a ≡ b
   files_apart a b h g e = is.once a b (file_at scan a) (at w scan is a h).path_is ((at w scan is b g).path_is ∙ ap Some (sym e))
 
-  node_is : (pre : List Node) → IsUnfolding (steps scan.rows.items) 0 pre → (n : Node) → In n pre → Is n
-  node_is pre u n i =
-      let r = steps_to (steps scan.rows.items) u n i in
-      elim r.1 [
-        | inl e ↦ (r.2, subst (λ (x : Node). KeySteps (steps scan.rows.items) (key x) (key n) r.2) e r.3)
-        | inr z ↦ absurd z
-      ]
-
   nodes_apart : (a b : Node) → Is a → Is b → key_of (file_node scan a) ≡ key_of (file_node scan b) → key a ≡ key b
   nodes_apart a b p q e = same_keys w scan is (key a) (key b) p q e
 
@@ -87,7 +78,7 @@ module _ (w : World) (scan : Scan) (is : IsScan w scan) where
       (λ n i. elim i [ inl e ↦ subst (λ (x : Node). x.node < length scan.files.items) (sym e) (root_inside w scan is) | inr z ↦ absurd z ]) in (
         map (file_node scan) f.0,
         subst (λ n. UnfoldsOf (λ (s : FileStep). s.to) (λ (s : FileStep). s.offset) (λ (s : FileStep). s.enters) (steps_of w) (n ∷ []) (map (file_node scan) f.0)) root_mapped unfolds,
-        firsts_mapped (file_node scan) Is (λ a b e. ap (file_key scan) e) nodes_apart f.2 (λ x i. absurd i) (node_is f.0 f.1),
+        firsts_mapped (file_node scan) Is (λ a b e. ap (file_key scan) e) nodes_apart f.2 (λ x i. absurd i) (λ n i. node_reached (steps scan.rows.items) f.0 f.1 n i),
       )
 
 -- what is loaded, from what is scanned, unfolded, parsed and held

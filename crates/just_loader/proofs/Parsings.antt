@@ -1,17 +1,13 @@
 -- What the texts of nodes say, one after another.
-use Rattle.std.proofs.Common.{◌≡◌, ℕ, ◌+◌, ◌<◌, ◌≤◌, List, [], ◌∷◌, ◌++◌, map, take, length, get_or, Option, None, Some, Result, Ok, Err, IfErr, inl, inr, refl, sym, ap, subst, ◌∙◌, arith}
+use Rattle.std.proofs.Common.{◌≡◌, ℕ, ◌+◌, ◌<◌, ◌≤◌, List, [], ◌∷◌, ◌++◌, take, length, get_or, Some, Result, Ok, Err, IfErr, inl, inr, refl, sym, ap, subst, ◌∙◌, arith}
 use Rattle.std.specs.List.{All, flat_map, slice_get}
 use Rattle.std.proofs.lemmas.Grind.{flat_map-append}
 use Rattle.std.proofs.lemmas.List.{append-nil}
 use Rattle.std.proofs.lemmas.List.Elements.{All-push, All-same}
 use Rattle.std.proofs.lemmas.List.Sums.{sum_by_more}
-use Rattle.std.proofs.lemmas.Option.{slice_get_read, slice_get_within}
-use Rattle.just_graph.specs.Unfolding.{HasStep, Node, root_node, steps}
-use Rattle.just_graph.specs.Unfolded.{CameFrom}
-use Rattle.just_graph.specs.declared.unfolding.Origin.{Origin}
-use Rattle.just_graph.specs.declared.unfolding.Step.{Step}
+use Rattle.std.proofs.lemmas.Option.{slice_get_read}
+use Rattle.just_graph.specs.Unfolding.{Node}
 use Rattle.just_graph.specs.declared.unfolding.Unfolded.{Unfolded}
-use Rattle.just_graph.proofs.Members.{contained, in_map, is_in}
 use Rattle.just_parts.specs.Syntax.{AreRising, numbers}
 use Rattle.just_parts.specs.declared.layers.ast.Ast.{Ast}
 use Rattle.just_parts.specs.declared.layers.error.Error.{Error}
@@ -20,32 +16,11 @@ use Rattle.just_parts.specs.declared.source.Source.{Source}
 use Rattle.just_loader.specs.Keys.{spends_at}
 use Rattle.just_loader.specs.Loaded.{IsAstOf}
 use Rattle.just_loader.specs.Placed.{file_at, file_node}
-use Rattle.just_loader.specs.Loading.{AreNodes, AreParsedSoFar, AreSources, AreUnfolded, IsSaid, Stops, StopsAt, spent_by}
+use Rattle.just_loader.specs.Loading.{AreNodes, AreParsedSoFar, AreSources, IsSaid, Stops, StopsAt, spent_by}
 use Rattle.just_loader.specs.Reached.{World}
 use Rattle.just_loader.specs.Scanned.{IsScan}
 use Rattle.just_loader.specs.declared.scanned.Scan.{Scan}
-use Rattle.just_loader.proofs.ComingIn.{root_first}
-use Rattle.just_loader.proofs.FileCircles.{has_rows}
-use Rattle.just_loader.proofs.Numberings.{get_cases, got, none_some, read_at}
-
--- the file of each node is scanned
-module _ (w : World) (scan : Scan) (is : IsScan w scan) (us : List Unfolded) (are : AreUnfolded scan us) (k : ℕ) where
-  came_inside : (n : Node) (o : Option Origin) → slice_get are.unfolded.0 k ≡ Some n → CameFrom (steps scan.rows.items) (take k are.unfolded.0) n o → n.node < length scan.rows.items
-  came_inside n None here from =
-      let root : n ≡ root_node 0 = root_first (steps scan.rows.items) 0 are.unfolded.0 k n are.unfolded.1 here from in
-      let rows = has_rows w scan is in
-      omega (arith, rows.some, ap (λ (x : Node). x.node) root)
-  came_inside n (Some o) here from =
-      let parent = from.0 in let s = from.1 in
-      let there = is_in s (steps scan.rows.items parent.node) (got (steps scan.rows.items parent.node) o.step s from.3) in
-      let leads : HasStep scan.rows.items parent.node s.target = contained s.target (map (λ (x : Step). x.target) (steps scan.rows.items parent.node)) (in_map (λ (x : Step). x.target) s (steps scan.rows.items parent.node) there) in
-      omega (arith, is.within parent.node s.target leads, ap (λ (x : Node). x.node) from.4)
-
-  pub node_inside : (u : Unfolded) → slice_get us k ≡ Some u → u.node < length scan.files.items
-  node_inside u at =
-      let n = read_at are.unfolded.0 k (omega (arith, are.unfolded.2.count, slice_get_within us k u at)) in
-      let told = are.unfolded.2.tells k u n.0 at n.1 in
-      omega (arith, told.node, is.count, came_inside n.0 u.origin n.1 told.origin)
+use Rattle.just_loader.proofs.Numberings.{get_cases, none_some}
 
 -- an element that is read
 pub read : {A : Type 0} (xs : List A) (k : ℕ) (x : A) → k < length xs → x ≡ get_or xs k x → slice_get xs k ≡ Some x

@@ -26,24 +26,21 @@ returns-in-Ok-clause-none c = λ w is f r l. none_leads_back w c.args.scan.now i
 
 pub path_at-requires : goal.path_at-requires
 path_at-requires c =
-    let are : AreEdges c.args.scan.now.rows.items c.as_slice-2.result.now = edges_lent c.as_slice.ensures.value c.as_slice-2.ensures.value c.in_ok-edges.ensures in
     let edge : IsCircle (HasEdge c.as_slice-2.result.now) c.in-Err.circle.items = rw c.in-Err.is at c.in_ok-order.ensures.circle in
-    let circle : IsCircle (HasStep c.args.scan.now.rows.items) c.in-Err.circle.items = circle_of_steps c.args.scan.now.rows.items c.as_slice-2.result.now c.in-Err.circle.items are edge in
+    let circle : IsCircle (HasStep c.args.scan.now.rows.items) c.in-Err.circle.items = circle_of_steps c.args.scan.now.rows.items c.as_slice-2.result.now c.in-Err.circle.items (edges_lent c.as_slice.ensures.value c.as_slice-2.ensures.value c.in_ok-edges.ensures) edge in
     let len : c.len-last.result ≡ length c.in-Err.circle.items = grind (arith, common_steps) in
     read_inside c.args.scan.now c.in-Err.circle.items c.requires circle (c.len-last.result - 1 - 1) c.index.result.now (omega (arith, circle.steps)) c.index.ensures
 
 pub path_at-requires-2 : goal.path_at-requires-2
 path_at-requires-2 c =
-    let are : AreEdges c.args.scan.now.rows.items c.as_slice-2.result.now = edges_lent c.as_slice.ensures.value c.as_slice-2.ensures.value c.in_ok-edges.ensures in
     let edge : IsCircle (HasEdge c.as_slice-2.result.now) c.in-Err.circle.items = rw c.in-Err.is at c.in_ok-order.ensures.circle in
-    let circle : IsCircle (HasStep c.args.scan.now.rows.items) c.in-Err.circle.items = circle_of_steps c.args.scan.now.rows.items c.as_slice-2.result.now c.in-Err.circle.items are edge in
+    let circle : IsCircle (HasStep c.args.scan.now.rows.items) c.in-Err.circle.items = circle_of_steps c.args.scan.now.rows.items c.as_slice-2.result.now c.in-Err.circle.items (edges_lent c.as_slice.ensures.value c.as_slice-2.ensures.value c.in_ok-edges.ensures) edge in
     let len : c.len-last.result ≡ length c.in-Err.circle.items = grind (arith, common_steps) in
     read_inside c.args.scan.now c.in-Err.circle.items c.requires circle (c.len-last.result - 1) c.index-2.result.now (omega (arith, circle.steps)) c.index-2.ensures
 
 pub returns-clause-named : goal.returns-clause-named
 returns-clause-named c = λ w is.
-    let are : AreEdges c.args.scan.now.rows.items c.as_slice-2.result.now = edges_lent c.as_slice.ensures.value c.as_slice-2.ensures.value c.in_ok-edges.ensures in
     let edge : IsCircle (HasEdge c.as_slice-2.result.now) c.in-Err.circle.items = rw c.in-Err.is at c.in_ok-order.ensures.circle in
-    let circle : IsCircle (HasStep c.args.scan.now.rows.items) c.in-Err.circle.items = circle_of_steps c.args.scan.now.rows.items c.as_slice-2.result.now c.in-Err.circle.items are edge in
+    let circle : IsCircle (HasStep c.args.scan.now.rows.items) c.in-Err.circle.items = circle_of_steps c.args.scan.now.rows.items c.as_slice-2.result.now c.in-Err.circle.items (edges_lent c.as_slice.ensures.value c.as_slice-2.ensures.value c.in_ok-edges.ensures) edge in
     let len : c.len-last.result ≡ length c.in-Err.circle.items = grind (arith, common_steps) in
     names_circle w c.args.scan.now is c.in-Err.circle.items circle c.len-last.result c.index.result.now c.index-2.result.now c.in_ok-path_at.field-0 c.in_ok-path_at-2.field-0 len c.index.ensures c.index-2.ensures c.in_ok-path_at.ensures c.in_ok-path_at-2.ensures

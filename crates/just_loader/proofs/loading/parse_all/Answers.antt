@@ -9,7 +9,8 @@ use Rattle.just_loader.specs.Keys.{spends_at}
 use Rattle.just_loader.specs.Placed.{file_at}
 use Rattle.just_loader.specs.Loading.{IsScanBy, Stops, StopsAt, spent_by}
 use Rattle.just_loader.specs.Reached.{World}
-use Rattle.just_loader.proofs.Parsings.{all_more, ast_at, err_by, node_inside, parsed_more, parsed_none, read, rising_more, spent_more, stops_at_last}
+use Rattle.just_loader.proofs.FileKeys.{node_inside}
+use Rattle.just_loader.proofs.Parsings.{all_more, ast_at, err_by, parsed_more, parsed_none, read, rising_more, spent_more, stops_at_last}
 use Rattle.just_loader.proofs.WholeScans.{all_at}
 use Rattle.just_loader.proofs.Numberings.{none_some}
 use Rattle.just_loader.proofs.loading.parse_all.Goals as goal
