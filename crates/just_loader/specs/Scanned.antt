@@ -48,6 +48,10 @@ abbrev pub IsStepOf : List Text → Item → Option ℕ → List Step → Type 0
 IsStepOf names i None steps = steps ≡ []
 IsStepOf names i (Some place) steps = IsStepTo names place (edge_of i) steps
 
+-- a row with the steps of an item behind it
+abbrev pub HasAlsoSteps : List Text → Item → Option ℕ → List Step → List Step → Type 0
+HasAlsoSteps names i target old new = (steps : List Step) × IsStepOf names i target steps × (new ≡ old ++ steps)
+
 -- the steps of items to the places beside them, in order
 abbrev pub AreSteps : List Text → List Item → List (Option ℕ) → List Step → Type 0
 AreSteps names [] [] row = row ≡ []

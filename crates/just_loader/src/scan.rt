@@ -1,7 +1,6 @@
 //! Scans a source map from a root: the files that are reached, with what their items lead to.
 
-ghost use Rattle.std.specs.Prelude.{◌≡◌, ◌++◌, ◌^◌, ◌<◌, List, Some, map, length, IsSome, IfOk, IfErr, OnOk};
-ghost use Rattle.just_graph.specs.declared.unfolding.Step.{Step};
+ghost use Rattle.std.specs.Prelude.{◌≡◌, ◌^◌, ◌<◌, Some, map, length, IsSome, IfOk, IfErr, OnOk};
 ghost use Rattle.just_parts.specs.Bare.{bare_item};
 ghost use Rattle.just_parts.specs.Clean.{IsClean};
 ghost use Rattle.just_parts.specs.Entries.{find};
@@ -12,7 +11,7 @@ ghost use Rattle.just_loader.specs.Numbering.{AreFound, AreNumbered, IsFile, pat
 ghost use Rattle.just_loader.specs.Reached.{LeadsTo, NamesAt, NamesInScan, items_said, world_of};
 ghost use Rattle.just_parts.specs.Causes.{Keeps, Reports};
 ghost use Rattle.just_loader.specs.Sources.{text_at};
-ghost use Rattle.just_loader.specs.Scanned.{ArePlacesIn, IsPlaceOf, IsStepOf, AreSteps, IsScannedIn, IsScan, Finds, FindsAll, Extends, HasFault};
+ghost use Rattle.just_loader.specs.Scanned.{ArePlacesIn, IsPlaceOf, AreSteps, IsScannedIn, IsScan, Finds, FindsAll, Extends, HasAlsoSteps, HasFault};
 
 use crate::found::{Found, NameNumbers};
 use crate::links::link;
@@ -112,7 +111,7 @@ fn push_step<'src>(
     row: &mut Vec<Step>,
 ) -> Result<(), AllocError>
     requires { AreNumbered names.old }
-    ensures pushed { OnOk result ((steps : List Step) × IsStepOf (texts_numbered names.new) item.now target steps × (row.new.items ≡ row.old.items ++ steps)) }
+    ensures pushed { OnOk result (HasAlsoSteps (texts_numbered names.new) item.now target row.old.items row.new.items) }
     ensures extends { OnOk result (Extends (texts_numbered names.old) (texts_numbered names.new)) }
     ensures numbered { OnOk result (AreNumbered names.new) }
 {
