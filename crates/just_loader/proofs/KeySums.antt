@@ -9,7 +9,7 @@ use Rattle.just_graph.proofs.Members.{In, contained, is_in, in_cases, in_map, wi
 use Rattle.just_parts.specs.Causes.{Cause, NoNumber, Keeps}
 use Rattle.just_loader.specs.FileCircles.{LeadsOn, by_edge, by_edges, ChainTo, at_root, and_next, NamesCircle, leads_back}
 use Rattle.just_loader.specs.Keys.{IsKey, FileKey, spends_at, NamesInFiles, no_root, at_fault, in_circle, too_many}
-use Rattle.just_loader.specs.LoadedInPlaces.{file_at}
+use Rattle.just_loader.specs.Placed.{file_at}
 use Rattle.just_loader.specs.Reached.{World, Reached, LeadsTo, NamesInScan}
 use Rattle.just_loader.specs.Scanned.{IsScan}
 use Rattle.just_loader.specs.Sources.{text_at}

@@ -10,11 +10,10 @@ ghost use Rattle.just_parts.specs.Clean.{IsClean};
 ghost use Rattle.just_parts.specs.Syntax.{AreRising, PriorsAreDependencies, numbers};
 ghost use Rattle.just_parts.specs.declared.layers.ast.Ast.{Ast};
 ghost use Rattle.just_parts.specs.Asts.{same_ast_key};
-ghost use Rattle.just_parts.specs.Causes.{Keeps, Reports};
-ghost use Rattle.just_loader.specs.Keys.{NamesInFiles, SpendsAt, spends_at};
-ghost use Rattle.just_loader.specs.Loaded.{IsLoaded};
-ghost use Rattle.just_loader.specs.LoadedInPlaces.{IsLoadedInPlaces, at_first_places, file_at};
-ghost use Rattle.just_loader.specs.Loading.{AreNodes, AreNumberedBy, AreParsedBy, AreSources, AreUnfolded, CameInAt, CameInSoFar, ComesNext, HavePaths, InWorlds, IsSaid, IsScanBy, Stops, StopsAt, spent_by};
+ghost use Rattle.just_loader.specs.Keys.{SpendsAt};
+ghost use Rattle.just_loader.specs.Loaded.{Loads};
+ghost use Rattle.just_loader.specs.Placed.{at_first_places, file_at};
+ghost use Rattle.just_loader.specs.Loading.{AreNodes, AreNumberedBy, AreParsedBy, AreSources, AreUnfolded, CameInAt, CameInSoFar, ComesNext, HavePaths, InWorlds, IsSaid, IsScanBy, Stops, StopsInFile, spent_by};
 ghost use Rattle.just_loader.specs.Parsed.{AreHeld, AreKeyed, relative_at};
 ghost use Rattle.just_loader.specs.Reached.{World, link, world_of};
 ghost use Rattle.just_loader.specs.Scanned.{ArePlacesOf, IsPlaceOf, IsScan, paths_in};
@@ -148,7 +147,7 @@ fn parse_file<'src, S: Syntax>(
     ensures priors { IfOk result (λ ast. All PriorsAreDependencies ast.items) }
     ensures spent { OnOk result (InWorlds scan.now (S.answers syntax.now) (λ w. SpendsAt w (file_at scan.now place) numerator.old.next numerator.new.next)) }
     ensures fits { OnOk result (numerator.new.next < 2 ^ 64) }
-    ensures stopped { IfErr result (λ e. InWorlds scan.now (S.answers syntax.now) (λ w. StopsAt numerator.old.next (spends_at w (file_at scan.now place)) e)) }
+    ensures stopped { IfErr result (StopsInFile scan.now (S.answers syntax.now) place numerator.old.next) }
 {
     let file = &scan.files[place];
     let Ast {
@@ -246,10 +245,7 @@ pub fn load<'src, S: Syntax>(
     root: &str,
 ) -> Result<Loaded<'src>, Error<'src>>
     requires { IsClean root.now }
-    ensures kept { IfOk result (λ _. Keeps (NamesInFiles (world_of sources.now config.now (S.answers syntax.now) root.now))) }
-    ensures loaded { IfOk result (λ loaded. IsLoaded (world_of sources.now config.now (S.answers syntax.now) root.now) (get same_ast_key loaded.asts) loaded.loaded) }
-    ensures in_places { IfOk result (IsLoadedInPlaces (world_of sources.now config.now (S.answers syntax.now) root.now)) }
-    ensures named { IfErr result (Reports (NamesInFiles (world_of sources.now config.now (S.answers syntax.now) root.now))) }
+    ensures { Loads (world_of sources.now config.now (S.answers syntax.now) root.now) result }
 {
     if sources.file(root).is_none() {
         return Err(Error::Load(LoadError::Load {
@@ -257,15 +253,10 @@ pub fn load<'src, S: Syntax>(
         }));
     }
     let scan = scan(alloc, config, syntax, sources, root)?;
-    let order = check_circles(alloc, &scan)?;
+    check_circles(alloc, &scan)?;
     let nodes = unfold(alloc, scan.rows.as_slice(), 0)?;
     let asts = parse_all(alloc, syntax, &scan, nodes.as_slice())?;
     let asts = hold(alloc, &scan, nodes.as_slice(), asts)?;
     let loaded = loaded_paths(alloc, &scan, nodes.as_slice())?;
-    Ok(Loaded {
-        scan,
-        order,
-        asts,
-        loaded,
-    })
+    Ok(Loaded { asts, loaded })
 }

@@ -6,10 +6,11 @@ use Rattle.just_parts.specs.Syntax.{AreRising, PriorsAreDependencies, numbers}
 use Rattle.just_parts.specs.declared.layers.ast.Ast.{Ast}
 use Rattle.just_parts.specs.declared.layers.error.Error.{Error}
 use Rattle.just_loader.specs.Keys.{spends_at}
-use Rattle.just_loader.specs.LoadedInPlaces.{file_at}
+use Rattle.just_loader.specs.Placed.{file_at}
 use Rattle.just_loader.specs.Loading.{IsScanBy, Stops, StopsAt, spent_by}
 use Rattle.just_loader.specs.Reached.{World}
-use Rattle.just_loader.proofs.Parsings.{all_more, ast_at, err_by, node_inside, parsed_more, parsed_none, read, rising_more, spent_more, stops_at_last}
+use Rattle.just_loader.proofs.FileKeys.{node_inside}
+use Rattle.just_loader.proofs.Parsings.{all_more, ast_at, err_by, parsed_more, parsed_none, read, rising_more, spent_more, stops_at_last}
 use Rattle.just_loader.proofs.WholeScans.{all_at}
 use Rattle.just_loader.proofs.Numberings.{none_some}
 use Rattle.just_loader.proofs.loading.parse_all.Goals as goal
@@ -48,7 +49,7 @@ loop-place-preserved g c =
     record {
       count = omega (arith, c.loop-place.invariant.count, ap length c.in_ok-push.ensures.items, length_push c.loop-place.asts.items c.in_ok-parse_file.field-0);
       parsed = λ w ns by nodes. parsed_more w c.args.scan.now ns c.loop-place.asts.items c.push.new.self.items c.in_ok-parse_file.field-0 (c.loop-place.invariant.parsed w ns by nodes)
-          (λ n here. ast_at w c.args.scan.now c.args.nodes.now ns c.in_ok-sources.sources.items nodes (c.in_ok-sources.ensures.sources ns nodes) c.loop-place.place c.index-nodes-place.result c.index-source.result.now n c.in_ok-parse_file.field-0
+          (λ n here. ast_at w c.args.scan.now by.is_scan c.args.nodes.now ns c.in_ok-sources.sources.items nodes (c.in_ok-sources.ensures.sources ns nodes) c.loop-place.place c.index-nodes-place.result c.index-source.result.now n c.in_ok-parse_file.field-0
           c.loop-place-test.true c.index-nodes-place.is c.index-source.ensures (ap (slice_get ns) (sym c.loop-place.invariant.count) ∙ here) (c.in_ok-parse_file.ensures.said w by))
           c.in_ok-push.ensures.items;
       spent = λ w by. c.in_ok-parse_file.ensures.spent w by ∙ ap (λ m. m + spends_at w (file_at c.args.scan.now (get_or c.args.nodes.now c.loop-place.place c.index-nodes-place.result).node)) (c.loop-place.invariant.spent w by)

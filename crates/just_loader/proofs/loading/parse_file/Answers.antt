@@ -5,7 +5,7 @@ use Rattle.just_parts.specs.Syntax.{AreRising, PriorsAreDependencies, numbers}
 use Rattle.just_parts.specs.declared.layers.error.Error.{Error}
 use Rattle.just_loader.specs.Keys.{spends_at}
 use Rattle.just_loader.specs.Loaded.{with_path}
-use Rattle.just_loader.specs.LoadedInPlaces.{file_at}
+use Rattle.just_loader.specs.Placed.{file_at}
 use Rattle.just_loader.specs.Loading.{IsScanBy, StopsAt}
 use Rattle.just_loader.specs.Reached.{World, link}
 use Rattle.just_loader.specs.Scanned.{ArePlacesOf, paths_in}
