@@ -1,5 +1,5 @@
 -- What is loaded, from what is scanned, unfolded and parsed.
-use Rattle.std.proofs.Common.{◌≡◌, ℕ, ◌<◌, ◌^◌, false, List, [], ◌∷◌, map, length, Some, IsSome, refl, sym, ap, subst, ◌∙◌, arith}
+use Rattle.std.proofs.Common.{◌≡◌, ℕ, ◌<◌, ◌≤◌, ◌^◌, false, List, [], ◌∷◌, map, length, Some, IsSome, refl, sym, ap, subst, ◌∙◌, arith}
 use Rattle.std.specs.HashMap.{get}
 use Rattle.std.specs.List.{All, Contains, flat_map, slice_get}
 use Rattle.std.specs.declared.vec.Vec.{Vec}
@@ -77,7 +77,7 @@ module _ (w : World) (scan : Scan) (is : IsScan w scan) (us : List Unfolded) (wh
         λ j. record { components = texts j; spaced = spaced j };
   }
 
-  pub are_kept : IsSome (text_at w.files w.root) → Keeps (NamesInScan w) → ((f : List ℕ) → Reached w f → LeadsOn w f f → ⊥) → spent_by w scan us < 2 ^ 64 → Keeps (NamesInFiles w)
+  pub are_kept : IsSome (text_at w.files w.root) → Keeps (NamesInScan w) → ((f : List ℕ) → Reached w f → LeadsOn w f f → ⊥) → spent_by w scan us ≤ 2 ^ 64 → Keeps (NamesInFiles w)
   are_kept there kept none total = files_kept w scan is us whole.keys whole.once there kept none total
 
 pub is_loaded : (w : World) (loaded : Loaded) (us : List Unfolded) (asts : List Ast) → IsScan w loaded.scan → (whole : IsWhole loaded.scan.rows.items us) → IsFileOrder loaded.scan.rows.items loaded.order.items → AreParsed w loaded.scan whole.first.0 asts

@@ -1,4 +1,4 @@
-use Rattle.std.proofs.Common.{◌≡◌, ◌<◌, ◌^◌, Some, map, refl, sym, subst, rules}
+use Rattle.std.proofs.Common.{◌≡◌, ◌≤◌, ◌^◌, Some, map, refl, sym, subst, rules}
 use Rattle.std.specs.HashMap.{get}
 use Rattle.std.specs.List.{slice_get}
 use Rattle.just_graph.specs.Unfolded.{AllTold}
@@ -73,7 +73,7 @@ returns-clause-kept g c =
     let by : IsScanBy w c.in_ok-scan.scan (g.S.Syntax.answers c.args.syntax.now) = record { is_scan = c.in_ok-scan.ensures.scan; same = refl } in
     let whole : IsWhole c.in_ok-scan.scan.rows.items c.in_ok-nodes.nodes.items = whole_lent c.as_slice.ensures.value refl (record { first = c.in_ok-nodes.ensures.first; keys = c.in_ok-nodes.ensures.keys; once = c.in_ok-nodes.ensures.once }) in
     are_kept w c.in_ok-scan.scan c.in_ok-scan.ensures.scan c.in_ok-nodes.nodes.items whole (search rules) c.in_ok-scan.ensures.kept (c.in_ok-order.ensures.none w c.in_ok-scan.ensures.scan)
-    (subst (λ us. spent_by w c.in_ok-scan.scan us < 2 ^ 64) c.as_slice-2.ensures.value (c.in_ok-asts.ensures.fits w by))
+    (subst (λ us. spent_by w c.in_ok-scan.scan us ≤ 2 ^ 64) c.as_slice-2.ensures.value (c.in_ok-asts.ensures.fits w by))
 
 pub returns-clause-in_places : goal.returns-clause-in_places
 returns-clause-in_places g c =
