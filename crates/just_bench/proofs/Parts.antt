@@ -54,6 +54,7 @@ pub record Taken (text rest : Text) (held : Files) : Type 0 where
   pub stands : rest ≢ [] → (front : Text) × (text ≡ front ++ (mark ++ rest)) × IsBeforeLine front
   pub unmarked : (front : Text) → rest ≢ front ++ 10 ∷ mark
 
+-- before the first part
 pub taken_none : (text rest : Text) → text ≡ mark ++ rest → rest ≢ [] → ((front : Text) → rest ≢ front ++ 10 ∷ mark) → Taken text rest []
 taken_none text rest is some unmarked = record {
   parts = [];
@@ -64,6 +65,7 @@ taken_none text rest is some unmarked = record {
   unmarked = unmarked;
 }
 
+-- after a part that another follows
 pub taken_more : (text s x t q : Text) (held held' : Files) → Taken text s held → s ≡ x ++ t → x ≡ q ++ 10 ∷ mark → HasNoMark (q ++ 10 ∷ []) → held' ≡ put (file_of (q ++ 10 ∷ [])).path (file_of (q ++ 10 ∷ [])) held → Taken text t held'
 taken_more text s x t q held held' so_far is part clear puts =
     let whole : s ≡ q ++ 10 ∷ (mark ++ t) = is ∙ ap (λ w. w ++ t) part ∙ append_assoc q (10 ∷ mark) t in
@@ -81,6 +83,7 @@ taken_more text s x t q held held' so_far is part clear puts =
       unmarked = λ front e. so_far.unmarked (x ++ front) (is ∙ ap (λ w. x ++ w) e ∙ sym (append_assoc x front (10 ∷ mark)));
     }
 
+-- after the last part
 pub taken_last : (text s t : Text) (held held' : Files) → Taken text s held → t ≡ [] → s ≢ [] → HasNoMark s → held' ≡ put (file_of s).path (file_of s) held → Taken text t held'
 taken_last text s t held held' so_far none some clear puts = record {
   parts = so_far.parts ++ s ∷ [];
@@ -91,9 +94,11 @@ taken_last text s t held held' so_far none some clear puts = record {
   unmarked = λ front e. no_end front mark (sym none ∙ e);
 }
 
+-- one more of a list
 take_one : (b : ℕ) (ws : Text) (n : ℕ) → take (1 + n) (b ∷ ws) ≡ b ∷ take n ws
 take_one b ws n = let on : 1 + n ≡ suc n = omega arith in ap (λ k. take k (b ∷ ws)) on
 
+-- a byte before two lines that are the same
 path_more : (c : Bool) (b : ℕ) (ws vs : Text) → is_newline b ≡ c → before_first is_newline ws ≡ before_first is_newline vs → before_first is_newline (b ∷ ws) ≡ before_first is_newline (b ∷ vs)
 path_more true b ws vs is h = rw is refl
 path_more false b ws vs is h = rw (is, take_one b ws _, take_one b vs _) (ap (λ w. b ∷ w) h)
@@ -103,6 +108,7 @@ path_same : (q after : Text) → before_first is_newline (q ++ 10 ∷ after) ≡
 path_same [] after = refl
 path_same (b ∷ bs) after = path_more (is_newline b) b (bs ++ 10 ∷ after) (bs ++ 10 ∷ []) refl (path_same bs after)
 
+-- a part that is no file, where its path is that of what is left
 bad_here : (text s part : Text) (held : Files) → Taken text s held → s ≢ [] → before_first is_newline s ≡ before_first is_newline part → (e : BundleError) → IsNoFile part e → IsNoBundle text e
 bad_here text s part held so_far some same error.NotClean bad =
     let at = so_far.stands some in
@@ -142,12 +148,15 @@ bad_end text rest is (inr (front, ends)) = record {
   bad = no_path;
 }
 
+-- the text has the mark, and what is left
 pub stripped : (text rest : Text) → StripsPrefix (FindsTextPrefix mark) text rest → text ≡ mark ++ rest
 stripped text rest h = h.1.1 ∙ ap (λ w. mark ++ w) (sym h.2)
 
+-- what ends with a mark
 pub marked_end : (rest : Text) → HasSuffixMatch (FindsTextSuffix (10 ∷ mark)) rest → (front : Text) × (rest ≡ front ++ 10 ∷ mark)
 marked_end rest h = (take (length rest - h.0) rest, h.1.1)
 
+-- an answer of a part as one of the text
 pub bad_result : {A : Type 0} (r : Result A BundleError) (part text : Text) → IfErr r (IsNoFile part) → ((e : BundleError) → IsNoFile part e → IsNoBundle text e) → IfErr r (IsNoBundle text)
 bad_result (Ok a) part text h all = tt
 bad_result (Err e) part text h all = all e h
