@@ -1,5 +1,5 @@
 -- What the text of a scanned file says when it is parsed again.
-use Rattle.std.proofs.Common.{◌≡◌, ℕ, ◌+◌, ◌<◌, ◌≤◌, ◌^◌, List, map, length, get_or, None, Some, Result, Ok, Err, IfErr, refl, sym, ap, subst, ◌∙◌, arith}
+use Rattle.std.proofs.Common.{◌≡◌, ℕ, ◌+◌, ◌<◌, ◌^◌, List, map, length, get_or, None, Some, Result, Ok, Err, IfErr, refl, sym, ap, subst, ◌∙◌, arith}
 use Rattle.std.specs.List.{All, slice_get}
 use Rattle.std.specs.Option.{option_and_then, option_map, unwrap_or}
 use Rattle.std.specs.declared.vec.Vec.{Vec}
@@ -61,7 +61,7 @@ module _ (w : World) (scan : Scan) (answers : SyntaxAnswers) (by : IsScanBy w sc
     stops_at given (error.Compile e) h = let both : Some scanned.items ≡ None = sym scanned.parsed ∙ ap items_said (says ∙ h.0) in cc
     stops_at given (error.Invocation e) h = h
     stops_at given (error.Run e) h = h
-    stops_at given error.Exhausted h = subst (λ n. 2 ^ 64 ≤ given + n) spent_at h
+    stops_at given error.Exhausted h = subst (λ n. 2 ^ 64 < given + n) spent_at h
     stops_at given error.Memory h = tt
 
     module _ (ast : Ast) (p : answers.parsed relative text ≡ Some (bare_ast ast)) where

@@ -1,5 +1,5 @@
 -- What is loaded, from what is scanned, unfolded and parsed.
-use Rattle.std.proofs.Common.{◌≡◌, ℕ, ◌<◌, ◌^◌, false, List, map, length, Some, IsSome, Result, Ok, Err, IfOk, IfErr, sym, ap, subst, ◌∙◌, arith}
+use Rattle.std.proofs.Common.{◌≡◌, ℕ, ◌<◌, ◌≤◌, ◌^◌, false, List, map, length, Some, IsSome, Result, Ok, Err, IfOk, IfErr, sym, ap, subst, ◌∙◌, arith}
 use Rattle.std.specs.List.{slice_get}
 use Rattle.std.specs.declared.vec.Vec.{Vec}
 use Rattle.std.specs.declared.alloc.Global.{Global}
@@ -63,7 +63,7 @@ module _ (w : World) (scan : Scan) (is : IsScan w scan) (us : List Unfolded) (wh
         λ j. record { components = texts j; spaced = spaced j };
   }
 
-  pub are_kept : IsSome (text_at w.files w.root) → Keeps (NamesInScan w) → ((f : List ℕ) → Reached w f → LeadsOn w f f → ⊥) → spent_by w scan us < 2 ^ 64 → Keeps (NamesInFiles w)
+  pub are_kept : IsSome (text_at w.files w.root) → Keeps (NamesInScan w) → ((f : List ℕ) → Reached w f → LeadsOn w f f → ⊥) → spent_by w scan us ≤ 2 ^ 64 → Keeps (NamesInFiles w)
   are_kept there kept none total = files_kept w scan is us whole.keys whole.once there kept none total
 
 -- a rule that is broken

@@ -1,5 +1,5 @@
 -- What a file imports and which modules it declares, and the keys of files: the path of a module, and a file of it.
-use Rattle.std.specs.Prelude.{◌≡◌, ◌+◌, ℕ, false, List, [], ◌∷◌, map, unwrap_or, ◌≤◌, ◌^◌, Option, None, Some}
+use Rattle.std.specs.Prelude.{◌≡◌, ◌+◌, ℕ, false, List, [], ◌∷◌, map, unwrap_or, ◌<◌, ◌≤◌, ◌^◌, Option, None, Some}
 use Rattle.std.specs.List.{Contains, flat_map, sum_by}
 use Rattle.std.specs.Option.{option_map}
 use Rattle.just_graph.specs.Unfolding.{AreFirstOf, KeyOf, KeyStepsOf, NodeOf}
@@ -90,4 +90,4 @@ pub data NamesInFiles (w : World) : Cause → Type 0 where
   no_root : {path : Text} → text_at w.files w.root ≡ None → w.root ≡ path → NamesInFiles w (NoFile path)
   at_fault : {c : Cause} → NamesInScan w c → NamesInFiles w c
   in_circle : {c : Cause} → NamesCircle w c → NamesInFiles w c
-  too_many : (keys : List FileKey) → AreApart keys → ((k : FileKey) → Contains keys k → IsKey w k) → 2 ^ 64 ≤ sum_by (λ (k : FileKey). spends_at w k.node) keys → NamesInFiles w NoNumber
+  too_many : (keys : List FileKey) → AreApart keys → ((k : FileKey) → Contains keys k → IsKey w k) → 2 ^ 64 < sum_by (λ (k : FileKey). spends_at w k.node) keys → NamesInFiles w NoNumber

@@ -102,7 +102,7 @@ StopsAt given spends (error.Load e) = ⊥
 StopsAt given spends (error.Compile e) = ⊥
 StopsAt given spends (error.Invocation e) = ⊥
 StopsAt given spends (error.Run e) = ⊥
-StopsAt given spends error.Exhausted = 2 ^ 64 ≤ given + spends
+StopsAt given spends error.Exhausted = 2 ^ 64 < given + spends
 StopsAt given spends error.Memory = Unit {0}
 
 -- the same of the text of the file at a place
@@ -115,7 +115,7 @@ Stops w scan us (error.Load e) = ⊥
 Stops w scan us (error.Compile e) = ⊥
 Stops w scan us (error.Invocation e) = ⊥
 Stops w scan us (error.Run e) = ⊥
-Stops w scan us error.Exhausted = (k : ℕ) × (k ≤ length us) × (2 ^ 64 ≤ spent_by w scan (take k us))
+Stops w scan us error.Exhausted = (k : ℕ) × (k ≤ length us) × (2 ^ 64 < spent_by w scan (take k us))
 Stops w scan us error.Memory = Unit {0}
 
 -- items with the paths of the files at the places beside them

@@ -1,6 +1,6 @@
 //! Loads the files of a compilation: what a root reaches, each file as often as it belongs to a module.
 
-ghost use Rattle.std.specs.Prelude.{◌≡◌, ◌+◌, ◌^◌, ◌<◌, ℕ, List, Some, map, length, slice_get, IfSome, IfOk, IfErr, OnOk};
+ghost use Rattle.std.specs.Prelude.{◌≡◌, ◌+◌, ◌^◌, ◌<◌, ◌≤◌, ℕ, List, Some, map, length, slice_get, IfSome, IfOk, IfErr, OnOk};
 ghost use Rattle.std.specs.HashMap.{get};
 ghost use Rattle.std.specs.List.{All};
 ghost use Rattle.std.specs.Option.{option_map};
@@ -141,13 +141,13 @@ fn parse_file<'src, S: Syntax>(
 ) -> Result<Ast<'src>, Error<'src>>
     requires scan { (w : World) × IsScanBy w scan.now (S.answers syntax.now) }
     requires place { place < length scan.now.files.items }
-    requires few { numerator.old.next < 2 ^ 64 }
+    requires few { numerator.old ≤ 2 ^ 64 }
     ensures said { IfOk result (λ ast. InWorlds scan.now (S.answers syntax.now) (λ w. IsSaid w (file_at scan.now place) source.now ast)) }
-    ensures numbers { IfOk result (λ ast. AreRising numerator.old.next (numbers ast.items) numerator.new.next) }
+    ensures numbers { IfOk result (λ ast. AreRising numerator.old (numbers ast.items) numerator.new) }
     ensures priors { IfOk result (λ ast. All PriorsAreDependencies ast.items) }
-    ensures spent { OnOk result (InWorlds scan.now (S.answers syntax.now) (λ w. SpendsAt w (file_at scan.now place) numerator.old.next numerator.new.next)) }
-    ensures fits { OnOk result (numerator.new.next < 2 ^ 64) }
-    ensures stopped { IfErr result (StopsInFile scan.now (S.answers syntax.now) place numerator.old.next) }
+    ensures spent { OnOk result (InWorlds scan.now (S.answers syntax.now) (λ w. SpendsAt w (file_at scan.now place) numerator.old numerator.new)) }
+    ensures fits { OnOk result (numerator.new ≤ 2 ^ 64) }
+    ensures stopped { IfErr result (StopsInFile scan.now (S.answers syntax.now) place numerator.old) }
 {
     let file = &scan.files[place];
     let Ast {
@@ -180,7 +180,7 @@ fn parse_all<'src, S: Syntax>(
     ensures parsed { IfOk result (λ asts. AreParsedBy (S.answers syntax.now) scan.now nodes.now asts.items) }
     ensures numbers { IfOk result (λ asts. AreNumberedBy (S.answers syntax.now) scan.now nodes.now asts.items) }
     ensures priors { IfOk result (λ asts. All (λ (ast : Ast). All PriorsAreDependencies ast.items) asts.items) }
-    ensures fits { OnOk result (InWorlds scan.now (S.answers syntax.now) (λ w. spent_by w scan.now nodes.now < 2 ^ 64)) }
+    ensures fits { OnOk result (InWorlds scan.now (S.answers syntax.now) (λ w. spent_by w scan.now nodes.now ≤ 2 ^ 64)) }
     ensures stopped { IfErr result (λ e. InWorlds scan.now (S.answers syntax.now) (λ w. Stops w scan.now nodes.now e)) }
 {
     let sources = sources_of(alloc, scan, nodes)?;

@@ -1,6 +1,6 @@
 //! Scans a source map from a root: the files that are reached, with what their items lead to.
 
-ghost use Rattle.std.specs.Prelude.{◌≡◌, ◌^◌, ◌<◌, Some, map, length, IsSome, IfOk, IfErr, OnOk};
+ghost use Rattle.std.specs.Prelude.{◌≡◌, ◌^◌, ◌<◌, ◌≤◌, Some, map, length, IsSome, IfOk, IfErr, OnOk};
 ghost use Rattle.just_parts.specs.Bare.{bare_item};
 ghost use Rattle.just_parts.specs.Clean.{IsClean};
 ghost use Rattle.just_parts.specs.Entries.{find};
@@ -47,7 +47,7 @@ fn parse<'src, S: Syntax>(
 ) -> Result<Sequence<Item<'src>>, Error<'src>>
     requires { IsClean path.now }
     ensures items { IfOk result (λ items. items_said ((S.answers syntax.now).parsed relative.now text.now) ≡ Some (map bare_item items)) }
-    ensures fits { OnOk result ((S.answers syntax.now).spends relative.now text.now < 2 ^ 64) }
+    ensures fits { OnOk result ((S.answers syntax.now).spends relative.now text.now ≤ 2 ^ 64) }
     ensures refused { IfErr result (Refuses (S.answers syntax.now) relative.now text.now 0) }
 {
     let source = Source::root(alloc, path)?;

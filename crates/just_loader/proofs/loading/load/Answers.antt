@@ -1,4 +1,4 @@
-use Rattle.std.proofs.Common.{◌≡◌, ◌<◌, ◌^◌, Some, map, refl, sym, subst, rules}
+use Rattle.std.proofs.Common.{◌≡◌, ◌≤◌, ◌^◌, Some, map, refl, sym, subst, rules}
 use Rattle.std.specs.HashMap.{get}
 use Rattle.std.specs.List.{slice_get}
 use Rattle.just_graph.specs.Unfolded.{AllTold}
@@ -84,7 +84,7 @@ returns g c =
     let held : AreHeld scan us asts (get same_ast_key c.in_ok-asts-2.asts) = subst (λ xs. AreHeld scan xs asts (get same_ast_key c.in_ok-asts-2.asts)) c.as_slice-3.ensures.value c.in_ok-asts-2.ensures in
     let paths : c.in_ok-loaded.loaded ≡ map (relative_at scan) (at_first_places (places_of us)) = subst (λ xs. c.in_ok-loaded.loaded ≡ map (relative_at scan) (at_first_places (places_of xs))) c.as_slice-4.ensures.value c.in_ok-loaded.ensures in
     record {
-      kept = are_kept w scan is us whole (search rules) c.in_ok-scan.ensures.kept (c.in_ok-check_circles.ensures.none w is) (subst (λ xs. spent_by w scan xs < 2 ^ 64) c.as_slice-2.ensures.value (c.in_ok-asts.ensures.fits w by));
+      kept = are_kept w scan is us whole (search rules) c.in_ok-scan.ensures.kept (c.in_ok-check_circles.ensures.none w is) (subst (λ xs. spent_by w scan xs ≤ 2 ^ 64) c.as_slice-2.ensures.value (c.in_ok-asts.ensures.fits w by));
       loaded = is_loaded w scan is us whole asts (c.in_ok-asts.ensures.parsed w whole.first.0 by (whole.first.1, told)) (spent_by w scan c.as_slice-2.result.now) (c.in_ok-asts.ensures.numbers w by) c.in_ok-asts.ensures.priors
           (get same_ast_key c.in_ok-asts-2.asts) held c.in_ok-loaded.loaded paths;
       named = tt;
