@@ -3,3 +3,4 @@ pub mod Cuts
 pub mod Lexing
 pub mod Parsing
 pub mod Quoting
+pub mod Parts

@@ -48,7 +48,7 @@ pub record Read (path text : List ℕ) (source : Source) (low : ℕ) (all : List
   pub rising : AreRising low (numbers items) high
   pub spent : low + spends path text ≡ high + spends_lines path text (drop n all)
   pub onward : low ≤ high
-  pub fits : low < 2 ^ 64 → high < 2 ^ 64
+  pub fits : low ≤ 2 ^ 64 → high ≤ 2 ^ 64
 
 pub rest_of : (all : List Line) (n : ℕ) (line : Line) → n < length all → get_or all n line ≡ line → drop n all ≡ line ∷ drop (n + 1) all
 rest_of all n line within is = drop-cons all n line within ∙ ap (λ m. get_or all n line ∷ drop m all) (sym (add-one n)) ∙ ap (λ x. x ∷ drop (n + 1) all) is
@@ -83,7 +83,7 @@ priors_of r h bare =
 
 pub Read-recipe : (path text : List ℕ) (source : Source) (low : ℕ) (all : List Line) (n : ℕ) (items : List Item) (high : ℕ) (line : Line) (h : Heading) (r : Recipe UnresolvedDependency) (items' : List Item) (high' : ℕ)
     → Read path text source low all n items high → n < length all → get_or all n line ≡ line → Begins h ≡ reading path text line
-    → bare_recipe r ≡ recipe h → CameBy source r → AreRising high (recipe_numbers r) high' → high' ≡ high + (1 + length h.parameters) → high' < 2 ^ 64
+    → bare_recipe r ≡ recipe h → CameBy source r → AreRising high (recipe_numbers r) high' → high' ≡ high + (1 + length h.parameters) → high' ≤ 2 ^ 64
     → items' ≡ items ++ item.Recipe r ∷ []
     → Read path text source low all (n + 1) items' high'
 Read-recipe path text source low all n items high line h r items' high' so_far within is read bare came given taken fits pushed =

@@ -4,3 +4,4 @@ pub mod Lexemes
 pub mod Lines
 pub mod Refusal
 pub mod StopWriter
+pub mod Bundle

@@ -1,5 +1,5 @@
 -- What a refusal of the small grammar says.
-use Rattle.std.specs.Prelude.{◌≡◌, ◌≤◌, ℕ, ◌^◌, List, Some, Err}
+use Rattle.std.specs.Prelude.{◌≡◌, ◌<◌, ℕ, ◌^◌, List, Some, Err}
 use Rattle.std.specs.List.{slice_get}
 use Rattle.just_parts.specs.declared.layers.error.CompileError.{CompileError}
 use Rattle.just_parts.specs.declared.layers.error.CompileErrorKind.TheVariants.{Syntax}
@@ -19,7 +19,7 @@ pub record IsFirstBadLine (path text : List ℕ) (e : CompileError) : Type 0 whe
 
 -- why an item could not be made, where so many numbers are wanted, those that were given before among them
 abbrev pub Spent : Error → ℕ → Type 0
-Spent error.Exhausted wanted = 2 ^ 64 ≤ wanted
+Spent error.Exhausted wanted = 2 ^ 64 < wanted
 Spent error.Memory wanted = Unit {0}
 Spent (error.Compile e) wanted = ⊥
 Spent (error.Load e) wanted = ⊥
@@ -29,7 +29,7 @@ Spent (error.Run e) wanted = ⊥
 -- why the items of a text could not be made
 abbrev pub RefusesLine : List ℕ → List ℕ → Error → ℕ → Type 0
 RefusesLine path text (error.Compile e) wanted = IsFirstBadLine path text e
-RefusesLine path text error.Exhausted wanted = 2 ^ 64 ≤ wanted
+RefusesLine path text error.Exhausted wanted = 2 ^ 64 < wanted
 RefusesLine path text error.Memory wanted = Unit {0}
 RefusesLine path text (error.Load e) wanted = ⊥
 RefusesLine path text (error.Invocation e) wanted = ⊥

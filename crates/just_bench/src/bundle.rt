@@ -1,4 +1,8 @@
 //! Many files in one text.
+ghost use Rattle.std.specs.Prelude.{◌≡◌, ◌≢◌, ◌∷◌, ◌++◌, [], ℕ, List, IfOk, IfErr, OnOk};
+ghost use Rattle.just_parts.specs.Entries.{put};
+ghost use Rattle.just_bench.specs.Bundle.{file_of, mark, HoldsBundle, IsNoBundle, IsNoFile};
+
 use just_loader::Sources;
 use just_parts::layers::SourceError;
 use std::alloc::Global;
@@ -47,7 +51,10 @@ pub fn read_text<R: Read>(alloc: Global, input: &mut R) -> Result<String, Bundle
 }
 
 // A file and the mark of the next, without that mark. The last file has none, and stays as it is.
-fn without_next_mark(part: &str) -> &str {
+fn without_next_mark(part: &str) -> &str
+    ensures followed { (front : List ℕ) → part.now ≡ front ++ 10 ∷ mark → result.now ≡ front ++ 10 ∷ [] }
+    ensures last { ((front : List ℕ) → part.now ≢ front ++ 10 ∷ mark) → result.now ≡ part.now }
+{
     if !part.ends_with(NEXT_MARK) {
         return part;
     }
@@ -58,7 +65,10 @@ fn without_next_mark(part: &str) -> &str {
 }
 
 // Puts in a file: its path, a line end and its text, or its path alone.
-fn insert_file<'src>(sources: &mut Sources<'src>, file: &'src str) -> Result<(), BundleError> {
+fn insert_file<'src>(sources: &mut Sources<'src>, file: &'src str) -> Result<(), BundleError>
+    ensures held { OnOk result (sources.new ≡ put (file_of file.now).path (file_of file.now) sources.old) }
+    ensures fault { IfErr result (IsNoFile file.now) }
+{
     let (path, text) = match file.split_once('\n') {
         Some(parts) => parts,
         None => (file, ""),
@@ -73,7 +83,10 @@ fn insert_file<'src>(sources: &mut Sources<'src>, file: &'src str) -> Result<(),
 /// The files of a text. A line `--- PATH` begins a file, whose text is the lines up to the next such line, each with
 /// its line end. A later file of an equal path replaces the earlier. An empty text has no files.
 /// The error tells that a text stands before the first file, a path that is not clean, or want of memory.
-pub fn read_sources<'src>(alloc: Global, text: &'src str) -> Result<Sources<'src>, BundleError> {
+pub fn read_sources<'src>(alloc: Global, text: &'src str) -> Result<Sources<'src>, BundleError>
+    ensures files { IfOk result (HoldsBundle text.now) }
+    ensures fault { IfErr result (IsNoBundle text.now) }
+{
     let mut sources = Sources::new(alloc);
     if text.is_empty() {
         return Ok(sources);

@@ -1,5 +1,5 @@
 //! The small grammar as a syntax layer.
-ghost use Rattle.std.specs.Prelude.{◌≡◌, ◌<◌, ◌≤◌, ◌+◌, ◌^◌, ◌++◌, Ok, Some, length, map, IfOk, IfErr, IfSome, OnOk, false};
+ghost use Rattle.std.specs.Prelude.{◌≡◌, ◌≤◌, ◌+◌, ◌^◌, ◌++◌, Ok, Some, length, map, IfOk, IfErr, IfSome, OnOk, false};
 ghost use Rattle.std.specs.List.{All};
 ghost use Rattle.just_parts.specs.Token.{lexeme};
 ghost use Rattle.just_parts.specs.Bare.{bare_ast, bare_item, bare_recipe, bare_parameter};
@@ -43,12 +43,12 @@ impl Syntax for PlainSyntax {
     ) -> Result<Ast<'src>, Error<'src>>
         ensures items { IfOk result (λ ast. spec.answers.parsed relative.now text.now ≡ Some (bare_ast ast)) }
         ensures source { IfOk result (IsFrom source.now) }
-        ensures numbers { IfOk result (λ ast. AreRising numerator.old.next (numbers ast.items) numerator.new.next) }
+        ensures numbers { IfOk result (λ ast. AreRising numerator.old (numbers ast.items) numerator.new) }
         ensures priors { IfOk result (λ ast. All PriorsAreDependencies ast.items) }
-        ensures spent { OnOk result (numerator.new.next ≡ numerator.old.next + spec.spends relative.now text.now) }
-        ensures fits { OnOk result (numerator.old.next < 2 ^ 64 → numerator.old.next + spec.spends relative.now text.now < 2 ^ 64) }
-        ensures refused { IfErr result (λ e. RefusesLine relative.now text.now e (numerator.old.next + spec.spends relative.now text.now)) }
-        ensures onward { numerator.old.next ≤ numerator.new.next }
+        ensures spent { OnOk result (numerator.new ≡ numerator.old + spec.spends relative.now text.now) }
+        ensures fits { OnOk result (numerator.old ≤ 2 ^ 64 → numerator.old + spec.spends relative.now text.now ≤ 2 ^ 64) }
+        ensures refused { IfErr result (λ e. RefusesLine relative.now text.now e (numerator.old + spec.spends relative.now text.now)) }
+        ensures onward { numerator.old ≤ numerator.new }
     {
         let items = parse(alloc, numerator, relative, source, text)?;
         Ok(Ast {
@@ -83,11 +83,11 @@ fn make_parameters<'src>(
     names: &[Name<'src>],
 ) -> Result<Sequence<Parameter<'src>>, Error<'src>>
     ensures bare { IfOk result (λ made. map bare_parameter made ≡ map spec.parameter names.now) }
-    ensures numbers { IfOk result (λ made. AreRising numerator.old.next (parameter_numbers made) numerator.new.next) }
-    ensures spent { OnOk result (numerator.new.next ≡ numerator.old.next + length names.now) }
-    ensures fits { OnOk result (numerator.old.next < 2 ^ 64 → numerator.new.next < 2 ^ 64) }
-    ensures refused { IfErr result (λ e. Spent e (numerator.old.next + length names.now)) }
-    ensures onward { numerator.old.next ≤ numerator.new.next }
+    ensures numbers { IfOk result (λ made. AreRising numerator.old (parameter_numbers made) numerator.new) }
+    ensures spent { OnOk result (numerator.new ≡ numerator.old + length names.now) }
+    ensures fits { OnOk result (numerator.old ≤ 2 ^ 64 → numerator.new ≤ 2 ^ 64) }
+    ensures refused { IfErr result (λ e. Spent e (numerator.old + length names.now)) }
+    ensures onward { numerator.old ≤ numerator.new }
 {
     let mut made = Sequence::new(alloc);
     for name in names {
@@ -136,11 +136,11 @@ fn make_recipe<'src>(
 ) -> Result<UnresolvedRecipe<'src>, Error<'src>>
     ensures bare { IfOk result (λ made. bare_recipe made ≡ spec.recipe heading.now) }
     ensures source { IfOk result (CameBy source.now) }
-    ensures numbers { IfOk result (λ made. AreRising numerator.old.next (recipe_numbers made) numerator.new.next) }
-    ensures spent { OnOk result (numerator.new.next ≡ numerator.old.next + (1 + length heading.now.parameters)) }
-    ensures fits { OnOk result (numerator.new.next < 2 ^ 64) }
-    ensures refused { IfErr result (λ e. Spent e (numerator.old.next + (1 + length heading.now.parameters))) }
-    ensures onward { numerator.old.next ≤ numerator.new.next }
+    ensures numbers { IfOk result (λ made. AreRising numerator.old (recipe_numbers made) numerator.new) }
+    ensures spent { OnOk result (numerator.new ≡ numerator.old + (1 + length heading.now.parameters)) }
+    ensures fits { OnOk result (numerator.new ≤ 2 ^ 64) }
+    ensures refused { IfErr result (λ e. Spent e (numerator.old + (1 + length heading.now.parameters))) }
+    ensures onward { numerator.old ≤ numerator.new }
 {
     let number = numerator.give()?;
     let parameters = make_parameters(alloc, numerator, heading.parameters.as_slice())?;
@@ -229,12 +229,12 @@ fn parse<'src>(
 ) -> Result<Sequence<Item<'src>>, Error<'src>>
     ensures items { IfOk result (λ items. spec.items_of relative.now text.now ≡ Ok (map bare_item items)) }
     ensures source { IfOk result (λ items. All (ItemCameBy source.now) items) }
-    ensures numbers { IfOk result (λ items. AreRising numerator.old.next (numbers items) numerator.new.next) }
+    ensures numbers { IfOk result (λ items. AreRising numerator.old (numbers items) numerator.new) }
     ensures priors { IfOk result (λ items. All PriorsAreDependencies items) }
-    ensures spent { OnOk result (numerator.new.next ≡ numerator.old.next + spec.spends relative.now text.now) }
-    ensures fits { OnOk result (numerator.old.next < 2 ^ 64 → numerator.old.next + spec.spends relative.now text.now < 2 ^ 64) }
-    ensures refused { IfErr result (λ e. RefusesLine relative.now text.now e (numerator.old.next + spec.spends relative.now text.now)) }
-    ensures onward { numerator.old.next ≤ numerator.new.next }
+    ensures spent { OnOk result (numerator.new ≡ numerator.old + spec.spends relative.now text.now) }
+    ensures fits { OnOk result (numerator.old ≤ 2 ^ 64 → numerator.old + spec.spends relative.now text.now ≤ 2 ^ 64) }
+    ensures refused { IfErr result (λ e. RefusesLine relative.now text.now e (numerator.old + spec.spends relative.now text.now)) }
+    ensures onward { numerator.old ≤ numerator.new }
 {
     let all = lines(alloc, text)?;
     let mut items = Sequence::new(alloc);

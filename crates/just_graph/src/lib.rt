@@ -11,6 +11,7 @@ ghost use Rattle.just_graph.specs.Search.{mark, IsSeenFrom, Searching};
 ghost use Rattle.just_graph.specs.Found.{Listing, Added};
 ghost use Rattle.just_graph.specs.Path.{nodes, passes, IsBackFrom};
 
+pub mod laws;
 pub mod levels;
 pub mod unfolding;
 

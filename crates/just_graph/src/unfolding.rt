@@ -8,8 +8,7 @@ ghost use Rattle.std.specs.List.{All, Contains};
 ghost use Rattle.std.specs.HashMap.{get};
 ghost use Rattle.std.specs.declared.vec.Vec.{Vec};
 ghost use Rattle.std.specs.declared.alloc.Global.{Global};
-ghost use Rattle.just_graph.specs.Unfolding.{steps, AreEdges, AreFirst, AreTrails, Edges, HasOrder, IsOrdered, IsUnfolding, LeadInside, Node, Rows, path_after};
-ghost use Rattle.just_graph.specs.Graph.{HasEdge, IsGraph};
+ghost use Rattle.just_graph.specs.Unfolding.{steps, AreEdges, Edges, IsOrdered, Rows, path_after};
 ghost use Rattle.just_graph.specs.Unfolded.{frames_from, same_key, unfolded_key, AreApart, AreLeast, AreLinked, AreNoted, AreReached, EachLinked, IsIndex, IsPut, IsUnfolded};
 ghost use Rattle.just_graph.specs.declared.unfolding.Step.{Step};
 ghost use Rattle.just_graph.specs.declared.unfolding.Unfolded.{Unfolded};
@@ -215,13 +214,6 @@ pub fn edges(alloc: Global, rows: &[Vec<Step>]) -> Result<Vec<Vec<usize>>, Alloc
     Ok(edges)
 }
 
-/// A law of edges: they are a graph where each step leads to a node, and what `order` answers for them shows that its
-/// roots are ordered.
-pub fn edges_are_steps()
-    ensures inside { (rows : Rows) (edges : Edges) → AreEdges rows edges → LeadInside rows → IsGraph edges }
-    ensures ordered { (rows : Rows) (edges : Edges) (root : ℕ) → AreEdges rows edges → HasOrder (HasEdge edges) (length edges) root → IsOrdered rows root }
-{}
-
 /// Lists the first node of each key in the unfolding's preorder, in which the steps of a node go from the last to the
 /// first.
 ///
@@ -245,10 +237,3 @@ pub fn unfold(alloc: Global, rows: &[Vec<Step>], root: usize) -> Result<Vec<Unfo
     note_depths(&mut nodes, &depths);
     Ok(nodes)
 }
-
-/// A law of unfoldings: there is one, it has one list of first nodes, and of its nodes one of a key and of so many
-/// steps is there exactly where so many steps lead to the key.
-pub fn unfoldings_are_trails()
-    ensures one { (S : ℕ → List Step) (root : ℕ) (ns ms : List Node) → AreFirst S root ns → AreFirst S root ms → ns ≡ ms }
-    ensures trails { (S : ℕ → List Step) (root : ℕ) (pre : List Node) → IsUnfolding S root pre → AreTrails S root pre }
-{}

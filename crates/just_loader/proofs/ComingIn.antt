@@ -1,6 +1,7 @@
 -- How files come in.
 use Rattle.std.proofs.Common.{◌≡◌, ℕ, zero, suc, ◌<◌, List, [], ◌∷◌, ◌++◌, map, take, length, get_or, Option, None, Some, IfSome, Result, Ok, Err, IfOk, inl, inr, refl, sym, ap, subst, ◌∙◌, arith}
 use Rattle.std.specs.List.{All, slice_get}
+use Rattle.std.specs.Option.{option_map}
 use Rattle.std.specs.declared.vec.Vec.{Vec}
 use Rattle.std.specs.declared.alloc.Global.{Global}
 use Rattle.std.proofs.lemmas.List.{length_push, map-append}
@@ -21,18 +22,18 @@ use Rattle.just_parts.specs.declared.layers.error.Error.{Error}
 use Rattle.just_parts.specs.declared.layers.name.Name.{Name}
 use Rattle.just_parts.specs.declared.layers.name.Namepath.{Namepath}
 use Rattle.just_parts.specs.declared.source.Source.{Source}
-use Rattle.just_loader.specs.Loaded.{entered}
-use Rattle.just_loader.specs.LoadedInPlaces.{CameInPlaces, file_at, name_at, own_after_places}
-use Rattle.just_loader.specs.Loading.{AreNodes, AreUnfolded, CameInSoFar, ComesNext, components_after, folder_after}
+use Rattle.just_loader.specs.Keys.{FileStep}
+use Rattle.just_loader.specs.Loaded.{entered, own_after}
+use Rattle.just_loader.specs.Placed.{file_at, name_at, text_step}
+use Rattle.just_loader.specs.Loading.{AreNodes, AreUnfolded, CameInSoFar, CameInWorlds, ComesNext, components_after, folder_after}
 use Rattle.just_loader.specs.Numbering.{texts_of}
 use Rattle.just_loader.specs.Reached.{World}
 use Rattle.just_loader.specs.Scanned.{IsScan, paths_in}
 use Rattle.just_loader.specs.declared.scanned.Scan.{Scan}
 use Rattle.just_loader.specs.declared.scanned.ScannedFile.{ScannedFile}
+use Rattle.just_loader.proofs.FileKeys.{least_mapped, root_at, to_steps}
 use Rattle.just_loader.proofs.FileRows.{known_here, numbered}
-use Rattle.just_loader.proofs.FileCircles.{has_rows}
-use Rattle.just_loader.proofs.Numberings.{get_cases, got, map_get, none_some}
-use Rattle.just_loader.proofs.WholeScans.{read_at}
+use Rattle.just_loader.proofs.Numberings.{get_cases, got, map_get, none_some, read_at}
 
 -- the file at a place
 pub file_is : (files : List ScannedFile) (k : ℕ) (f : ScannedFile) → k < length files → f ≡ get_or files k f → slice_get (paths_in files) k ≡ Some f.path
@@ -66,27 +67,32 @@ module_next scan before s number name path (Ok source) enters text is chain offs
 module_next scan before s number name path (Err e) enters text is chain offsets namepath source_path folder = tt
 
 -- a step at the end of a trail
-own_last : (own : ℕ) (ss : List Step) (s : Step) → own_after_places own (ss ++ s ∷ []) ≡ entered (own_after_places own ss) s.enters s.target
+own_last : (own : List ℕ) (ss : List FileStep) (s : FileStep) → own_after own (ss ++ s ∷ []) ≡ entered (own_after own ss) s.enters s.to
 own_last own [] s = refl
-own_last own (t ∷ ts) s = own_last (entered own t.enters t.target) ts s
+own_last own (t ∷ ts) s = own_last (entered own t.enters t.to) ts s
 
 names_last : (scan : Scan) (path : List ℕ) (o : Option ℕ) → components_after scan (map (name_at scan) path) o ≡ map (name_at scan) (path_after path o)
 names_last scan path None = refl
 names_last scan path (Some number) = sym (map-append (name_at scan) path (number ∷ []))
 
-folder_last : (scan : Scan) (own target : ℕ) (o : Option ℕ) → folder_after (folder_of (file_at scan own)) o (file_at scan target) ≡ folder_of (file_at scan (entered own o target))
-folder_last scan own target None = refl
-folder_last scan own target (Some number) = refl
+folder_last : (scan : Scan) (own path : List ℕ) (o : Option ℕ) → folder_after (folder_of own) o path ≡ folder_of (entered own (option_map (name_at scan) o) path)
+folder_last scan own path None = refl
+folder_last scan own path (Some number) = refl
 
-pub came_next : (scan : Scan) (n : Node) (s : Step) (before source : Source) (depth : ℕ) → CameInPlaces scan n before → ComesNext scan before s source → IsLeastDepth (steps scan.rows.items) 0 (key (child n s)) depth → CameInPlaces scan (child n s) (record source { file_depth = depth })
-came_next scan n s before source depth came next least = record {
-  chain = next.chain ∙ ap (λ c. c ++ file_at scan s.target ∷ []) came.chain ∙ ap (λ c. file_at scan 0 ∷ c) (sym (map-append (λ (x : Step). file_at scan x.target) n.trail (s ∷ [])));
-  offsets = next.offsets ∙ ap (λ o. offsets_after o s.offset s.enters) came.offsets;
-  components = next.components ∙ ap (λ c. components_after scan c s.enters) came.components ∙ names_last scan n.path s.enters;
-  path = next.path;
-  folder = next.folder ∙ ap (λ f. folder_after f s.enters (file_at scan s.target)) came.folder ∙ folder_last scan (own_after_places 0 n.trail) s.target s.enters ∙ ap (λ o. folder_of (file_at scan o)) (sym (own_last 0 n.trail s));
-  depth = least;
-}
+pub came_next : (scan : Scan) (n : Node) (s : Step) (before source : Source) (depth : ℕ) → CameInWorlds scan n before → ComesNext scan before s source → IsLeastDepth (steps scan.rows.items) 0 (key (child n s)) depth → CameInWorlds scan (child n s) (record source { file_depth = depth })
+came_next scan n s before source depth came next least = λ w is.
+    let at = came w is in
+    let trail = map (text_step scan) n.trail in
+    let last : trail ++ text_step scan s ∷ [] ≡ map (text_step scan) (n.trail ++ s ∷ []) = sym (map-append (text_step scan) n.trail (s ∷ [])) in
+    record {
+      chain = next.chain ∙ ap (λ c. c ++ file_at scan s.target ∷ []) at.chain ∙ ap (λ c. w.root ∷ c) (sym (map-append (λ (x : FileStep). x.to) trail (text_step scan s ∷ [])) ∙ ap (map (λ (x : FileStep). x.to)) last);
+      offsets = next.offsets ∙ ap (λ o. offsets_after o s.offset s.enters) at.offsets;
+      components = next.components ∙ ap (λ c. components_after scan c s.enters) at.components ∙ names_last scan n.path s.enters;
+      path = next.path;
+      folder = next.folder ∙ ap (λ f. folder_after f s.enters (file_at scan s.target)) at.folder ∙ folder_last scan (own_after w.root trail) (file_at scan s.target) s.enters
+          ∙ ap folder_of (sym (own_last w.root trail (text_step scan s)) ∙ ap (own_after w.root) last);
+      depth = least_mapped w scan is (key (child n s)) depth least;
+    }
 
 -- an element that is read is what is there
 pub element_is : {A : Type 0} (xs : List A) (k : ℕ) (x y : A) → x ≡ get_or xs k x → slice_get xs k ≡ Some y → x ≡ y
@@ -140,7 +146,7 @@ pub record CameOver (scan : Scan) (us : List Unfolded) (sources : List Source) (
   pub step_at : slice_get row.items o.step ≡ Some step
   pub target : step.target < length scan.files.items
   pub number : IfSome step.enters (λ number. number < length scan.names.items)
-  pub came : CameInPlaces scan parent before
+  pub came : CameInWorlds scan parent before
   pub shallow : before.file_depth < length us
   pub is_child : n ≡ child parent step
 
@@ -177,25 +183,25 @@ module _ (w : World) (scan : Scan) (is : IsScan w scan) (us : List Unfolded) (ar
     is_root e = root_first (steps scan.rows.items) 0 ns (length sources) n nodes.0 here (subst (CameFrom (steps scan.rows.items) (take (length sources) ns) n) e told.origin)
 
     pub came_root : (source : Source) (path : List ℕ) → u.origin ≡ None → path ≡ file_at scan u.node → source.file_path ≡ path ∷ [] → source.import_offsets ≡ [] → source.namepath ≡ None → source.path ≡ path → source.working_directory ≡ folder_of path
-        → CameInPlaces scan n (record source { file_depth = u.depth })
+        → CameInWorlds scan n (record source { file_depth = u.depth })
     came_root source path e path_is chain offsets namepath source_path folder =
         let root : n ≡ root_node 0 = is_root e in
         let file : path ≡ file_at scan 0 = path_is ∙ ap (file_at scan) (told.node ∙ ap (λ (x : Node). x.node) root) in
-        let at_root : CameInPlaces scan (root_node 0) (record source { file_depth = u.depth }) = record {
-          chain = chain ∙ ap (λ p. p ∷ []) file;
+        let at_root : CameInWorlds scan (root_node 0) (record source { file_depth = u.depth }) = λ v of. record {
+          chain = chain ∙ ap (λ p. p ∷ []) (file ∙ root_at v scan of);
           offsets = offsets;
           components = ap components_of namepath;
           path = source_path ∙ file;
-          folder = folder ∙ ap folder_of file;
-          depth = subst (λ (x : Node). IsLeastDepth (steps scan.rows.items) 0 (key x) u.depth) root least;
+          folder = folder ∙ ap folder_of (file ∙ root_at v scan of);
+          depth = least_mapped v scan of (key (root_node 0)) u.depth (subst (λ (x : Node). IsLeastDepth (steps scan.rows.items) 0 (key x) u.depth) root least);
         } in
-        subst (λ x. CameInPlaces scan x (record source { file_depth = u.depth })) (sym root) at_root
+        subst (λ x. CameInWorlds scan x (record source { file_depth = u.depth })) (sym root) at_root
 
-    pub came_by : (o : Origin) (h : CameOver scan us sources n o) (before source : Source) (s : Step) → before ≡ h.before → s ≡ h.step → ComesNext scan before s source → CameInPlaces scan n (record source { file_depth = u.depth })
+    pub came_by : (o : Origin) (h : CameOver scan us sources n o) (before source : Source) (s : Step) → before ≡ h.before → s ≡ h.step → ComesNext scan before s source → CameInWorlds scan n (record source { file_depth = u.depth })
     came_by o h before source s is_before is_step next =
         let last : ComesNext scan h.before h.step source = subst (λ (x : Step). ComesNext scan h.before x source) is_step (subst (λ (x : Source). ComesNext scan x s source) is_before next) in
         let deep : IsLeastDepth (steps scan.rows.items) 0 (key (child h.parent h.step)) u.depth = subst (λ (x : Node). IsLeastDepth (steps scan.rows.items) 0 (key x) u.depth) h.is_child least in
-        subst (λ x. CameInPlaces scan x (record source { file_depth = u.depth })) (sym h.is_child) (came_next scan h.parent h.step h.before source u.depth h.came last deep)
+        subst (λ x. CameInWorlds scan x (record source { file_depth = u.depth })) (sym h.is_child) (came_next scan h.parent h.step h.before source u.depth h.came last deep)
 
     module _ (so : CameInSoFar scan ns sources) (o : Origin) (from : u.origin ≡ Some o) where
       pub came_over : CameOver scan us sources n o
@@ -211,7 +217,7 @@ module _ (w : World) (scan : Scan) (is : IsScan w scan) (us : List Unfolded) (ar
           let row = row_steps scan.rows.items parent.node o.step s c.3 in
           let here : In s (steps scan.rows.items parent.node) = is_in s (steps scan.rows.items parent.node) (got (steps scan.rows.items parent.node) o.step s c.3) in
           let leads : HasStep scan.rows.items parent.node s.target = contained s.target (map (λ (x : Step). x.target) (steps scan.rows.items parent.node)) (in_map (λ (x : Step). x.target) s (steps scan.rows.items parent.node) here) in
-          let came : CameInPlaces scan parent before.0 = so o.parent parent before.0 p.1 before.1 in
+          let came : CameInWorlds scan parent before.0 = so o.parent parent before.0 p.1 before.1 in
           let same : unfolded_key element.0 ≡ key parent = λ i. record { path = tells.path i; node = tells.node i } in
           let depth : IsLeastDepth (steps scan.rows.items) 0 (key parent) element.0.depth = subst (λ k. IsLeastDepth (steps scan.rows.items) 0 k element.0.depth) same (are.depths o.parent element.0 element.1) in
           record {
@@ -229,7 +235,7 @@ module _ (w : World) (scan : Scan) (is : IsScan w scan) (us : List Unfolded) (ar
             target = omega (arith, is.within parent.node s.target leads, is.count);
             number = numbered scan s.enters (known_here w scan is parent.node s here);
             came = came;
-            shallow = omega (arith, came.depth.1 element.0.depth depth.0, are.shallow o.parent element.0 element.1);
+            shallow = omega (arith, (came w is).depth.1 element.0.depth (to_steps w scan is (key parent) element.0.depth depth.0), are.shallow o.parent element.0 element.1);
             is_child = c.4;
           }
 
@@ -242,13 +248,6 @@ module _ (w : World) (scan : Scan) (is : IsScan w scan) (us : List Unfolded) (ar
 
     pub over : (o : Origin) → u.origin ≡ Some o → CameOver scan us sources node_here.0 o
     over o from = came_over firsts (are.unfolded.1, are.unfolded.2) node_here.0 node_here.1 (so firsts (are.unfolded.1, are.unfolded.2)) o from
-
-    pub root_inside : u.origin ≡ None → u.node < length scan.files.items
-    root_inside e =
-        let rows = has_rows w scan is in
-        let root : node_here.0 ≡ root_node 0 = is_root firsts (are.unfolded.1, are.unfolded.2) node_here.0 node_here.1 e in
-        let node : u.node ≡ 0 = (told firsts (are.unfolded.1, are.unfolded.2) node_here.0 node_here.1).node ∙ ap (λ (x : Node). x.node) root in
-        omega (arith, node, rows.some, rows.count)
 
 -- what is listed of rows that are lent
 pub are_unfolded : (scan : Scan) (rows : List (Vec Step Global)) (us lent : List Unfolded) → rows ≡ scan.rows.items → lent ≡ us → IsUnfolded (steps rows) 0 us → AreLeast (steps rows) 0 us
@@ -263,8 +262,8 @@ are_unfolded scan rows us lent is_rows is_us listed depths shallow = subst (AreU
 pub came_none : (scan : Scan) (ns : List Node) (sources : List Source) → sources ≡ [] → CameInSoFar scan ns sources
 came_none scan ns sources e k n source at here = absurd (none_some (ap (λ xs. slice_get xs k) (sym e) ∙ here))
 
-pub came_more : (scan : Scan) (ns : List Node) (old new : List Source) (source : Source) → CameInSoFar scan ns old → ((n : Node) → slice_get ns (length old) ≡ Some n → CameInPlaces scan n source) → new ≡ old ++ source ∷ [] → CameInSoFar scan ns new
+pub came_more : (scan : Scan) (ns : List Node) (old new : List Source) (source : Source) → CameInSoFar scan ns old → ((n : Node) → slice_get ns (length old) ≡ Some n → CameInWorlds scan n source) → new ≡ old ++ source ∷ [] → CameInSoFar scan ns new
 came_more scan ns old new source so one is k n s at here = elim (get_cases old source s k (ap (λ xs. slice_get xs k) (sym is) ∙ here)) [
   | inl before ↦ so k n s at before
-  | inr last ↦ subst (CameInPlaces scan n) last.1 (one n (ap (slice_get ns) (sym last.0) ∙ at))
+  | inr last ↦ subst (CameInWorlds scan n) last.1 (one n (ap (slice_get ns) (sym last.0) ∙ at))
 ]

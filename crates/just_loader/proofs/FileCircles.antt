@@ -21,16 +21,15 @@ use Rattle.just_parts.specs.Bare.{bare_item}
 use Rattle.just_parts.specs.Edge.{Edge, Imports, Declares, edge_of}
 use Rattle.just_loader.specs.FileCircles.{HasRows, LeadsOn, by_edge, by_edges, ChainTo, at_root, and_next, NamesCircle, leads_back}
 use Rattle.just_loader.specs.Keys.{FileStep, end_of, items_at, steps_by, steps_of}
-use Rattle.just_loader.specs.LoadedInPlaces.{file_at}
+use Rattle.just_loader.specs.Placed.{file_at, text_step}
 use Rattle.just_loader.specs.Links.{Link, Nowhere, To, Fault, edge_link}
 use Rattle.just_loader.specs.Reached.{World, Reached, from_root, from_file, items_of, link, LeadsTo}
 use Rattle.just_parts.specs.Causes.{LeadsBack}
 use Rattle.just_loader.specs.Scanned.{IsScan, paths_in}
 use Rattle.just_loader.specs.declared.scanned.Scan.{Scan}
 use Rattle.just_loader.specs.declared.scanned.ScannedFile.{ScannedFile}
-use Rattle.just_loader.proofs.FileRows.{at, said, steps_here, text_step}
-use Rattle.just_loader.proofs.Numberings.{got, some_same}
-use Rattle.just_loader.proofs.WholeScans.{read_at}
+use Rattle.just_loader.proofs.FileRows.{at, said, steps_here}
+use Rattle.just_loader.proofs.Numberings.{got, read_at, some_same}
 
 pub has_rows : (w : World) (scan : Scan) → IsScan w scan → HasRows scan
 has_rows w scan is = record {

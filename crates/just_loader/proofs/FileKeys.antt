@@ -1,18 +1,24 @@
 -- Keys of the unfolding of a scan, and the keys of files.
 use Rattle.std.proofs.Common.{◌≡◌, ℕ, ◌<◌, List, [], ◌∷◌, map, length, Option, None, Some, inl, inr, refl, sym, ap, subst, ◌∙◌, arith}
+use Rattle.std.specs.List.{slice_get}
 use Rattle.std.proofs.lemmas.List.{length-map}
 use Rattle.std.proofs.lemmas.Option.{slice_get_within, get_or_from_slice_get}
-use Rattle.just_graph.specs.Unfolding.{Key, KeySteps, IsReachedKey, path_after, root_key, steps}
+use Rattle.just_graph.specs.Unfolding.{Key, Node, KeySteps, IsLeastDepth, IsReachedKey, IsUnfolding, key, path_after, root_key, steps}
 use Rattle.just_graph.specs.declared.unfolding.Step.{Step}
+use Rattle.just_graph.specs.declared.unfolding.Unfolded.{Unfolded}
 use Rattle.just_graph.proofs.KeySteps.{steps_back, steps_keep, steps_mapped}
-use Rattle.just_graph.proofs.Members.{In, contained, in_cases, in_map}
-use Rattle.just_loader.specs.Keys.{FileKey, FileKeySteps, FileStep, IsKey, root_file_key, steps_of}
-use Rattle.just_loader.specs.LoadedInPlaces.{file_at, name_at}
+use Rattle.just_graph.proofs.Preorder.{firsts_in}
+use Rattle.just_graph.proofs.Trails.{steps_to}
+use Rattle.just_graph.proofs.Members.{In, contained, is_in, in_cases, in_map}
+use Rattle.just_loader.specs.Keys.{FileKey, FileKeySteps, FileStep, IsKey, IsLeastFileDepth, root_file_key, steps_of}
+use Rattle.just_loader.specs.Loading.{AreUnfolded}
+use Rattle.just_loader.specs.Placed.{file_at, name_at, text_step}
 use Rattle.just_loader.specs.Reached.{World}
 use Rattle.just_loader.specs.Scanned.{IsScan, paths_in}
 use Rattle.just_loader.specs.declared.scanned.Scan.{Scan}
 use Rattle.just_loader.specs.declared.scanned.ScannedFile.{ScannedFile}
-use Rattle.just_loader.proofs.FileRows.{IsKnown, at, known_here, steps_here, text_step}
+use Rattle.just_loader.proofs.FileRows.{IsKnown, at, known_here, steps_here}
+use Rattle.just_loader.proofs.Numberings.{got, read_at}
 
 -- the key of a file, by texts
 abbrev pub file_key : Scan → Key → FileKey
@@ -22,6 +28,12 @@ file_key scan k = record { path = map (name_at scan) k.path; node = file_at scan
 pub record Stands (scan : Scan) (k : Key) : Type 0 where
   pub inside : k.node < length scan.files.items
   pub known : (n : ℕ) → In n k.path → IsKnown scan (Some n)
+
+-- the key of a node is one of the root's
+pub node_reached : (S : ℕ → List Step) (pre : List Node) → IsUnfolding S 0 pre → (n : Node) → In n pre → IsReachedKey S 0 (key n)
+node_reached S pre u n i =
+    let r = steps_to S u n i in
+    elim r.1 [ inl e ↦ (r.2, subst (λ (x : Node). KeySteps S (key x) (key n) r.2) e r.3) | inr z ↦ absurd z ]
 
 after_known : (scan : Scan) (path : List ℕ) (e : Option ℕ) → ((n : ℕ) → In n path → IsKnown scan (Some n)) → IsKnown scan e → (n : ℕ) → In n (path_after path e) → IsKnown scan (Some n)
 after_known scan path None all new n h = all n h
@@ -50,8 +62,11 @@ module _ (w : World) (scan : Scan) (is : IsScan w scan) where
   pub root_inside : inside 0
   root_inside = omega (arith, length-map scan.files.items (λ (f : ScannedFile). f.path), slice_get_within (paths_in scan.files.items) 0 w.root is.root)
 
+  pub root_at : file_at scan 0 ≡ w.root
+  root_at = get_or_from_slice_get (paths_in scan.files.items) 0 w.root [] is.root
+
   root_is : root_file_key w ≡ file_key scan (root_key 0)
-  root_is = ap (λ p. let k : FileKey = record { path = []; node = p } in k) (sym (get_or_from_slice_get (paths_in scan.files.items) 0 w.root [] is.root))
+  root_is = ap (λ p. let k : FileKey = record { path = []; node = p } in k) (sym root_at)
 
   -- what is inside leads inside
   pub stands_on : {k l : Key} {n : ℕ} → KeySteps S k l n → Stands scan k → Stands scan l
@@ -59,6 +74,18 @@ module _ (w : World) (scan : Scan) (is : IsScan w scan) where
 
   pub stands : {k : Key} {n : ℕ} → KeySteps S (root_key 0) k n → Stands scan k
   stands way = stands_on way (record { inside = root_inside; known = λ n h. absurd h })
+
+  -- the file of each node is scanned
+  pub node_inside : (us : List Unfolded) → AreUnfolded scan us → (k : ℕ) (u : Unfolded) → slice_get us k ≡ Some u → u.node < length scan.files.items
+  node_inside us are k u e =
+      let ns = are.unfolded.0 in
+      let n = read_at ns k (omega (arith, are.unfolded.2.count, slice_get_within us k u e)) in
+      let pre = are.unfolded.1.0 in
+      let unfolds = are.unfolded.1.1 in
+      elim (firsts_in are.unfolded.1.2 n.0 (is_in n.0 ns (got ns k n.0 n.1))) [
+        | inl h ↦ absurd h
+        | inr p ↦ omega (arith, (are.unfolded.2.tells k u n.0 e n.1).node, (stands (node_reached S pre unfolds n.0 p).1).inside)
+      ]
 
   -- the steps from the root's key are those of the files' keys
   pub to_steps : (k : Key) (d : ℕ) → KeySteps S (root_key 0) k d → FileKeySteps w (root_file_key w) (file_key scan k) d
@@ -95,3 +122,12 @@ module _ (w : World) (scan : Scan) (is : IsScan w scan) where
       let node : k.node ≡ l.node = is.once k.node l.node (file_at scan k.node) (at w scan is k.node a.inside).path_is ((at w scan is l.node b.inside).path_is ∙ ap Some (sym file)) in
       let path : k.path ≡ l.path = same_paths k.path l.path a.known b.known (ap (λ (x : FileKey). x.path) e) in
       λ j. record { path = path j; node = node j }
+
+  -- the least depth of a key
+  pub least_mapped : (k : Key) (d : ℕ) → IsLeastDepth S 0 k d → IsLeastFileDepth w (file_key scan k) d
+  least_mapped k d h = (
+    to_steps k d h.0,
+    λ m way.
+        let b = from_steps (file_key scan k) m way in
+        h.1 m (subst (λ l. KeySteps S (root_key 0) l m) (same_keys b.0 k (m, b.1) (d, h.0) b.2) b.1),
+  )

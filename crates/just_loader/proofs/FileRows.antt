@@ -2,7 +2,6 @@
 use Rattle.std.proofs.Common.{◌≡◌, ℕ, ◌<◌, List, [], ◌∷◌, ◌++◌, map, length, get_or, Option, None, Some, IfSome, inl, inr, refl, sym, ap, subst, ◌∙◌, arith}
 use Rattle.std.specs.Prelude.{unwrap_or}
 use Rattle.std.specs.List.{flat_map, slice_get}
-use Rattle.std.specs.Option.{option_map}
 use Rattle.std.specs.declared.vec.Vec.{Vec}
 use Rattle.std.specs.declared.alloc.Global.{Global}
 use Rattle.std.proofs.lemmas.List.{length-map, map-append}
@@ -18,14 +17,14 @@ use Rattle.just_parts.specs.Modulepath.{Text}
 use Rattle.just_parts.specs.declared.layers.ast.Item.{Item}
 use Rattle.just_loader.specs.Keys.{FileStep, end_of, items_at, steps_by, steps_of}
 use Rattle.just_loader.specs.Links.{Link, Nowhere, To, Fault}
-use Rattle.just_loader.specs.LoadedInPlaces.{file_at, name_at}
+use Rattle.just_loader.specs.Placed.{file_at, name_at, text_step}
 use Rattle.just_loader.specs.Numbering.{texts_of}
 use Rattle.just_loader.specs.Reached.{World, link}
 use Rattle.just_loader.specs.Scanned.{IsPlaceOf, ArePlacesOf, IsStepTo, IsStepOf, AreSteps, IsScan, IsScanned, paths_in}
 use Rattle.just_loader.specs.declared.scanned.Scan.{Scan}
 use Rattle.just_loader.specs.declared.scanned.ScannedFile.{ScannedFile}
-use Rattle.just_loader.proofs.Numberings.{map_get}
-use Rattle.just_loader.proofs.WholeScans.{one_target, read_at, row_at}
+use Rattle.just_loader.proofs.Numberings.{map_get, read_at}
+use Rattle.just_loader.proofs.WholeScans.{one_target, row_at}
 
 -- where links lead
 pub no_end : (paths : List Text) (l : Link) → IsPlaceOf paths l None → end_of l ≡ []
@@ -37,10 +36,6 @@ pub one_end : (paths : List Text) (l : Link) (place : ℕ) → IsPlaceOf paths l
 one_end paths Nowhere place h = absurd h
 one_end paths (To p) place h = ap (λ x. x ∷ []) (sym (get_or_from_slice_get paths place p [] h))
 one_end paths (Fault c) place h = absurd h
-
--- a step by texts
-abbrev pub text_step : Scan → Step → FileStep
-text_step scan s = record { to = file_at scan s.target; offset = s.offset; enters = option_map (name_at scan) s.enters }
 
 module _ (scan : Scan) where
   abbrev paths : List Text

@@ -7,13 +7,14 @@ use Rattle.std.specs.Ordering.{nat_cmp, match_ordering, is_le}
 use Rattle.std.specs.declared.cmp.Ordering.{Ordering}
 use Rattle.std.specs.declared.cmp.Ordering.TheVariants.{Less, Equal, Greater}
 use Rattle.std.specs.Cmp.Lexicographic.{slice_cmp}
-use Rattle.std.specs.List.{AllByRecursion, filter, before_last, list_all}
+use Rattle.std.specs.List.{filter, before_last, list_all}
 use Rattle.std.specs.Map.{keys_of}
 use Rattle.std.specs.Str.{bytes_eq, str_eq_ignore_ascii_case}
 use Rattle.std.proofs.lemmas.Bool.{cond-true, cond-false, and_parts, false≢true}
 use Rattle.std.proofs.lemmas.Slice.Eq.{bytes_eq-Decides}
 use Rattle.std.proofs.lemmas.Map.Lookups.{exact_bytes}
 use Rattle.std.specs.Str.Pattern.{FindsTextSuffix}
+use Rattle.std.proofs.lemmas.List.Elements.{All-head, All-tail, All-weaker}
 use Rattle.std.proofs.lemmas.List.{length_push}
 use Rattle.just_parts.specs.Clean.{is_slash}
 use Rattle.just_parts.specs.Entries.{find, put, IsSorted}
@@ -21,6 +22,7 @@ use Rattle.just_parts.proofs.Slashes.{LacksSlash, before_slash}
 use Rattle.just_loader.specs.ModuleFile.{after, slashed, is_module_name, is_named_so, is_module_file}
 use Rattle.just_loader.specs.Sources.{folder_prefix, HoldsFolders, Files}
 use Rattle.just_loader.specs.declared.sources.SourceFile.{SourceFile}
+use Rattle.just_loader.proofs.Paths.{all_put}
 use Rattle.just_loader.proofs.Passed.{AreFrom, after_is, none_selected, not_before, sorted_head, sorted_tail}
 
 -- ---- what is found after a change
@@ -57,19 +59,8 @@ module _ {V : Type 0} where
       go Equal ih = found_by (bytes_eq k e.0) e.1 v (find k es) (find k es) h (λ x. x)
       go Greater ih = found_by (bytes_eq k e.0) e.1 e.1 (find k es) (find k (put q v es)) h ih
 
-  -- a fact of each key, and of one that is put in
-  pub keys_put : (P : List ℕ → Type 0) (k : List ℕ) (v : V) (es : List (List ℕ × V)) → P k → AllByRecursion (λ (e : List ℕ × V). P e.0) es → AllByRecursion (λ (e : List ℕ × V). P e.0) (put k v es)
-  keys_put P k v [] p h = (p, tt)
-  keys_put P k v (e ∷ es) p h = go (slice_cmp nat_cmp k e.0) (keys_put P k v es p h.1)
-    where
-      go : (o : Ordering) → AllByRecursion (λ (x : List ℕ × V). P x.0) (put k v es) → AllByRecursion (λ (x : List ℕ × V). P x.0) (match_ordering o ((k, v) ∷ e ∷ es) ((e.0, v) ∷ es) (e ∷ put k v es))
-      go Less ih = (p, h)
-      go Equal ih = (h.0, h.1)
-      go Greater ih = (h.0, ih)
-
 pub holds_more : (k v : List ℕ) (folders : List (List ℕ × List ℕ)) (files : Files) → HoldsFolders folders files → HoldsFolders (put k v folders) files
-holds_more k v folders [] h = tt
-holds_more k v folders (f ∷ fs) h = (found_kept (folder_prefix f.0) k v folders h.0, holds_more k v folders fs h.1)
+holds_more k v folders files h = All-weaker (λ p. is_some (find (folder_prefix p) folders) ≡ true) (λ p. is_some (find (folder_prefix p) (put k v folders)) ≡ true) (λ p. found_kept (folder_prefix p) k v folders) (keys_of files) h
 
 -- ---- the names of module files
 lacks_cons : (b : ℕ) (bs : List ℕ) → b ≢ 47 → LacksSlash bs → LacksSlash (b ∷ bs)
@@ -133,7 +124,7 @@ not_held folder k folders h n = go (is_module_file folder k) refl
 -- where the folder is not held, no file lies in it
 pub none_in : (folder : List ℕ) (folders : List (List ℕ × List ℕ)) (files : Files) → HoldsFolders folders files → is_some (find (slashed folder) folders) ≡ false → filter (is_module_file folder) (keys_of files) ≡ []
 none_in folder folders [] h n = refl
-none_in folder folders (f ∷ fs) h n = cond-false (is_module_file folder f.0) _ _ (not_held folder f.0 folders h.0 n) ∙ none_in folder folders fs h.1 n
+none_in folder folders (f ∷ fs) h n = cond-false (is_module_file folder f.0) _ _ (not_held folder f.0 folders (All-head (λ p. is_some (find (folder_prefix p) folders) ≡ true) f.0 (keys_of fs) h) n) ∙ none_in folder folders fs (All-tail (λ p. is_some (find (folder_prefix p) folders) ≡ true) f.0 (keys_of fs) h) n
 
 -- a text without the folder's prefix is no module file of it
 pub none_without : (folder k : List ℕ) → after (slashed folder) k ≡ None → is_module_file folder k ≡ false
@@ -194,6 +185,6 @@ pub held_on : {X E : Type 0} (r : Result X E) (path : List ℕ) (file : SourceFi
 held_on (Ok x) path file folders old new ok err h =
     let held = put (folder_prefix path) (folder_prefix path) folders in
     subst (HoldsFolders held) (sym ok)
-    (keys_put (λ k. is_some (find (folder_prefix k) held) ≡ true) path file old (found_put (folder_prefix path) (folder_prefix path) folders) (holds_more (folder_prefix path) (folder_prefix path) folders old h))
+    (all_put (λ k. is_some (find (folder_prefix k) held) ≡ true) path file old (found_put (folder_prefix path) (folder_prefix path) folders) (holds_more (folder_prefix path) (folder_prefix path) folders old h))
 held_on (Err e) path file folders old new ok err h =
     subst (HoldsFolders (put (folder_prefix path) (folder_prefix path) folders)) (sym err) (holds_more (folder_prefix path) (folder_prefix path) folders old h)

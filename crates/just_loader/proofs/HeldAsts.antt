@@ -1,34 +1,24 @@
 -- Tables of what the texts of nodes say.
-use Rattle.std.proofs.Common.{◌≡◌, ℕ, zero, suc, ◌+◌, ◌<◌, ◌≤◌, Bool, true, false, cond, nat_eq, List, [], ◌∷◌, ◌++◌, map, length, get_or, Option, None, Some, ◌⊎◌, refl, sym, ap, subst, ◌∙◌, arith, inl, inr}
-use Rattle.std.specs.Bool.{Decides, beq}
-use Rattle.std.specs.Cmp.Lexicographic.{pointwise}
-use Rattle.std.specs.Cmp.{booleans_Decides}
+use Rattle.std.proofs.Common.{◌≡◌, ℕ, zero, suc, ◌+◌, ◌<◌, ◌≤◌, Bool, true, false, cond, List, [], ◌∷◌, ◌++◌, length, get_or, Option, None, Some, ◌⊎◌, refl, sym, ap, subst, ◌∙◌, arith, inl, inr}
 use Rattle.std.specs.List.{All, slice_get, flat_map}
-use Rattle.std.proofs.lemmas.Bool.Decides.{Decides-and, Decides-like, Decides-eqb}
 use Rattle.std.proofs.lemmas.Bool.{cases_lt, false_from_ne_true}
 use Rattle.std.proofs.lemmas.List.{append_assoc, length_push, length-append, append-nil}
 use Rattle.std.proofs.lemmas.Option.{slice_get_within, slice_get_read, get_or_from_slice_get}
-use Rattle.std.proofs.lemmas.Slice.Eq.{slice_eq-Decides}
-use Rattle.just_graph.specs.Unfolding.{Key, Node, key}
-use Rattle.just_graph.specs.Unfolded.{unfolded_key}
+use Rattle.just_graph.specs.Unfolding.{key}
 use Rattle.just_graph.specs.declared.unfolding.Unfolded.{Unfolded}
 use Rattle.just_graph.proofs.Members.{In, in_flat, is_in}
 use Rattle.just_parts.specs.Syntax.{AreRising, numbers}
 use Rattle.just_parts.specs.contracts.modulepath.ModulepathPartialEq.TheImpl as path_eq
 use Rattle.just_parts.specs.declared.layers.ast.Ast.{Ast}
-use Rattle.just_parts.specs.declared.modulepath.Modulepath.{Modulepath}
 use Rattle.just_parts.specs.Asts.{AstKey, same_ast_key}
 use Rattle.just_parts.proofs.AstKeys.{key_same}
 use Rattle.just_loader.specs.Loaded.{AreToldApart}
-use Rattle.just_loader.specs.LoadedInPlaces.{AreAstsOf, file_at, key_at}
-use Rattle.just_loader.specs.Loading.{AreParsed}
+use Rattle.just_loader.specs.Placed.{file_at}
 use Rattle.just_loader.specs.Parsed.{AreKeyed, AreHeld, text_key}
-use Rattle.just_loader.specs.Reached.{World}
 use Rattle.just_loader.specs.Scanned.{paths_in}
 use Rattle.just_loader.specs.declared.scanned.Scan.{Scan}
 use Rattle.just_loader.specs.declared.scanned.ScannedFile.{ScannedFile}
-use Rattle.just_loader.proofs.Numberings.{got, placed, get_map, map_get, get_more, get_last, some_same, none_some}
-use Rattle.just_loader.proofs.WholeScans.{read_at}
+use Rattle.just_loader.proofs.Numberings.{got, map_get, get_more, get_last, some_same, none_some}
 
 -- the nodes from a place on are held, and what is left are those before it
 pub record HeldFrom (scan : Scan) (nodes : List Unfolded) (asts left : List Ast) (table : AstKey → Option Ast) : Type 0 where
@@ -136,20 +126,6 @@ module _ {A : Type 0} (f : A → List ℕ) where
       let r = rising_split low (f z) (flat_map f xs) high h in ap suc (part_apart r.0 xs high i j n x y r.2 e g a b)
 
 module _ (scan : Scan) (nodes : List Unfolded) (asts : List Ast) (table : AstKey → Option Ast) (held : AreHeld scan nodes asts table) where
-  -- the nodes themselves
-  pub are_asts_of : (w : World) (ns : List Node) → map unfolded_key nodes ≡ map key ns → AreParsed w scan ns asts → AreAstsOf w scan ns table
-  are_asts_of w ns told parsed = record {
-    held = λ n c.
-        let at = placed ns n c in
-        let u = get_map unfolded_key nodes at.0 (key n) (ap (λ ks. slice_get ks at.0) told ∙ map_get key ns at.0 n at.1) in
-        let ast = read_at asts at.0 (omega (arith, parsed.count, slice_get_within ns at.0 n at.1)) in
-        (ast.0, ap (λ (k : Key). table (key_at scan k.path k.node)) (sym u.2) ∙ held.found at.0 u.0 ast.0 u.1 ast.1, parsed.each at.0 n ast.0 at.1 ast.1);
-    only = λ k ast e.
-        let r = held.only k ast e in
-        let n = get_map key ns r.0 (unfolded_key r.1) (ap (λ ks. slice_get ks r.0) (sym told) ∙ map_get unfolded_key nodes r.0 r.1 r.2) in
-        (n.0, got ns r.0 n.0 n.1, (key_same (key_at scan n.0.path n.0.node) k).1 (ap (λ (x : Key). key_at scan x.path x.node) n.2 ∙ r.4));
-  }
-
   pub are_told_apart : (high : ℕ) → AreRising 0 (flat_map (λ (a : Ast). numbers a.items) asts) high → AreToldApart table
   are_told_apart high rising = record {
     rising = λ k ast e. let r = held.only k ast e in part_rises (λ (a : Ast). numbers a.items) 0 asts high r.0 ast rising r.3;

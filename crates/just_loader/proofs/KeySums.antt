@@ -9,7 +9,7 @@ use Rattle.just_graph.proofs.Members.{In, contained, is_in, in_cases, in_map, wi
 use Rattle.just_parts.specs.Causes.{Cause, NoNumber, Keeps}
 use Rattle.just_loader.specs.FileCircles.{LeadsOn, by_edge, by_edges, ChainTo, at_root, and_next, NamesCircle, leads_back}
 use Rattle.just_loader.specs.Keys.{IsKey, FileKey, spends_at, NamesInFiles, no_root, at_fault, in_circle, too_many}
-use Rattle.just_loader.specs.LoadedInPlaces.{file_at}
+use Rattle.just_loader.specs.Placed.{file_at}
 use Rattle.just_loader.specs.Reached.{World, Reached, LeadsTo, NamesInScan}
 use Rattle.just_loader.specs.Scanned.{IsScan}
 use Rattle.just_loader.specs.Sources.{text_at}
@@ -89,10 +89,10 @@ module _ (w : World) (scan : Scan) (is : IsScan w scan) (us : List Unfolded) (ke
       subst (IsKey w) u.2 (to_key w scan is (unfolded_key u.0) (reached at.0 u.0 (get_take us n at.0 u.0 u.1).1))
 
   -- the first texts take too many numbers
-  pub many : (n : ℕ) → 2 ^ 64 ≤ sum_by takes (take n us) → NamesInFiles w NoNumber
+  pub many : (n : ℕ) → 2 ^ 64 < sum_by takes (take n us) → NamesInFiles w NoNumber
   many n h =
       too_many (map key_of (take n us)) (each_once n) (each_key n)
-      (subst (λ m. 2 ^ 64 ≤ m) (sym (sum_map (λ (k : FileKey). spends_at w k.node) key_of (take n us))) h)
+      (subst (λ m. 2 ^ 64 < m) (sym (sum_map (λ (k : FileKey). spends_at w k.node) key_of (take n us))) h)
 
   has_key : (k : FileKey) → IsKey w k → In k (map key_of us)
   has_key k key =
@@ -102,13 +102,13 @@ module _ (w : World) (scan : Scan) (is : IsScan w scan) (us : List Unfolded) (ke
       subst (λ x. In x (map key_of us)) (ap (file_key scan) u.2 ∙ s.2) (in_map key_of u.0 us (is_in u.0 us (got us at.0 u.0 u.1)))
 
   -- no texts of keys take too many
-  few : sum_by takes us < 2 ^ 64 → (these : List FileKey) → AreApart these → ((k : FileKey) → Contains these k → IsKey w k) → 2 ^ 64 ≤ sum_by (λ (k : FileKey). spends_at w k.node) these → ⊥
+  few : sum_by takes us ≤ 2 ^ 64 → (these : List FileKey) → AreApart these → ((k : FileKey) → Contains these k → IsKey w k) → 2 ^ 64 < sum_by (λ (k : FileKey). spends_at w k.node) these → ⊥
   few total these once are h =
       let less = sums (λ (k : FileKey). spends_at w k.node) these (map key_of us) once (λ k i. has_key k (are k (contained k these i))) in
       omega (arith, total, h, less, sum_map (λ (k : FileKey). spends_at w k.node) key_of us)
 
   -- the rules of files are kept
-  pub files_kept : IsSome (text_at w.files w.root) → Keeps (NamesInScan w) → ((f : List ℕ) → Reached w f → LeadsOn w f f → ⊥) → sum_by takes us < 2 ^ 64 → Keeps (NamesInFiles w)
+  pub files_kept : IsSome (text_at w.files w.root) → Keeps (NamesInScan w) → ((f : List ℕ) → Reached w f → LeadsOn w f f → ⊥) → sum_by takes us ≤ 2 ^ 64 → Keeps (NamesInFiles w)
   files_kept there kept none total _ (no_root e same) = not_there (text_at w.files w.root) e there
   files_kept there kept none total c (at_fault n) = kept c n
   files_kept there kept none total c (in_circle n) = no_circle w none c n

@@ -7,15 +7,14 @@ use Rattle.std.proofs.lemmas.List.{append-nil, get_or_read, map-append, take_mor
 use Rattle.std.proofs.lemmas.List.Elements.{filter-append}
 use Rattle.std.proofs.lemmas.Option.{get_or_from_slice_get, slice_get_read}
 use Rattle.just_graph.specs.declared.unfolding.Unfolded.{Unfolded}
-use Rattle.just_graph.proofs.Members.{In, in_left, in_right, in_cases}
-use Rattle.just_loader.specs.LoadedInPlaces.{at_first_places, file_at}
+use Rattle.just_graph.proofs.Members.{In, from_filter, in_left, in_right, in_cases}
+use Rattle.just_loader.specs.Placed.{at_first_places, file_at}
 use Rattle.just_loader.specs.Parsed.{relative_at}
 use Rattle.just_loader.specs.Reached.{World, relative_to_root}
 use Rattle.just_loader.specs.Scanned.{IsScan, paths_in}
 use Rattle.just_loader.specs.declared.scanned.Scan.{Scan}
 use Rattle.just_loader.specs.declared.scanned.ScannedFile.{ScannedFile}
-use Rattle.just_loader.proofs.Numberings.{map_get}
-use Rattle.just_loader.proofs.WholeScans.{read_at}
+use Rattle.just_loader.proofs.Numberings.{map_get, read_at}
 
 in_or_not : (x : ℕ) (xs : List ℕ) → In x xs ⊎ (In x xs → ⊥)
 in_or_not x [] = inr (λ h. h)
@@ -57,19 +56,10 @@ first_again x (y ∷ xs) (inl e) = elim (in_or_not x xs) [
       ap (λ zs. y ∷ filter (but y) zs) (first_more x xs n) ∙ ap (λ zs. y ∷ zs) (filter-append (but y) (at_first_places xs) (x ∷ []) ∙ ap (λ zs. filter (but y) (at_first_places xs) ++ zs) (filter_out x y e) ∙ append-nil (filter (but y) (at_first_places xs)))
 ]
 
-filtered : (p : ℕ → Bool) (x : ℕ) (xs : List ℕ) → In x (filter p xs) → In x xs
-filtered p x [] h = absurd h
-filtered p x (y ∷ xs) h = go (p y) (filtered p x xs) h
-  where
-    go : (b : Bool) → (In x (filter p xs) → In x xs) → In x (cond b (y ∷ filter p xs) (filter p xs)) → In x (y ∷ xs)
-    go true f (inl e) = inl e
-    go true f (inr i) = inr (f i)
-    go false f i = inr (f i)
-
 pub first_in : (x : ℕ) (xs : List ℕ) → In x (at_first_places xs) → In x xs
 first_in x [] h = absurd h
 first_in x (y ∷ xs) (inl e) = inl e
-first_in x (y ∷ xs) (inr i) = inr (first_in x xs (filtered (but y) x (at_first_places xs) i))
+first_in x (y ∷ xs) (inr i) = inr (first_in x xs (from_filter (but y) x (at_first_places xs) i))
 
 map_same : {B : Type 0} (f g : ℕ → B) (xs : List ℕ) → ((x : ℕ) → In x xs → f x ≡ g x) → map f xs ≡ map g xs
 map_same f g [] h = refl

@@ -7,7 +7,7 @@ use Rattle.std.proofs.lemmas.Bool.{false_from_ne_true}
 use Rattle.std.proofs.lemmas.List.{map-append, length-map}
 use Rattle.std.proofs.lemmas.Slice.Eq.{bytes_eq-Decides}
 use Rattle.std.specs.HashMap.{get}
-pub use Rattle.just_graph.proofs.Told.{get_old as get_more, get_last}
+pub use Rattle.just_graph.proofs.Told.{at_least as read_at, get_old as get_more, get_last}
 pub use Rattle.just_graph.proofs.Index.{got_in as got, map_get, none_some, some_same}
 use Rattle.just_graph.specs.Unfolded.{AreApart}
 use Rattle.just_parts.specs.Name.{text_of_name}

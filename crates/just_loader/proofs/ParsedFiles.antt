@@ -1,10 +1,10 @@
 -- What the text of a scanned file says when it is parsed again.
-use Rattle.std.proofs.Common.{◌≡◌, ℕ, ◌+◌, ◌<◌, ◌≤◌, ◌^◌, List, map, length, get_or, None, Some, Result, Ok, Err, IfErr, refl, sym, ap, subst, ◌∙◌, arith}
+use Rattle.std.proofs.Common.{◌≡◌, ℕ, ◌+◌, ◌<◌, ◌^◌, List, map, length, get_or, None, Some, Result, Ok, Err, IfErr, refl, sym, ap, subst, ◌∙◌, arith}
 use Rattle.std.specs.List.{All, slice_get}
 use Rattle.std.specs.Option.{option_and_then, option_map, unwrap_or}
 use Rattle.std.specs.declared.vec.Vec.{Vec}
 use Rattle.std.specs.declared.alloc.Global.{Global}
-use Rattle.std.proofs.lemmas.List.Elements.{All-contains}
+use Rattle.std.proofs.lemmas.List.Elements.{All-map, All-weaker}
 use Rattle.std.proofs.lemmas.Option.{slice_get_read}
 use Rattle.just_graph.specs.declared.unfolding.Step.{Step}
 use Rattle.just_parts.specs.Bare.{bare_ast, bare_item}
@@ -17,7 +17,7 @@ use Rattle.just_parts.specs.declared.layers.error.Error.TheVariants as error
 use Rattle.just_parts.proofs.Edges.{same_priors}
 use Rattle.just_loader.specs.Keys.{spends_at}
 use Rattle.just_loader.specs.Loaded.{path_of_link, with_path}
-use Rattle.just_loader.specs.LoadedInPlaces.{file_at}
+use Rattle.just_loader.specs.Placed.{file_at}
 use Rattle.just_loader.specs.Loading.{IsScanBy, StopsAt}
 use Rattle.just_loader.specs.Numbering.{texts_of}
 use Rattle.just_loader.specs.Reached.{World, ast_of, items_said, link, relative_to_root}
@@ -25,15 +25,13 @@ use Rattle.just_loader.specs.Scanned.{ArePlacesOf, IsScanned, paths_in}
 use Rattle.just_loader.specs.declared.scanned.Scan.{Scan}
 use Rattle.just_loader.specs.declared.scanned.ScannedFile.{ScannedFile}
 use Rattle.just_loader.proofs.ComingIn.{path_is}
-use Rattle.just_loader.proofs.Numberings.{get_map, got, some_same}
+use Rattle.just_loader.proofs.Numberings.{read_at, some_same}
 use Rattle.just_loader.proofs.Scans.{links_bare}
-use Rattle.just_loader.proofs.WholeScans.{all_at, read_at}
 
 -- what items run before is no more with their paths
 pub priors_kept : (w : World) (folder : List ℕ) (items : List Item) → All PriorsAreDependencies items → All PriorsAreDependencies (map (with_path w folder) items)
-priors_kept w folder items all = all_at PriorsAreDependencies (map (with_path w folder) items) (λ k y e.
-    let x = get_map (with_path w folder) items k y e in
-    subst PriorsAreDependencies x.2 (same_priors (path_of_link (link w folder x.0)) x.0 (All-contains PriorsAreDependencies items x.0 all (got items k x.0 x.1))))
+priors_kept w folder items all =
+    All-map PriorsAreDependencies (with_path w folder) items (All-weaker PriorsAreDependencies (λ x. PriorsAreDependencies (with_path w folder x)) (λ x p. same_priors (path_of_link (link w folder x)) x p) items all)
 
 module _ (w : World) (scan : Scan) (answers : SyntaxAnswers) (by : IsScanBy w scan answers) (place : ℕ) (file : ScannedFile) (inside : place < length scan.files.items) (is : file ≡ get_or scan.files.items place file) where
   row : (row : Vec Step Global) × (slice_get scan.rows.items place ≡ Some row)
@@ -63,7 +61,7 @@ module _ (w : World) (scan : Scan) (answers : SyntaxAnswers) (by : IsScanBy w sc
     stops_at given (error.Compile e) h = let both : Some scanned.items ≡ None = sym scanned.parsed ∙ ap items_said (says ∙ h.0) in cc
     stops_at given (error.Invocation e) h = h
     stops_at given (error.Run e) h = h
-    stops_at given error.Exhausted h = subst (λ n. 2 ^ 64 ≤ given + n) spent_at h
+    stops_at given error.Exhausted h = subst (λ n. 2 ^ 64 < given + n) spent_at h
     stops_at given error.Memory h = tt
 
     module _ (ast : Ast) (p : answers.parsed relative text ≡ Some (bare_ast ast)) where

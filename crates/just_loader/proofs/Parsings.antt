@@ -1,66 +1,41 @@
 -- What the texts of nodes say, one after another.
-use Rattle.std.proofs.Common.{◌≡◌, ℕ, ◌+◌, ◌<◌, ◌≤◌, List, [], ◌∷◌, ◌++◌, map, take, length, get_or, Option, None, Some, Result, Ok, Err, IfErr, inl, inr, refl, sym, ap, subst, ◌∙◌, arith}
+use Rattle.std.proofs.Common.{◌≡◌, ℕ, ◌+◌, ◌<◌, ◌≤◌, List, [], ◌∷◌, ◌++◌, take, length, get_or, Some, Result, Ok, Err, IfErr, inl, inr, refl, sym, ap, subst, ◌∙◌, arith}
 use Rattle.std.specs.List.{All, flat_map, slice_get}
 use Rattle.std.proofs.lemmas.Grind.{flat_map-append}
 use Rattle.std.proofs.lemmas.List.{append-nil}
-use Rattle.std.proofs.lemmas.List.Elements.{All-contains}
+use Rattle.std.proofs.lemmas.List.Elements.{All-push, All-same}
 use Rattle.std.proofs.lemmas.List.Sums.{sum_by_more}
-use Rattle.std.proofs.lemmas.Option.{slice_get_read, slice_get_within}
-use Rattle.just_graph.specs.Unfolding.{HasStep, Node, root_node, steps}
-use Rattle.just_graph.specs.Unfolded.{CameFrom}
-use Rattle.just_graph.specs.declared.unfolding.Origin.{Origin}
-use Rattle.just_graph.specs.declared.unfolding.Step.{Step}
+use Rattle.std.proofs.lemmas.Option.{slice_get_read}
+use Rattle.just_graph.specs.Unfolding.{Node}
 use Rattle.just_graph.specs.declared.unfolding.Unfolded.{Unfolded}
-use Rattle.just_graph.proofs.Members.{contained, in_map, is_in}
 use Rattle.just_parts.specs.Syntax.{AreRising, numbers}
 use Rattle.just_parts.specs.declared.layers.ast.Ast.{Ast}
 use Rattle.just_parts.specs.declared.layers.error.Error.{Error}
 use Rattle.just_parts.specs.declared.layers.error.Error.TheVariants as error
 use Rattle.just_parts.specs.declared.source.Source.{Source}
 use Rattle.just_loader.specs.Keys.{spends_at}
-use Rattle.just_loader.specs.LoadedInPlaces.{IsAstOfPlace, file_at}
-use Rattle.just_loader.specs.Loading.{AreNodes, AreParsedSoFar, AreSources, AreUnfolded, IsSaid, Stops, StopsAt, spent_by}
+use Rattle.just_loader.specs.Loaded.{IsAstOf}
+use Rattle.just_loader.specs.Placed.{file_at, file_node}
+use Rattle.just_loader.specs.Loading.{AreNodes, AreParsedSoFar, AreSources, IsSaid, Stops, StopsAt, spent_by}
 use Rattle.just_loader.specs.Reached.{World}
 use Rattle.just_loader.specs.Scanned.{IsScan}
 use Rattle.just_loader.specs.declared.scanned.Scan.{Scan}
-use Rattle.just_loader.proofs.ComingIn.{root_first}
-use Rattle.just_loader.proofs.FileCircles.{has_rows}
-use Rattle.just_loader.proofs.Numberings.{get_cases, got, none_some}
-use Rattle.just_loader.proofs.WholeScans.{all_at, read_at}
-
--- the file of each node is scanned
-module _ (w : World) (scan : Scan) (is : IsScan w scan) (us : List Unfolded) (are : AreUnfolded scan us) (k : ℕ) where
-  came_inside : (n : Node) (o : Option Origin) → slice_get are.unfolded.0 k ≡ Some n → CameFrom (steps scan.rows.items) (take k are.unfolded.0) n o → n.node < length scan.rows.items
-  came_inside n None here from =
-      let root : n ≡ root_node 0 = root_first (steps scan.rows.items) 0 are.unfolded.0 k n are.unfolded.1 here from in
-      let rows = has_rows w scan is in
-      omega (arith, rows.some, ap (λ (x : Node). x.node) root)
-  came_inside n (Some o) here from =
-      let parent = from.0 in let s = from.1 in
-      let there = is_in s (steps scan.rows.items parent.node) (got (steps scan.rows.items parent.node) o.step s from.3) in
-      let leads : HasStep scan.rows.items parent.node s.target = contained s.target (map (λ (x : Step). x.target) (steps scan.rows.items parent.node)) (in_map (λ (x : Step). x.target) s (steps scan.rows.items parent.node) there) in
-      omega (arith, is.within parent.node s.target leads, ap (λ (x : Node). x.node) from.4)
-
-  pub node_inside : (u : Unfolded) → slice_get us k ≡ Some u → u.node < length scan.files.items
-  node_inside u at =
-      let n = read_at are.unfolded.0 k (omega (arith, are.unfolded.2.count, slice_get_within us k u at)) in
-      let told = are.unfolded.2.tells k u n.0 at n.1 in
-      omega (arith, told.node, is.count, came_inside n.0 u.origin n.1 told.origin)
+use Rattle.just_loader.proofs.Numberings.{get_cases, none_some}
 
 -- an element that is read
 pub read : {A : Type 0} (xs : List A) (k : ℕ) (x : A) → k < length xs → x ≡ get_or xs k x → slice_get xs k ≡ Some x
 read xs k x h is = slice_get_read xs (length xs) k x refl h is
 
 -- what a node's text says, as its file came in
-pub ast_at : (w : World) (scan : Scan) (us : List Unfolded) (ns : List Node) (sources : List Source) → AreNodes scan us ns → AreSources scan ns sources → (k : ℕ) (u : Unfolded) (source : Source) (n : Node) (ast : Ast) → k < length us → u ≡ get_or us k u
-    → source ≡ get_or sources k source → slice_get ns k ≡ Some n → IsSaid w (file_at scan (get_or us k u).node) source ast → IsAstOfPlace w scan n ast
-ast_at w scan us ns sources nodes are k u source n ast h is_u is_source here said =
+pub ast_at : (w : World) (scan : Scan) → IsScan w scan → (us : List Unfolded) (ns : List Node) (sources : List Source) → AreNodes scan us ns → AreSources scan ns sources → (k : ℕ) (u : Unfolded) (source : Source) (n : Node) (ast : Ast) → k < length us → u ≡ get_or us k u
+    → source ≡ get_or sources k source → slice_get ns k ≡ Some n → IsSaid w (file_at scan (get_or us k u).node) source ast → IsAstOf w (file_node scan n) ast
+ast_at w scan is us ns sources nodes are k u source n ast h is_u is_source here said =
     let told = nodes.1.tells k u n (read us k u h is_u) here in
     let same : (get_or us k u).node ≡ n.node = ap (λ (x : Unfolded). x.node) (sym is_u) ∙ told.node in
     let s : IsSaid w (file_at scan n.node) source ast = subst (λ x. IsSaid w (file_at scan x) source ast) same said in
     record {
       source = source;
-      came = are.came k n source here (read sources k source (omega (arith, h, are.count, nodes.1.count)) is_source);
+      came = are.came k n source here (read sources k source (omega (arith, h, are.count, nodes.1.count)) is_source) w is;
       parsed = s.parsed;
       from = s.from;
       said = s.said;
@@ -72,18 +47,15 @@ ast_at w scan us ns sources nodes are k u source n ast h is_u is_source here sai
 pub parsed_none : (w : World) (scan : Scan) (ns : List Node) (asts : List Ast) → asts ≡ [] → AreParsedSoFar w scan ns asts
 parsed_none w scan ns asts e k n ast at here = absurd (none_some (ap (λ xs. slice_get xs k) (sym e) ∙ here))
 
-pub parsed_more : (w : World) (scan : Scan) (ns : List Node) (old new : List Ast) (ast : Ast) → AreParsedSoFar w scan ns old → ((n : Node) → slice_get ns (length old) ≡ Some n → IsAstOfPlace w scan n ast) → new ≡ old ++ ast ∷ [] → AreParsedSoFar w scan ns new
+pub parsed_more : (w : World) (scan : Scan) (ns : List Node) (old new : List Ast) (ast : Ast) → AreParsedSoFar w scan ns old → ((n : Node) → slice_get ns (length old) ≡ Some n → IsAstOf w (file_node scan n) ast) → new ≡ old ++ ast ∷ [] → AreParsedSoFar w scan ns new
 parsed_more w scan ns old new ast so one is k n a at here = elim (get_cases old ast a k (ap (λ xs. slice_get xs k) (sym is) ∙ here)) [
   | inl before ↦ so k n a at before
-  | inr last ↦ subst (IsAstOfPlace w scan n) last.1 (one n (ap (slice_get ns) (sym last.0) ∙ at))
+  | inr last ↦ subst (IsAstOf w (file_node scan n)) last.1 (one n (ap (slice_get ns) (sym last.0) ∙ at))
 ]
 
 -- what holds of one more element
 pub all_more : {A : Type 0} (P : A → Type 0) (old new : List A) (x : A) → All P old → P x → new ≡ old ++ x ∷ [] → All P new
-all_more P old new x all one is = all_at P new (λ k y e. elim (get_cases old x y k (ap (λ xs. slice_get xs k) (sym is) ∙ e)) [
-  | inl before ↦ All-contains P old y all (got old k y before)
-  | inr last ↦ subst P last.1 one
-])
+all_more P old new x all one is = All-same P new (old ++ x ∷ []) is (All-push P old x all one)
 
 -- numbers that rise, and then more
 rising_from : (low less : ℕ) (ns : List ℕ) (high : ℕ) → less ≤ low → AreRising low ns high → AreRising less ns high

@@ -1,5 +1,5 @@
 -- What is read of a file.
-use Rattle.std.proofs.Common.{◌≡◌, ℕ, zero, suc, ◌^◌, ◌<◌, Bool, List, [], ◌∷◌, map, Option, None, Some, Result, Ok, Err, IfErr, refl, sym, ap, subst, ◌∙◌, arith}
+use Rattle.std.proofs.Common.{◌≡◌, ℕ, zero, suc, ◌^◌, ◌≤◌, Bool, List, [], ◌∷◌, map, Option, None, Some, Result, Ok, Err, IfErr, refl, sym, ap, subst, ◌∙◌, arith}
 use Rattle.std.specs.Prelude.{if◌then◌else◌}
 use Rattle.std.specs.List.{Contains, slice_get}
 use Rattle.std.specs.Option.{option_map, option_and_then}
@@ -94,13 +94,13 @@ module _ (w : World) (f : SourceFile) (file : find f.path w.files ≡ Some f) wh
     leads_to path h = let i = from_links (To path) h in record { item = i.0; has = i.1; leads = i.2 }
 
     -- what is scanned has no fault
-    pub none_at : (paths : List (List ℕ)) (ts : List (Option ℕ)) → ArePlacesOf paths links ts → w.answers.spends (relative_to_root w f.path) f.text < 2 ^ 64 → (c : Cause) → NamesAt w f.path c → ⊥
+    pub none_at : (paths : List (List ℕ)) (ts : List (Option ℕ)) → ArePlacesOf paths links ts → w.answers.spends (relative_to_root w f.path) f.text ≤ 2 ^ 64 → (c : Cause) → NamesAt w f.path c → ⊥
     none_at paths ts places fits _ (no_grammar text there none) =
         let same : text ≡ f.text = (let e = sym there ∙ text_there in cc) in
         let no : Some (map bare_item items) ≡ None = sym parsed ∙ ap (λ t. items_said (w.answers.parsed (relative_to_root w f.path) t)) (sym same) ∙ ap items_said none in cc
     none_at paths ts places fits _ (no_number text there many) =
         let same : text ≡ f.text = (let e = sym there ∙ text_there in cc) in
-        let few : w.answers.spends (relative_to_root w f.path) text < 2 ^ 64 = subst (λ t. w.answers.spends (relative_to_root w f.path) t < 2 ^ 64) (sym same) fits in omega (arith, many, few)
+        let few : w.answers.spends (relative_to_root w f.path) text ≤ 2 ^ 64 = subst (λ t. w.answers.spends (relative_to_root w f.path) t ≤ 2 ^ 64) (sym same) fits in omega (arith, many, few)
     none_at paths ts places fits c (in_item i has fault) =
         let same : has.0 ≡ map bare_item items = (let e = sym has.1 ∙ said in cc) in
         let at = placed (map bare_item items) i (subst (λ is. Contains is i) same has.2) in

@@ -1,10 +1,10 @@
 -- What an item leads to is there.
-use Rattle.std.proofs.Common.{◌≡◌, ℕ, Bool, true, false, List, [], ◌∷◌, ◌++◌, get_or, Option, None, Some, IsSome, refl, subst, arith}
+use Rattle.std.proofs.Common.{◌≡◌, ℕ, Bool, true, false, List, [], ◌∷◌, ◌++◌, get_or, Option, None, Some, IsSome, refl, subst}
 use Rattle.std.specs.Prelude.{if◌then◌else◌, is_some, codes}
 use Rattle.std.specs.List.{All}
 use Rattle.std.specs.Map.{keys_of}
 use Rattle.std.proofs.lemmas.Cmp.{nat_list_eq_equiv}
-use Rattle.std.proofs.lemmas.List.Elements.{All-append, All-filter, Contains-get_or}
+use Rattle.std.proofs.lemmas.List.Elements.{All-nil, All-cons, All-head, All-append, All-filter, Contains-get_or}
 use Rattle.std.proofs.lemmas.Map.Views.{IsSome-lookup_from_Contains}
 use Rattle.just_parts.specs.Bare.{bare_item}
 use Rattle.just_parts.specs.Entries.{find}
@@ -18,7 +18,6 @@ use Rattle.just_loader.specs.Links.{Link, Nowhere, To, expanded, given, unless, 
 use Rattle.just_loader.specs.ModuleFile.{candidates, file_at, files_in, is_module_file, or_else}
 use Rattle.just_parts.specs.Causes.{Cause, NoImport, NoModule}
 use Rattle.just_loader.specs.Sources.{Files}
-use Rattle.just_loader.proofs.Tables.{all_cons, all_head}
 
 module _ (files : Files) where
   abbrev pub IsThere : List ℕ → Type 0
@@ -28,8 +27,8 @@ module _ (files : Files) where
   file_there path = go (is_some (find path files)) refl
     where
       go : (b : Bool) → is_some (find path files) ≡ b → All IsThere (if b then path ∷ [] else [])
-      go true e = all_cons IsThere path [] e (λ k d h. absurd (omega arith))
-      go false e = λ k d h. absurd (omega arith)
+      go true e = All-cons IsThere path [] e (All-nil IsThere)
+      go false e = All-nil IsThere
 
   keys_there : All IsThere (keys_of files)
   keys_there = λ k d h. IsSome-lookup_from_Contains nat_list_eq_equiv (get_or (keys_of files) k d) files (Contains-get_or (keys_of files) k d h)
@@ -52,7 +51,7 @@ module _ (files : Files) where
 
   choice_there : (folder : List ℕ) (name : Name) (optional : Bool) (found : List (List ℕ)) (path : List ℕ) → All IsThere found → choice folder name optional found ≡ To path → IsThere path
   choice_there folder name optional [] path all e = absurd (unless_not optional (NoModule name) path e)
-  choice_there folder name optional (p ∷ []) path all e = let same : p ≡ path = cc in subst IsThere same (all_head IsThere p [] all)
+  choice_there folder name optional (p ∷ []) path all e = let same : p ≡ path = cc in subst IsThere same (All-head IsThere p [] all)
   choice_there folder name optional (p ∷ q ∷ more) path all e = cc
 
   module_there : (folder : List ℕ) (name : Name) (optional : Bool) (given : Option (Option (List ℕ))) (path : List ℕ) → module_link files folder name optional given ≡ To path → IsThere path

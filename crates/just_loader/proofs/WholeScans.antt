@@ -19,7 +19,6 @@ use Rattle.just_parts.specs.Clean.{IsClean, folder_of}
 use Rattle.just_parts.specs.Entries.{find}
 use Rattle.just_parts.specs.declared.layers.ast.Item.{Item}
 use Rattle.just_parts.specs.Edge.{Edge, Imports, Declares, edge_of}
-use Rattle.just_parts.specs.declared.layers.name.Name.{Name}
 use Rattle.just_loader.specs.Links.{Link, Nowhere, To, Fault}
 use Rattle.just_loader.specs.Numbering.{AreFound, paths_of, texts_of}
 use Rattle.just_loader.specs.Reached.{World, Reached, from_root, from_file, items_of, link, LeadsTo, NamesAt, NamesInScan}
@@ -30,7 +29,7 @@ use Rattle.just_loader.specs.declared.found.Found.{Found}
 use Rattle.just_loader.specs.declared.scanned.Scan.{Scan}
 use Rattle.just_loader.specs.declared.scanned.ScannedFile.{ScannedFile}
 use Rattle.just_loader.specs.declared.sources.SourceFile.{SourceFile}
-use Rattle.just_loader.proofs.Numberings.{got, placed, get_cases, get_map, get_more, map_get, none_some, some_same}
+use Rattle.just_loader.proofs.Numberings.{get_cases, get_map, get_more, got, map_get, none_some, placed, read_at, some_same}
 use Rattle.just_loader.proofs.Scanning.{places_more, steps_more}
 
 -- The files so far: those that are found are reached, and the first of them are scanned.
@@ -172,12 +171,6 @@ row_at [] a s h = absurd h
 row_at (row ∷ rows) zero s h = (row, refl, h)
 row_at (row ∷ rows) (suc a) s h = row_at rows a s h
 
--- an element that is inside
-pub read_at : {A : Type 0} (xs : List A) (k : ℕ) → k < length xs → (x : A) × (slice_get xs k ≡ Some x)
-read_at [] k h = absurd (omega arith)
-read_at (x ∷ xs) zero h = (x, refl)
-read_at (x ∷ xs) (suc k) h = read_at xs k (omega arith)
-
 module _ (w : World) (paths names : List (List ℕ)) (files : List ScannedFile) (rows : List (Vec Step Global)) (so : ScannedSoFar w paths names files rows) (all : length paths ≤ length files) where
   all_paths : paths_in files ≡ paths
   all_paths = same_lists (paths_in files) paths (omega (arith, length-map files (λ (f : ScannedFile). f.path), so.within)) (λ k x y e f.
@@ -220,21 +213,24 @@ module _ (w : World) (paths names : List (List ℕ)) (files : List ScannedFile) 
       let inside : s.0.target < length paths = places_inside paths (map (link w (folder_of file.0.path)) is.items) file.0.targets.items s.0.target is.targets (steps_target names is.items file.0.targets.items row.0.items s.0 is.steps row.2) in
       omega (arith, so.count, inside, s.2)
 
-  pub is_scan : (listed : List Name) (scan : Scan) → AreApart paths → All IsClean paths → AreApart names → texts_of listed ≡ names → scan.files.items ≡ files → scan.rows.items ≡ rows → scan.names.items ≡ listed → IsScan w scan
-  is_scan listed scan once_paths clean_paths once_names texts is_files is_rows is_names =
-      let is_paths : paths_in scan.files.items ≡ paths = ap paths_in is_files ∙ all_paths in
-      let is_texts : texts_of scan.names.items ≡ names = ap texts_of is_names ∙ texts in
-      record {
-        reached = λ p. (λ c. so.reached p (subst (λ ps. Contains ps p) is_paths c), λ r. subst (λ ps. Contains ps p) (sym is_paths) (all_reached p r));
-        once = subst AreApart (sym is_paths) once_paths;
-        clean = subst (All IsClean) (sym is_paths) clean_paths;
-        root = ap (λ ps. slice_get ps 0) is_paths ∙ so.first;
-        count = ap length is_rows ∙ so.count ∙ sym (ap length is_files);
-        scanned = subst (λ ps. AreScanned w ps (texts_of scan.names.items) scan.files.items scan.rows.items) (sym is_paths) (subst (λ ns. AreScanned w paths ns scan.files.items scan.rows.items) (sym is_texts)
-            (subst (λ fs. AreScanned w paths names fs scan.rows.items) (sym is_files) (subst (λ rs. AreScanned w paths names files rs) (sym is_rows) so.scanned)));
-        within = subst (λ rs. (a b : ℕ) → HasStep rs a b → b < length rs) (sym is_rows) step_inside;
-        names = subst AreApart (sym is_texts) once_names;
-      }
+-- a scan whose files are all that are found
+pub is_scan : (w : World) (paths : List (List ℕ)) (scan : Scan) → ScannedSoFar w paths (texts_of scan.names.items) scan.files.items scan.rows.items → length paths ≤ length scan.files.items
+    → AreApart paths → All IsClean paths → AreApart (texts_of scan.names.items) → IsScan w scan
+is_scan w paths scan so all once clean names =
+    let files = scan.files.items in
+    let rows = scan.rows.items in
+    let texts = texts_of scan.names.items in
+    let is_paths : paths_in files ≡ paths = all_paths w paths texts files rows so all in
+    record {
+      reached = λ p. (λ c. so.reached p (subst (λ ps. Contains ps p) is_paths c), λ r. subst (λ ps. Contains ps p) (sym is_paths) (all_reached w paths texts files rows so all p r));
+      once = subst AreApart (sym is_paths) once;
+      clean = subst (All IsClean) (sym is_paths) clean;
+      root = ap (λ ps. slice_get ps 0) is_paths ∙ so.first;
+      count = so.count;
+      scanned = subst (λ ps. AreScanned w ps texts files rows) (sym is_paths) so.scanned;
+      within = step_inside w paths texts files rows so all;
+      names = names;
+    }
 
 -- texts of a list that are there once are no more than the list has
 few : (xs ys : List (List ℕ)) → AreApart xs → ((x : List ℕ) → In x xs → In x ys) → length xs ≤ length ys

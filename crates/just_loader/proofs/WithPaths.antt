@@ -9,7 +9,7 @@ use Rattle.just_parts.proofs.Edges.{same_numbers}
 use Rattle.just_parts.specs.declared.layers.ast.Item.{Item}
 use Rattle.just_loader.specs.Links.{Link, Nowhere, To, Fault}
 use Rattle.just_loader.specs.Loaded.{path_of_link, with_path}
-use Rattle.just_loader.specs.LoadedInPlaces.{file_at}
+use Rattle.just_loader.specs.Placed.{file_at}
 use Rattle.just_loader.specs.Reached.{World, link}
 use Rattle.just_loader.specs.Scanned.{ArePlacesOf, IsPlaceOf, paths_in}
 use Rattle.just_loader.specs.declared.scanned.Scan.{Scan}
@@ -32,6 +32,9 @@ place_here paths L [] after i [] p = absurd p
 place_here paths L [] after i (t ∷ ts) p = (omega arith, p.0)
 place_here paths L (x ∷ before) after i [] p = absurd p
 place_here paths L (x ∷ before) after i (t ∷ ts) p = let r = place_here paths L before after i ts p.1 in (omega (arith, r.0), r.1)
+
+pub place_next : (paths : List (List ℕ)) (L : Item → Link) (items before rest after : List Item) (i : Item) (ts : List (Option ℕ)) → before ++ rest ≡ items → rest ≡ i ∷ after → ArePlacesOf paths (map L items) ts → (length before < length ts) × IsPlaceOf paths (L i) (get_or ts (length before) None)
+place_next paths L items before rest after i ts all next places = place_here paths L before after i ts (subst (λ xs. ArePlacesOf paths (map L xs) ts) (sym (ap (λ xs. before ++ xs) (sym next) ∙ all)) places)
 
 pub place_inside : (scan : Scan) (l : Link) (t : Option ℕ) → IsPlaceOf (paths_in scan.files.items) l t → IfSome t (λ place. place < length scan.files.items)
 place_inside scan l None p = tt

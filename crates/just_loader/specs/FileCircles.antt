@@ -1,11 +1,7 @@
 -- Files that lead back to themselves.
-use Rattle.std.specs.Prelude.{◌≡◌, ℕ, ◌<◌, List, [], ◌∷◌, ◌++◌, length}
+use Rattle.std.specs.Prelude.{◌≡◌, ◌<◌, List, [], ◌∷◌, ◌++◌, length}
 use Rattle.std.specs.List.{Contains}
-use Rattle.std.specs.declared.vec.Vec.{Vec}
-use Rattle.std.specs.declared.alloc.Global.{Global}
-use Rattle.just_graph.specs.declared.unfolding.Step.{Step}
-use Rattle.just_graph.specs.Steps.{IsOrder}
-use Rattle.just_graph.specs.Unfolding.{LeadInside, HasStep}
+use Rattle.just_graph.specs.Unfolding.{LeadInside}
 use Rattle.just_parts.specs.Modulepath.{Text}
 use Rattle.just_loader.specs.Reached.{World, LeadsTo, Reached}
 use Rattle.just_parts.specs.Causes.{Cause, LeadsBack}
@@ -16,10 +12,6 @@ pub record HasRows (scan : Scan) : Type 0 where
   pub count : length scan.rows.items ≡ length scan.files.items
   pub some : 0 < length scan.rows.items
   pub within : LeadInside scan.rows.items
-
--- an order of the places of files, each after those that it leads to, the root's among them
-abbrev pub IsFileOrder : List (Vec Step Global) → List ℕ → Type 0
-IsFileOrder rows order = (roots : List ℕ) × Contains roots 0 × IsOrder (HasStep rows) (length rows) roots order
 
 -- one or more edges lead from f to h
 pub data LeadsOn (w : World) : Text → Text → Type 0 where

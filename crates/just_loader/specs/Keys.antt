@@ -1,5 +1,5 @@
 -- What a file imports and which modules it declares, and the keys of files: the path of a module, and a file of it.
-use Rattle.std.specs.Prelude.{◌≡◌, ◌+◌, ℕ, false, List, [], ◌∷◌, map, filter, not, is_some, unwrap_or, ◌≤◌, ◌^◌, Option, None, Some}
+use Rattle.std.specs.Prelude.{◌≡◌, ◌+◌, ℕ, false, List, [], ◌∷◌, map, unwrap_or, ◌<◌, ◌≤◌, ◌^◌, Option, None, Some}
 use Rattle.std.specs.List.{Contains, flat_map, sum_by}
 use Rattle.std.specs.Option.{option_map}
 use Rattle.just_graph.specs.Unfolding.{AreFirstOf, KeyOf, KeyStepsOf, NodeOf}
@@ -9,7 +9,6 @@ use Rattle.just_parts.specs.Clean.{folder_of}
 use Rattle.just_parts.specs.Edge.{Edge, Imports, Declares, edge_of}
 use Rattle.just_parts.specs.Name.{text_of_name}
 use Rattle.just_parts.specs.Modulepath.{Text}
-use Rattle.just_parts.specs.declared.layers.name.Name.{Name}
 use Rattle.just_parts.specs.declared.layers.ast.Item.{Item}
 use Rattle.just_parts.specs.Causes.{Cause, NoFile, NoNumber}
 use Rattle.just_loader.specs.FileCircles.{NamesCircle}
@@ -42,28 +41,6 @@ steps_by None l = []
 -- the steps of the items of a file, in order
 abbrev pub steps_of : World → Text → List FileStep
 steps_of w f = flat_map (λ i. steps_by (edge_of i) (link w (folder_of f) i)) (items_at w f)
-
--- what a file imports, in order
-abbrev pub imports_of : World → Text → List Text
-imports_of w f = map (λ (s : FileStep). s.to) (filter (λ (s : FileStep). not (is_some s.enters)) (steps_of w f))
-
--- a module that a file declares and that has a file: its name, and that file
-pub record Submodule : Type 0 where
-  pub name : Name
-  pub path : Text
-
--- the module that an item declares, by where it leads
-abbrev pub declared_by : Option Edge → Link → List Submodule
-declared_by (Some (Declares name literal optional)) l = map (λ path. record { name = name; path = path }) (end_of l)
-declared_by _ l = []
-
--- the module that an item of a folder's file declares
-abbrev pub declared : World → Text → Item → List Submodule
-declared w folder i = declared_by (edge_of i) (link w folder i)
-
--- the modules that a file declares, in order
-abbrev pub modules_of : World → Text → List Submodule
-modules_of w f = flat_map (declared w (folder_of f)) (items_at w f)
 
 -- the path of a module, and a file of it
 abbrev pub FileKey : Type 0
@@ -113,4 +90,4 @@ pub data NamesInFiles (w : World) : Cause → Type 0 where
   no_root : {path : Text} → text_at w.files w.root ≡ None → w.root ≡ path → NamesInFiles w (NoFile path)
   at_fault : {c : Cause} → NamesInScan w c → NamesInFiles w c
   in_circle : {c : Cause} → NamesCircle w c → NamesInFiles w c
-  too_many : (keys : List FileKey) → AreApart keys → ((k : FileKey) → Contains keys k → IsKey w k) → 2 ^ 64 ≤ sum_by (λ (k : FileKey). spends_at w k.node) keys → NamesInFiles w NoNumber
+  too_many : (keys : List FileKey) → AreApart keys → ((k : FileKey) → Contains keys k → IsKey w k) → 2 ^ 64 < sum_by (λ (k : FileKey). spends_at w k.node) keys → NamesInFiles w NoNumber

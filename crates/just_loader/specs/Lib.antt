@@ -2,11 +2,11 @@ pub mod FileCircles
 pub mod Keys
 pub mod Links
 pub mod Loaded
-pub mod LoadedInPlaces
 pub mod Loading
 pub mod ModuleFile
 pub mod Numbering
 pub mod Parsed
+pub mod Placed
 pub mod Reached
 pub mod Scanned
 pub mod Sources

@@ -1,20 +1,24 @@
--- What the keys of a compilation hold.
-use Rattle.std.specs.Prelude.{◌≡◌, ℕ, not, false, List, [], ◌∷◌, map, filter, Option, None, Some}
+-- What the keys of a compilation hold, and what loading answers.
+use Rattle.std.specs.Prelude.{◌≡◌, ℕ, not, false, List, [], ◌∷◌, map, filter, Option, None, Some, Result, IfOk, IfErr}
+use Rattle.std.specs.HashMap.{get}
 use Rattle.std.specs.List.{All, Contains}
 use Rattle.std.specs.Str.{bytes_eq}
 use Rattle.just_graph.specs.Unfolding.{HasKeyOf, key_of}
 use Rattle.just_parts.specs.Asts.{AstKey, same_ast_key}
 use Rattle.just_parts.specs.Bare.{bare_ast}
+use Rattle.just_parts.specs.Causes.{Keeps, Reports}
 use Rattle.just_parts.specs.Clean.{folder_of}
 use Rattle.just_parts.specs.Edge.{with_absolute}
 use Rattle.just_parts.specs.Syntax.{AreRising, IsFrom, PriorsAreDependencies, components_of, numbers}
 use Rattle.just_parts.specs.Modulepath.{Text}
 use Rattle.just_parts.specs.declared.layers.ast.Ast.{Ast}
 use Rattle.just_parts.specs.declared.layers.ast.Item.{Item}
+use Rattle.just_parts.specs.declared.layers.error.Error.{Error}
 use Rattle.just_parts.specs.declared.source.Source.{Source}
-use Rattle.just_loader.specs.Keys.{AreFirstFiles, FileKey, FileNode, FileStep, IsKey, IsLeastFileDepth, ast_key}
+use Rattle.just_loader.specs.Keys.{AreFirstFiles, FileKey, FileNode, FileStep, IsKey, IsLeastFileDepth, NamesInFiles, ast_key}
 use Rattle.just_loader.specs.Links.{Link, Nowhere, To, Fault}
 use Rattle.just_loader.specs.Reached.{World, ast_of, link, relative_to_root}
+use Rattle.just_loader.specs.declared.loaded.Loaded.{Loaded}
 
 -- the file that is entered, or the one that was
 abbrev pub entered : {A X : Type 0} → A → Option X → A → A
@@ -77,3 +81,9 @@ pub record IsLoaded (w : World) (asts : AstKey → Option Ast) (loaded : List Te
   pub numbers : AreToldApart asts
   pub priors : (k : AstKey) (ast : Ast) → asts k ≡ Some ast → All PriorsAreDependencies ast.items
   pub loaded_is : loaded ≡ map (relative_to_root w) (at_first (map (λ (n : FileNode). n.node) nodes))
+
+-- What loading answers: no rule of files is broken, and the files are loaded; or a rule that is broken.
+pub record Loads (w : World) (result : Result Loaded Error) : Type 0 where
+  pub kept : IfOk result (λ _. Keeps (NamesInFiles w))
+  pub loaded : IfOk result (λ (l : Loaded). IsLoaded w (get same_ast_key l.asts) l.loaded)
+  pub named : IfErr result (Reports (NamesInFiles w))

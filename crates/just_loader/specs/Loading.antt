@@ -15,8 +15,8 @@ use Rattle.just_parts.specs.declared.layers.error.Error.{Error}
 use Rattle.just_parts.specs.declared.layers.error.Error.TheVariants as error
 use Rattle.just_parts.specs.declared.source.Source.{Source}
 use Rattle.just_loader.specs.Keys.{spends_at}
-use Rattle.just_loader.specs.Loaded.{with_path}
-use Rattle.just_loader.specs.LoadedInPlaces.{CameInPlaces, IsAstOfPlace, file_at, name_at}
+use Rattle.just_loader.specs.Loaded.{CameIn, IsAstOf, with_path}
+use Rattle.just_loader.specs.Placed.{file_at, file_node, name_at}
 use Rattle.just_loader.specs.Reached.{World, ast_of, link}
 use Rattle.just_loader.specs.Scanned.{ArePlacesOf, IsScan, paths_in}
 use Rattle.just_loader.specs.declared.scanned.Scan.{Scan}
@@ -57,13 +57,17 @@ pub record ComesNext (scan : Scan) (before : Source) (s : Step) (source : Source
   pub path : source.path ≡ file_at scan s.target
   pub folder : source.working_directory ≡ folder_after before.working_directory s.enters (file_at scan s.target)
 
+-- how a node's file came in, in each world that the scan is of
+abbrev pub CameInWorlds : Scan → Node → Source → Type 0
+CameInWorlds scan n source = (w : World) → IsScan w scan → CameIn w (file_node scan n) source
+
 -- how the files of the first nodes came in
 abbrev pub CameInSoFar : Scan → List Node → List Source → Type 0
-CameInSoFar scan ns sources = (k : ℕ) (n : Node) (source : Source) → slice_get ns k ≡ Some n → slice_get sources k ≡ Some source → CameInPlaces scan n source
+CameInSoFar scan ns sources = (k : ℕ) (n : Node) (source : Source) → slice_get ns k ≡ Some n → slice_get sources k ≡ Some source → CameInWorlds scan n source
 
 -- how the file of the node at a place came in
 abbrev pub CameInAt : Scan → List Unfolded → ℕ → Source → Type 0
-CameInAt scan us place source = (ns : List Node) (n : Node) → AreNodes scan us ns → slice_get ns place ≡ Some n → CameInPlaces scan n source
+CameInAt scan us place source = (ns : List Node) (n : Node) → AreNodes scan us ns → slice_get ns place ≡ Some n → CameInWorlds scan n source
 
 -- how the file of each node came in
 pub record AreSources (scan : Scan) (ns : List Node) (sources : List Source) : Type 0 where
@@ -81,7 +85,7 @@ pub record IsSaid (w : World) (path : Text) (source : Source) (ast : Ast) : Type
 
 -- what the texts of the first nodes say
 abbrev pub AreParsedSoFar : World → Scan → List Node → List Ast → Type 0
-AreParsedSoFar w scan ns asts = (k : ℕ) (n : Node) (ast : Ast) → slice_get ns k ≡ Some n → slice_get asts k ≡ Some ast → IsAstOfPlace w scan n ast
+AreParsedSoFar w scan ns asts = (k : ℕ) (n : Node) (ast : Ast) → slice_get ns k ≡ Some n → slice_get asts k ≡ Some ast → IsAstOf w (file_node scan n) ast
 
 -- what the text of each node says
 pub record AreParsed (w : World) (scan : Scan) (ns : List Node) (asts : List Ast) : Type 0 where
@@ -98,8 +102,12 @@ StopsAt given spends (error.Load e) = ⊥
 StopsAt given spends (error.Compile e) = ⊥
 StopsAt given spends (error.Invocation e) = ⊥
 StopsAt given spends (error.Run e) = ⊥
-StopsAt given spends error.Exhausted = 2 ^ 64 ≤ given + spends
+StopsAt given spends error.Exhausted = 2 ^ 64 < given + spends
 StopsAt given spends error.Memory = Unit {0}
+
+-- the same of the text of the file at a place
+abbrev pub StopsInFile : Scan → SyntaxAnswers → ℕ → ℕ → Error → Type 0
+StopsInFile scan answers place given e = InWorlds scan answers (λ w. StopsAt given (spends_at w (file_at scan place)) e)
 
 -- the same of the first texts of elements together
 abbrev pub Stops : World → Scan → List Unfolded → Error → Type 0
@@ -107,7 +115,7 @@ Stops w scan us (error.Load e) = ⊥
 Stops w scan us (error.Compile e) = ⊥
 Stops w scan us (error.Invocation e) = ⊥
 Stops w scan us (error.Run e) = ⊥
-Stops w scan us error.Exhausted = (k : ℕ) × (k ≤ length us) × (2 ^ 64 ≤ spent_by w scan (take k us))
+Stops w scan us error.Exhausted = (k : ℕ) × (k ≤ length us) × (2 ^ 64 < spent_by w scan (take k us))
 Stops w scan us error.Memory = Unit {0}
 
 -- items with the paths of the files at the places beside them

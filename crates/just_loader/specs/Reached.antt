@@ -1,5 +1,5 @@
 -- The files that are reached from a root, and what is at fault with them.
-use Rattle.std.specs.Prelude.{◌≡◌, ◌^◌, ◌≤◌, List, Option, None, Some}
+use Rattle.std.specs.Prelude.{◌≡◌, ◌^◌, ◌<◌, List, Option, None, Some}
 use Rattle.std.specs.List.{Contains}
 use Rattle.std.specs.Option.{option_and_then, option_map}
 use Rattle.just_parts.specs.Clean.{folder_of}
@@ -63,7 +63,7 @@ pub data Reached (w : World) : Text → Type 0 where
 -- The text of a file does not follow the grammar or takes more numbers than there are, or an item is at fault.
 pub data NamesAt (w : World) (path : Text) : Cause → Type 0 where
   no_grammar : {place : Place} (text : Text) → text_at w.files path ≡ Some text → w.answers.parsed (relative_to_root w path) text ≡ None → NamesAt w path (Broken place kind.Syntax)
-  no_number : (text : Text) → text_at w.files path ≡ Some text → 2 ^ 64 ≤ w.answers.spends (relative_to_root w path) text → NamesAt w path NoNumber
+  no_number : (text : Text) → text_at w.files path ≡ Some text → 2 ^ 64 < w.answers.spends (relative_to_root w path) text → NamesAt w path NoNumber
   in_item : {c : Cause} (item : Item) → HasItem w path item → link w (folder_of path) item ≡ Fault c → NamesAt w path c
 
 -- What is at fault with a reached file.

@@ -7,6 +7,7 @@ use Rattle.just_graph.specs.Unfolding.{LeadInside}
 use Rattle.just_graph.specs.declared.unfolding.Step.{Step}
 use Rattle.just_graph.specs.Unfolded.{AreApart}
 use Rattle.just_parts.specs.Bare.{bare_item}
+use Rattle.just_parts.specs.Causes.{Cause}
 use Rattle.just_parts.specs.Clean.{IsClean, folder_of}
 use Rattle.just_parts.specs.Edge.{Edge, Imports, Declares, edge_of}
 use Rattle.just_parts.specs.Name.{text_of_name}
@@ -46,6 +47,10 @@ IsStepTo names place None steps = steps ≡ []
 abbrev pub IsStepOf : List Text → Item → Option ℕ → List Step → Type 0
 IsStepOf names i None steps = steps ≡ []
 IsStepOf names i (Some place) steps = IsStepTo names place (edge_of i) steps
+
+-- a row with the steps of an item behind it
+abbrev pub HasAlsoSteps : List Text → Item → Option ℕ → List Step → List Step → Type 0
+HasAlsoSteps names i target old new = (steps : List Step) × IsStepOf names i target steps × (new ≡ old ++ steps)
 
 -- the steps of items to the places beside them, in order
 abbrev pub AreSteps : List Text → List Item → List (Option ℕ) → List Step → Type 0
@@ -98,6 +103,10 @@ Finds P old new = Grows P (paths_found old) (paths_found new)
 -- what links lead to is found, and the files have places
 abbrev pub FindsAll : List Link → Found → Found → Type 0
 FindsAll links = Finds (λ path. Contains links (To path))
+
+-- a link is at fault
+abbrev pub HasFault : List Link → Cause → Type 0
+HasFault links cause = Contains links (Fault cause)
 
 abbrev pub ArePlacesIn : Found → List Link → List (Option ℕ) → Type 0
 ArePlacesIn found = ArePlacesOf (paths_found found)

@@ -1,6 +1,6 @@
 -- A source map, from clean paths to texts.
 use Rattle.std.specs.Prelude.{ℕ, List, [], ◌∷◌, ◌++◌, Option, IsTrue, is_some}
-use Rattle.std.specs.List.{All, AllByRecursion, before_last}
+use Rattle.std.specs.List.{All, before_last}
 use Rattle.std.specs.Map.{keys_of}
 use Rattle.std.specs.Option.{option_map}
 use Rattle.just_parts.specs.Clean.{IsClean, is_slash}
@@ -30,4 +30,4 @@ AreFolders folders = IsKeyed (λ f. f) folders
 
 -- the folder of each file is held
 abbrev pub HoldsFolders : List (List ℕ × List ℕ) → Files → Type 0
-HoldsFolders folders files = AllByRecursion (λ e. IsTrue (is_some (find (folder_prefix e.0) folders))) files
+HoldsFolders folders files = All (λ path. IsTrue (is_some (find (folder_prefix path) folders))) (keys_of files)

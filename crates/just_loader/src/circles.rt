@@ -1,7 +1,8 @@
 //! Checks that no file that a root reaches leads back to itself.
 
 ghost use Rattle.std.specs.Prelude.{◌≡◌, ◌<◌, ℕ, List, Some, length, slice_get, IfOk, IfErr, OnOk};
-ghost use Rattle.just_loader.specs.FileCircles.{HasRows, IsFileOrder, LeadsOn, NamesCircle};
+ghost use Rattle.just_graph.specs.Unfolding.{IsOrdered};
+ghost use Rattle.just_loader.specs.FileCircles.{HasRows, LeadsOn, NamesCircle};
 ghost use Rattle.just_loader.specs.Reached.{World, Reached};
 ghost use Rattle.just_parts.specs.Causes.{Reports};
 ghost use Rattle.just_loader.specs.Scanned.{IsScan, paths_in};
@@ -21,17 +22,17 @@ fn path_at<'src>(alloc: Global, scan: &Scan<'src>, place: usize) -> Result<Text,
     Text::from_str(alloc, scan.files[place].path.as_str())
 }
 
-/// Lists the places of files, each after those that it leads to, where no file of a scan leads back to itself. Else the
-/// error names a file and what it leads to: a file of a chain from the root to it.
-pub fn check_circles<'src>(alloc: Global, scan: &Scan<'src>) -> Result<Vec<usize>, Error<'src>>
+/// Checks that no reached file of a scan leads back to itself. The error names a file and what it leads to: a file of a
+/// chain from the root to it.
+pub(crate) fn check_circles<'src>(alloc: Global, scan: &Scan<'src>) -> Result<(), Error<'src>>
     requires { HasRows scan.now }
-    ensures ordered { IfOk result (λ order. IsFileOrder scan.now.rows.items order.items) }
+    ensures ordered { OnOk result (IsOrdered scan.now.rows.items 0) }
     ensures none { OnOk result ((w : World) → IsScan w scan.now → (f : List ℕ) → Reached w f → LeadsOn w f f → ⊥) }
     ensures named { IfErr result (λ e. (w : World) → IsScan w scan.now → Reports (NamesCircle w) e) }
 {
     let edges = edges(alloc, scan.rows.as_slice())?;
     let circle = match order(alloc, edges.as_slice(), [0].as_slice())? {
-        Ok(order) => return Ok(order),
+        Ok(_) => return Ok(()),
         Err(circle) => circle,
     };
     let last = circle.len() - 1;

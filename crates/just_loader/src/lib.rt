@@ -8,7 +8,7 @@ pub mod loaded;
 pub mod loading;
 mod module_file;
 mod scan;
-pub mod scanned;
+mod scanned;
 pub mod sources;
 
 pub use loaded::Loaded;

@@ -1,6 +1,5 @@
 //! What is loaded for a compilation.
 
-use crate::scanned::Scan;
 use just_data::{Sequence, Text};
 use just_parts::Modulepath;
 use just_parts::layers::Ast;
@@ -9,10 +8,6 @@ use std::collections::HashMap;
 /// The files of a compilation.
 #[derive(Drop)]
 pub struct Loaded<'src> {
-    /// The reached files, and what leads from each to others.
-    pub scan: Scan<'src>,
-    /// The places of the reached files, each after those that it leads to.
-    pub order: Vec<usize>,
     /// What each file says, under the path of its module and its own.
     pub asts: HashMap<(Modulepath, Text), Ast<'src>>,
     /// The relative path of each file once, in the order of loading.

@@ -1,6 +1,6 @@
 //! Loads the files of a compilation: what a root reaches, each file as often as it belongs to a module.
 
-ghost use Rattle.std.specs.Prelude.{◌≡◌, ◌+◌, ◌^◌, ◌<◌, ℕ, List, Some, map, length, slice_get, IfSome, IfOk, IfErr, OnOk};
+ghost use Rattle.std.specs.Prelude.{◌≡◌, ◌+◌, ◌^◌, ◌<◌, ◌≤◌, ℕ, List, Some, map, length, slice_get, IfSome, IfOk, IfErr, OnOk};
 ghost use Rattle.std.specs.HashMap.{get};
 ghost use Rattle.std.specs.List.{All};
 ghost use Rattle.std.specs.Option.{option_map};
@@ -10,11 +10,10 @@ ghost use Rattle.just_parts.specs.Clean.{IsClean};
 ghost use Rattle.just_parts.specs.Syntax.{AreRising, PriorsAreDependencies, numbers};
 ghost use Rattle.just_parts.specs.declared.layers.ast.Ast.{Ast};
 ghost use Rattle.just_parts.specs.Asts.{same_ast_key};
-ghost use Rattle.just_parts.specs.Causes.{Keeps, Reports};
-ghost use Rattle.just_loader.specs.Keys.{NamesInFiles, SpendsAt, spends_at};
-ghost use Rattle.just_loader.specs.Loaded.{IsLoaded};
-ghost use Rattle.just_loader.specs.LoadedInPlaces.{IsLoadedInPlaces, at_first_places, file_at};
-ghost use Rattle.just_loader.specs.Loading.{AreNodes, AreNumberedBy, AreParsedBy, AreSources, AreUnfolded, CameInAt, CameInSoFar, ComesNext, HavePaths, InWorlds, IsSaid, IsScanBy, Stops, StopsAt, spent_by};
+ghost use Rattle.just_loader.specs.Keys.{SpendsAt};
+ghost use Rattle.just_loader.specs.Loaded.{Loads};
+ghost use Rattle.just_loader.specs.Placed.{at_first_places, file_at};
+ghost use Rattle.just_loader.specs.Loading.{AreNodes, AreNumberedBy, AreParsedBy, AreSources, AreUnfolded, CameInAt, CameInSoFar, ComesNext, HavePaths, InWorlds, IsSaid, IsScanBy, Stops, StopsInFile, spent_by};
 ghost use Rattle.just_loader.specs.Parsed.{AreHeld, AreKeyed, relative_at};
 ghost use Rattle.just_loader.specs.Reached.{World, link, world_of};
 ghost use Rattle.just_loader.specs.Scanned.{ArePlacesOf, IsPlaceOf, IsScan, paths_in};
@@ -142,13 +141,13 @@ fn parse_file<'src, S: Syntax>(
 ) -> Result<Ast<'src>, Error<'src>>
     requires scan { (w : World) × IsScanBy w scan.now (S.answers syntax.now) }
     requires place { place < length scan.now.files.items }
-    requires few { numerator.old.next < 2 ^ 64 }
+    requires few { numerator.old ≤ 2 ^ 64 }
     ensures said { IfOk result (λ ast. InWorlds scan.now (S.answers syntax.now) (λ w. IsSaid w (file_at scan.now place) source.now ast)) }
-    ensures numbers { IfOk result (λ ast. AreRising numerator.old.next (numbers ast.items) numerator.new.next) }
+    ensures numbers { IfOk result (λ ast. AreRising numerator.old (numbers ast.items) numerator.new) }
     ensures priors { IfOk result (λ ast. All PriorsAreDependencies ast.items) }
-    ensures spent { OnOk result (InWorlds scan.now (S.answers syntax.now) (λ w. SpendsAt w (file_at scan.now place) numerator.old.next numerator.new.next)) }
-    ensures fits { OnOk result (numerator.new.next < 2 ^ 64) }
-    ensures stopped { IfErr result (λ e. InWorlds scan.now (S.answers syntax.now) (λ w. StopsAt numerator.old.next (spends_at w (file_at scan.now place)) e)) }
+    ensures spent { OnOk result (InWorlds scan.now (S.answers syntax.now) (λ w. SpendsAt w (file_at scan.now place) numerator.old numerator.new)) }
+    ensures fits { OnOk result (numerator.new ≤ 2 ^ 64) }
+    ensures stopped { IfErr result (StopsInFile scan.now (S.answers syntax.now) place numerator.old) }
 {
     let file = &scan.files[place];
     let Ast {
@@ -181,7 +180,7 @@ fn parse_all<'src, S: Syntax>(
     ensures parsed { IfOk result (λ asts. AreParsedBy (S.answers syntax.now) scan.now nodes.now asts.items) }
     ensures numbers { IfOk result (λ asts. AreNumberedBy (S.answers syntax.now) scan.now nodes.now asts.items) }
     ensures priors { IfOk result (λ asts. All (λ (ast : Ast). All PriorsAreDependencies ast.items) asts.items) }
-    ensures fits { OnOk result (InWorlds scan.now (S.answers syntax.now) (λ w. spent_by w scan.now nodes.now < 2 ^ 64)) }
+    ensures fits { OnOk result (InWorlds scan.now (S.answers syntax.now) (λ w. spent_by w scan.now nodes.now ≤ 2 ^ 64)) }
     ensures stopped { IfErr result (λ e. InWorlds scan.now (S.answers syntax.now) (λ w. Stops w scan.now nodes.now e)) }
 {
     let sources = sources_of(alloc, scan, nodes)?;
@@ -246,10 +245,7 @@ pub fn load<'src, S: Syntax>(
     root: &str,
 ) -> Result<Loaded<'src>, Error<'src>>
     requires { IsClean root.now }
-    ensures kept { IfOk result (λ _. Keeps (NamesInFiles (world_of sources.now config.now (S.answers syntax.now) root.now))) }
-    ensures loaded { IfOk result (λ loaded. IsLoaded (world_of sources.now config.now (S.answers syntax.now) root.now) (get same_ast_key loaded.asts) loaded.loaded) }
-    ensures in_places { IfOk result (IsLoadedInPlaces (world_of sources.now config.now (S.answers syntax.now) root.now)) }
-    ensures named { IfErr result (Reports (NamesInFiles (world_of sources.now config.now (S.answers syntax.now) root.now))) }
+    ensures { Loads (world_of sources.now config.now (S.answers syntax.now) root.now) result }
 {
     if sources.file(root).is_none() {
         return Err(Error::Load(LoadError::Load {
@@ -257,15 +253,10 @@ pub fn load<'src, S: Syntax>(
         }));
     }
     let scan = scan(alloc, config, syntax, sources, root)?;
-    let order = check_circles(alloc, &scan)?;
+    check_circles(alloc, &scan)?;
     let nodes = unfold(alloc, scan.rows.as_slice(), 0)?;
     let asts = parse_all(alloc, syntax, &scan, nodes.as_slice())?;
     let asts = hold(alloc, &scan, nodes.as_slice(), asts)?;
     let loaded = loaded_paths(alloc, &scan, nodes.as_slice())?;
-    Ok(Loaded {
-        scan,
-        order,
-        asts,
-        loaded,
-    })
+    Ok(Loaded { asts, loaded })
 }

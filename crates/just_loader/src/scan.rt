@@ -1,8 +1,6 @@
 //! Scans a source map from a root: the files that are reached, with what their items lead to.
 
-ghost use Rattle.std.specs.Prelude.{◌≡◌, ◌++◌, ◌^◌, ◌<◌, List, Some, map, length, IsSome, IfOk, IfErr, OnOk};
-ghost use Rattle.std.specs.List.{Contains};
-ghost use Rattle.just_graph.specs.declared.unfolding.Step.{Step};
+ghost use Rattle.std.specs.Prelude.{◌≡◌, ◌^◌, ◌<◌, ◌≤◌, Some, map, length, IsSome, IfOk, IfErr, OnOk};
 ghost use Rattle.just_parts.specs.Bare.{bare_item};
 ghost use Rattle.just_parts.specs.Clean.{IsClean};
 ghost use Rattle.just_parts.specs.Entries.{find};
@@ -13,7 +11,7 @@ ghost use Rattle.just_loader.specs.Numbering.{AreFound, AreNumbered, IsFile, pat
 ghost use Rattle.just_loader.specs.Reached.{LeadsTo, NamesAt, NamesInScan, items_said, world_of};
 ghost use Rattle.just_parts.specs.Causes.{Keeps, Reports};
 ghost use Rattle.just_loader.specs.Sources.{text_at};
-ghost use Rattle.just_loader.specs.Scanned.{ArePlacesIn, IsPlaceOf, IsStepOf, AreSteps, IsScannedIn, IsScan, Finds, FindsAll, Extends};
+ghost use Rattle.just_loader.specs.Scanned.{ArePlacesIn, IsPlaceOf, AreSteps, IsScannedIn, IsScan, Finds, FindsAll, Extends, HasAlsoSteps, HasFault};
 
 use crate::found::{Found, NameNumbers};
 use crate::links::link;
@@ -49,7 +47,7 @@ fn parse<'src, S: Syntax>(
 ) -> Result<Sequence<Item<'src>>, Error<'src>>
     requires { IsClean path.now }
     ensures items { IfOk result (λ items. items_said ((S.answers syntax.now).parsed relative.now text.now) ≡ Some (map bare_item items)) }
-    ensures fits { OnOk result ((S.answers syntax.now).spends relative.now text.now < 2 ^ 64) }
+    ensures fits { OnOk result ((S.answers syntax.now).spends relative.now text.now ≤ 2 ^ 64) }
     ensures refused { IfErr result (Refuses (S.answers syntax.now) relative.now text.now 0) }
 {
     let source = Source::root(alloc, path)?;
@@ -96,7 +94,7 @@ fn targets<'src, S: Syntax>(
     ensures places { IfOk result (λ it. ArePlacesIn found.new (links_by sources.now config.now (S.answers syntax.now) folder.now items.now) it.items) }
     ensures grows { OnOk result (FindsAll (links_by sources.now config.now (S.answers syntax.now) folder.now items.now) found.old found.new) }
     ensures found { OnOk result (AreFound sources.now found.new) }
-    ensures error { IfErr result (Reports (λ c. Contains (links_by sources.now config.now (S.answers syntax.now) folder.now items.now) (Fault c))) }
+    ensures error { IfErr result (Reports (HasFault (links_by sources.now config.now (S.answers syntax.now) folder.now items.now))) }
 {
     let mut targets = Vec::new(alloc);
     for item in items {
@@ -113,7 +111,7 @@ fn push_step<'src>(
     row: &mut Vec<Step>,
 ) -> Result<(), AllocError>
     requires { AreNumbered names.old }
-    ensures pushed { OnOk result ((steps : List Step) × IsStepOf (texts_numbered names.new) item.now target steps × (row.new.items ≡ row.old.items ++ steps)) }
+    ensures pushed { OnOk result (HasAlsoSteps (texts_numbered names.new) item.now target row.old.items row.new.items) }
     ensures extends { OnOk result (Extends (texts_numbered names.old) (texts_numbered names.new)) }
     ensures numbered { OnOk result (AreNumbered names.new) }
 {

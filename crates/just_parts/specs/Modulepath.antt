@@ -38,6 +38,10 @@ IsPath (word ∷ []) components spaced = IsWordPath word components × (spaced �
 IsPath (v ∷ w ∷ words) components spaced =
     (components ≡ v ∷ w ∷ words) × AllIdentifiers (v ∷ w ∷ words) × (spaced ≡ true)
 
+-- the words are no path
+abbrev pub AreNoPath : List Text → Type 0
+AreNoPath words = (components : List Text) (spaced : Bool) → IsPath words components spaced → ⊥
+
 -- the text with one `::` at its end dropped, if it ends in one
 abbrev pub DropsEnd : Text → Text → Type 0
 DropsEnd word core =

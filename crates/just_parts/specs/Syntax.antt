@@ -1,5 +1,5 @@
 -- What the syntax layer keeps.
-use Rattle.std.specs.Prelude.{◌≡◌, ℕ, ◌+◌, ◌≤◌, ◌^◌, Bool, List, [], ◌∷◌, map, length, Option, Some, None, false}
+use Rattle.std.specs.Prelude.{◌≡◌, ℕ, ◌+◌, ◌<◌, ◌≤◌, ◌^◌, Bool, List, [], ◌∷◌, map, length, Option, Some, None, false}
 use Rattle.std.specs.List.{All, flat_map}
 use Rattle.just_parts.specs.Edge.{absolute_of}
 use Rattle.just_parts.specs.Name.{texts_of_path}
@@ -76,7 +76,7 @@ PriorsAreDependencies _ = Unit {0}
 -- what a refusal says of a text, after so many numbers were given
 abbrev pub Refuses : SyntaxAnswers → List ℕ → List ℕ → ℕ → Error → Type 0
 Refuses answers relative text given (error.Compile e) = (answers.parsed relative text ≡ None) × (e.kind ≡ kind.Syntax)
-Refuses answers relative text given error.Exhausted = 2 ^ 64 ≤ given + answers.spends relative text
+Refuses answers relative text given error.Exhausted = 2 ^ 64 < given + answers.spends relative text
 Refuses answers relative text given error.Memory = Unit {0}
 Refuses answers relative text given (error.Load e) = ⊥
 Refuses answers relative text given (error.Invocation e) = ⊥

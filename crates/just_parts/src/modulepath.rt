@@ -3,7 +3,7 @@ ghost use Rattle.std.specs.Prelude.{◌≡◌, ◌≢◌, List, ℕ, [], ◌∷�
 ghost use Rattle.std.specs.Cmp.Lexicographic.{pointwise};
 ghost use Rattle.std.specs.List.{starts_with};
 ghost use Rattle.just_parts.specs.Name.{texts_of_path};
-ghost use Rattle.just_parts.specs.Modulepath.{separator_of, AllIdentifiers, IsArgumentPath, DropsEnd, IsPath, IsWordPath, texts, text_of};
+ghost use Rattle.just_parts.specs.Modulepath.{separator_of, AllIdentifiers, AreNoPath, IsArgumentPath, DropsEnd, IsPath, IsWordPath, texts, text_of};
 
 use crate::identifier::is_identifier;
 use crate::layers::name::Namepath;
@@ -91,7 +91,7 @@ impl Modulepath {
     /// The path that the words are, or `()` where they are none.
     pub fn try_from(alloc: Global, words: &[&str]) -> Result<Result<Modulepath, ()>, AllocError>
         ensures path { IfOk result (λ found. IfOk found (λ p. IsPath (texts words.now) p.components p.spaced)) }
-        ensures refusal { IfOk result (λ found. OnErr found ((components : List (List ℕ)) (spaced : Bool) → IsPath (texts words.now) components spaced → ⊥)) }
+        ensures refusal { IfOk result (λ found. OnErr found (AreNoPath (texts words.now))) }
     {
         match words {
             [word] => match split_word(alloc, word)? {

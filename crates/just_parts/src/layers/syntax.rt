@@ -1,5 +1,5 @@
 //! The layer that reads source texts.
-ghost use Rattle.std.specs.Prelude.{◌≡◌, ◌+◌, ◌^◌, ◌<◌, ◌≤◌, Some, IfOk, IfErr, OnOk};
+ghost use Rattle.std.specs.Prelude.{◌≡◌, ◌+◌, ◌^◌, ◌≤◌, Some, IfOk, IfErr, OnOk};
 ghost use Rattle.just_parts.specs.Bare.{bare_ast, bare_item};
 ghost use Rattle.just_parts.specs.Syntax.{SyntaxAnswers, IsFrom, numbers, AreRising, Refuses, PriorsAreDependencies};
 ghost use Rattle.std.specs.List.{All};
@@ -29,12 +29,12 @@ pub trait Syntax {
     ) -> Result<Ast<'src>, Error<'src>>
         ensures items { IfOk result (λ ast. (answers self.now).parsed relative.now text.now ≡ Some (bare_ast ast)) }
         ensures source { IfOk result (IsFrom source.now) }
-        ensures numbers { IfOk result (λ ast. AreRising numerator.old.next (numbers ast.items) numerator.new.next) }
+        ensures numbers { IfOk result (λ ast. AreRising numerator.old (numbers ast.items) numerator.new) }
         ensures priors { IfOk result (λ ast. All PriorsAreDependencies ast.items) }
-        ensures spent { OnOk result (numerator.new.next ≡ numerator.old.next + (answers self.now).spends relative.now text.now) }
-        ensures fits { OnOk result (numerator.old.next < 2 ^ 64 → numerator.old.next + (answers self.now).spends relative.now text.now < 2 ^ 64) }
-        ensures refused { IfErr result (Refuses (answers self.now) relative.now text.now numerator.old.next) }
-        ensures onward { numerator.old.next ≤ numerator.new.next };
+        ensures spent { OnOk result (numerator.new ≡ numerator.old + (answers self.now).spends relative.now text.now) }
+        ensures fits { OnOk result (numerator.old ≤ 2 ^ 64 → numerator.old + (answers self.now).spends relative.now text.now ≤ 2 ^ 64) }
+        ensures refused { IfErr result (Refuses (answers self.now) relative.now text.now numerator.old) }
+        ensures onward { numerator.old ≤ numerator.new };
 
     /// Whether the item counts here.
     fn is_enabled<'src>(&self, item: &Item<'src>) -> bool

@@ -15,7 +15,7 @@ loop-line-preserved c = elim c.match-branch-3.branch [
       let read : Imports path optional ≡ reading c.args.relative.now c.args.text.now c.line-item.result = grind (arith, common_steps) in
       let made = subst (MakesItem (Imports path optional)) (sym w.in_ok-import-in-Imports.ensures) (import_made path optional) in
       rw (w.items-is, w.numerator-is)
-      (Read-item c.args.relative.now c.args.text.now c.args.source.now c.args.numerator.now.next c.as_slice-line-items.result.now c.loop-line.line-index c.loop-line.items c.loop-line.numerator.next c.line-item.result (Imports path optional) w.in_ok-import-in-Imports.import w.push.new.self
+      (Read-item c.args.relative.now c.args.text.now c.args.source.now c.args.numerator.now c.as_slice-line-items.result.now c.loop-line.line-index c.loop-line.items c.loop-line.numerator c.line-item.result (Imports path optional) w.in_ok-import-in-Imports.import w.push.new.self
       made c.loop-line.invariant (omega arith) (sym c.line-item.is) read w.in_ok-push-in-Imports.ensures.ok)
   | in-Declares+in_ok-module-in-Declares+in_ok-push-in-Declares w ↦
       let name = w.in-Declares.name in
@@ -24,14 +24,14 @@ loop-line-preserved c = elim c.match-branch-3.branch [
       let read : Declares name path optional ≡ reading c.args.relative.now c.args.text.now c.line-item.result = grind (arith, common_steps) in
       let made = subst (MakesItem (Declares name path optional)) (sym w.in_ok-module-in-Declares.ensures) (module_made name path optional) in
       rw (w.items-is, w.numerator-is)
-      (Read-item c.args.relative.now c.args.text.now c.args.source.now c.args.numerator.now.next c.as_slice-line-items.result.now c.loop-line.line-index c.loop-line.items c.loop-line.numerator.next c.line-item.result (Declares name path optional) w.in_ok-module-in-Declares.module w.push-in-Declares.new.self
+      (Read-item c.args.relative.now c.args.text.now c.args.source.now c.args.numerator.now c.as_slice-line-items.result.now c.loop-line.line-index c.loop-line.items c.loop-line.numerator c.line-item.result (Declares name path optional) w.in_ok-module-in-Declares.module w.push-in-Declares.new.self
       made c.loop-line.invariant (omega arith) (sym c.line-item.is) read w.in_ok-push-in-Declares.ensures.ok)
   | in-Begins+in_ok-recipe-in-Begins+in_ok-push-in-Begins w ↦
       let h = w.in-Begins.heading in
       let made = w.in_ok-recipe-in-Begins.ensures in
       let read : Begins h ≡ reading c.args.relative.now c.args.text.now c.line-item.result = grind (arith, common_steps) in
       rw (w.items-is, w.numerator-is)
-      (Read-recipe c.args.relative.now c.args.text.now c.args.source.now c.args.numerator.now.next c.as_slice-line-items.result.now c.loop-line.line-index c.loop-line.items c.loop-line.numerator.next c.line-item.result h w.in_ok-recipe-in-Begins.recipe w.push-in-Begins.new.self w.make_recipe.new.numerator.next
+      (Read-recipe c.args.relative.now c.args.text.now c.args.source.now c.args.numerator.now c.as_slice-line-items.result.now c.loop-line.line-index c.loop-line.items c.loop-line.numerator c.line-item.result h w.in_ok-recipe-in-Begins.recipe w.push-in-Begins.new.self w.make_recipe.new.numerator
       c.loop-line.invariant (omega arith) (sym c.line-item.is) read made.bare made.source made.numbers made.spent made.fits w.in_ok-push-in-Begins.ensures.ok)
 ]
 
@@ -41,7 +41,7 @@ returns-in-Bad-clause-refused c =
     let all = c.as_slice-line-items.result.now in
     let whole : all ≡ lines_of c.args.text.now = grind (arith, common_steps) in
     let read : Bad ≡ reading c.args.relative.now c.args.text.now line = grind (arith, common_steps) in
-    Read-bad c.args.relative.now c.args.text.now c.args.source.now c.args.numerator.now.next all c.loop-line.line-index c.loop-line.items c.loop-line.numerator.next line c.line_token.result
+    Read-bad c.args.relative.now c.args.text.now c.args.source.now c.args.numerator.now all c.loop-line.line-index c.loop-line.items c.loop-line.numerator line c.line_token.result
     whole c.loop-line.invariant (omega arith) (sym c.line-item.is) read c.line_token.ensures
 
 pub returns-in_err-recipe-in-Begins-clause-refused : goal.returns-in_err-recipe-in-Begins-clause-refused
@@ -49,6 +49,6 @@ returns-in_err-recipe-in-Begins-clause-refused c =
     let line = c.line-item.result in
     let h = c.in-Begins.heading in
     let read : Begins h ≡ reading c.args.relative.now c.args.text.now line = grind (arith, common_steps) in
-    let wants = Read-wants c.args.relative.now c.args.text.now c.args.source.now c.args.numerator.now.next c.as_slice-line-items.result.now c.loop-line.line-index c.loop-line.items c.loop-line.numerator.next line h
+    let wants = Read-wants c.args.relative.now c.args.text.now c.args.source.now c.args.numerator.now c.as_slice-line-items.result.now c.loop-line.line-index c.loop-line.items c.loop-line.numerator line h
     c.loop-line.invariant (omega arith) (sym c.line-item.is) read in
     spent_on_line c.args.relative.now c.args.text.now _ _ wants c.from_residual-in_err-recipe-in-Begins.result (search rules)

@@ -5,7 +5,7 @@ use Rattle.just_parts.specs.Syntax.{AreRising, PriorsAreDependencies, numbers}
 use Rattle.just_parts.specs.declared.layers.error.Error.{Error}
 use Rattle.just_loader.specs.Keys.{spends_at}
 use Rattle.just_loader.specs.Loaded.{with_path}
-use Rattle.just_loader.specs.LoadedInPlaces.{file_at}
+use Rattle.just_loader.specs.Placed.{file_at}
 use Rattle.just_loader.specs.Loading.{IsScanBy, StopsAt}
 use Rattle.just_loader.specs.Reached.{World, link}
 use Rattle.just_loader.specs.Scanned.{ArePlacesOf, paths_in}
@@ -15,9 +15,9 @@ use Rattle.just_loader.proofs.loading.parse_file.Goals as goal
 
 pub returns-in_err-items-clause-stopped : goal.returns-in_err-items-clause-stopped
 returns-in_err-items-clause-stopped g c =
-    stopped_err c.from_residual.result (g.S.Syntax.answers c.args.syntax.now) c.as_str.result.now c.as_str-2.result.now c.args.numerator.now.next
-    (λ (e : Error). (w : World) → IsScanBy w c.args.scan.now (g.S.Syntax.answers c.args.syntax.now) → StopsAt c.args.numerator.now.next (spends_at w (file_at c.args.scan.now c.args.place)) e) (search rules)
-    (λ e h w by. stops_at w c.args.scan.now (g.S.Syntax.answers c.args.syntax.now) by c.args.place c.index-file.result.now c.requires.place c.index-file.ensures c.as_str.result.now c.as_str-2.result.now c.as_str.ensures c.as_str-2.ensures c.args.numerator.now.next e h)
+    stopped_err c.from_residual.result (g.S.Syntax.answers c.args.syntax.now) c.as_str.result.now c.as_str-2.result.now c.args.numerator.now
+    (λ (e : Error). (w : World) → IsScanBy w c.args.scan.now (g.S.Syntax.answers c.args.syntax.now) → StopsAt c.args.numerator.now (spends_at w (file_at c.args.scan.now c.args.place)) e) (search rules)
+    (λ e h w by. stops_at w c.args.scan.now (g.S.Syntax.answers c.args.syntax.now) by c.args.place c.index-file.result.now c.requires.place c.index-file.ensures c.as_str.result.now c.as_str-2.result.now c.as_str.ensures c.as_str-2.ensures c.args.numerator.now e h)
 
 pub with_paths-requires : goal.with_paths-requires
 with_paths-requires g c = (
@@ -45,7 +45,7 @@ returns-clause-numbers g c =
     let folder = folder_of (file_at c.args.scan.now c.args.place) in
     let made : c.in_ok-with_paths.field-0 ≡ map (with_path w folder) c.in_ok-items.field-0.items = c.in_ok-with_paths.ensures w folder (subst (ArePlacesOf (paths_in c.args.scan.now.files.items) (map (link c.requires.scan.0 (folder_of (file_at c.args.scan.now c.args.place))) c.in_ok-items.field-0.items)) (sym c.as_slice.ensures.value)
     (places c.requires.scan.0 c.args.scan.now (g.S.Syntax.answers c.args.syntax.now) c.requires.scan.1 c.args.place c.index-file.result.now c.requires.place c.index-file.ensures c.as_str.result.now c.as_str-2.result.now c.as_str.ensures c.as_str-2.ensures c.in_ok-items.field-0 c.in_ok-items.ensures.items)) in
-    subst (λ ns. AreRising c.args.numerator.now.next ns c.parse_source.new.numerator.next) (sym (ap numbers made ∙ with_paths_numbers w folder c.in_ok-items.field-0.items)) c.in_ok-items.ensures.numbers
+    subst (λ ns. AreRising c.args.numerator.now ns c.parse_source.new.numerator) (sym (ap numbers made ∙ with_paths_numbers w folder c.in_ok-items.field-0.items)) c.in_ok-items.ensures.numbers
 
 pub returns-clause-priors : goal.returns-clause-priors
 returns-clause-priors g c =
@@ -57,4 +57,4 @@ returns-clause-priors g c =
 
 pub returns-clause-spent : goal.returns-clause-spent
 returns-clause-spent g c =
-    λ w by. c.in_ok-items.ensures.spent ∙ ap (λ n. c.args.numerator.now.next + n) (spent_at w c.args.scan.now (g.S.Syntax.answers c.args.syntax.now) by c.args.place c.index-file.result.now c.requires.place c.index-file.ensures c.as_str.result.now c.as_str-2.result.now c.as_str.ensures c.as_str-2.ensures)
+    λ w by. c.in_ok-items.ensures.spent ∙ ap (λ n. c.args.numerator.now + n) (spent_at w c.args.scan.now (g.S.Syntax.answers c.args.syntax.now) by c.args.place c.index-file.result.now c.requires.place c.index-file.ensures c.as_str.result.now c.as_str-2.result.now c.as_str.ensures c.as_str-2.ensures)

@@ -3,8 +3,8 @@ use Rattle.std.proofs.lemmas.List.{append-nil, append_assoc, length_push}
 use Rattle.just_parts.specs.declared.layers.ast.Item.{Item}
 use Rattle.just_loader.specs.Loaded.{with_path}
 use Rattle.just_loader.specs.Reached.{link}
-use Rattle.just_loader.specs.Scanned.{ArePlacesOf, paths_in}
-use Rattle.just_loader.proofs.WithPaths.{paths_more, place_here, place_inside}
+use Rattle.just_loader.specs.Scanned.{paths_in}
+use Rattle.just_loader.proofs.WithPaths.{paths_more, place_inside, place_next}
 use Rattle.just_loader.proofs.loading.with_paths.Goals as goal
 
 pub loop-item-init : goal.loop-item-init
@@ -16,23 +16,17 @@ loop-item-init c = record {
 
 pub offset_bounds-targets-len : goal.offset_bounds-targets-len
 offset_bounds-targets-len c =
-    let all : c.loop-item.yielded ++ c.in-Some.item ∷ c.next.new.self.rest.items ≡ c.args.items = ap (λ (r : List Item). c.loop-item.yielded ++ r) (sym c.in-Some.ensures.steps.0) ∙ c.loop-item.invariant.all in
-    let h = place_here (paths_in c.args.scan.now.files.items) (link c.requires.0 c.requires.1) c.loop-item.yielded c.next.new.self.rest.items c.in-Some.item c.args.targets.now
-    (subst (λ (xs : List Item). ArePlacesOf (paths_in c.args.scan.now.files.items) (map (link c.requires.0 c.requires.1) xs) c.args.targets.now) (sym all) c.requires.2) in
+    let h = place_next (paths_in c.args.scan.now.files.items) (link c.requires.0 c.requires.1) c.args.items c.loop-item.yielded _ c.next.new.self.rest.items c.in-Some.item c.args.targets.now c.loop-item.invariant.all c.in-Some.ensures.steps.0 c.requires.2 in
     omega (arith, h.0, c.len.ensures, c.loop-item.linked.ok, c.loop-item.invariant.count)
 
 pub bounds-targets-len : goal.bounds-targets-len
 bounds-targets-len c =
-    let all : c.loop-item.yielded ++ c.in-Some.item ∷ c.next.new.self.rest.items ≡ c.args.items = ap (λ (r : List Item). c.loop-item.yielded ++ r) (sym c.in-Some.ensures.steps.0) ∙ c.loop-item.invariant.all in
-    let h = place_here (paths_in c.args.scan.now.files.items) (link c.requires.0 c.requires.1) c.loop-item.yielded c.next.new.self.rest.items c.in-Some.item c.args.targets.now
-    (subst (λ (xs : List Item). ArePlacesOf (paths_in c.args.scan.now.files.items) (map (link c.requires.0 c.requires.1) xs) c.args.targets.now) (sym all) c.requires.2) in
+    let h = place_next (paths_in c.args.scan.now.files.items) (link c.requires.0 c.requires.1) c.args.items c.loop-item.yielded _ c.next.new.self.rest.items c.in-Some.item c.args.targets.now c.loop-item.invariant.all c.in-Some.ensures.steps.0 c.requires.2 in
     omega (arith, h.0, c.len.ensures, c.loop-item.linked.ok, c.loop-item.invariant.count)
 
 pub target_path-requires : goal.target_path-requires
 target_path-requires c =
-    let all : c.loop-item.yielded ++ c.in-Some.item ∷ c.next.new.self.rest.items ≡ c.args.items = ap (λ (r : List Item). c.loop-item.yielded ++ r) (sym c.in-Some.ensures.steps.0) ∙ c.loop-item.invariant.all in
-    let h = place_here (paths_in c.args.scan.now.files.items) (link c.requires.0 c.requires.1) c.loop-item.yielded c.next.new.self.rest.items c.in-Some.item c.args.targets.now
-    (subst (λ (xs : List Item). ArePlacesOf (paths_in c.args.scan.now.files.items) (map (link c.requires.0 c.requires.1) xs) c.args.targets.now) (sym all) c.requires.2) in
+    let h = place_next (paths_in c.args.scan.now.files.items) (link c.requires.0 c.requires.1) c.args.items c.loop-item.yielded _ c.next.new.self.rest.items c.in-Some.item c.args.targets.now c.loop-item.invariant.all c.in-Some.ensures.steps.0 c.requires.2 in
     let k : length c.loop-item.yielded ≡ c.len.result = omega (arith, c.len.ensures, c.loop-item.linked.ok, c.loop-item.invariant.count) in
     subst (λ n. IfSome (get_or c.args.targets.now n None) (λ place. place < length c.args.scan.now.files.items)) k
     (place_inside c.args.scan.now (link c.requires.0 c.requires.1 c.in-Some.item) (get_or c.args.targets.now (length c.loop-item.yielded) None) h.1)

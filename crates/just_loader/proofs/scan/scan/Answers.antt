@@ -80,10 +80,8 @@ returns-clause-scan g c =
     let w : World = world_of c.args.sources.now c.args.config.now (g.S.Syntax.answers c.args.syntax.now) c.args.root.now in
     let found : length c.loop-alloc.found.files.items ≤ length c.loop-alloc.files.items = grind (arith, common_steps) in
     let all : length (paths_of c.loop-alloc.found.files.items) ≤ length c.loop-alloc.files.items = omega (arith, found, length-map c.loop-alloc.found.files.items (λ (f : SourceFile). f.path)) in
-    is_scan w (paths_of c.loop-alloc.found.files.items) (texts_of c.loop-alloc.names.names.items) c.loop-alloc.files.items c.loop-alloc.rows.items c.loop-alloc.invariant.so_far all c.loop-alloc.names.names.items
-    (record { files = c.loop-alloc.files; rows = c.loop-alloc.rows; names = c.loop-alloc.names.names })
+    is_scan w (paths_of c.loop-alloc.found.files.items) (record { files = c.loop-alloc.files; rows = c.loop-alloc.rows; names = c.loop-alloc.names.names }) c.loop-alloc.invariant.so_far all
     (once (paths_of c.loop-alloc.found.files.items) (get bytes_eq c.loop-alloc.found.places) c.loop-alloc.invariant.found.numbering) (found_clean c.args.sources.now c.loop-alloc.found c.loop-alloc.invariant.found) (once (texts_of c.loop-alloc.names.names.items) (get bytes_eq c.loop-alloc.names.numbers) c.loop-alloc.invariant.numbered)
-    refl refl refl refl
 
 pub returns-clause-kept : goal.returns-clause-kept
 returns-clause-kept g c =

@@ -1,4 +1,4 @@
-use Rattle.std.proofs.Common.{◌≡◌, ◌∙◌, ◌<◌, ◌^◌, Some, map, length, ap, sym, refl, subst, rules}
+use Rattle.std.proofs.Common.{◌≡◌, ◌∙◌, ◌≤◌, ◌^◌, Some, map, length, ap, sym, refl, subst, rules}
 use Rattle.std.specs.List.{Contains}
 use Rattle.std.proofs.lemmas.List.{length-map}
 use Rattle.just_parts.specs.Bare.{bare_item}
@@ -62,8 +62,8 @@ returns-clause-kept g c =
     ap (λ x. map (link_in w.files w.home w.answers.enabled x) c.as_slice.result.now) folder ∙ ap (map (link_in w.files w.home w.answers.enabled (folder_of c.args.file.now.path))) c.as_slice.ensures in
     let places : ArePlacesOf (paths_of c.targets.new.found.files.items) (map (link_in w.files w.home w.answers.enabled (folder_of c.args.file.now.path)) c.in_ok-items.items) c.in_ok-targets.targets.items =
     subst (λ ls. ArePlacesOf (paths_of c.targets.new.found.files.items) ls c.in_ok-targets.targets.items) links c.in_ok-targets.ensures.places in
-    let fits : w.answers.spends (relative_to_root w c.args.file.now.path) c.args.file.now.text < 2 ^ 64 =
-    subst (λ n. n < 2 ^ 64) (ap (λ x. w.answers.spends x c.as_str-text.result.now) shown ∙ ap (w.answers.spends (relative_to_root w c.args.file.now.path)) c.as_str-text.ensures) c.in_ok-items.ensures.fits in
+    let fits : w.answers.spends (relative_to_root w c.args.file.now.path) c.args.file.now.text ≤ 2 ^ 64 =
+    subst (λ n. n ≤ 2 ^ 64) (ap (λ x. w.answers.spends x c.as_str-text.result.now) shown ∙ ap (w.answers.spends (relative_to_root w c.args.file.now.path)) c.as_str-text.ensures) c.in_ok-items.ensures.fits in
     none_at w c.args.file.now c.requires.file.0 c.in_ok-items.items parsed (paths_of c.targets.new.found.files.items) c.in_ok-targets.targets.items places fits
 
 pub returns-clause-grows : goal.returns-clause-grows

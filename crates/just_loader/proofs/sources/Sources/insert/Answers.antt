@@ -6,6 +6,11 @@ use Rattle.just_loader.proofs.Folders.{held_on}
 use Rattle.just_loader.proofs.Paths.{put_holds}
 use Rattle.just_loader.proofs.sources.Sources.insert.Goals as goal
 
+pub invariant_of-self : goal.invariant_of-self
+invariant_of-self c =
+    let folders : c.insert.new.self ≡ c.self.inside.folders = search rules in
+    (c.self.invariant.0, c.insert.ensures.keyed c.self.invariant.1, subst (λ held. HoldsFolders held c.self.inside.files) (sym folders) c.self.invariant.2)
+
 pub invariant_of-self-2 : goal.invariant_of-self-2
 invariant_of-self-2 c =
     let prefix = folder_prefix c.new.result in

@@ -1,0 +1,170 @@
+-- The parts of a text of many files, one after another.
+use Rattle.std.proofs.Common.{◌≡◌, ◌≢◌, ◌⊎◌, ℕ, suc, Bool, true, false, ◌+◌, ◌-◌, ◌<◌, ◌≤◌, None, Some, Result, Ok, Err, IfErr, List, [], ◌∷◌, ◌++◌, map, take, drop, length, inl, inr, refl, sym, ap, subst, ◌∙◌, arith, length-append}
+use Rattle.std.proofs.lemmas.List.{append_assoc, append-nil, append_cancel_left, append_cancel_right, map-append, length-take, take-append-drop}
+use Rattle.std.proofs.Math.Seq.{drop-append_seam}
+use Rattle.std.specs.List.{before_first}
+use Rattle.std.specs.Str.Pattern.{EndsAtFirstMatch, FindsText, FindsTextPrefix, FindsTextSuffix, HasSuffixMatch, StripsPrefix}
+use Rattle.just_parts.specs.Clean.{IsClean}
+use Rattle.just_parts.specs.Entries.{put}
+use Rattle.just_loader.specs.Sources.{Files}
+use Rattle.just_bench.specs.Lines.{is_newline}
+use Rattle.just_bench.specs.Bundle.{Text, mark, file_of, HasNoMark, AreParts, AreHeld, HasBadPath, HoldsBundle, IsBeforeLine, IsNoBundle, IsNoFile}
+use Rattle.just_bench.specs.declared.bundle.BundleError.{BundleError}
+use Rattle.just_bench.specs.declared.bundle.BundleError.TheVariants as error
+
+-- a part with the mark after it, or the last one
+pub data Cut (s x t : Text) : Type 0 where
+  followed : (q : Text) → x ≡ q ++ 10 ∷ mark → HasNoMark (q ++ 10 ∷ []) → Cut s x t
+  ended : x ≡ s → t ≡ [] → s ≢ [] → HasNoMark s → Cut s x t
+
+-- nothing ends with a mark where nothing is
+pub no_end : (front back : Text) → [] ≢ front ++ 10 ∷ back
+no_end [] back e = cc
+no_end (b ∷ bs) back e = cc
+
+-- a text that has no match has no mark
+lacks : (s : Text) → ((i : ℕ) → i ≤ length s → (rest : Text) → drop i s ≢ (10 ∷ mark) ++ rest) → HasNoMark s
+lacks s none front back e =
+    let long : length s ≡ length front + length ((10 ∷ mark) ++ back) = ap length e ∙ length-append front ((10 ∷ mark) ++ back) in
+    none (length front) (omega (arith, long)) back (ap (drop (length front)) e ∙ drop-append_seam front ((10 ∷ mark) ++ back))
+
+-- what stands before the first match, and its line end, have no mark
+before : (s q after : Text) → s ≡ q ++ (10 ∷ (mark ++ after)) → ((i : ℕ) → i < length q → (rest : Text) → drop i s ≢ (10 ∷ mark) ++ rest) → HasNoMark (q ++ 10 ∷ [])
+before s q after is none front back e =
+    let whole : s ≡ front ++ ((10 ∷ mark) ++ (back ++ (mark ++ after))) = is ∙ sym (append_assoc q (10 ∷ []) (mark ++ after)) ∙ ap (λ w. w ++ (mark ++ after)) e ∙ append_assoc front ((10 ∷ mark) ++ back) (mark ++ after) in
+    let long : length q + 1 ≡ length front + length ((10 ∷ mark) ++ back) = sym (length-append q (10 ∷ [])) ∙ ap length e ∙ length-append front ((10 ∷ mark) ++ back) in
+    let five : length ((10 ∷ mark) ++ back) ≡ length (10 ∷ mark) + length back = length-append (10 ∷ mark) back in
+    none (length front) (omega (arith, long, five)) (back ++ (mark ++ after)) (ap (drop (length front)) whole ∙ drop-append_seam front ((10 ∷ mark) ++ (back ++ (mark ++ after))))
+
+-- where the first match ends, a part ends
+pub cut : (s x t : Text) → s ≡ x ++ t → EndsAtFirstMatch (FindsText (10 ∷ mark)) s x → Cut s x t
+cut s x t is (None, none, (same, some)) =
+    ended same (append_cancel_left s t [] (sym (append-nil s ∙ is ∙ ap (λ w. w ++ t) same))) (λ e. let l = ap length e in omega (arith, some, l)) (lacks s none)
+cut s x t is (Some (i, j), (none, at), ends) =
+    let whole : s ≡ take i s ++ ((10 ∷ mark) ++ drop j s) = sym (take-append-drop i s) ∙ ap (λ w. take i s ++ w) at.split in
+    let same : take j s ≡ take i s ++ 10 ∷ mark = append_cancel_right (take j s) (take i s ++ 10 ∷ mark) (drop j s) (take-append-drop j s ∙ whole ∙ sym (append_assoc (take i s) (10 ∷ mark) (drop j s))) in
+    followed (take i s) (ends (omega (arith, at.ends)) ∙ same) (before s (take i s) (drop j s) whole (λ k less. none k (omega (arith, less, length-take i s))))
+
+-- What is read so far: the parts and what is left make the text.
+pub record Taken (text rest : Text) (held : Files) : Type 0 where
+  pub parts : List Text
+  pub files : AreHeld (map file_of parts) held
+  pub follows : rest ≢ [] → (more : List Text) → AreParts (mark ++ rest) more → AreParts text (parts ++ more)
+  pub done : rest ≡ [] → AreParts text parts
+  pub stands : rest ≢ [] → (front : Text) × (text ≡ front ++ (mark ++ rest)) × IsBeforeLine front
+  pub unmarked : (front : Text) → rest ≢ front ++ 10 ∷ mark
+
+-- before the first part
+pub taken_none : (text rest : Text) → text ≡ mark ++ rest → rest ≢ [] → ((front : Text) → rest ≢ front ++ 10 ∷ mark) → Taken text rest []
+taken_none text rest is some unmarked = record {
+  parts = [];
+  files = AreHeld.nothing;
+  follows = λ _ more m. subst (λ t. AreParts t more) (sym is) m;
+  done = λ e. absurd (some e);
+  stands = λ _. ([], is, inl refl);
+  unmarked = unmarked;
+}
+
+-- after a part that another follows
+pub taken_more : (text s x t q : Text) (held held' : Files) → Taken text s held → s ≡ x ++ t → x ≡ q ++ 10 ∷ mark → HasNoMark (q ++ 10 ∷ []) → held' ≡ put (file_of (q ++ 10 ∷ [])).path (file_of (q ++ 10 ∷ [])) held → Taken text t held'
+taken_more text s x t q held held' so_far is part clear puts =
+    let whole : s ≡ q ++ 10 ∷ (mark ++ t) = is ∙ ap (λ w. w ++ t) part ∙ append_assoc q (10 ∷ mark) t in
+    let some : s ≢ [] = λ e. no_end q (mark ++ t) (sym e ∙ whole) in
+    let left : t ≢ [] = λ e. so_far.unmarked q (is ∙ ap (λ w. x ++ w) e ∙ append-nil x ∙ part) in
+    let line : mark ++ s ≡ mark ++ (q ++ 10 ∷ (mark ++ t)) = ap (λ w. mark ++ w) whole in
+    let at = so_far.stands some in
+    let here : text ≡ (at.0 ++ (mark ++ (q ++ 10 ∷ []))) ++ (mark ++ t) = at.1 ∙ ap (λ w. at.0 ++ w) (line ∙ ap (λ w. mark ++ w) (sym (append_assoc q (10 ∷ []) (mark ++ t)))) ∙ sym (append_assoc at.0 (mark ++ (q ++ 10 ∷ [])) (mark ++ t)) in
+    record {
+      parts = so_far.parts ++ (q ++ 10 ∷ []) ∷ [];
+      files = rw (puts, map-append file_of so_far.parts ((q ++ 10 ∷ []) ∷ [])) (AreHeld.also (file_of (q ++ 10 ∷ [])) so_far.files);
+      follows = λ _ more m. rw (append_assoc so_far.parts ((q ++ 10 ∷ []) ∷ []) more) (so_far.follows some ((q ++ 10 ∷ []) ∷ more) (subst (λ w. AreParts w ((q ++ 10 ∷ []) ∷ more)) (sym line) (AreParts.more q (mark ++ t) more clear m)));
+      done = λ e. absurd (left e);
+      stands = λ _. (at.0 ++ (mark ++ (q ++ 10 ∷ [])), here, inr (at.0 ++ (mark ++ q), sym (append_assoc at.0 (mark ++ q) (10 ∷ []))));
+      unmarked = λ front e. so_far.unmarked (x ++ front) (is ∙ ap (λ w. x ++ w) e ∙ sym (append_assoc x front (10 ∷ mark)));
+    }
+
+-- after the last part
+pub taken_last : (text s t : Text) (held held' : Files) → Taken text s held → t ≡ [] → s ≢ [] → HasNoMark s → held' ≡ put (file_of s).path (file_of s) held → Taken text t held'
+taken_last text s t held held' so_far none some clear puts = record {
+  parts = so_far.parts ++ s ∷ [];
+  files = rw (puts, map-append file_of so_far.parts (s ∷ [])) (AreHeld.also (file_of s) so_far.files);
+  follows = λ left. absurd (left none);
+  done = λ _. so_far.follows some (s ∷ []) (AreParts.last s clear);
+  stands = λ left. absurd (left none);
+  unmarked = λ front e. no_end front mark (sym none ∙ e);
+}
+
+-- one more of a list
+take_one : (b : ℕ) (ws : Text) (n : ℕ) → take (1 + n) (b ∷ ws) ≡ b ∷ take n ws
+take_one b ws n = let on : 1 + n ≡ suc n = omega arith in ap (λ k. take k (b ∷ ws)) on
+
+-- a byte before two lines that are the same
+path_more : (c : Bool) (b : ℕ) (ws vs : Text) → is_newline b ≡ c → before_first is_newline ws ≡ before_first is_newline vs → before_first is_newline (b ∷ ws) ≡ before_first is_newline (b ∷ vs)
+path_more true b ws vs is h = rw is refl
+path_more false b ws vs is h = rw (is, take_one b ws _, take_one b vs _) (ap (λ w. b ∷ w) h)
+
+-- the path of a part is that of what is left
+path_same : (q after : Text) → before_first is_newline (q ++ 10 ∷ after) ≡ before_first is_newline (q ++ 10 ∷ [])
+path_same [] after = refl
+path_same (b ∷ bs) after = path_more (is_newline b) b (bs ++ 10 ∷ after) (bs ++ 10 ∷ []) refl (path_same bs after)
+
+-- a part that is no file, where its path is that of what is left
+bad_here : (text s part : Text) (held : Files) → Taken text s held → s ≢ [] → before_first is_newline s ≡ before_first is_newline part → (e : BundleError) → IsNoFile part e → IsNoBundle text e
+bad_here text s part held so_far some same error.NotClean bad =
+    let at = so_far.stands some in
+    record { front = at.0; back = s; whole = at.1; line = at.2; bad = λ clean. bad (subst IsClean same clean) }
+bad_here text s part held so_far some same error.Memory bad = tt
+bad_here text s part held so_far some same error.NoFile bad = absurd bad
+bad_here text s part held so_far some same error.Unreadable bad = absurd bad
+bad_here text s part held so_far some same error.NotText bad = absurd bad
+
+-- a part that is no file stands in the text
+pub bad_part : (text s x t part : Text) (held : Files) → Taken text s held → s ≡ x ++ t → Cut s x t → ((front : Text) → x ≡ front ++ 10 ∷ mark → part ≡ front ++ 10 ∷ []) → (((front : Text) → x ≢ front ++ 10 ∷ mark) → part ≡ x) → (e : BundleError) → IsNoFile part e → IsNoBundle text e
+bad_part text s x t part held so_far is (followed q part_is clear) ends whole =
+    let all : s ≡ q ++ 10 ∷ (mark ++ t) = is ∙ ap (λ w. w ++ t) part_is ∙ append_assoc q (10 ∷ mark) t in
+    bad_here text s part held so_far (λ e. no_end q (mark ++ t) (sym e ∙ all)) (ap (before_first is_newline) all ∙ path_same q (mark ++ t) ∙ ap (before_first is_newline) (sym (ends q part_is)))
+bad_part text s x t part held so_far is (ended same none some clear) ends whole =
+    bad_here text s part held so_far some (ap (before_first is_newline) (sym same ∙ sym (whole (λ front e. so_far.unmarked front (sym same ∙ e)))))
+
+-- a part is put in
+pub taken : (text s x t part : Text) (held held' : Files) → Taken text s held → s ≡ x ++ t → Cut s x t → ((front : Text) → x ≡ front ++ 10 ∷ mark → part ≡ front ++ 10 ∷ []) → (((front : Text) → x ≢ front ++ 10 ∷ mark) → part ≡ x) → held' ≡ put (file_of part).path (file_of part) held → Taken text t held'
+taken text s x t part held held' so_far is (followed q part_is clear) ends whole puts =
+    taken_more text s x t q held held' so_far is part_is clear (subst (λ w. held' ≡ put (file_of w).path (file_of w) held) (ends q part_is) puts)
+taken text s x t part held held' so_far is (ended same none some clear) ends whole puts =
+    taken_last text s t held held' so_far none some clear (subst (λ w. held' ≡ put (file_of w).path (file_of w) held) (whole (λ front e. so_far.unmarked front (sym same ∙ e)) ∙ same) puts)
+
+-- no path is nothing
+no_path : IsClean [] → ⊥
+no_path clean = let e = clean.rooted in cc
+
+-- a mark at the end of the text has no path
+pub bad_end : (text rest : Text) → text ≡ mark ++ rest → (rest ≡ []) ⊎ ((front : Text) × (rest ≡ front ++ 10 ∷ mark)) → HasBadPath text
+bad_end text rest is (inl none) = record { front = []; back = []; whole = is ∙ ap (λ w. mark ++ w) none; line = inl refl; bad = no_path }
+bad_end text rest is (inr (front, ends)) = record {
+  front = mark ++ (front ++ 10 ∷ []);
+  back = [];
+  whole = is ∙ ap (λ w. mark ++ w) ends ∙ ap (λ w. mark ++ w) (sym (append_assoc front (10 ∷ []) mark)) ∙ ap (λ w. (mark ++ (front ++ 10 ∷ [])) ++ w) (sym (append-nil mark));
+  line = inr (mark ++ front, refl);
+  bad = no_path;
+}
+
+-- the text has the mark, and what is left
+pub stripped : (text rest : Text) → StripsPrefix (FindsTextPrefix mark) text rest → text ≡ mark ++ rest
+stripped text rest h = h.1.1 ∙ ap (λ w. mark ++ w) (sym h.2)
+
+-- what ends with a mark
+pub marked_end : (rest : Text) → HasSuffixMatch (FindsTextSuffix (10 ∷ mark)) rest → (front : Text) × (rest ≡ front ++ 10 ∷ mark)
+marked_end rest h = (take (length rest - h.0) rest, h.1.1)
+
+-- an answer of a part as one of the text
+pub bad_result : {A : Type 0} (r : Result A BundleError) (part text : Text) → IfErr r (IsNoFile part) → ((e : BundleError) → IsNoFile part e → IsNoBundle text e) → IfErr r (IsNoBundle text)
+bad_result (Ok a) part text h all = tt
+bad_result (Err e) part text h all = all e h
+
+-- an empty text has no files
+pub holds_none : (text : Text) (held : Files) → text ≡ [] → held ≡ [] → HoldsBundle text held
+holds_none text held empty nothing = record {
+  parts = [];
+  whole = subst (λ t. AreParts t []) (sym empty) AreParts.none;
+  files = subst (AreHeld []) (sym nothing) AreHeld.nothing;
+}
