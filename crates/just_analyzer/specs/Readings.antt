@@ -1,5 +1,5 @@
 -- What the files of a source map say, as the modules that they belong to see it.
-use Rattle.std.specs.Prelude.{◌≡◌, ℕ, List, map, None, Some}
+use Rattle.std.specs.Prelude.{◌≡◌, false, ℕ, List, [], map, None, Some}
 use Rattle.just_parts.specs.Asts.{root_ast_key}
 use Rattle.just_parts.specs.Bare.{ast_of_items}
 use Rattle.just_parts.specs.Clean.{folder_of}
@@ -8,7 +8,7 @@ use Rattle.just_parts.specs.declared.layers.ast.Item.{Item}
 use Rattle.just_loader.specs.Keys.{FileKey, IsLeastFileDepth, ast_key, items_at}
 use Rattle.just_loader.specs.Loaded.{with_path}
 use Rattle.just_loader.specs.Reached.{World}
-use Rattle.just_modules.specs.Modules.{Heading, heading}
+use Rattle.just_modules.specs.Modules.{Heading, heading, label}
 use Rattle.just_modules.specs.Reading.{Reading, enabled_items}
 
 -- the items of a file that count, at a depth, with the paths of the files to which they lead
@@ -19,6 +19,6 @@ items_read w k depth = map (λ i. with_depth depth (with_path w (folder_of k.nod
 abbrev pub IsReadingOf : World → Reading → Type 0
 IsReadingOf w R = (k : FileKey) (depth : ℕ) → IsLeastFileDepth w k depth → R (ast_key k) ≡ Some (ast_of_items (items_read w k depth))
 
--- the root's module, which has no name
+-- the root's module, which no item declares
 abbrev pub root_heading : World → Heading
-root_heading w = heading (root_ast_key w.root) None
+root_heading w = heading (root_ast_key w.root) (label None None [] false)

@@ -48,16 +48,30 @@ impl Compiler {
         ensures { Compiles (world_of sources.now config.now (S.answers syntax.now) root.now) result }
     {
         let path = Text::from_str(alloc, root)?;
-        let Loaded { asts, loaded, .. } = load(alloc, config, syntax, sources, root)?;
+        let Loaded { asts, loaded } = load(alloc, config, syntax, sources, root)?;
         let loaded = Shared::new(alloc, loaded)?;
         let module_path = Modulepath::root(alloc);
-        let (justfile, recipes) =
-            Analyzer::analyze(alloc, syntax, &asts, &loaded, &module_path, None, root)?;
+        let mut overrides = HashMap::new(alloc);
+        let (justfile, recipes) = Analyzer::analyze(
+            alloc,
+            &asts,
+            config,
+            None,
+            &[],
+            &loaded,
+            &module_path,
+            None,
+            &mut overrides,
+            false,
+            root,
+            syntax,
+            evaluation,
+        )?;
         Ok(Compilation {
             asts,
             justfile,
             recipes,
-            overrides: HashMap::new(alloc),
+            overrides,
             root: path,
         })
     }

@@ -2,6 +2,7 @@ use Rattle.std.proofs.Common.{◌≡◌, ◌∙◌, false, [], None, IsSome, ref
 use Rattle.std.specs.HashMap.{get}
 use Rattle.just_invoke.specs.Closed.{is_closed}
 use Rattle.just_parts.specs.Asts.{AstKey, root_ast_key, same_ast_key}
+use Rattle.just_parts.specs.Causes.{Reports}
 use Rattle.just_parts.specs.declared.modulepath.Modulepath.{Modulepath}
 use Rattle.just_parts.proofs.Lifts.{lifted}
 use Rattle.just_loader.specs.Keys.{NamesInFiles}
@@ -9,7 +10,7 @@ use Rattle.just_loader.specs.Reached.{World, world_of}
 use Rattle.just_loader.proofs.HeldKeys.{root_held}
 use Rattle.just_modules.specs.Analyzed.{IsAnalyzed}
 use Rattle.just_modules.specs.Groups.{NamesModules}
-use Rattle.just_modules.specs.Modules.{heading}
+use Rattle.just_modules.specs.Modules.{heading, label}
 use Rattle.just_modules.specs.Reading.{reading_of}
 use Rattle.just_analyzer.specs.Readings.{root_heading}
 use Rattle.just_analyzer.specs.Rules.{Names, in_files, in_modules}
@@ -24,7 +25,7 @@ returns-in_err-path g c =
 pub returns-in_err-asts : goal.returns-in_err-asts
 returns-in_err-asts g c =
     let w : World = world_of c.args.sources.now c.args.config.now (g.S.Syntax.answers c.args.syntax.now) c.args.root.now in
-    refused w c.from_residual-in_err-asts.result (search rules) (lifted (NamesInFiles w) (Names w) (λ _ n. in_files n) c.from_residual-in_err-asts.result (search rules))
+    refused w c.from_residual-in_err-asts.result (search rules) (lifted (NamesInFiles w) (Names w) (λ _ n. in_files n) c.from_residual-in_err-asts.result (let here : Reports (NamesInFiles w) c.in_err-asts.field-0.0 = c.in_err-asts.ensures.named in search (rules, here)))
 
 pub returns-in_err-loaded : goal.returns-in_err-loaded
 returns-in_err-loaded g c =
@@ -48,8 +49,8 @@ returns-in_err-justfile g c =
     let asts = get same_ast_key c.in_ok-asts.field-0.asts in
     let reading = reading_of w.answers.enabled asts in
     let top : c.root-module_path.result ≡ record { components = []; spaced = false } = λ j. record { components = c.root-module_path.ensures.components j; spaced = c.root-module_path.ensures.spaced j } in
-    refused w c.from_residual-in_err-justfile.result (search rules) (lifted (NamesModules reading (heading (c.root-module_path.result, c.args.root.now) None)) (Names w)
-    (λ x n. in_modules reading c.in_ok-asts.ensures.kept (is_reading w asts c.in_ok-asts.field-0.loaded c.in_ok-asts.ensures.loaded) (subst (λ m. NamesModules reading (heading (m, w.root) None) x) top n))
+    refused w c.from_residual-in_err-justfile.result (search rules) (lifted (NamesModules reading (heading (c.root-module_path.result, c.args.root.now) (label None None [] false))) (Names w)
+    (λ x n. in_modules reading c.in_ok-asts.ensures.kept (is_reading w asts c.in_ok-asts.field-0.loaded c.in_ok-asts.ensures.loaded) (subst (λ m. NamesModules reading (heading (m, w.root) (label None None [] false)) x) top n))
     c.from_residual-in_err-justfile.result (search rules))
 
 pub returns : goal.returns
@@ -61,7 +62,7 @@ returns g c =
     let shared : c.in_ok-loaded.loaded ≡ loaded = c.in_ok-loaded.ensures in
     let analyzed : IsAnalyzed w.answers.enabled asts loaded (root_heading w) c.in_ok-justfile.justfile c.in_ok-justfile.recipes =
     subst (λ l. IsAnalyzed w.answers.enabled asts l (root_heading w) c.in_ok-justfile.justfile c.in_ok-justfile.recipes) shared
-    (subst (λ m. IsAnalyzed w.answers.enabled asts c.in_ok-loaded.loaded (heading (m, w.root) None) c.in_ok-justfile.justfile c.in_ok-justfile.recipes) top c.in_ok-justfile.ensures.analyzed) in
+    (subst (λ m. IsAnalyzed w.answers.enabled asts c.in_ok-loaded.loaded (heading (m, w.root) (label None None [] false)) c.in_ok-justfile.justfile c.in_ok-justfile.recipes) top c.in_ok-justfile.ensures.analyzed) in
     record {
       kept = all_kept w asts loaded c.in_ok-asts.ensures.loaded c.in_ok-asts.ensures.kept c.in_ok-justfile.justfile c.in_ok-justfile.recipes analyzed;
       unnamed = none_named w asts loaded c.in_ok-asts.ensures.loaded c.in_ok-asts.ensures.kept c.in_ok-justfile.justfile c.in_ok-justfile.recipes analyzed;
