@@ -2,7 +2,7 @@
 use Rattle.std.proofs.Common.{◌≡◌, List, [], ◌∷◌, Option, Result, Ok, Err, IfOk, IfErr, ap, subst, sym}
 use Rattle.just_parts.specs.Asts.{AstKey}
 use Rattle.just_parts.specs.Causes.{Keeps, Reports}
-use Rattle.just_parts.specs.Modulepath.{Text}
+use Rattle.just_names.specs.Modulepath.{Text}
 use Rattle.just_parts.specs.declared.dependency.Dependency.{Dependency}
 use Rattle.just_parts.specs.declared.layers.ast.Ast.{Ast}
 use Rattle.just_parts.specs.declared.layers.error.Error.{Error}

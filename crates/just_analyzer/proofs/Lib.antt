@@ -1,3 +1,4 @@
 pub mod Compilations
 pub mod Numbers
+pub mod Paths
 pub mod Readings

@@ -9,15 +9,15 @@ use Rattle.just_graph.proofs.Leveling.{is_once}
 use Rattle.just_graph.proofs.Members.{In, contained, is_in}
 use Rattle.just_parts.specs.Asts.{AstKey, same_ast_key}
 use Rattle.just_parts.specs.Bare.{ast_of_items, bare_item}
-use Rattle.just_parts.specs.Clean.{folder_of}
+use Rattle.just_names.specs.Clean.{folder_of}
 use Rattle.just_parts.specs.Edge.{absolute_of}
 use Rattle.just_parts.specs.Located.{located_item, with_depth}
-use Rattle.just_parts.specs.Modulepath.{Text}
+use Rattle.just_names.specs.Modulepath.{Text}
 use Rattle.just_parts.specs.Syntax.{numbers}
 use Rattle.just_parts.specs.declared.layers.ast.Ast.{Ast}
 use Rattle.just_parts.specs.declared.layers.ast.Item.{Item}
 use Rattle.just_parts.specs.declared.layers.ast.Item.TheVariants as item
-use Rattle.just_parts.specs.declared.modulepath.Modulepath.{Modulepath}
+use Rattle.just_names.specs.declared.modulepath.Modulepath.{Modulepath}
 use Rattle.just_parts.proofs.AstKeys.{key_same}
 use Rattle.just_parts.proofs.Edges.{bare_twice}
 use Rattle.just_loader.specs.Keys.{FileKey, IsLeastFileDepth, ast_key, items_at, key_of_ast}

@@ -1,3 +1,4 @@
 pub mod Compiled
+pub mod Paths
 pub mod Readings
 pub mod Rules

@@ -1,17 +1,40 @@
 ghost use Rattle.std.specs.Prelude.{◌≡◌, option_to_list, IfOk, IfErr};
-ghost use Rattle.just_parts.specs.Clean.{IsClean};
+ghost use Rattle.std.specs.HashMap.{get};
+ghost use Rattle.std.specs.Str.{bytes_eq};
+ghost use Rattle.just_names.specs.Clean.{IsClean};
+ghost use Rattle.just_parts.specs.Asts.{same_ast_key};
 ghost use Rattle.just_loader.specs.ModuleFile.{TellsSeveral, module_files};
 ghost use Rattle.just_loader.specs.Reached.{world_of};
 ghost use Rattle.just_analyzer.specs.Compiled.{Compiles};
+ghost use Rattle.just_analyzer.specs.Paths.{AreRelative};
 
 use crate::compilation::Compilation;
 use just_data::{Shared, Text};
-use just_loader::{Loaded, Sources, load};
-use just_modules::analyzer::Analyzer;
-use just_parts::Modulepath;
-use just_parts::layers::{Config, Error, Evaluation, Name, Syntax};
-use std::alloc::Global;
+use just_loader::{Loaded, Sources, load, relative_path};
+use just_modules::Analyzer;
+use just_names::{Modulepath, folder_of};
+use just_parts::layers::{Ast, Config, Error, Evaluation, Name, Syntax};
+use std::alloc::{AllocError, Global};
 use std::collections::HashMap;
+
+// The path that is shown of each file: from the folder of the root, where it lies below it.
+fn relative_paths<'src>(
+    alloc: Global,
+    asts: &HashMap<(Modulepath, Text), Ast<'src>>,
+    root: &str,
+) -> Result<HashMap<Text, Text>, AllocError>
+    requires { IsClean root.now }
+    ensures { IfOk result (λ paths. AreRelative root.now (get same_ast_key asts.now) (get bytes_eq paths)) }
+{
+    let folder = folder_of(root);
+    let mut paths = HashMap::new(alloc);
+    for (key, _) in asts {
+        let shown = relative_path(alloc, folder, key.1.as_str())?;
+        let shown = Text::from_str(alloc, shown)?;
+        paths.insert(key.1.clone()?, shown)?;
+    }
+    Ok(paths)
+}
 
 /// Compiles source maps.
 pub struct Compiler;
@@ -49,6 +72,7 @@ impl Compiler {
     {
         let path = Text::from_str(alloc, root)?;
         let Loaded { asts, loaded } = load(alloc, config, syntax, sources, root)?;
+        let paths = relative_paths(alloc, &asts, root)?;
         let loaded = Shared::new(alloc, loaded)?;
         let module_path = Modulepath::root(alloc);
         let mut overrides = HashMap::new(alloc);
@@ -62,6 +86,7 @@ impl Compiler {
             &module_path,
             None,
             &mut overrides,
+            &paths,
             false,
             root,
             syntax,

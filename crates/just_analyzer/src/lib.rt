@@ -8,7 +8,7 @@ pub use compilation::Compilation;
 pub use compiler::Compiler;
 pub use just_invoke::{Invocation, InvocationParser, Justfile, RecipeKey, Recipes, Report};
 pub use just_loader::Sources;
-pub use just_modules::analyzer::Analyzer;
-pub use just_parts::{
-    Dependency, Keyed, Modulepath, Recipe, Source, Table, UnresolvedRecipe, is_clean, layers,
-};
+pub use just_modules::Analyzer;
+pub use just_names::{Modulepath, is_clean};
+pub use just_parts::{Dependency, Recipe, Source, UnresolvedRecipe, layers};
+pub use just_table::{Keyed, Table};

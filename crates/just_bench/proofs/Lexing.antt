@@ -8,11 +8,11 @@ use Rattle.std.proofs.lemmas.List.{get_or-drop, get_or-take, drop-drop}
 use Rattle.std.proofs.lemmas.List.Quantifiers.{position-Some}
 use Rattle.std.proofs.lemmas.List.Sums.{prefix_len_passes, prefix_len-le-length}
 use Rattle.std.proofs.lemmas.Str.{IsCharBoundary-after_ascii}
-use Rattle.just_parts.specs.Token.{Place}
+use Rattle.just_names.specs.Token.{Place}
 use Rattle.just_bench.specs.declared.lines.Line.{Line}
 use Rattle.just_bench.specs.declared.lexer.Kind.{Kind}
 use Rattle.just_bench.specs.declared.lexer.Lexeme.{Lexeme}
-use Rattle.just_parts.specs.Identifier.{is_identifier_start, is_identifier_continue}
+use Rattle.just_names.specs.Identifier.{is_identifier_start, is_identifier_continue}
 use Rattle.just_bench.specs.Lines.{IsLineOf}
 use Rattle.just_bench.specs.Lexemes.{is_blank, is_quote, first, place, before, lexemes_from, lexemes, Takes}
 

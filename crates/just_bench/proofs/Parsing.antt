@@ -11,21 +11,21 @@ use Rattle.just_parts.specs.declared.layers.ast.Item.TheVariants as item
 use Rattle.just_parts.specs.declared.layers.parameter.Parameter.{Parameter}
 use Rattle.just_parts.specs.declared.recipe.Recipe.{Recipe}
 use Rattle.just_parts.specs.declared.layers.ast.UnresolvedDependency.{UnresolvedDependency}
-use Rattle.just_parts.specs.declared.layers.name.Name.{Name}
+use Rattle.just_names.specs.declared.name.Name.{Name}
 use Rattle.just_bench.specs.declared.lines.Line.{Line}
 use Rattle.just_bench.specs.declared.grammar.Heading.{Heading}
-use Rattle.just_bench.specs.declared.grammar.Reading.{Reading}
-use Rattle.just_bench.specs.declared.grammar.Reading.TheVariants.{Bad, Imports, Declares, Begins}
+use Rattle.just_bench.specs.declared.grammar.Meaning.{Meaning}
+use Rattle.just_bench.specs.declared.grammar.Meaning.TheVariants.{Bad, Imports, Declares, Begins}
 use Rattle.just_parts.specs.Bare.{bare_item, bare_recipe}
 use Rattle.just_parts.specs.Syntax.{CameBy, ItemCameBy, PriorsAreDependencies, item_numbers, parameter_numbers, recipe_numbers, numbers, AreRising}
-use Rattle.just_parts.specs.Token.{Place}
+use Rattle.just_names.specs.Token.{Place}
 use Rattle.just_parts.specs.declared.layers.error.CompileErrorKind.TheVariants.{Syntax}
 use Rattle.just_bench.specs.Lines.{lines_of, line_place}
 use Rattle.just_parts.specs.declared.layers.error.Error.{Error}
 use Rattle.just_parts.specs.declared.layers.error.Error.TheVariants as error
 use Rattle.just_bench.specs.Refusal.{IsFirstBadLine, Spent, RefusesLine}
 use Rattle.just_bench.proofs.Cuts.{line_at_number}
-use Rattle.just_bench.specs.Grammar.{reading}
+use Rattle.just_bench.specs.Grammar.{meaning}
 use Rattle.just_bench.specs.Items.{items_of, import_of, module_of, recipe, dependency, with_line, with_lines, spends, spends_line, spends_lines}
 
 pub AreRising-lower : (low middle : ℕ) (ms : List ℕ) (high : ℕ) → low ≤ middle → AreRising middle ms high → AreRising low ms high
@@ -54,17 +54,17 @@ pub rest_of : (all : List Line) (n : ℕ) (line : Line) → n < length all → g
 rest_of all n line within is = drop-cons all n line within ∙ ap (λ m. get_or all n line ∷ drop m all) (sym (add-one n)) ∙ ap (λ x. x ∷ drop (n + 1) all) is
 
 -- the lines that are left, by what the first of them says
-pub by_line : (path text : List ℕ) (items : List Item) (all : List Line) (n : ℕ) (line : Line) (r : Reading) → n < length all → get_or all n line ≡ line → r ≡ reading path text line
+pub by_line : (path text : List ℕ) (items : List Item) (all : List Line) (n : ℕ) (line : Line) (r : Meaning) → n < length all → get_or all n line ≡ line → r ≡ meaning path text line
     → with_lines path text items (drop n all) ≡ with_line r line.number items (λ more. with_lines path text more (drop (n + 1) all))
 by_line path text items all n line r within is read = rw (rest_of all n line within is, read) refl
 
 -- the numbers of the lines that are left, by what the first of them says
-pub spends_by_line : (path text : List ℕ) (all : List Line) (n : ℕ) (line : Line) (r : Reading) → n < length all → get_or all n line ≡ line → r ≡ reading path text line
+pub spends_by_line : (path text : List ℕ) (all : List Line) (n : ℕ) (line : Line) (r : Meaning) → n < length all → get_or all n line ≡ line → r ≡ meaning path text line
     → spends_lines path text (drop n all) ≡ spends_line r (spends_lines path text (drop (n + 1) all))
 spends_by_line path text all n line r within is read = rw (rest_of all n line within is, read) refl
 
 pub Read-bad : (path text : List ℕ) (source : Source) (low : ℕ) (all : List Line) (n : ℕ) (items : List Item) (high : ℕ) (line : Line) (token : Place)
-    → all ≡ lines_of text → Read path text source low all n items high → n < length all → get_or all n line ≡ line → Bad ≡ reading path text line → token ≡ line_place path text line
+    → all ≡ lines_of text → Read path text source low all n items high → n < length all → get_or all n line ≡ line → Bad ≡ meaning path text line → token ≡ line_place path text line
     → IsFirstBadLine path text (record { token = token; kind = Syntax })
 Read-bad path text source low all n items high line token whole so_far within is read told = record {
   kind = refl;
@@ -82,7 +82,7 @@ priors_of r h bare =
     rw (all, some, length-append (map dependency h.priors) (map dependency h.subsequents), length-map h.priors dependency) (omega arith)
 
 pub Read-recipe : (path text : List ℕ) (source : Source) (low : ℕ) (all : List Line) (n : ℕ) (items : List Item) (high : ℕ) (line : Line) (h : Heading) (r : Recipe UnresolvedDependency) (items' : List Item) (high' : ℕ)
-    → Read path text source low all n items high → n < length all → get_or all n line ≡ line → Begins h ≡ reading path text line
+    → Read path text source low all n items high → n < length all → get_or all n line ≡ line → Begins h ≡ meaning path text line
     → bare_recipe r ≡ recipe h → CameBy source r → AreRising high (recipe_numbers r) high' → high' ≡ high + (1 + length h.parameters) → high' ≤ 2 ^ 64
     → items' ≡ items ++ item.Recipe r ∷ []
     → Read path text source low all (n + 1) items' high'
@@ -100,7 +100,7 @@ Read-recipe path text source low all n items high line h r items' high' so_far w
     })
 
 -- a line that makes one item x, without numbers
-pub record MakesItem (r : Reading) (x : Item) : Type 0 where
+pub record MakesItem (r : Meaning) (x : Item) : Type 0 where
   pub puts : (number : ℕ) (items : List Item) (others : List Item → Result (List Item) ℕ) → with_line r number items others ≡ others (items ++ bare_item x ∷ [])
   pub spends_none : (others : ℕ) → spends_line r others ≡ others
   pub without_numbers : item_numbers x ≡ []
@@ -125,8 +125,8 @@ module_made name path optional = record {
   has_priors = tt;
 }
 
-pub Read-item : (path text : List ℕ) (source : Source) (low : ℕ) (all : List Line) (n : ℕ) (items : List Item) (high : ℕ) (line : Line) (r : Reading) (x : Item) (items' : List Item)
-    → MakesItem r x → Read path text source low all n items high → n < length all → get_or all n line ≡ line → r ≡ reading path text line → items' ≡ items ++ x ∷ []
+pub Read-item : (path text : List ℕ) (source : Source) (low : ℕ) (all : List Line) (n : ℕ) (items : List Item) (high : ℕ) (line : Line) (r : Meaning) (x : Item) (items' : List Item)
+    → MakesItem r x → Read path text source low all n items high → n < length all → get_or all n line ≡ line → r ≡ meaning path text line → items' ≡ items ++ x ∷ []
     → Read path text source low all (n + 1) items' high
 Read-item path text source low all n items high line r x items' made so_far within is read pushed =
     let more : map bare_item (items ++ x ∷ []) ≡ map bare_item items ++ bare_item x ∷ [] = map-append bare_item items (x ∷ []) in
@@ -162,6 +162,6 @@ spent_on_line path text few many h (Err e) s = spent_by path text few many h e s
 
 -- the numbers of a recipe's line are wanted for the text
 pub Read-wants : (path text : List ℕ) (source : Source) (low : ℕ) (all : List Line) (n : ℕ) (items : List Item) (high : ℕ) (line : Line) (h : Heading)
-    → Read path text source low all n items high → n < length all → get_or all n line ≡ line → Begins h ≡ reading path text line
+    → Read path text source low all n items high → n < length all → get_or all n line ≡ line → Begins h ≡ meaning path text line
     → high + (1 + length h.parameters) ≤ low + spends path text
 Read-wants path text source low all n items high line h so_far within is read = omega (arith, so_far.spent, spends_by_line path text all n line (Begins h) within is read)

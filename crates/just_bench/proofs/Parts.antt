@@ -4,8 +4,8 @@ use Rattle.std.proofs.lemmas.List.{append_assoc, append-nil, append_cancel_left,
 use Rattle.std.proofs.Math.Seq.{drop-append_seam}
 use Rattle.std.specs.List.{before_first}
 use Rattle.std.specs.Str.Pattern.{EndsAtFirstMatch, FindsText, FindsTextPrefix, FindsTextSuffix, HasSuffixMatch, StripsPrefix}
-use Rattle.just_parts.specs.Clean.{IsClean}
-use Rattle.just_parts.specs.Entries.{put}
+use Rattle.just_names.specs.Clean.{IsClean}
+use Rattle.just_table.specs.Entries.{put}
 use Rattle.just_loader.specs.Sources.{Files}
 use Rattle.just_bench.specs.Lines.{is_newline}
 use Rattle.just_bench.specs.Bundle.{Text, mark, file_of, HasNoMark, AreParts, AreHeld, HasBadPath, HoldsBundle, IsBeforeLine, IsNoBundle, IsNoFile}

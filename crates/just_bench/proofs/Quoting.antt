@@ -10,16 +10,16 @@ use Rattle.std.proofs.lemmas.List.{take_more, get_or-take, get_or_default, drop-
 use Rattle.std.proofs.lemmas.List.Elements.{All-nil, All-cons, All-head, All-tail}
 use Rattle.std.specs.Str.{IsCharBoundary, IsUtf8}
 use Rattle.std.proofs.lemmas.Str.{IsCharBoundary-after_ascii, IsCharBoundary-before_ascii}
-use Rattle.just_parts.specs.Token.{Place, lexeme}
-use Rattle.just_parts.specs.Identifier.{is_identifier_start, is_identifier_continue}
-use Rattle.just_parts.specs.declared.layers.name.Name.{Name}
+use Rattle.just_names.specs.Token.{Place, lexeme}
+use Rattle.just_names.specs.Identifier.{is_identifier_start, is_identifier_continue}
+use Rattle.just_names.specs.declared.name.Name.{Name}
 use Rattle.just_bench.specs.declared.lines.Line.{Line}
 use Rattle.just_bench.specs.declared.lexer.Kind.{Kind}
 use Rattle.just_bench.specs.declared.lexer.Kind.TheVariants as kind
 use Rattle.just_bench.specs.declared.lexer.Lexeme.{Lexeme}
 use Rattle.just_bench.specs.declared.grammar.Heading.{Heading}
-use Rattle.just_bench.specs.declared.grammar.Reading.{Reading}
-use Rattle.just_bench.specs.declared.grammar.Reading.TheVariants.{Imports, Declares}
+use Rattle.just_bench.specs.declared.grammar.Meaning.{Meaning}
+use Rattle.just_bench.specs.declared.grammar.Meaning.TheVariants.{Imports, Declares}
 use Rattle.just_bench.specs.Lines.{IsLineOf}
 use Rattle.just_bench.specs.Lexemes.{is_blank, is_quote, starts_with_and, quoted, first, place, before, lexemes_from, lexemes, IsQuoted}
 use Rattle.just_bench.specs.Grammar.{is_quoted, is_name, is_word, is_optional, after_word, only_quoted, import_line, after_module, after_mod, module_line, heading, told, sorted, PathIsQuoted, name_of}
@@ -173,7 +173,7 @@ quoted_module [] all = tt
 quoted_module (l ∷ rest) all = some_if PathIsQuoted (is_word (codes "mod") l) _ None
     (mod_quoted (is_optional l rest) (after_word l rest) (sound_after l rest (All-tail IsSound l rest all))) tt
 
-told_quoted : (imports declares : Option Reading) (h : Option Heading) → IfSome imports PathIsQuoted → IfSome declares PathIsQuoted → PathIsQuoted (told imports declares h)
+told_quoted : (imports declares : Option Meaning) (h : Option Heading) → IfSome imports PathIsQuoted → IfSome declares PathIsQuoted → PathIsQuoted (told imports declares h)
 told_quoted (Some r) declares h i d = i
 told_quoted None (Some r) h i d = d
 told_quoted None None None i d = tt
@@ -183,7 +183,7 @@ sorted_quoted : (found : Option (List Lexeme)) → IfSome found (All IsSound) �
 sorted_quoted None all = tt
 sorted_quoted (Some ls) all = told_quoted (import_line ls) (module_line ls) (heading ls) (quoted_import ls all) (quoted_module ls all)
 
-pub read_quoted : {E : Type 0} (path text : List ℕ) (line : Line) (ls : List Lexeme) (r : Result Reading E) → IsLineOf text line → Some ls ≡ lexemes path text line → IfOk r (λ found. found ≡ sorted (Some ls)) → IfOk r PathIsQuoted
+pub read_quoted : {E : Type 0} (path text : List ℕ) (line : Line) (ls : List Lexeme) (r : Result Meaning E) → IsLineOf text line → Some ls ≡ lexemes path text line → IfOk r (λ found. found ≡ sorted (Some ls)) → IfOk r PathIsQuoted
 read_quoted path text line ls (Ok found) of is here = subst PathIsQuoted (ap sorted (sym is) ∙ sym here) (sorted_quoted (lexemes path text line) (sound_lexemes path text line of))
 read_quoted path text line ls (Err e) of is here = tt
 

@@ -1,8 +1,8 @@
 -- Many files in one text.
 use Rattle.std.specs.Prelude.{◌≡◌, ◌≢◌, ◌⊎◌, ℕ, List, [], ◌∷◌, ◌++◌, map}
 use Rattle.std.specs.List.{before_first, after_first}
-use Rattle.just_parts.specs.Clean.{IsClean}
-use Rattle.just_parts.specs.Entries.{put}
+use Rattle.just_names.specs.Clean.{IsClean}
+use Rattle.just_table.specs.Entries.{put}
 use Rattle.just_loader.specs.declared.sources.SourceFile.{SourceFile}
 use Rattle.just_loader.specs.Sources.{Files}
 use Rattle.just_bench.specs.declared.bundle.BundleError.{BundleError}

@@ -2,15 +2,15 @@
 use Rattle.std.specs.Prelude.{ℕ, ◌+◌, ◌==◌, ◌&&◌, Bool, true, false, if◌then◌else◌, List, [], ◌∷◌, codes, Option, Some, None, IfSome}
 use Rattle.std.specs.Option.{option_map}
 use Rattle.std.specs.Str.{bytes_eq}
-use Rattle.just_parts.specs.Token.{Place, lexeme}
-use Rattle.just_parts.specs.declared.layers.name.Name.{Name}
+use Rattle.just_names.specs.Token.{Place, lexeme}
+use Rattle.just_names.specs.declared.name.Name.{Name}
 use Rattle.just_bench.specs.declared.lines.Line.{Line}
 use Rattle.just_bench.specs.declared.lexer.Kind.{Kind}
 use Rattle.just_bench.specs.declared.lexer.Kind.TheVariants as kind
 use Rattle.just_bench.specs.declared.lexer.Lexeme.{Lexeme}
 use Rattle.just_bench.specs.declared.grammar.Heading.{Heading}
-use Rattle.just_bench.specs.declared.grammar.Reading.{Reading}
-use Rattle.just_bench.specs.declared.grammar.Reading.TheVariants.{Bad, Ignored, Imports, Declares, Begins}
+use Rattle.just_bench.specs.declared.grammar.Meaning.{Meaning}
+use Rattle.just_bench.specs.declared.grammar.Meaning.TheVariants.{Bad, Ignored, Imports, Declares, Begins}
 use Rattle.just_bench.specs.Lexemes.{lexemes, is_blank, IsQuoted}
 
 -- an identifier
@@ -97,44 +97,44 @@ only_quoted (l ∷ []) = if is_quoted l.kind then Some l.token else None
 only_quoted (l ∷ m ∷ rest) = None
 
 -- import 'P', or import? 'P'
-abbrev pub import_line : List Lexeme → Option Reading
+abbrev pub import_line : List Lexeme → Option Meaning
 import_line [] = None
 import_line (l ∷ rest) =
     if is_word (codes "import") l then option_map (λ path. Imports path (is_optional l rest)) (only_quoted (after_word l rest)) else None
 
 -- after the name of a module stands nothing, or a quoted text
-abbrev pub after_module : Name → Bool → List Lexeme → Option Reading
+abbrev pub after_module : Name → Bool → List Lexeme → Option Meaning
 after_module name optional [] = Some (Declares name None optional)
 after_module name optional (l ∷ rest) = option_map (λ path. Declares name (Some path) optional) (only_quoted (l ∷ rest))
 
 -- after `mod` stands the name of a module
-abbrev pub after_mod : Bool → List Lexeme → Option Reading
+abbrev pub after_mod : Bool → List Lexeme → Option Meaning
 after_mod optional [] = None
 after_mod optional (l ∷ rest) = if is_name l.kind then after_module (name_of l) optional rest else None
 
 -- mod NAME, or mod NAME 'P', also with mod?
-abbrev pub module_line : List Lexeme → Option Reading
+abbrev pub module_line : List Lexeme → Option Meaning
 module_line [] = None
 module_line (l ∷ rest) = if is_word (codes "mod") l then after_mod (is_optional l rest) (after_word l rest) else None
 
 -- a line that is a heading, or is bad
-abbrev pub begun : Option Heading → Reading
+abbrev pub begun : Option Heading → Meaning
 begun None = Bad
 begun (Some h) = Begins h
 
 -- a line that is an import, a module or a heading, which no two are at once, or is bad
-abbrev pub told : Option Reading → Option Reading → Option Heading → Reading
+abbrev pub told : Option Meaning → Option Meaning → Option Heading → Meaning
 told (Some imports) declares heading = imports
 told None (Some declares) heading = declares
 told None None heading = begun heading
 
 -- a line that has these lexemes
-abbrev pub sorted : Option (List Lexeme) → Reading
+abbrev pub sorted : Option (List Lexeme) → Meaning
 sorted None = Bad
 sorted (Some ls) = told (import_line ls) (module_line ls) (heading ls)
 
 -- the path that a line has is a quoted text
-abbrev pub PathIsQuoted : Reading → Type 0
+abbrev pub PathIsQuoted : Meaning → Type 0
 PathIsQuoted Bad = Unit {0}
 PathIsQuoted Ignored = Unit {0}
 PathIsQuoted (Imports path optional) = IsQuoted (lexeme path)
@@ -152,7 +152,7 @@ is_indented [] = false
 is_indented (b ∷ rest) = is_blank b
 
 -- what a line says
-unfoldable pub reading : List ℕ → List ℕ → Line → Reading
-reading path text line =
+unfoldable pub meaning : List ℕ → List ℕ → Line → Meaning
+meaning path text line =
     if is_comment line.text then Ignored
     else (if is_indented line.text then Bad else sorted (lexemes path text line))

@@ -2,10 +2,10 @@
 use Rattle.std.specs.Prelude.{ℕ, ◌+◌, ◌-◌, ◌==◌, Bool, false, true, List, [], ◌∷◌, ◌++◌, map, length, slice_range, Option, None, Result, Ok, Err}
 use Rattle.std.specs.Option.{option_map}
 use Rattle.std.specs.Result.{result_ok}
-use Rattle.just_parts.specs.Token.{Place, lexeme}
+use Rattle.just_names.specs.Token.{Place, lexeme}
 use Rattle.just_parts.specs.Bare.{no_number, ast_of_items}
 use Rattle.just_parts.specs.Syntax.{SyntaxAnswers}
-use Rattle.just_parts.specs.declared.layers.name.Name.{Name}
+use Rattle.just_names.specs.declared.name.Name.{Name}
 use Rattle.just_parts.specs.declared.layers.parameter.Parameter.{Parameter}
 use Rattle.just_parts.specs.declared.layers.parameter.ParameterKind.TheVariants as parameter_kind
 use Rattle.just_parts.specs.declared.layers.ast.UnresolvedDependency.{UnresolvedDependency}
@@ -15,10 +15,10 @@ use Rattle.just_parts.specs.declared.layers.ast.Item.{Item}
 use Rattle.just_parts.specs.declared.layers.ast.Item.TheVariants as item
 use Rattle.just_bench.specs.declared.lines.Line.{Line}
 use Rattle.just_bench.specs.declared.grammar.Heading.{Heading}
-use Rattle.just_bench.specs.declared.grammar.Reading.{Reading}
-use Rattle.just_bench.specs.declared.grammar.Reading.TheVariants.{Bad, Ignored, Imports, Declares, Begins}
+use Rattle.just_bench.specs.declared.grammar.Meaning.{Meaning}
+use Rattle.just_bench.specs.declared.grammar.Meaning.TheVariants.{Bad, Ignored, Imports, Declares, Begins}
 use Rattle.just_bench.specs.Lines.{lines_of}
-use Rattle.just_bench.specs.Grammar.{reading}
+use Rattle.just_bench.specs.Grammar.{meaning}
 
 -- a parameter of one word
 abbrev pub parameter : Name → Parameter
@@ -64,7 +64,7 @@ abbrev pub module_of : Name → Option Place → Bool → Item
 module_of name path optional = item.Module name (option_map literal path) None optional
 
 -- a line after these items, and then those lines that follow
-abbrev pub with_line : Reading → ℕ → List Item → (List Item → Result (List Item) ℕ) → Result (List Item) ℕ
+abbrev pub with_line : Meaning → ℕ → List Item → (List Item → Result (List Item) ℕ) → Result (List Item) ℕ
 with_line Bad number items others = Err number
 with_line Ignored number items others = others items
 with_line (Imports path optional) number items others = others (items ++ import_of path optional ∷ [])
@@ -74,10 +74,10 @@ with_line (Begins h) number items others = others (items ++ item.Recipe (recipe 
 -- lines after these items
 abbrev pub with_lines : List ℕ → List ℕ → List Item → List Line → Result (List Item) ℕ
 with_lines path text items [] = Ok items
-with_lines path text items (line ∷ rest) = with_line (reading path text line) line.number items (λ more. with_lines path text more rest)
+with_lines path text items (line ∷ rest) = with_line (meaning path text line) line.number items (λ more. with_lines path text more rest)
 
 -- how many numbers a line takes, and then those that follow; a line that does not follow the grammar ends the text
-abbrev pub spends_line : Reading → ℕ → ℕ
+abbrev pub spends_line : Meaning → ℕ → ℕ
 spends_line Bad others = 0
 spends_line Ignored others = others
 spends_line (Imports path optional) others = others
@@ -86,7 +86,7 @@ spends_line (Begins h) others = (1 + length h.parameters) + others
 
 abbrev pub spends_lines : List ℕ → List ℕ → List Line → ℕ
 spends_lines path text [] = 0
-spends_lines path text (line ∷ rest) = spends_line (reading path text line) (spends_lines path text rest)
+spends_lines path text (line ∷ rest) = spends_line (meaning path text line) (spends_lines path text rest)
 
 -- how many numbers a text takes: one for each recipe and each parameter
 unfoldable pub spends : List ℕ → List ℕ → ℕ

@@ -2,8 +2,8 @@
 use Rattle.std.specs.Prelude.{zero, suc, ◌≡◌, ℕ, ◌<◌, ◌≤◌, slice_index, ◌+◌, ◌-◌, ◌==◌, Bool, false, ◌||◌, if◌then◌else◌, List, [], ◌∷◌, ◌++◌, length, Option, Some, None}
 use Rattle.std.specs.Option.{option_map}
 use Rattle.std.specs.List.{All, prefix_len, position}
-use Rattle.just_parts.specs.Identifier.{is_identifier_start, is_identifier_continue}
-use Rattle.just_parts.specs.Token.{Place}
+use Rattle.just_names.specs.Identifier.{is_identifier_start, is_identifier_continue}
+use Rattle.just_names.specs.Token.{Place}
 use Rattle.just_bench.specs.declared.lines.Line.{Line}
 use Rattle.just_bench.specs.declared.lexer.Kind.{Kind}
 use Rattle.just_bench.specs.declared.lexer.Kind.TheVariants as kind

@@ -2,7 +2,7 @@
 use Rattle.std.specs.Prelude.{◌≡◌, ℕ, ◌+◌, ◌≤◌, ◌==◌, Bool, List, [], ◌∷◌, length, slice_range}
 use Rattle.std.specs.List.{slice_split}
 use Rattle.std.specs.Str.{IsCharBoundary}
-use Rattle.just_parts.specs.Token.{Place}
+use Rattle.just_names.specs.Token.{Place}
 use Rattle.just_bench.specs.declared.lines.Line.{Line}
 
 -- the byte that ends a line

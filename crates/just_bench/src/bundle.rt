@@ -1,6 +1,6 @@
 //! Many files in one text.
 ghost use Rattle.std.specs.Prelude.{◌≡◌, ◌≢◌, ◌∷◌, ◌++◌, [], ℕ, List, IfOk, IfErr, OnOk};
-ghost use Rattle.just_parts.specs.Entries.{put};
+ghost use Rattle.just_table.specs.Entries.{put};
 ghost use Rattle.just_bench.specs.Bundle.{file_of, mark, HoldsBundle, IsNoBundle, IsNoFile};
 
 use just_loader::Sources;

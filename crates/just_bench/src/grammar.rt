@@ -22,9 +22,9 @@ pub struct Heading<'src> {
     pub subsequents: Sequence<Name<'src>>,
 }
 
-/// What a line says.
+/// What a line means.
 #[derive(Debug, PartialEq, Eq, Drop)]
-pub enum Reading<'src> {
+pub enum Meaning<'src> {
     /// It does not follow the grammar.
     Bad,
     /// Nothing.
@@ -211,7 +211,7 @@ fn only_quoted<'src>(lexemes: &[Lexeme<'src>]) -> Option<Token<'src>>
 }
 
 // The import that the lexemes of a line are.
-fn read_import<'src>(lexemes: &[Lexeme<'src>]) -> Option<Reading<'src>>
+fn read_import<'src>(lexemes: &[Lexeme<'src>]) -> Option<Meaning<'src>>
     ensures { result ≡ spec.import_line lexemes.now }
 {
     let (word, rest) = lexemes.split_first()?;
@@ -220,7 +220,7 @@ fn read_import<'src>(lexemes: &[Lexeme<'src>]) -> Option<Reading<'src>>
     }
     let (optional, rest) = after_word(word, rest);
     let path = only_quoted(rest)?;
-    Some(Reading::Imports { path, optional })
+    Some(Meaning::Imports { path, optional })
 }
 
 // The module whose name was read, from what follows it.
@@ -228,7 +228,7 @@ fn after_module<'src>(
     name: Name<'src>,
     optional: bool,
     lexemes: &[Lexeme<'src>],
-) -> Option<Reading<'src>>
+) -> Option<Meaning<'src>>
     ensures { result ≡ spec.after_module name.entry optional lexemes.now }
 {
     let path = if lexemes.is_empty() {
@@ -236,7 +236,7 @@ fn after_module<'src>(
     } else {
         Some(only_quoted(lexemes)?)
     };
-    Some(Reading::Declares {
+    Some(Meaning::Declares {
         name,
         path,
         optional,
@@ -244,7 +244,7 @@ fn after_module<'src>(
 }
 
 // The module that the lexemes of a line are.
-fn read_module<'src>(lexemes: &[Lexeme<'src>]) -> Option<Reading<'src>>
+fn read_module<'src>(lexemes: &[Lexeme<'src>]) -> Option<Meaning<'src>>
     ensures { result ≡ spec.module_line lexemes.now }
 {
     let (word, rest) = lexemes.split_first()?;
@@ -263,7 +263,7 @@ fn read_module<'src>(lexemes: &[Lexeme<'src>]) -> Option<Reading<'src>>
 }
 
 // What the lexemes of a line say.
-fn read_lexemes<'src>(alloc: Global, lexemes: &[Lexeme<'src>]) -> Result<Reading<'src>, AllocError>
+fn read_lexemes<'src>(alloc: Global, lexemes: &[Lexeme<'src>]) -> Result<Meaning<'src>, AllocError>
     ensures { IfOk result (λ found. found ≡ spec.sorted (Some lexemes.now)) }
 {
     if let Some(import) = read_import(lexemes) {
@@ -273,36 +273,36 @@ fn read_lexemes<'src>(alloc: Global, lexemes: &[Lexeme<'src>]) -> Result<Reading
         return Ok(module);
     }
     match read_heading(alloc, lexemes)? {
-        None => Ok(Reading::Bad),
-        Some(heading) => Ok(Reading::Begins(heading)),
+        None => Ok(Meaning::Bad),
+        Some(heading) => Ok(Meaning::Begins(heading)),
     }
 }
 
 /// What a line of a text says. The error is want of memory.
-#[tactic(auto, unfolding(crate::specs::Grammar::reading))]
+#[tactic(auto, unfolding(crate::specs::Grammar::meaning))]
 pub fn read_line<'src>(
     alloc: Global,
     path: &'src str,
     text: &'src str,
     line: &Line<'src>,
-) -> Result<Reading<'src>, AllocError>
+) -> Result<Meaning<'src>, AllocError>
     requires { IsLineOf text.now line.now }
-    ensures is { IfOk result (λ found. found ≡ spec.reading path.now text.now line.now) }
+    ensures is { IfOk result (λ found. found ≡ spec.meaning path.now text.now line.now) }
     ensures quoted { IfOk result spec.PathIsQuoted }
 {
     let bytes = line.text.as_str().as_bytes();
     let Some((first, _)) = bytes.split_first() else {
-        return Ok(Reading::Ignored);
+        return Ok(Meaning::Ignored);
     };
     let byte = *first;
     if byte == b'#' {
-        return Ok(Reading::Ignored);
+        return Ok(Meaning::Ignored);
     }
     if is_blank(byte) {
-        return Ok(Reading::Bad);
+        return Ok(Meaning::Bad);
     }
     let Some(lexemes) = lex(alloc, path, text, line)? else {
-        return Ok(Reading::Bad);
+        return Ok(Meaning::Bad);
     };
     read_lexemes(alloc, lexemes.as_slice())
 }

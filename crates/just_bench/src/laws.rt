@@ -3,8 +3,8 @@ ghost use Rattle.std.specs.Prelude.{◌≡◌, ◌∷◌, ◌++◌, [], List, So
 ghost use Rattle.std.specs.List.{join_with_byte};
 ghost use Rattle.just_bench.specs.declared.lexer.Lexeme.{Lexeme};
 ghost use Rattle.just_bench.specs.declared.grammar.Heading.{Heading};
-ghost use Rattle.just_bench.specs.declared.grammar.Reading.{Reading};
-ghost use Rattle.just_bench.specs.declared.grammar.Reading.TheVariants.{Begins};
+ghost use Rattle.just_bench.specs.declared.grammar.Meaning.{Meaning};
+ghost use Rattle.just_bench.specs.declared.grammar.Meaning.TheVariants.{Begins};
 ghost use Rattle.just_bench.specs.Lines.{lines_of};
 ghost use Rattle.just_bench.specs.Lexemes.{IsQuoted};
 ghost use Rattle.just_bench.specs.Grammar.{import_line, module_line, heading, sorted};
@@ -25,7 +25,7 @@ pub fn quotes_joined(text: &str)
 /// No line is of two kinds: what reads as an import, as a module or as the heading of a recipe is told as that. So
 /// recipes may be called `import` and `mod`. The call does nothing.
 pub fn lines_told_apart()
-    ensures imports { (lexemes : List Lexeme) (import : Reading) → import_line lexemes ≡ Some import → sorted (Some lexemes) ≡ import }
-    ensures modules { (lexemes : List Lexeme) (declared : Reading) → module_line lexemes ≡ Some declared → sorted (Some lexemes) ≡ declared }
+    ensures imports { (lexemes : List Lexeme) (import : Meaning) → import_line lexemes ≡ Some import → sorted (Some lexemes) ≡ import }
+    ensures modules { (lexemes : List Lexeme) (declared : Meaning) → module_line lexemes ≡ Some declared → sorted (Some lexemes) ≡ declared }
     ensures headings { (lexemes : List Lexeme) (h : Heading) → heading lexemes ≡ Some h → sorted (Some lexemes) ≡ Begins h }
 {}

@@ -1,13 +1,13 @@
 //! The lexemes of a line, as parts of the whole text.
 ghost use Rattle.std.specs.Prelude.{◌≡◌, ◌≤◌, ◌<◌, ◌+◌, ◌-◌, length, slice_index, IfOk, IfSome};
 ghost use Rattle.std.specs.List.{prefix_len, position};
-ghost use Rattle.just_parts.specs.Identifier.{is_identifier_continue};
+ghost use Rattle.just_names.specs.Identifier.{is_identifier_continue};
 ghost use Rattle.just_bench.specs.Lines.{IsLineOf};
 ghost use Rattle.just_bench.specs.Lexemes as spec;
 
 use crate::lines::Line;
 use just_data::{BorrowedText, Sequence};
-use just_parts::identifier::{continues_identifier, starts_identifier};
+use just_names::{continues_identifier, starts_identifier};
 use just_parts::layers::Token;
 use std::alloc::{AllocError, Global};
 

@@ -1,21 +1,22 @@
 //! The small grammar as a syntax layer.
 ghost use Rattle.std.specs.Prelude.{◌≡◌, ◌≤◌, ◌+◌, ◌^◌, ◌++◌, Ok, Some, length, map, IfOk, IfErr, IfSome, OnOk, false};
 ghost use Rattle.std.specs.List.{All};
-ghost use Rattle.just_parts.specs.Token.{lexeme};
+ghost use Rattle.just_names.specs.Token.{lexeme};
 ghost use Rattle.just_parts.specs.Bare.{bare_ast, bare_item, bare_recipe, bare_parameter};
 ghost use Rattle.just_parts.specs.Syntax.{IsFrom, CameBy, ItemCameBy, PriorsAreDependencies, components_of, parameter_numbers, recipe_numbers, numbers, AreRising};
 ghost use Rattle.just_bench.specs.Lexemes.{IsQuoted};
 ghost use Rattle.just_bench.specs.Refusal.{Spent, RefusesLine};
 ghost use Rattle.just_bench.specs.Items as spec;
 
-use crate::grammar::{Heading, Reading, read_line};
+use crate::grammar::{Heading, Meaning, read_line};
 use crate::lines::{line_token, lines};
 use just_data::{Sequence, Text};
+use just_names::Modulepath;
 use just_parts::layers::{
     Ast, CompileError, CompileErrorKind, Error, Item, Name, Namepath, Numerator, Parameter,
     ParameterKind, StringLiteral, Syntax, Token, UnresolvedDependency,
 };
-use just_parts::{Modulepath, Recipe, Source, UnresolvedRecipe};
+use just_parts::{Recipe, Source, UnresolvedRecipe};
 use std::alloc::{AllocError, Global};
 
 /// A small grammar, line by line, that has nothing but imports, modules and recipes without bodies.
@@ -240,18 +241,18 @@ fn parse<'src>(
     let mut items = Sequence::new(alloc);
     for line in all.as_slice() {
         match read_line(alloc, relative, text, line)? {
-            Reading::Bad => {
+            Meaning::Bad => {
                 return Err(Error::Compile(CompileError {
                     token: line_token(relative, text, line),
                     kind: CompileErrorKind::Syntax,
                 }));
             }
-            Reading::Ignored => continue,
-            Reading::Imports { path, optional } => {
+            Meaning::Ignored => continue,
+            Meaning::Imports { path, optional } => {
                 let import = make_import(alloc, path, optional)?;
                 items.push(import)?;
             }
-            Reading::Declares {
+            Meaning::Declares {
                 name,
                 path,
                 optional,
@@ -259,7 +260,7 @@ fn parse<'src>(
                 let module = make_module(alloc, name, path, optional)?;
                 items.push(module)?;
             }
-            Reading::Begins(heading) => {
+            Meaning::Begins(heading) => {
                 let recipe = make_recipe(alloc, numerator, source, &heading)?;
                 items.push(Item::Recipe(recipe))?;
             }

@@ -26,6 +26,8 @@ pub struct Step {
     pub offset: usize,
     /// The number of the name whose group is entered.
     pub enters: Option<usize>,
+    /// A number that is carried along; nothing here reads it.
+    pub tag: usize,
 }
 
 /// Where a node of an unfolding came from: the place of an earlier one, and that of the step there.

@@ -3,7 +3,7 @@ use Rattle.std.proofs.Common.{◌≡◌, ◌≢◌, inl, inr, Bool, true, false,
 use Rattle.std.specs.Bool.{MatchBool}
 use Rattle.std.proofs.lemmas.Bool.{false≢true}
 use Rattle.std.proofs.lemmas.List.{append-nil}
-use Rattle.just_parts.specs.Modulepath.{Text}
+use Rattle.just_names.specs.Modulepath.{Text}
 use Rattle.just_parts.specs.Parameter.{least_arguments, most_arguments}
 use Rattle.just_parts.specs.declared.dependency.Dependency.{Dependency}
 use Rattle.just_parts.specs.declared.recipe.Recipe.{Recipe}
@@ -13,7 +13,7 @@ use Rattle.just_invoke.specs.Closed.{recipe_named, default_recipe}
 use Rattle.just_invoke.specs.Cause.{Cause, count_mismatch}
 use Rattle.just_invoke.specs.Head.{Words, Held, name_of, NoDefault, BadName, goes_on, WordsLead, WordsMislead, NoPath, NoHead, IsHead, has_colon, is_empty, PathLeads}
 use Rattle.just_invoke.specs.Tail.{IsTail, any_missing}
-use Rattle.just_invoke.specs.Split.{Reading, Invokes, Chain, IsSplit, Lacks, Stops, IsFault}
+use Rattle.just_invoke.specs.Split.{Invoked, Invokes, Chain, IsSplit, Lacks, Stops, IsFault}
 use Rattle.just_invoke.proofs.Unique.{path_word_once, head_once, tail_once, invokes_once}
 
 no_default_once : (table : List (Text × RecipeKey)) (o : Option (Recipe Dependency)) (c d : Cause) → NoDefault table o c → NoDefault table o d → c ≡ d
@@ -87,7 +87,7 @@ no_head_once : (root : Justfile) (recipes : Held) (words : Words) (c d : Cause) 
 no_head_once root recipes [] c d p q = misleads_once root recipes false [] c d p q
 no_head_once root recipes (w ∷ ws) c d p q = no_head_once_step root recipes w ws c d (has_colon w) p q
 
-no_lack : (root : Justfile) (recipes : Held) (words after : Words) (i : Reading) (c : Cause) → Invokes root recipes words after i → Lacks root recipes words c → ⊥
+no_lack : (root : Justfile) (recipes : Held) (words after : Words) (i : Invoked) (c : Cause) → Invokes root recipes words after i → Lacks root recipes words c → ⊥
 no_lack root recipes words after i c p q =
     let heads = head_once root recipes p.head q.head (p.tail ++ after) (q.tail ++ q.after) i.recipe q.recipe (sym p.whole ∙ q.whole) p.names q.names in
     let tails = tail_once q.recipe.parameters p.tail q.tail after q.after i.groups q.groups heads.1
@@ -95,7 +95,7 @@ no_lack root recipes words after i c p q =
     false≢true (sym (subst (λ gs. any_missing q.recipe.parameters gs ≡ false) tails.1
     (subst (λ (r : Recipe Dependency). any_missing r.parameters i.groups ≡ false) heads.2 p.complete)) ∙ q.lacks)
 
-no_stop : (root : Justfile) (recipes : Held) (words after : Words) (i : Reading) (c : Cause) → Invokes root recipes words after i → Stops root recipes words c → ⊥
+no_stop : (root : Justfile) (recipes : Held) (words after : Words) (i : Invoked) (c : Cause) → Invokes root recipes words after i → Stops root recipes words c → ⊥
 no_stop root recipes words after i c p (inl q) = no_head root recipes p.head (p.tail ++ after) i.recipe c p.names (subst (λ ws. NoHead root recipes ws c) p.whole q)
 no_stop root recipes words after i c p (inr q) = no_lack root recipes words after i c p q
 
@@ -122,7 +122,7 @@ stops_once root recipes words c d (inl p) (inr q) = absurd (no_head_no_lack root
 stops_once root recipes words c d (inr p) (inl q) = absurd (no_head_no_lack root recipes words d c q p)
 stops_once root recipes words c d (inr p) (inr q) = lacks_once root recipes words c d p q
 
-chain_no_fault : (root : Justfile) (recipes : Held) (words : Words) (is js : List Reading) (rest : Words) (c : Cause) →
+chain_no_fault : (root : Justfile) (recipes : Held) (words : Words) (is js : List Invoked) (rest : Words) (c : Cause) →
     Chain root recipes words is [] → Chain root recipes words js rest → rest ≢ [] → Stops root recipes rest c → ⊥
 chain_no_fault root recipes words [] [] rest c p q h s = h (sym q ∙ p)
 chain_no_fault root recipes words [] (j ∷ js) rest c p q h s = q.0 p
@@ -131,13 +131,13 @@ chain_no_fault root recipes words (i ∷ is) (j ∷ js) rest c p q h s =
     let o = invokes_once root recipes words p.1 q.1 i j p.2 q.2 in
     chain_no_fault root recipes q.1 is js rest c (subst (λ ws. Chain root recipes ws is []) o.0 p.3) q.3 h s
 
-pub split_no_fault : (root : Justfile) (recipes : Held) (words : Words) (is : List Reading) (c : Cause) → IsSplit root recipes words is → IsFault root recipes words c → ⊥
+pub split_no_fault : (root : Justfile) (recipes : Held) (words : Words) (is : List Invoked) (c : Cause) → IsSplit root recipes words is → IsFault root recipes words c → ⊥
 split_no_fault root recipes [] is c p ([], rest, q, h, s) = no_stop root recipes [] [] p.0 c p.2 (subst (λ ws. Stops root recipes ws c) (sym q) s)
 split_no_fault root recipes [] is c p (j ∷ js, rest, q, h, s) = q.0 refl
 split_no_fault root recipes (w ∷ ws) is c p (js, rest, q, inl h, s) = chain_no_fault root recipes (w ∷ ws) is js rest c p q h s
 split_no_fault root recipes (w ∷ ws) is c p (js, rest, q, inr h, s) = (cc)
 
-chain_fault_once : (root : Justfile) (recipes : Held) (words : Words) (is js : List Reading) (a b : Words) (c d : Cause) →
+chain_fault_once : (root : Justfile) (recipes : Held) (words : Words) (is js : List Invoked) (a b : Words) (c d : Cause) →
     Chain root recipes words is a → Chain root recipes words js b → Stops root recipes a c → Stops root recipes b d → c ≡ d
 chain_fault_once root recipes words [] [] a b c d p q s t = stops_once root recipes words c d (subst (λ ws. Stops root recipes ws c) (sym p) s) (subst (λ ws. Stops root recipes ws d) (sym q) t)
 chain_fault_once root recipes words [] (j ∷ js) a b c d p q s t = absurd (no_stop root recipes words q.1 j c q.2 (subst (λ ws. Stops root recipes ws c) (sym p) s))

@@ -7,7 +7,6 @@ pub mod Keeps
 pub mod Keyed
 pub mod Outcomes
 pub mod Pairs
-pub mod PathLemmas
 pub mod Places
 pub mod Ranks
 pub mod Reaching

@@ -10,7 +10,7 @@ use Rattle.std.proofs.lemmas.Map.Made.{Contains-tail}
 use Rattle.just_parts.specs.declared.dependency.Dependency.{Dependency}
 use Rattle.just_parts.specs.declared.layers.host.Entry.TheVariants.{Begin}
 use Rattle.just_parts.specs.declared.layers.parameter.Parameter.{Parameter}
-use Rattle.just_parts.specs.declared.modulepath.Modulepath.{Modulepath}
+use Rattle.just_names.specs.declared.modulepath.Modulepath.{Modulepath}
 use Rattle.just_parts.specs.declared.recipe.Recipe.{Recipe}
 use Rattle.just_invoke.specs.declared.pair.Pair.{Pair}
 use Rattle.just_invoke.specs.Pairs.{Task, place_of, at_place, empty_groups, pair_of, prior_dependencies, subsequent_dependencies, AllBelow}

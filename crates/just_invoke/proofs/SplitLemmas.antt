@@ -2,7 +2,7 @@
 use Rattle.std.proofs.Common.{◌≡◌, inl, inr, ℕ, ◌+◌, ◌<◌, ◌≤◌, true, false, List, [], ◌∷◌, ◌++◌, Option, Some, None, length, get_or, take, drop, map, sym, ap, ◌∙◌, subst, IfSome}
 use Rattle.std.proofs.lemmas.List.{append_assoc, take-append-drop, drop-drop, append-nil, map-append, length-map, length-take-le, drop_all}
 use Rattle.std.specs.Borrow.{Bor}
-use Rattle.just_parts.specs.Modulepath.{Text, texts}
+use Rattle.just_names.specs.Modulepath.{Text, texts}
 use Rattle.just_parts.specs.Parameter.{least_arguments, most_arguments}
 use Rattle.just_parts.specs.declared.layers.parameter.Parameter.{Parameter}
 use Rattle.just_parts.specs.declared.dependency.Dependency.{Dependency}
@@ -15,7 +15,7 @@ use Rattle.std.specs.List.{All}
 use Rattle.std.proofs.lemmas.List.Elements.{All-push}
 use Rattle.just_invoke.specs.Closed.{IsHeld}
 use Rattle.just_invoke.specs.declared.invocation.Invocation.{Invocation}
-use Rattle.just_invoke.specs.Split.{Reading, reading_of, Invokes, Chain, Stops, IsFault}
+use Rattle.just_invoke.specs.Split.{Invoked, invoked_of, Invokes, Chain, Stops, IsFault}
 use Rattle.just_invoke.proofs.HeadLemmas.{texts_back}
 
 texts_cut : (n : ℕ) (words : List (Bor Text)) → texts words ≡ texts (take n words) ++ texts (drop n words)
@@ -68,7 +68,7 @@ module _ (root : Justfile) (recipes : Held) (words : List (Bor Text)) (n t : ℕ
       })
 
 -- none begins after those that were read
-pub fault_after : (root : Justfile) (recipes : Held) (words : Words) (rest : List (Bor Text)) (n : ℕ) (is : List Reading) (o : Option Cause) (left : List (Bor Text)) → n < length rest → left ≡ drop n rest →
+pub fault_after : (root : Justfile) (recipes : Held) (words : Words) (rest : List (Bor Text)) (n : ℕ) (is : List Invoked) (o : Option Cause) (left : List (Bor Text)) → n < length rest → left ≡ drop n rest →
     Chain root recipes words (is ++ []) (texts (drop n rest)) → IfSome o (Stops root recipes (texts left)) → IfSome o (IsFault root recipes words)
 fault_after root recipes words rest n is None left h e chain stops = stops
 fault_after root recipes words rest n is (Some cause) left h same chain stops =
@@ -81,26 +81,26 @@ fault_after root recipes words rest n is (Some cause) left h same chain stops =
     )
 
 -- all words are read
-pub chain_all : (root : Justfile) (recipes : Held) (words : Words) (rest : List (Bor Text)) (n : ℕ) (is : List Reading) → length rest ≤ n →
-    ((more : List Reading) (left : Words) → Chain root recipes (texts (drop n rest)) more left → Chain root recipes words (is ++ more) left) → Chain root recipes words is []
+pub chain_all : (root : Justfile) (recipes : Held) (words : Words) (rest : List (Bor Text)) (n : ℕ) (is : List Invoked) → length rest ≤ n →
+    ((more : List Invoked) (left : Words) → Chain root recipes (texts (drop n rest)) more left → Chain root recipes words (is ++ more) left) → Chain root recipes words is []
 chain_all root recipes words rest n is h chain =
     subst (λ xs. Chain root recipes words xs []) (append-nil is) (chain [] [] (ap texts (drop_all n rest h)))
 
 -- one more invocation
 pub chain_more : (root : Justfile) (recipes : Held) (words : Words) (rest : List (Bor Text)) (n t : ℕ) (old new : List Invocation) (i : Invocation) (left : List (Bor Text)) → n < length rest → left ≡ drop n rest →
-    new ≡ old ++ i ∷ [] → Invokes root recipes (texts left) (texts (drop t left)) (reading_of i) →
-    ((is : List Reading) (more : Words) → Chain root recipes (texts (drop n rest)) is more → Chain root recipes words (map reading_of old ++ is) more) →
-    (is : List Reading) (more : Words) → Chain root recipes (texts (drop (n + t) rest)) is more → Chain root recipes words (map reading_of new ++ is) more
+    new ≡ old ++ i ∷ [] → Invokes root recipes (texts left) (texts (drop t left)) (invoked_of i) →
+    ((is : List Invoked) (more : Words) → Chain root recipes (texts (drop n rest)) is more → Chain root recipes words (map invoked_of old ++ is) more) →
+    (is : List Invoked) (more : Words) → Chain root recipes (texts (drop (n + t) rest)) is more → Chain root recipes words (map invoked_of new ++ is) more
 chain_more root recipes words rest n t old new i left h same pushed invokes chain is more p =
     let back = texts_back rest n (get_or rest n (record { ref_ptr = (0, 0); now = [] })) h in
-    let here : Invokes root recipes (texts (drop n rest)) (texts (drop t (drop n rest))) (reading_of i) =
-    subst (λ ws. Invokes root recipes (texts ws) (texts (drop t ws)) (reading_of i)) same invokes in
-    let next : Invokes root recipes (texts (drop n rest)) (texts (drop (n + t) rest)) (reading_of i) =
-    subst (λ ws. Invokes root recipes (texts (drop n rest)) (texts ws) (reading_of i)) (drop-drop t n rest) here in
-    let readings : map reading_of new ≡ map reading_of old ++ reading_of i ∷ [] = ap (map reading_of) pushed ∙ map-append reading_of old (i ∷ []) in
-    let all : map reading_of old ++ reading_of i ∷ is ≡ map reading_of new ++ is = sym (append_assoc (map reading_of old) (reading_of i ∷ []) is) ∙ ap (λ xs. xs ++ is) (sym readings) in
+    let here : Invokes root recipes (texts (drop n rest)) (texts (drop t (drop n rest))) (invoked_of i) =
+    subst (λ ws. Invokes root recipes (texts ws) (texts (drop t ws)) (invoked_of i)) same invokes in
+    let next : Invokes root recipes (texts (drop n rest)) (texts (drop (n + t) rest)) (invoked_of i) =
+    subst (λ ws. Invokes root recipes (texts (drop n rest)) (texts ws) (invoked_of i)) (drop-drop t n rest) here in
+    let invoked : map invoked_of new ≡ map invoked_of old ++ invoked_of i ∷ [] = ap (map invoked_of) pushed ∙ map-append invoked_of old (i ∷ []) in
+    let all : map invoked_of old ++ invoked_of i ∷ is ≡ map invoked_of new ++ is = sym (append_assoc (map invoked_of old) (invoked_of i ∷ []) is) ∙ ap (λ xs. xs ++ is) (sym invoked) in
     subst (λ xs. Chain root recipes words xs more) all
-    (chain (reading_of i ∷ is) more ((λ e. let f : ⊥ = (cc) in f), texts (drop (n + t) rest), next, p))
+    (chain (invoked_of i ∷ is) more ((λ e. let f : ⊥ = (cc) in f), texts (drop (n + t) rest), next, p))
 
 -- one more recipe that is held
 pub held_more : (recipes : Held) (old new : List Invocation) (i : Invocation) → new ≡ old ++ i ∷ [] →

@@ -2,7 +2,7 @@
 use Rattle.std.proofs.Common.{◌≡◌, ◌≢◌, ⊎_elim, ℕ, suc, ◌+◌, ◌<◌, ◌≤◌, Bool, true, false, List, [], ◌∷◌, ◌++◌, Some, length, get_or, refl, sym, ap, ◌∙◌, subst, arith, length-append}
 use Rattle.std.specs.Bool.{MatchBool}
 use Rattle.std.proofs.lemmas.Bool.{cases_lt}
-use Rattle.just_parts.specs.Modulepath.{Text}
+use Rattle.just_names.specs.Modulepath.{Text}
 use Rattle.just_parts.specs.declared.layers.parameter.Parameter.{Parameter}
 use Rattle.just_parts.specs.declared.dependency.Dependency.{Dependency}
 use Rattle.just_parts.specs.declared.recipe.Recipe.{Recipe}
@@ -10,8 +10,8 @@ use Rattle.just_invoke.specs.declared.justfile.Justfile.{Justfile}
 use Rattle.just_invoke.specs.Closed.{recipe_named}
 use Rattle.just_invoke.specs.Head.{Words, Held, WordsLead, IsHead, has_colon, is_empty, IsPathWord, PathLeads}
 use Rattle.just_invoke.specs.Tail.{IsTail, group, uses_from}
-use Rattle.just_invoke.specs.Split.{Reading, Invokes, Chain, IsSplit}
-use Rattle.just_invoke.proofs.PathLemmas.{word_path_once, argument_path_once}
+use Rattle.just_invoke.specs.Split.{Invoked, Invokes, Chain, IsSplit}
+use Rattle.just_names.proofs.PathTexts.{word_path_once, argument_path_once}
 
 -- one front, one rest and one recipe
 abbrev pub Agree : Words → Words → Words → Words → Recipe Dependency → Recipe Dependency → Type 0
@@ -112,16 +112,16 @@ tail_once ps t u a b g h e p q =
     (cases_lt (length u) (length t)))
     (cases_lt (length t) (length u))
 
-pub invokes_once : (root : Justfile) (recipes : Held) (words a b : Words) (i j : Reading) → Invokes root recipes words a i → Invokes root recipes words b j → (a ≡ b) × (i ≡ j)
+pub invokes_once : (root : Justfile) (recipes : Held) (words a b : Words) (i j : Invoked) → Invokes root recipes words a i → Invokes root recipes words b j → (a ≡ b) × (i ≡ j)
 invokes_once root recipes words a b i j p q =
     let heads = head_once root recipes p.head q.head (p.tail ++ a) (q.tail ++ b) i.recipe j.recipe (sym p.whole ∙ q.whole) p.names q.names in
     let tails = tail_once j.recipe.parameters p.tail q.tail a b i.groups j.groups heads.1
     (subst (λ (r : Recipe Dependency). IsTail r.parameters p.tail a i.groups) heads.2 p.reads) q.reads in
     let recipes : i.recipe ≡ j.recipe = heads.2 in
     let groups : i.groups ≡ j.groups = tails.1 in
-    (tails.0, (let P : Recipe Dependency → List Words → Reading = λ r g. record { recipe = r; groups = g } in ap (λ r. P r i.groups) recipes ∙ ap (λ g. P j.recipe g) groups))
+    (tails.0, (let P : Recipe Dependency → List Words → Invoked = λ r g. record { recipe = r; groups = g } in ap (λ r. P r i.groups) recipes ∙ ap (λ g. P j.recipe g) groups))
 
-pub chain_once : (root : Justfile) (recipes : Held) (words : Words) (is js : List Reading) → Chain root recipes words is [] → Chain root recipes words js [] → is ≡ js
+pub chain_once : (root : Justfile) (recipes : Held) (words : Words) (is js : List Invoked) → Chain root recipes words is [] → Chain root recipes words js [] → is ≡ js
 chain_once root recipes words [] [] p q = refl
 chain_once root recipes words [] (j ∷ js) p q = absurd (q.0 p)
 chain_once root recipes words (i ∷ is) [] p q = absurd (p.0 q)
@@ -130,7 +130,7 @@ chain_once root recipes words (i ∷ is) (j ∷ js) p q =
     let rest = chain_once root recipes q.1 is js (subst (λ ws. Chain root recipes ws is []) o.0 p.3) q.3 in
     ap (λ k. k ∷ is) o.1 ∙ ap (λ ks. j ∷ ks) rest
 
-pub split_once : (root : Justfile) (recipes : Held) (words : Words) (is js : List Reading) → IsSplit root recipes words is → IsSplit root recipes words js → is ≡ js
+pub split_once : (root : Justfile) (recipes : Held) (words : Words) (is js : List Invoked) → IsSplit root recipes words is → IsSplit root recipes words js → is ≡ js
 split_once root recipes [] is js p q =
     let o = invokes_once root recipes [] [] [] p.0 q.0 p.2 q.2 in
     p.1 ∙ ap (λ i. i ∷ []) o.1 ∙ sym q.1
@@ -141,5 +141,5 @@ head_takes : (root : Justfile) (recipes : Held) (words head tail after : Words) 
 head_takes root recipes words [] tail after r h e p = absurd (h (e ∙ p.0))
 head_takes root recipes words (x ∷ xs) tail after r h e p = omega (arith, ap length e, length-append xs (tail ++ after), length-append tail after)
 
-pub invokes_takes : (root : Justfile) (recipes : Held) (words after : Words) (i : Reading) → words ≢ [] → Invokes root recipes words after i → length after < length words
+pub invokes_takes : (root : Justfile) (recipes : Held) (words after : Words) (i : Invoked) → words ≢ [] → Invokes root recipes words after i → length after < length words
 invokes_takes root recipes words after i h p = head_takes root recipes words p.head p.tail after i.recipe h p.whole p.names

@@ -1,8 +1,8 @@
 -- Modules whose recipes are among those that are held.
 use Rattle.std.specs.Prelude.{◌≡◌, ◌≤◌, ℕ, List, length, Option, Some, None, IsSome}
 use Rattle.std.specs.List.{All, Contains}
-use Rattle.just_parts.specs.Entries.{find}
-use Rattle.just_parts.specs.declared.layers.number.Number.{Number}
+use Rattle.just_table.specs.Entries.{find}
+use Rattle.just_names.specs.declared.number.Number.{Number}
 use Rattle.just_parts.specs.declared.dependency.Dependency.{Dependency}
 use Rattle.just_parts.specs.declared.recipe.Recipe.{Recipe}
 use Rattle.just_invoke.specs.declared.justfile.Justfile.{Justfile, out-Justfile}

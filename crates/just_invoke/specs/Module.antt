@@ -1,7 +1,7 @@
 -- How a module is called.
 use Rattle.std.specs.Prelude.{ℕ, List, [], Option, Some, None}
-use Rattle.just_parts.specs.Token.{lexeme}
-use Rattle.just_parts.specs.declared.layers.name.Name.{Name}
+use Rattle.just_names.specs.Token.{lexeme}
+use Rattle.just_names.specs.declared.name.Name.{Name}
 use Rattle.just_invoke.specs.declared.justfile.Justfile.{Justfile, out-Justfile}
 
 -- the text of a name; the empty text where there is none

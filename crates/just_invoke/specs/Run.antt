@@ -5,7 +5,7 @@ use Rattle.just_parts.specs.declared.layers.host.Entry.{Entry}
 use Rattle.just_parts.specs.declared.layers.host.Entry.TheVariants.{Begin}
 use Rattle.just_parts.specs.declared.layers.error.Error.{Error}
 use Rattle.just_parts.specs.declared.layers.error.Error.TheVariants.{Load, Compile, Invocation, Run, Exhausted, Memory}
-use Rattle.just_parts.specs.declared.modulepath.Modulepath.{Modulepath}
+use Rattle.just_names.specs.declared.modulepath.Modulepath.{Modulepath}
 use Rattle.just_parts.specs.declared.recipe.Recipe.{Recipe}
 use Rattle.just_invoke.specs.declared.pair.Pair.{Pair}
 use Rattle.just_invoke.specs.declared.halt.Halt as halt

@@ -10,16 +10,16 @@ use Rattle.just_invoke.specs.Head.{Words, Held, name_of, IsHead, NoHead}
 use Rattle.just_invoke.specs.Tail.{IsTail, any_missing, shown}
 
 -- a recipe, with a group of words for each parameter
-pub record Reading : Type 0 where
+pub record Invoked : Type 0 where
   pub recipe : Recipe Dependency
   pub groups : List Words
 
 -- an invocation, as its recipe and the texts of its groups
-abbrev pub reading_of : Invocation → Reading
-reading_of i = record { recipe = i.recipe.now; groups = shown i.arguments.items }
+abbrev pub invoked_of : Invocation → Invoked
+invoked_of i = record { recipe = i.recipe.now; groups = shown i.arguments.items }
 
 -- the words begin with an invocation, its head and then its tail, and these words follow it
-pub record Invokes (root : Justfile) (recipes : Held) (words after : Words) (i : Reading) : Type 0 where
+pub record Invokes (root : Justfile) (recipes : Held) (words after : Words) (i : Invoked) : Type 0 where
   pub head : Words
   pub tail : Words
   pub whole : words ≡ head ++ (tail ++ after)
@@ -28,14 +28,14 @@ pub record Invokes (root : Justfile) (recipes : Held) (words after : Words) (i :
   pub complete : any_missing i.recipe.parameters i.groups ≡ false
 
 -- invocations, one after another, and the words that are left
-abbrev pub Chain : Justfile → Held → Words → List Reading → Words → Type 0
+abbrev pub Chain : Justfile → Held → Words → List Invoked → Words → Type 0
 Chain root recipes words [] rest = words ≡ rest
 Chain root recipes words (i ∷ is) rest =
     (words ≢ []) × (after : Words) × Invokes root recipes words after i × Chain root recipes after is rest
 
 -- the words are these invocations; no words are one
-abbrev pub IsSplit : Justfile → Held → Words → List Reading → Type 0
-IsSplit root recipes [] is = (i : Reading) × (is ≡ i ∷ []) × Invokes root recipes [] [] i
+abbrev pub IsSplit : Justfile → Held → Words → List Invoked → Type 0
+IsSplit root recipes [] is = (i : Invoked) × (is ≡ i ∷ []) × Invokes root recipes [] [] i
 IsSplit root recipes (w ∷ ws) is = Chain root recipes (w ∷ ws) is []
 
 -- the words begin with a head and a tail, in which a group is empty that may not be
@@ -59,4 +59,4 @@ Stops root recipes words cause = NoHead root recipes words cause ⊎ Lacks root 
 -- why the words are no invocations: some of them are, and then none begins
 abbrev pub IsFault : Justfile → Held → Words → Cause → Type 0
 IsFault root recipes words cause =
-    (is : List Reading) × (rest : Words) × Chain root recipes words is rest × ((rest ≢ []) ⊎ (words ≡ [])) × Stops root recipes rest cause
+    (is : List Invoked) × (rest : Words) × Chain root recipes words is rest × ((rest ≢ []) ⊎ (words ≡ [])) × Stops root recipes rest cause

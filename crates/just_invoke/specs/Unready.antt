@@ -3,7 +3,7 @@ use Rattle.std.specs.Prelude.{◌≡◌, ℕ, Bool, true, false, List, [], map, 
 use Rattle.std.specs.List.{list_any, slice_get, Contains}
 use Rattle.just_graph.specs.Steps.{Reached}
 use Rattle.just_parts.specs.Parameter.{is_variadic}
-use Rattle.just_parts.specs.Token.{lexeme}
+use Rattle.just_names.specs.Token.{lexeme}
 use Rattle.just_parts.specs.declared.dependency.Dependency.{Dependency}
 use Rattle.just_parts.specs.declared.layers.error.Error.{Error}
 use Rattle.just_parts.specs.declared.layers.error.Error.TheVariants.{Load, Compile, Invocation, Run, Exhausted, Memory}

@@ -2,7 +2,7 @@
 ghost use Rattle.std.specs.Prelude.{◌≡◌, ◌≤◌, ◌<◌, ◌++◌, ◌∷◌, [], ℕ, true, false, Some, IfOk, IfErr, IfSome, OnOk, OnErr, map, length, take, drop, slice_set, slice_index_or, vec_len};
 ghost use Rattle.std.specs.List.{All};
 ghost use Rattle.std.specs.Option.{option_copied};
-ghost use Rattle.just_parts.specs.Modulepath.{texts};
+ghost use Rattle.just_names.specs.Modulepath.{texts};
 ghost use Rattle.just_parts.specs.Parameter.{least_arguments, most_arguments};
 ghost use Rattle.just_parts.specs.declared.layers.error.Error.TheVariants as error;
 ghost use Rattle.just_parts.specs.declared.layers.error.InvocationError.TheVariants as fault;
@@ -11,14 +11,15 @@ ghost use Rattle.just_invoke.specs.Closed.{recipe_named, default_recipe, IsHeld,
 ghost use Rattle.just_invoke.specs.declared.justfile.Justfile.{out-Justfile};
 ghost use Rattle.just_invoke.specs.Head.{Words, name_of, has_colon, is_empty, goes_on, TakesDefault, NoDefault, BadName, WordsLead, WordsMislead, IsPathWord, PathLeads, NoPath, IsHead, NoHead};
 ghost use Rattle.just_invoke.specs.Tail.{shown, first_variadic, IsTail, is_missing, any_missing};
-ghost use Rattle.just_invoke.specs.Split.{reading_of, Invokes, Chain, IsSplit, Stops, IsFault};
+ghost use Rattle.just_invoke.specs.Split.{invoked_of, Invokes, Chain, IsSplit, Stops, IsFault};
 
 use crate::invocation::Invocation;
 use crate::justfile::Justfile;
 use crate::recipes::Recipes;
 use just_data::{BorrowedText, Text};
+use just_names::Modulepath;
+use just_parts::Recipe;
 use just_parts::layers::{Error, Evaluation, InvocationError, Parameter};
-use just_parts::{Modulepath, Recipe};
 use std::alloc::{AllocError, Global};
 
 /// Reads command words as invocations of recipes.
@@ -37,7 +38,7 @@ impl InvocationParser {
         words: &[&'words str],
     ) -> Result<Vec<Invocation<'run, 'src, 'words>>, Error<'src>>
         requires { IsClosed root.now recipes.now }
-        ensures split { IfOk result (λ found. IsSplit root.now recipes.now (texts words.now) (map reading_of found.items)) }
+        ensures split { IfOk result (λ found. IsSplit root.now recipes.now (texts words.now) (map invoked_of found.items)) }
         ensures held { IfOk result (λ found. All (λ i. IsHeld recipes.now i.recipe.now) found.items) }
         ensures fault { IfErr result (λ e. IfSome (cause_of e) (IsFault root.now recipes.now (texts words.now))) }
         ensures expected { IfErr result (λ e. IsExpected e) }
@@ -397,7 +398,7 @@ fn parse_invocation<'run, 'src, 'words>(
 ) -> Result<(Invocation<'run, 'src, 'words>, usize), Error<'src>>
     ensures within { IfOk result (λ found. found.1 ≤ length words.now) }
     ensures moves { IfOk result (λ found. 0 < length words.now → 0 < found.1) }
-    ensures ok { IfOk result (λ found. Invokes root.now recipes.now (texts words.now) (texts (drop found.1 words.now)) (reading_of found.0)) }
+    ensures ok { IfOk result (λ found. Invokes root.now recipes.now (texts words.now) (texts (drop found.1 words.now)) (invoked_of found.0)) }
     ensures held { IfOk result (λ found. IsHeld recipes.now found.0.recipe.now) }
     ensures err { IfErr result (λ e. IfSome (cause_of e) (Stops root.now recipes.now (texts words.now))) }
     ensures expected { IfErr result (λ e. IsExpected e) }
@@ -418,7 +419,7 @@ fn parse_none<'run, 'src, 'words>(
     words: &[&'words str],
 ) -> Result<Vec<Invocation<'run, 'src, 'words>>, Error<'src>>
     requires { words.now ≡ [] }
-    ensures split { IfOk result (λ found. IsSplit root.now recipes.now (texts words.now) (map reading_of found.items)) }
+    ensures split { IfOk result (λ found. IsSplit root.now recipes.now (texts words.now) (map invoked_of found.items)) }
     ensures held { IfOk result (λ found. All (λ i. IsHeld recipes.now i.recipe.now) found.items) }
     ensures fault { IfErr result (λ e. IfSome (cause_of e) (IsFault root.now recipes.now (texts words.now))) }
     ensures expected { IfErr result (λ e. IsExpected e) }
@@ -437,7 +438,7 @@ fn parse_some<'run, 'src, 'words>(
     words: &[&'words str],
 ) -> Result<Vec<Invocation<'run, 'src, 'words>>, Error<'src>>
     requires { 0 < length words.now }
-    ensures chain { IfOk result (λ found. Chain root.now recipes.now (texts words.now) (map reading_of found.items) []) }
+    ensures chain { IfOk result (λ found. Chain root.now recipes.now (texts words.now) (map invoked_of found.items) []) }
     ensures held { IfOk result (λ found. All (λ i. IsHeld recipes.now i.recipe.now) found.items) }
     ensures fault { IfErr result (λ e. IfSome (cause_of e) (IsFault root.now recipes.now (texts words.now))) }
     ensures expected { IfErr result (λ e. IsExpected e) }

@@ -3,10 +3,11 @@ use crate::invocation_parser::InvocationParser;
 use crate::recipes::Recipes;
 use crate::running::{Report, run_invocations};
 use just_data::{Exact, Sequence, Shared, Text};
+use just_names::Modulepath;
 use just_parts::layers::{
     Config, Error, Evaluation, Host, Name, Number, Output, RunError, StringLiteral, Syntax,
 };
-use just_parts::{Keyed, Modulepath, Table};
+use just_table::{Keyed, Table};
 use std::alloc::Global;
 use std::collections::HashMap;
 
@@ -20,7 +21,7 @@ pub struct RecipeKey<'src> {
 }
 
 impl<'src> Keyed<'src> for RecipeKey<'src> {
-    ghost use Rattle.just_parts.specs.Token.{lexeme};
+    ghost use Rattle.just_names.specs.Token.{lexeme};
 
     ghost key_of = { λ key. lexeme key.name.token };
 
@@ -98,7 +99,7 @@ impl<'src> Justfile<'src> {
 impl<'src> Justfile<'src> {
     ghost use Rattle.std.specs.Prelude.{◌≡◌, List, IfOk, IfErr};
     ghost use Rattle.just_parts.specs.Host.{KeepsPromises};
-    ghost use Rattle.just_parts.specs.Modulepath.{texts};
+    ghost use Rattle.just_names.specs.Modulepath.{texts};
     ghost use Rattle.just_invoke.specs.Account.{OnceTables};
     ghost use Rattle.just_invoke.specs.Closed.{IsClosed};
     ghost use Rattle.just_invoke.specs.Outcome.{IsOutcome, IsRefusal, MayRun, HasAccount, IsWhole};

@@ -1,11 +1,11 @@
 -- How files come in.
-use Rattle.std.proofs.Common.{◌≡◌, ℕ, zero, suc, ◌<◌, List, [], ◌∷◌, ◌++◌, map, take, length, get_or, Option, None, Some, IfSome, Result, Ok, Err, IfOk, inl, inr, refl, sym, ap, subst, ◌∙◌, arith}
-use Rattle.std.specs.List.{All, slice_get}
-use Rattle.std.specs.Option.{option_map}
+use Rattle.std.proofs.Common.{◌≡◌, ℕ, zero, suc, ◌<◌, List, [], ◌∷◌, ◌++◌, map, take, length, get_or, Option, None, Some, Result, Ok, Err, IfOk, inl, inr, refl, sym, ap, subst, ◌∙◌, arith}
+use Rattle.std.specs.List.{All, cons_option, slice_get}
+use Rattle.std.specs.Option.{option_and_then, option_map}
 use Rattle.std.specs.declared.vec.Vec.{Vec}
 use Rattle.std.specs.declared.alloc.Global.{Global}
 use Rattle.std.proofs.lemmas.List.{length_push, map-append}
-use Rattle.std.proofs.lemmas.List.Elements.{All-contains}
+use Rattle.std.proofs.lemmas.List.Elements.{All-contains, filter_map-append}
 use Rattle.std.proofs.lemmas.Option.{get_or_from_slice_get, slice_get_read, slice_get_within}
 use Rattle.just_graph.specs.Unfolding.{Node, AreFirst, Unfolds, nothing, tree, IsLeastDepth, HasStep, child, key, offsets_after, path_after, root_node, steps}
 use Rattle.just_graph.specs.Unfolded.{AreLeast, CameFrom, IsUnfolded, Tells, unfolded_key}
@@ -15,24 +15,24 @@ use Rattle.just_graph.specs.declared.unfolding.Unfolded.{Unfolded}
 use Rattle.just_graph.proofs.Preorder.{firsts_in}
 use Rattle.just_graph.proofs.Members.{In, contained, is_in, in_cases, in_map}
 use Rattle.just_graph.proofs.Walks.{child_of}
-use Rattle.just_parts.specs.Clean.{IsClean, folder_of}
-use Rattle.just_parts.specs.Name.{names_of_path, submodule_path, text_of_name}
+use Rattle.just_names.specs.Clean.{IsClean, folder_of}
+use Rattle.just_names.specs.Name.{names_of_path, submodule_path, text_of_name}
 use Rattle.just_parts.specs.Syntax.{components_of}
 use Rattle.just_parts.specs.declared.layers.error.Error.{Error}
-use Rattle.just_parts.specs.declared.layers.name.Name.{Name}
-use Rattle.just_parts.specs.declared.layers.name.Namepath.{Namepath}
+use Rattle.just_names.specs.declared.name.Name.{Name}
+use Rattle.just_names.specs.declared.name.Namepath.{Namepath}
 use Rattle.just_parts.specs.declared.source.Source.{Source}
 use Rattle.just_loader.specs.Keys.{FileStep}
-use Rattle.just_loader.specs.Loaded.{entered, own_after}
+use Rattle.just_loader.specs.Loaded.{entered, names_in, names_on, own_after}
 use Rattle.just_loader.specs.Placed.{file_at, name_at, text_step}
 use Rattle.just_loader.specs.Loading.{AreNodes, AreUnfolded, CameInSoFar, CameInWorlds, ComesNext, components_after, folder_after}
-use Rattle.just_loader.specs.Numbering.{texts_of}
+use Rattle.just_loader.specs.Numbering.{IsNamed}
 use Rattle.just_loader.specs.Reached.{World}
-use Rattle.just_loader.specs.Scanned.{IsScan, paths_in}
+use Rattle.just_loader.specs.Scanned.{EntersName, IsScan, paths_in}
 use Rattle.just_loader.specs.declared.scanned.Scan.{Scan}
 use Rattle.just_loader.specs.declared.scanned.ScannedFile.{ScannedFile}
 use Rattle.just_loader.proofs.FileKeys.{least_mapped, root_at, to_steps}
-use Rattle.just_loader.proofs.FileRows.{known_here, numbered}
+use Rattle.just_loader.proofs.FileRows.{known, named_here}
 use Rattle.just_loader.proofs.Numberings.{get_cases, got, map_get, none_some, read_at}
 
 -- the file at a place
@@ -45,26 +45,38 @@ path_is scan k f h is = sym (get_or_from_slice_get (paths_in scan.files.items) k
 pub path_clean : (scan : Scan) (k : ℕ) (f : ScannedFile) → k < length scan.files.items → f ≡ get_or scan.files.items k f → All IsClean (paths_in scan.files.items) → IsClean f.path
 path_clean scan k f h is all = All-contains IsClean (paths_in scan.files.items) f.path all (got (paths_in scan.files.items) k f.path (file_is scan.files.items k f h is))
 
-pub name_is : (scan : Scan) (k : ℕ) (n : Name) → k < length scan.names.items → n ≡ get_or scan.names.items k n → text_of_name n ≡ name_at scan k
-name_is scan k n h is = sym (get_or_from_slice_get (texts_of scan.names.items) k (text_of_name n) [] (map_get text_of_name scan.names.items k n (slice_get_read scan.names.items (length scan.names.items) k n refl h is)))
+-- the name at a step's tag
+pub name_is : (scan : Scan) (number tag : ℕ) (n : Name) → (name : Name) × IsNamed scan.names.items number tag name → n ≡ get_or scan.names.items tag n → IsNamed scan.names.items number tag n
+name_is scan number tag n named is = subst (IsNamed scan.names.items number tag) (sym (is ∙ get_or_from_slice_get scan.names.items tag named.0 n named.1.1)) named.1
 
 -- the components of a submodule
 pub module_components : (parent : Option Namepath) (name : Name) → components_of (Some (submodule_path parent name)) ≡ components_of parent ++ text_of_name name ∷ []
 module_components None name = refl
 module_components (Some path) name = map-append text_of_name (names_of_path path) (name ∷ [])
 
+module_names : (parent : Option Namepath) (name : Name) → names_in (Some (submodule_path parent name)) ≡ names_in parent ++ name ∷ []
+module_names None name = refl
+module_names (Some path) name = refl
+
+one_name : (s : FileStep) (name : Name) → s.name ≡ Some name → names_on (s ∷ []) ≡ name ∷ []
+one_name s name e = ap (λ o. cons_option o []) e
+
 -- what a module's step gives
-pub module_next : (scan : Scan) (before : Source) (s : Step) (number : ℕ) (name : Name) (path : List ℕ) (r : Result Source Error) → s.enters ≡ Some number → text_of_name name ≡ name_at scan number → path ≡ file_at scan s.target
+pub module_next : (scan : Scan) (before : Source) (s : Step) (number : ℕ) (name : Name) (path : List ℕ) (r : Result Source Error) → s.enters ≡ Some number → IsNamed scan.names.items number s.tag name → path ≡ file_at scan s.target
     → IfOk r (λ source. source.file_path ≡ before.file_path ++ path ∷ []) → IfOk r (λ source. source.import_offsets ≡ []) → IfOk r (λ source. source.namepath ≡ Some (submodule_path before.namepath name)) → IfOk r (λ source. source.path ≡ path)
     → IfOk r (λ source. source.working_directory ≡ folder_of path) → IfOk r (ComesNext scan before s)
-module_next scan before s number name path (Ok source) enters text is chain offsets namepath source_path folder = record {
-  chain = chain ∙ ap (λ p. before.file_path ++ p ∷ []) is;
-  offsets = offsets ∙ sym (ap (offsets_after before.import_offsets s.offset) enters);
-  components = ap components_of namepath ∙ module_components before.namepath name ∙ ap (λ t. components_of before.namepath ++ t ∷ []) text ∙ sym (ap (components_after scan (components_of before.namepath)) enters);
-  path = source_path ∙ is;
-  folder = folder ∙ ap folder_of is ∙ sym (ap (λ o. folder_after before.working_directory o (file_at scan s.target)) enters);
-}
-module_next scan before s number name path (Err e) enters text is chain offsets namepath source_path folder = tt
+module_next scan before s number name path (Ok source) enters named is chain offsets namepath source_path folder =
+    let text : text_of_name name ≡ name_at scan number = known scan number (text_of_name name) named.0.0 in
+    let own : (text_step scan s).name ≡ Some name = ap (option_and_then (λ (number : ℕ). slice_get scan.names.items s.tag)) enters ∙ named.1 in
+    record {
+      chain = chain ∙ ap (λ p. before.file_path ++ p ∷ []) is;
+      offsets = offsets ∙ sym (ap (offsets_after before.import_offsets s.offset) enters);
+      components = ap components_of namepath ∙ module_components before.namepath name ∙ ap (λ t. components_of before.namepath ++ t ∷ []) text ∙ sym (ap (components_after scan (components_of before.namepath)) enters);
+      names = ap names_in namepath ∙ module_names before.namepath name ∙ ap (λ ns. names_in before.namepath ++ ns) (sym (one_name (text_step scan s) name own));
+      path = source_path ∙ is;
+      folder = folder ∙ ap folder_of is ∙ sym (ap (λ o. folder_after before.working_directory o (file_at scan s.target)) enters);
+    }
+module_next scan before s number name path (Err e) enters named is chain offsets namepath source_path folder = tt
 
 -- a step at the end of a trail
 own_last : (own : List ℕ) (ss : List FileStep) (s : FileStep) → own_after own (ss ++ s ∷ []) ≡ entered (own_after own ss) s.enters s.to
@@ -88,6 +100,7 @@ came_next scan n s before source depth came next least = λ w is.
       chain = next.chain ∙ ap (λ c. c ++ file_at scan s.target ∷ []) at.chain ∙ ap (λ c. w.root ∷ c) (sym (map-append (λ (x : FileStep). x.to) trail (text_step scan s ∷ [])) ∙ ap (map (λ (x : FileStep). x.to)) last);
       offsets = next.offsets ∙ ap (λ o. offsets_after o s.offset s.enters) at.offsets;
       components = next.components ∙ ap (λ c. components_after scan c s.enters) at.components ∙ names_last scan n.path s.enters;
+      names = next.names ∙ ap (λ ns. ns ++ names_on (text_step scan s ∷ [])) at.names ∙ sym (filter_map-append (λ (x : FileStep). x.name) trail (text_step scan s ∷ [])) ∙ ap names_on last;
       path = next.path;
       folder = next.folder ∙ ap (λ f. folder_after f s.enters (file_at scan s.target)) at.folder ∙ folder_last scan (own_after w.root trail) (file_at scan s.target) s.enters
           ∙ ap folder_of (sym (own_last w.root trail (text_step scan s)) ∙ ap (own_after w.root) last);
@@ -145,7 +158,7 @@ pub record CameOver (scan : Scan) (us : List Unfolded) (sources : List Source) (
   pub row_at : slice_get scan.rows.items element.node ≡ Some row
   pub step_at : slice_get row.items o.step ≡ Some step
   pub target : step.target < length scan.files.items
-  pub number : IfSome step.enters (λ number. number < length scan.names.items)
+  pub named : EntersName scan.names.items step
   pub came : CameInWorlds scan parent before
   pub shallow : before.file_depth < length us
   pub is_child : n ≡ child parent step
@@ -191,6 +204,7 @@ module _ (w : World) (scan : Scan) (is : IsScan w scan) (us : List Unfolded) (ar
           chain = chain ∙ ap (λ p. p ∷ []) (file ∙ root_at v scan of);
           offsets = offsets;
           components = ap components_of namepath;
+          names = ap names_in namepath;
           path = source_path ∙ file;
           folder = folder ∙ ap folder_of (file ∙ root_at v scan of);
           depth = least_mapped v scan of (key (root_node 0)) u.depth (subst (λ (x : Node). IsLeastDepth (steps scan.rows.items) 0 (key x) u.depth) root least);
@@ -233,7 +247,7 @@ module _ (w : World) (scan : Scan) (is : IsScan w scan) (us : List Unfolded) (ar
             row_at = ap (slice_get scan.rows.items) tells.node ∙ row.1;
             step_at = row.2;
             target = omega (arith, is.within parent.node s.target leads, is.count);
-            number = numbered scan s.enters (known_here w scan is parent.node s here);
+            named = named_here w scan is parent.node s here;
             came = came;
             shallow = omega (arith, (came w is).depth.1 element.0.depth (to_steps w scan is (key parent) element.0.depth depth.0), are.shallow o.parent element.0 element.1);
             is_child = c.4;

@@ -14,8 +14,8 @@ use Rattle.just_graph.specs.Unfolding.{HasStep, AreEdges, IsOrdered, steps}
 use Rattle.just_graph.specs.declared.unfolding.Step.{Step}
 use Rattle.just_graph.proofs.Members.{In, contained, is_in, in_left, in_last, in_map, from_map, in_flat, from_flat}
 use Rattle.just_graph.proofs.Trails.{of_reverse}
-use Rattle.just_parts.specs.Clean.{folder_of}
-use Rattle.just_parts.specs.Name.{text_of_name}
+use Rattle.just_names.specs.Clean.{folder_of}
+use Rattle.just_names.specs.Name.{text_of_name}
 use Rattle.just_parts.specs.declared.layers.ast.Item.{Item}
 use Rattle.just_parts.specs.Bare.{bare_item}
 use Rattle.just_parts.specs.Edge.{Edge, Imports, Declares, edge_of}
@@ -31,21 +31,14 @@ use Rattle.just_loader.specs.declared.scanned.ScannedFile.{ScannedFile}
 use Rattle.just_loader.proofs.FileRows.{at, said, steps_here}
 use Rattle.just_loader.proofs.Numberings.{got, read_at, some_same}
 
-pub has_rows : (w : World) (scan : Scan) → IsScan w scan → HasRows scan
-has_rows w scan is = record {
-  count = is.count;
-  some = omega (arith, is.count, length-map scan.files.items (λ (f : ScannedFile). f.path), slice_get_within (paths_in scan.files.items) 0 w.root is.root);
-  within = is.within;
-}
-
 no_link : (b : Bool) (path : List ℕ) → (if b then Nowhere else Nowhere) ≡ To path → ⊥
 no_link true path e = cc
 no_link false path e = cc
 
 -- an item that leads to a file has a step there
 step_of_link : (w : World) (folder path : List ℕ) (b : Bool) (e : Option Edge) → (if b then edge_link w.files w.home folder e else Nowhere) ≡ To path → (s : FileStep) × In s (steps_by e (To path)) × (s.to ≡ path)
-step_of_link w folder path b (Some (Imports literal optional)) l = (record { to = path; offset = literal.token.offset; enters = None }, inl refl, refl)
-step_of_link w folder path b (Some (Declares name literal optional)) l = (record { to = path; offset = 0; enters = Some (text_of_name name) }, inl refl, refl)
+step_of_link w folder path b (Some (Imports literal optional)) l = (record { to = path; offset = literal.token.offset; enters = None; name = None }, inl refl, refl)
+step_of_link w folder path b (Some (Declares name literal optional)) l = (record { to = path; offset = 0; enters = Some (text_of_name name); name = Some name }, inl refl, refl)
 step_of_link w folder path b None l = absurd (no_link b path l)
 
 -- and leads where its step does

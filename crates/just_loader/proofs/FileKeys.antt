@@ -1,5 +1,5 @@
 -- Keys of the unfolding of a scan, and the keys of files.
-use Rattle.std.proofs.Common.{◌≡◌, ℕ, ◌<◌, List, [], ◌∷◌, map, length, Option, None, Some, inl, inr, refl, sym, ap, subst, ◌∙◌, arith}
+use Rattle.std.proofs.Common.{◌≡◌, ℕ, ◌<◌, List, [], ◌∷◌, map, length, Option, None, Some, IfSome, inl, inr, refl, sym, ap, subst, ◌∙◌, arith}
 use Rattle.std.specs.List.{slice_get}
 use Rattle.std.proofs.lemmas.List.{length-map}
 use Rattle.std.proofs.lemmas.Option.{slice_get_within, get_or_from_slice_get}
@@ -10,14 +10,16 @@ use Rattle.just_graph.proofs.KeySteps.{steps_back, steps_keep, steps_mapped}
 use Rattle.just_graph.proofs.Preorder.{firsts_in}
 use Rattle.just_graph.proofs.Trails.{steps_to}
 use Rattle.just_graph.proofs.Members.{In, contained, is_in, in_cases, in_map}
+use Rattle.just_names.specs.declared.name.Name.{Name}
 use Rattle.just_loader.specs.Keys.{FileKey, FileKeySteps, FileStep, IsKey, IsLeastFileDepth, root_file_key, steps_of}
 use Rattle.just_loader.specs.Loading.{AreUnfolded}
+use Rattle.just_loader.specs.Numbering.{IsNamed}
 use Rattle.just_loader.specs.Placed.{file_at, name_at, text_step}
 use Rattle.just_loader.specs.Reached.{World}
 use Rattle.just_loader.specs.Scanned.{IsScan, paths_in}
 use Rattle.just_loader.specs.declared.scanned.Scan.{Scan}
 use Rattle.just_loader.specs.declared.scanned.ScannedFile.{ScannedFile}
-use Rattle.just_loader.proofs.FileRows.{IsKnown, at, known_here, steps_here}
+use Rattle.just_loader.proofs.FileRows.{IsKnown, at, known_entered, named_here, steps_here}
 use Rattle.just_loader.proofs.Numberings.{got, read_at}
 
 -- the key of a file, by texts
@@ -27,7 +29,7 @@ file_key scan k = record { path = map (name_at scan) k.path; node = file_at scan
 -- the node and the numbers of a key have texts
 pub record Stands (scan : Scan) (k : Key) : Type 0 where
   pub inside : k.node < length scan.files.items
-  pub known : (n : ℕ) → In n k.path → IsKnown scan (Some n)
+  pub known : (n : ℕ) → In n k.path → IsKnown scan n
 
 -- the key of a node is one of the root's
 pub node_reached : (S : ℕ → List Step) (pre : List Node) → IsUnfolding S 0 pre → (n : Node) → In n pre → IsReachedKey S 0 (key n)
@@ -35,11 +37,15 @@ node_reached S pre u n i =
     let r = steps_to S u n i in
     elim r.1 [ inl e ↦ (r.2, subst (λ (x : Node). KeySteps S (key x) (key n) r.2) e r.3) | inr z ↦ absurd z ]
 
-after_known : (scan : Scan) (path : List ℕ) (e : Option ℕ) → ((n : ℕ) → In n path → IsKnown scan (Some n)) → IsKnown scan e → (n : ℕ) → In n (path_after path e) → IsKnown scan (Some n)
+entered : (scan : Scan) (e : Option ℕ) (tag : ℕ) → IfSome e (λ number. (name : Name) × IsNamed scan.names.items number tag name) → IfSome e (IsKnown scan)
+entered scan None tag h = tt
+entered scan (Some number) tag h = known_entered scan number tag h
+
+after_known : (scan : Scan) (path : List ℕ) (e : Option ℕ) → ((n : ℕ) → In n path → IsKnown scan n) → IfSome e (IsKnown scan) → (n : ℕ) → In n (path_after path e) → IsKnown scan n
 after_known scan path None all new n h = all n h
 after_known scan path (Some number) all new n h = elim (in_cases n path (number ∷ []) h) [
   | inl a ↦ all n a
-  | inr (inl e) ↦ subst (λ x. IsKnown scan (Some x)) (sym e) new
+  | inr (inl e) ↦ subst (IsKnown scan) (sym e) new
   | inr (inr none) ↦ absurd none
 ]
 
@@ -70,7 +76,7 @@ module _ (w : World) (scan : Scan) (is : IsScan w scan) where
 
   -- what is inside leads inside
   pub stands_on : {k l : Key} {n : ℕ} → KeySteps S k l n → Stands scan k → Stands scan l
-  stands_on way = steps_keep way (Stands scan) (λ k s at h. record { inside = step_inside k.node s at.inside h; known = after_known scan k.path s.enters at.known (known_here w scan is k.node s h) })
+  stands_on way = steps_keep way (Stands scan) (λ k s at h. record { inside = step_inside k.node s at.inside h; known = after_known scan k.path s.enters at.known (entered scan s.enters s.tag (named_here w scan is k.node s h)) })
 
   pub stands : {k : Key} {n : ℕ} → KeySteps S (root_key 0) k n → Stands scan k
   stands way = stands_on way (record { inside = root_inside; known = λ n h. absurd h })
@@ -104,14 +110,16 @@ module _ (w : World) (scan : Scan) (is : IsScan w scan) where
   pub from_key : (k : FileKey) → IsKey w k → (l : Key) × IsReachedKey S 0 l × (file_key scan l ≡ k)
   from_key k r = let b = from_steps k r.0 r.1 in (b.0, (r.0, b.1), b.2)
 
-  same_paths : (p q : List ℕ) → ((n : ℕ) → In n p → IsKnown scan (Some n)) → ((n : ℕ) → In n q → IsKnown scan (Some n)) → map (name_at scan) p ≡ map (name_at scan) q → p ≡ q
+  same_paths : (p q : List ℕ) → ((n : ℕ) → In n p → IsKnown scan n) → ((n : ℕ) → In n q → IsKnown scan n) → map (name_at scan) p ≡ map (name_at scan) q → p ≡ q
   same_paths [] [] a b e = refl
   same_paths [] (y ∷ q) a b e = cc
   same_paths (x ∷ p) [] a b e = cc
   same_paths (x ∷ p) (y ∷ q) a b e =
       let first : name_at scan x ≡ name_at scan y = cc in
       let rest : map (name_at scan) p ≡ map (name_at scan) q = cc in
-      let same : x ≡ y = is.names x y (name_at scan x) (a x (inl refl)) (b y (inl refl) ∙ ap Some (sym first)) in
+      let p_first = a x (inl refl) in
+      let q_first = b y (inl refl) in
+      let same : x ≡ y = omega (arith, p_first.1 y (q_first.0 ∙ ap Some (sym first)), q_first.1 x (p_first.0 ∙ ap Some first)) in
       λ i. same i ∷ same_paths p q (λ n h. a n (inr h)) (λ n h. b n (inr h)) rest i
 
   -- the texts of a key tell it

@@ -1,26 +1,27 @@
 -- The rows of a scan are the steps of its files, by texts.
-use Rattle.std.proofs.Common.{◌≡◌, ℕ, ◌<◌, List, [], ◌∷◌, ◌++◌, map, length, get_or, Option, None, Some, IfSome, inl, inr, refl, sym, ap, subst, ◌∙◌, arith}
+use Rattle.std.proofs.Common.{◌≡◌, ℕ, ◌<◌, List, [], ◌∷◌, ◌++◌, map, length, get_or, Option, None, Some, inl, inr, refl, sym, ap, subst, ◌∙◌, arith}
 use Rattle.std.specs.Prelude.{unwrap_or}
 use Rattle.std.specs.List.{flat_map, slice_get}
 use Rattle.std.specs.declared.vec.Vec.{Vec}
 use Rattle.std.specs.declared.alloc.Global.{Global}
-use Rattle.std.proofs.lemmas.List.{length-map, map-append}
+use Rattle.std.proofs.lemmas.List.{map-append}
 use Rattle.std.proofs.lemmas.Option.{get_or_from_slice_get, slice_get_within}
 use Rattle.just_graph.specs.Unfolding.{steps}
 use Rattle.just_graph.specs.declared.unfolding.Step.{Step}
 use Rattle.just_graph.proofs.StepRows.{steps_at as row_read}
 use Rattle.just_graph.proofs.Members.{In, in_cases}
-use Rattle.just_parts.specs.Clean.{folder_of}
+use Rattle.just_names.specs.Clean.{folder_of}
 use Rattle.just_parts.specs.Edge.{Edge, Imports, Declares, edge_of}
-use Rattle.just_parts.specs.Name.{text_of_name}
-use Rattle.just_parts.specs.Modulepath.{Text}
+use Rattle.just_names.specs.Name.{text_of_name}
+use Rattle.just_names.specs.Modulepath.{Text}
+use Rattle.just_names.specs.declared.name.Name.{Name}
 use Rattle.just_parts.specs.declared.layers.ast.Item.{Item}
 use Rattle.just_loader.specs.Keys.{FileStep, end_of, items_at, steps_by, steps_of}
 use Rattle.just_loader.specs.Links.{Link, Nowhere, To, Fault}
 use Rattle.just_loader.specs.Placed.{file_at, name_at, text_step}
-use Rattle.just_loader.specs.Numbering.{texts_of}
+use Rattle.just_loader.specs.Numbering.{IsFirstAt, IsNamed, texts_of}
 use Rattle.just_loader.specs.Reached.{World, link}
-use Rattle.just_loader.specs.Scanned.{IsPlaceOf, ArePlacesOf, IsStepTo, IsStepOf, AreSteps, IsScan, IsScanned, paths_in}
+use Rattle.just_loader.specs.Scanned.{IsPlaceOf, ArePlacesOf, IsStepTo, IsStepOf, AreSteps, EntersName, IsScan, IsScanned, paths_in}
 use Rattle.just_loader.specs.declared.scanned.Scan.{Scan}
 use Rattle.just_loader.specs.declared.scanned.ScannedFile.{ScannedFile}
 use Rattle.just_loader.proofs.Numberings.{map_get, read_at}
@@ -41,27 +42,33 @@ module _ (scan : Scan) where
   abbrev paths : List Text
   paths = paths_in scan.files.items
 
-  abbrev names : List Text
-  names = texts_of scan.names.items
+  abbrev names : List Name
+  names = scan.names.items
 
-  -- the name that is entered has a number
-  abbrev pub IsKnown : Option ℕ → Type 0
-  IsKnown None = Unit {0}
-  IsKnown (Some number) = slice_get names number ≡ Some (name_at scan number)
+  abbrev texts : List Text
+  texts = texts_of names
 
-  known : (number : ℕ) (text : Text) → slice_get names number ≡ Some text → text ≡ name_at scan number
-  known number text e = sym (get_or_from_slice_get names number text [] e)
+  -- a number is that of a text
+  abbrev pub IsKnown : ℕ → Type 0
+  IsKnown number = IsFirstAt texts (name_at scan number) number
+
+  pub known : (number : ℕ) (text : Text) → slice_get texts number ≡ Some text → text ≡ name_at scan number
+  known number text e = sym (get_or_from_slice_get texts number text [] e)
+
+  -- what a step enters has one
+  pub known_entered : (number tag : ℕ) → (name : Name) × IsNamed names number tag name → IsKnown number
+  known_entered number tag named = subst (λ t. IsFirstAt texts t number) (known number (text_of_name named.0) named.1.0.0) named.1.0
 
   no_steps : (e : Option Edge) (l : Link) → end_of l ≡ [] → [] ≡ steps_by e l
-  no_steps (Some (Imports literal optional)) l at = sym (ap (map (λ path. let s : FileStep = record { to = path; offset = literal.token.offset; enters = None } in s)) at)
-  no_steps (Some (Declares name literal optional)) l at = sym (ap (map (λ path. let s : FileStep = record { to = path; offset = 0; enters = Some (text_of_name name) } in s)) at)
+  no_steps (Some (Imports literal optional)) l at = sym (ap (map (λ path. let s : FileStep = record { to = path; offset = literal.token.offset; enters = None; name = None } in s)) at)
+  no_steps (Some (Declares name literal optional)) l at = sym (ap (map (λ path. let s : FileStep = record { to = path; offset = 0; enters = Some (text_of_name name); name = Some name } in s)) at)
   no_steps None l at = refl
 
   edge_steps : (e : Option Edge) (l : Link) (place : ℕ) (row : List Step) → end_of l ≡ file_at scan place ∷ [] → IsStepTo names place e row → map (text_step scan) row ≡ steps_by e l
-  edge_steps (Some (Imports literal optional)) l place row at is = ap (map (text_step scan)) is ∙ sym (ap (map (λ path. let s : FileStep = record { to = path; offset = literal.token.offset; enters = None } in s)) at)
+  edge_steps (Some (Imports literal optional)) l place row at is = ap (map (text_step scan)) is ∙ sym (ap (map (λ path. let s : FileStep = record { to = path; offset = literal.token.offset; enters = None; name = None } in s)) at)
   edge_steps (Some (Declares name literal optional)) l place row at is =
-      ap (map (text_step scan)) is.2 ∙ ap (λ text. let s : FileStep = record { to = file_at scan place; offset = 0; enters = Some text } in s ∷ []) (sym (known is.0 (text_of_name name) is.1))
-      ∙ sym (ap (map (λ path. let s : FileStep = record { to = path; offset = 0; enters = Some (text_of_name name) } in s)) at)
+      ap (map (text_step scan)) is.3 ∙ (λ j. let s : FileStep = record { to = file_at scan place; offset = 0; enters = Some (sym (known is.0 (text_of_name name) is.2.0.0) j); name = is.2.1 j } in s ∷ [])
+      ∙ sym (ap (map (λ path. let s : FileStep = record { to = path; offset = 0; enters = Some (text_of_name name); name = Some name } in s)) at)
   edge_steps None l place row at is = ap (map (text_step scan)) is
 
   item_steps : (i : Item) (l : Link) (t : Option ℕ) (row : List Step) → IsPlaceOf paths l t → IsStepOf names i t row → map (text_step scan) row ≡ steps_by (edge_of i) l
@@ -76,27 +83,23 @@ module _ (scan : Scan) where
       ap (map (text_step scan)) are.4 ∙ map-append (text_step scan) are.0 are.1
       ∙ (λ j. item_steps i (L i) t are.0 ps.0 are.2 j ++ row_steps L is ts are.1 ps.1 are.3 j)
 
-  edge_known : (e : Option Edge) (place : ℕ) (row : List Step) (s : Step) → IsStepTo names place e row → In s row → IsKnown s.enters
-  edge_known (Some (Imports literal optional)) place row s is h = subst (λ (x : Step). IsKnown x.enters) (sym (one_target row _ s is h)) tt
-  edge_known (Some (Declares name literal optional)) place row s is h = subst (λ (x : Step). IsKnown x.enters) (sym (one_target row _ s is.2 h)) (is.1 ∙ ap Some (known is.0 (text_of_name name) is.1))
-  edge_known None place row s is h = absurd (subst (In s) is h)
+  edge_named : (e : Option Edge) (place : ℕ) (row : List Step) (s : Step) → IsStepTo names place e row → In s row → EntersName names s
+  edge_named (Some (Imports literal optional)) place row s is h = subst (EntersName names) (sym (one_target row _ s is h)) tt
+  edge_named (Some (Declares name literal optional)) place row s is h = subst (EntersName names) (sym (one_target row _ s is.3 h)) (name, is.2)
+  edge_named None place row s is h = absurd (subst (In s) is h)
 
-  item_known : (i : Item) (t : Option ℕ) (row : List Step) (s : Step) → IsStepOf names i t row → In s row → IsKnown s.enters
-  item_known i None row s is h = absurd (subst (In s) is h)
-  item_known i (Some place) row s is h = edge_known (edge_of i) place row s is h
+  item_named : (i : Item) (t : Option ℕ) (row : List Step) (s : Step) → IsStepOf names i t row → In s row → EntersName names s
+  item_named i None row s is h = absurd (subst (In s) is h)
+  item_named i (Some place) row s is h = edge_named (edge_of i) place row s is h
 
-  row_known : (is : List Item) (ts : List (Option ℕ)) (row : List Step) (s : Step) → AreSteps names is ts row → In s row → IsKnown s.enters
-  row_known [] [] row s are h = absurd (subst (In s) are h)
-  row_known [] (t ∷ ts) row s are h = absurd are
-  row_known (i ∷ is) [] row s are h = absurd are
-  row_known (i ∷ is) (t ∷ ts) row s are h = elim (in_cases s are.0 are.1 (subst (In s) are.4 h)) [ inl a ↦ item_known i t are.0 s are.2 a | inr b ↦ row_known is ts are.1 s are.3 b ]
+  row_named : (is : List Item) (ts : List (Option ℕ)) (row : List Step) (s : Step) → AreSteps names is ts row → In s row → EntersName names s
+  row_named [] [] row s are h = absurd (subst (In s) are h)
+  row_named [] (t ∷ ts) row s are h = absurd are
+  row_named (i ∷ is) [] row s are h = absurd are
+  row_named (i ∷ is) (t ∷ ts) row s are h = elim (in_cases s are.0 are.1 (subst (In s) are.4 h)) [ inl a ↦ item_named i t are.0 s are.2 a | inr b ↦ row_named is ts are.1 s are.3 b ]
 
 pub steps_at : (rows : List (Vec Step Global)) (a : ℕ) (row : Vec Step Global) → slice_get rows a ≡ Some row → steps rows a ≡ row.items
 steps_at rows a row e = row_read rows a row (slice_get_within rows a row e) ∙ ap (λ (x : Vec Step Global). x.items) (get_or_from_slice_get rows a row row e)
-
-pub numbered : (scan : Scan) (e : Option ℕ) → IsKnown scan e → IfSome e (λ number. number < length scan.names.items)
-numbered scan None h = tt
-numbered scan (Some number) h = omega (arith, slice_get_within (texts_of scan.names.items) number (name_at scan number) h, length-map scan.names.items text_of_name)
 
 module _ (w : World) (scan : Scan) (is : IsScan w scan) where
   -- the file at a place
@@ -107,7 +110,7 @@ module _ (w : World) (scan : Scan) (is : IsScan w scan) where
     pub row_is : slice_get scan.rows.items a ≡ Some row
     pub path_is : slice_get (paths_in scan.files.items) a ≡ Some (file_at scan a)
     pub path_at : file.path ≡ file_at scan a
-    pub scanned : IsScanned w (paths_in scan.files.items) (texts_of scan.names.items) file row.items
+    pub scanned : IsScanned w (paths_in scan.files.items) scan.names.items file row.items
 
   pub at : (a : ℕ) → a < length scan.files.items → At a
   at a h =
@@ -136,8 +139,8 @@ module _ (w : World) (scan : Scan) (is : IsScan w scan) where
       ∙ row_steps scan (link w (folder_of x.file.path)) x.scanned.items x.file.targets.items x.row.items x.scanned.targets x.scanned.steps
       ∙ (λ i. flat_map (λ item. steps_by (edge_of item) (link w (folder_of (x.path_at i)) item)) (sym (said a x) i))
 
-  pub known_here : (a : ℕ) (s : Step) → In s (steps scan.rows.items a) → IsKnown scan s.enters
-  known_here a s h =
+  pub named_here : (a : ℕ) (s : Step) → In s (steps scan.rows.items a) → EntersName scan.names.items s
+  named_here a s h =
       let row = row_at scan.rows.items a s h in
       let x = at a (omega (arith, is.count, slice_get_within scan.rows.items a row.0 row.1)) in
-      row_known scan x.scanned.items x.file.targets.items x.row.items s x.scanned.steps (subst (In s) (steps_at scan.rows.items a x.row x.row_is) h)
+      row_named scan x.scanned.items x.file.targets.items x.row.items s x.scanned.steps (subst (In s) (steps_at scan.rows.items a x.row x.row_is) h)

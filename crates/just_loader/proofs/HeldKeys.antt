@@ -8,16 +8,16 @@ use Rattle.just_graph.proofs.KeySteps.{steps_more}
 use Rattle.just_graph.proofs.Members.{In, contained, from_map, in_flat, in_map, is_in}
 use Rattle.just_parts.specs.Asts.{AstKey, root_ast_key}
 use Rattle.just_parts.specs.Bare.{bare_item, bare_recipe}
-use Rattle.just_parts.specs.Clean.{folder_of}
+use Rattle.just_names.specs.Clean.{folder_of}
 use Rattle.just_parts.specs.Edge.{absolute_of, edge_of}
 use Rattle.just_parts.specs.Located.{located_item, with_depth}
-use Rattle.just_parts.specs.Modulepath.{Text}
-use Rattle.just_parts.specs.Name.{text_of_name}
+use Rattle.just_names.specs.Modulepath.{Text}
+use Rattle.just_names.specs.Name.{text_of_name}
 use Rattle.just_parts.specs.Syntax.{ItemCameBy}
 use Rattle.just_parts.specs.declared.layers.ast.Ast.{Ast}
 use Rattle.just_parts.specs.declared.layers.ast.Item.{Item}
 use Rattle.just_parts.specs.declared.layers.ast.Item.TheVariants as item
-use Rattle.just_parts.specs.declared.modulepath.Modulepath.{Modulepath}
+use Rattle.just_names.specs.declared.modulepath.Modulepath.{Modulepath}
 use Rattle.just_parts.specs.declared.source.Source.{Source}
 use Rattle.just_loader.specs.Keys.{FileKey, FileNode, FileStep, IsKey, IsLeastFileDepth, ast_key, end_of, items_at, key_of_ast, root_file_key, steps_by, steps_of}
 use Rattle.just_loader.specs.Links.{Link, Nowhere, To, Fault}
@@ -56,18 +56,18 @@ record Led (w : World) (folder : Text) (m : Modulepath) (i : Item) (path : Text)
 
 led : (w : World) (folder : Text) (m : Modulepath) (i : Item) (path : Text) → absolute_of (with_path w folder i) ≡ Some path → Led w folder m i path
 led w folder m (item.Import relative absolute optional) path e =
-    let s : FileStep = record { to = path; offset = relative.token.offset; enters = None } in
+    let s : FileStep = record { to = path; offset = relative.token.offset; enters = None; name = None } in
     record {
       step = s;
-      has = subst (λ ps. In s (map (λ p. let x : FileStep = record { to = p; offset = relative.token.offset; enters = None } in x) ps)) (sym (end_is (link w folder (item.Import relative None optional)) path e)) (inl refl);
+      has = subst (λ ps. In s (map (λ p. let x : FileStep = record { to = p; offset = relative.token.offset; enters = None; name = None } in x) ps)) (sym (end_is (link w folder (item.Import relative None optional)) path e)) (inl refl);
       leads = refl;
       enters = refl;
     }
 led w folder m (item.Module name relative absolute optional) path e =
-    let s : FileStep = record { to = path; offset = 0; enters = Some (text_of_name name) } in
+    let s : FileStep = record { to = path; offset = 0; enters = Some (text_of_name name); name = Some name } in
     record {
       step = s;
-      has = subst (λ ps. In s (map (λ p. let x : FileStep = record { to = p; offset = 0; enters = Some (text_of_name name) } in x) ps)) (sym (end_is (link w folder (item.Module name relative None optional)) path e)) (inl refl);
+      has = subst (λ ps. In s (map (λ p. let x : FileStep = record { to = p; offset = 0; enters = Some (text_of_name name); name = Some name } in x) ps)) (sym (end_is (link w folder (item.Module name relative None optional)) path e)) (inl refl);
       leads = refl;
       enters = refl;
     }

@@ -1,22 +1,22 @@
 -- One more text under a number.
-use Rattle.std.proofs.Common.{◌≡◌, ◌≢◌, ℕ, zero, suc, false, List, [], ◌∷◌, ◌++◌, map, length, Option, Some, None, ◌⊎◌, inl, inr, refl, sym, ap, subst, ◌∙◌}
+use Rattle.std.proofs.Common.{◌≡◌, ◌≢◌, ℕ, zero, suc, false, List, [], ◌∷◌, ◌++◌, map, length, Option, Some, None, ◌⊎◌, inl, inr, refl, sym, ap, subst, ◌∙◌, arith}
 use Rattle.std.specs.List.{Contains, slice_get}
-use Rattle.std.proofs.lemmas.Option.{slice_get_read}
+use Rattle.std.proofs.lemmas.Option.{slice_get_read, slice_get_within}
 use Rattle.std.specs.Str.{bytes_eq}
-use Rattle.std.proofs.lemmas.Bool.{false_from_ne_true}
+use Rattle.std.proofs.lemmas.Bool.{cases_lt, false_from_ne_true}
 use Rattle.std.proofs.lemmas.List.{map-append, length-map}
 use Rattle.std.proofs.lemmas.Slice.Eq.{bytes_eq-Decides}
 use Rattle.std.specs.HashMap.{get}
 pub use Rattle.just_graph.proofs.Told.{at_least as read_at, get_old as get_more, get_last}
 pub use Rattle.just_graph.proofs.Index.{got_in as got, map_get, none_some, some_same}
 use Rattle.just_graph.specs.Unfolded.{AreApart}
-use Rattle.just_parts.specs.Name.{text_of_name}
-use Rattle.just_parts.specs.declared.layers.name.Name.{Name}
+use Rattle.just_names.specs.Name.{text_of_name}
+use Rattle.just_names.specs.declared.name.Name.{Name}
 use Rattle.just_loader.specs.Sources.{Files}
 use Rattle.just_loader.specs.declared.sources.SourceFile.{SourceFile}
 use Rattle.just_loader.specs.declared.found.Found.{Found}
-use Rattle.just_loader.specs.Numbering.{IsNumbering, IsFile, AreFound, paths_of, texts_of}
-use Rattle.just_parts.proofs.SameTexts.{same_or_not}
+use Rattle.just_loader.specs.Numbering.{IsNumbering, IsFile, IsFirstAt, IsNamed, HaveFirst, AreFound, paths_of, texts_of}
+use Rattle.just_names.proofs.SameTexts.{same_or_not}
 
 pub get_cases : {A : Type 0} (xs : List A) (x y : A) (i : ℕ) → slice_get (xs ++ x ∷ []) i ≡ Some y → (slice_get xs i ≡ Some y) ⊎ ((i ≡ length xs) × (x ≡ y))
 get_cases [] x y zero e = inr (refl, cc)
@@ -60,11 +60,75 @@ numbering_more texts more old new t n none here others is q i = elim (same_or_no
   )
 ]
 
-pub names_more : (old new : List Name) (n m : Name) (before after : List ℕ → Option ℕ) (t : List ℕ) (number : ℕ) → IsNumbering (texts_of old) before → before t ≡ None → after t ≡ Some number → number ≡ length old
-    → ((q : List ℕ) → bytes_eq t q ≡ false → after q ≡ before q) → new ≡ old ++ m ∷ [] → m ≡ n → t ≡ text_of_name n → IsNumbering (texts_of new) after
-names_more old new n m before after t number numbered none here place others is same text =
-    numbering_more (texts_of old) (texts_of new) before after t numbered none (here ∙ ap Some (place ∙ sym (length-map old text_of_name))) others
-    (ap texts_of is ∙ map-append text_of_name old (m ∷ []) ∙ ap (λ x. texts_of old ++ x ∷ []) (ap text_of_name same ∙ sym text))
+-- a first place stays one as more texts come
+pub first_more : (texts more : List (List ℕ)) (t : List ℕ) (i : ℕ) → IsFirstAt texts t i → IsFirstAt (texts ++ more) t i
+first_more texts more t i f = (
+  get_more texts more i t f.0,
+  λ j e. elim (cases_lt j (length texts)) [
+    | inl before ↦ let x = read_at texts j before in f.1 j (x.1 ∙ ap Some (some_same (sym (get_more texts more j x.0 x.1) ∙ e)))
+    | inr past ↦ omega (arith, past, slice_get_within texts i t f.0)
+  ],
+)
+
+-- one more text that has a number
+numbers_kept : (texts more : List (List ℕ)) (numbers : List ℕ → Option ℕ) (t : List ℕ) (n : ℕ) → HaveFirst texts numbers → numbers t ≡ Some n → more ≡ texts ++ t ∷ [] → HaveFirst more numbers
+numbers_kept texts more numbers t n h at is = record {
+  first = λ q i e. subst (λ xs. IsFirstAt xs q i) (sym is) (first_more texts (t ∷ []) q i (h.first q i e));
+  each = λ q k e. elim (get_cases texts t q k (ap (λ xs. slice_get xs k) (sym is) ∙ e)) [
+    | inl before ↦ h.each q k before
+    | inr last ↦ (n, ap numbers (sym last.1) ∙ at)
+  ];
+}
+
+-- one more text that had none
+numbers_more : (texts more : List (List ℕ)) (old new : List ℕ → Option ℕ) (t : List ℕ) → HaveFirst texts old → old t ≡ None → new t ≡ Some (length texts) → ((q : List ℕ) → bytes_eq t q ≡ false → new q ≡ old q)
+    → more ≡ texts ++ t ∷ [] → HaveFirst more new
+numbers_more texts more old new t h none here others is = record {
+  first = λ q i e. subst (λ xs. IsFirstAt xs q i) (sym is) (elim (same_or_not t q) [
+    | inl same ↦
+        let place : length texts ≡ i = some_same (sym here ∙ ap new same ∙ e) in (
+          ap (slice_get (texts ++ t ∷ [])) (sym place) ∙ get_last texts t ∙ ap Some same,
+          λ j f. elim (get_cases texts t q j f) [
+            | inl before ↦ absurd (none_some (sym none ∙ ap old same ∙ (h.each q j before).1))
+            | inr last ↦ omega (arith, last.0, place)
+          ],
+        )
+    | inr ne ↦ first_more texts (t ∷ []) q i (h.first q i (sym (others q (differ t q ne)) ∙ e))
+  ]);
+  each = λ q k e. elim (same_or_not t q) [
+    | inl same ↦ (length texts, ap new (sym same) ∙ here)
+    | inr ne ↦ elim (get_cases texts t q k (ap (λ xs. slice_get xs k) (sym is) ∙ e)) [
+      | inl before ↦ let r = h.each q k before in (r.0, others q (differ t q ne) ∙ r.1)
+      | inr last ↦ absurd (ne last.1)
+    ]
+  ];
+}
+
+-- a name that is put last
+module _ (old new : List Name) (n m : Name) (t : List ℕ) (is : new ≡ old ++ m ∷ []) (same : m ≡ n) (text : t ≡ text_of_name n) where
+  texts_last : texts_of new ≡ texts_of old ++ t ∷ []
+  texts_last = ap texts_of is ∙ map-append text_of_name old (m ∷ []) ∙ ap (λ x. texts_of old ++ x ∷ []) (ap text_of_name same ∙ sym text)
+
+  pub names_kept : (numbers : List ℕ → Option ℕ) (number : ℕ) → HaveFirst (texts_of old) numbers → numbers t ≡ Some number → HaveFirst (texts_of new) numbers
+  names_kept numbers number h at = numbers_kept (texts_of old) (texts_of new) numbers t number h at texts_last
+
+  pub names_more : (before after : List ℕ → Option ℕ) (number : ℕ) → HaveFirst (texts_of old) before → before t ≡ None → after t ≡ Some number → number ≡ length old
+      → ((q : List ℕ) → bytes_eq t q ≡ false → after q ≡ before q) → HaveFirst (texts_of new) after
+  names_more before after number h none here place others =
+      numbers_more (texts_of old) (texts_of new) before after t h none (here ∙ ap Some (place ∙ sym (length-map old text_of_name))) others texts_last
+
+  pub named_last : (numbers : List ℕ → Option ℕ) (number : ℕ) → HaveFirst (texts_of new) numbers → numbers t ≡ Some number → IsNamed new number (length old) n
+  named_last numbers number h at = (
+    subst (λ x. IsFirstAt (texts_of new) x number) text (h.first t number at),
+    ap (λ xs. slice_get xs (length old)) is ∙ get_last old m ∙ ap Some same,
+  )
+
+-- a name at its place, as more come
+pub named_more : (old more : List Name) (number place : ℕ) (n : Name) → IsNamed old number place n → IsNamed (old ++ more) number place n
+named_more old more number place n h = (
+  subst (λ ts. IsFirstAt ts (text_of_name n) number) (sym (map-append text_of_name old more)) (first_more (texts_of old) (texts_of more) (text_of_name n) number h.0),
+  get_more old more place n h.1,
+)
 
 abbrev places : Found → List ℕ → Option ℕ
 places found = get bytes_eq found.places

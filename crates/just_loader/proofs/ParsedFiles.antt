@@ -8,7 +8,7 @@ use Rattle.std.proofs.lemmas.List.Elements.{All-map, All-weaker}
 use Rattle.std.proofs.lemmas.Option.{slice_get_read}
 use Rattle.just_graph.specs.declared.unfolding.Step.{Step}
 use Rattle.just_parts.specs.Bare.{bare_ast, bare_item}
-use Rattle.just_parts.specs.Clean.{folder_of}
+use Rattle.just_names.specs.Clean.{folder_of}
 use Rattle.just_parts.specs.Syntax.{SyntaxAnswers, PriorsAreDependencies, Refuses}
 use Rattle.just_parts.specs.declared.layers.ast.Ast.{Ast}
 use Rattle.just_parts.specs.declared.layers.ast.Item.{Item}
@@ -19,7 +19,6 @@ use Rattle.just_loader.specs.Keys.{spends_at}
 use Rattle.just_loader.specs.Loaded.{path_of_link, with_path}
 use Rattle.just_loader.specs.Placed.{file_at}
 use Rattle.just_loader.specs.Loading.{IsScanBy, StopsAt}
-use Rattle.just_loader.specs.Numbering.{texts_of}
 use Rattle.just_loader.specs.Reached.{World, ast_of, items_said, link, relative_to_root}
 use Rattle.just_loader.specs.Scanned.{ArePlacesOf, IsScanned, paths_in}
 use Rattle.just_loader.specs.declared.scanned.Scan.{Scan}
@@ -37,7 +36,7 @@ module _ (w : World) (scan : Scan) (answers : SyntaxAnswers) (by : IsScanBy w sc
   row : (row : Vec Step Global) × (slice_get scan.rows.items place ≡ Some row)
   row = read_at scan.rows.items place (omega (arith, inside, by.is_scan.count))
 
-  scanned : IsScanned w (paths_in scan.files.items) (texts_of scan.names.items) file row.0.items
+  scanned : IsScanned w (paths_in scan.files.items) scan.names.items file row.0.items
   scanned = by.is_scan.scanned place file row.0 (slice_get_read scan.files.items (length scan.files.items) place file refl inside is) row.1
 
   pub path : file.path ≡ file_at scan place

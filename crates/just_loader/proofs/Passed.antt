@@ -9,7 +9,7 @@ use Rattle.std.specs.List.Sorted.{IsStrictlySortedBy}
 use Rattle.std.specs.Map.{keys_of}
 use Rattle.std.proofs.lemmas.Bool.{cond-true, cond-false, eq-eqb, ne_eqb}
 use Rattle.std.proofs.lemmas.Bool.Decides.{nat_tests, eqb_tells}
-use Rattle.just_parts.specs.Entries.{from_key, IsSorted}
+use Rattle.just_table.specs.Entries.{from_key, IsSorted}
 use Rattle.just_loader.specs.ModuleFile.{after}
 
 -- what a comparison says of the first bytes

@@ -11,7 +11,7 @@ use Rattle.std.specs.declared.cmp.Ordering.TheVariants.{Less, Equal, Greater}
 use Rattle.std.proofs.lemmas.List.Elements.{All-contains, All-head, All-tail, All-cons}
 use Rattle.std.proofs.lemmas.Map.Views.{Contains-keys_from_lookup}
 use Rattle.std.proofs.lemmas.Slice.Eq.{bytes_eq-Decides}
-use Rattle.just_parts.specs.Entries.{find, put}
+use Rattle.just_table.specs.Entries.{find, put}
 
 module _ {V : Type 0} (P : List ℕ → Type 0) where
   abbrev Holds : List (List ℕ × V) → Type 0

@@ -4,11 +4,12 @@ use Rattle.std.specs.List.{Contains}
 use Rattle.std.proofs.lemmas.List.{append_assoc, append-nil, map-append, take_more}
 use Rattle.std.proofs.lemmas.List.Elements.{Contains-append_cases}
 use Rattle.just_graph.specs.declared.unfolding.Step.{Step}
+use Rattle.just_names.specs.declared.name.Name.{Name}
 use Rattle.just_parts.specs.declared.layers.ast.Item.{Item}
 use Rattle.just_parts.specs.Edge.{Edge, Imports, Declares, edge_of}
 use Rattle.just_loader.specs.Links.{Link, Nowhere, To, Fault}
 use Rattle.just_loader.specs.Scanned.{IsPlaceOf, ArePlacesOf, IsStepTo, IsStepOf, AreSteps, Grows, Extends}
-use Rattle.just_loader.proofs.Numberings.{get_more, map_get, got}
+use Rattle.just_loader.proofs.Numberings.{get_more, map_get, got, named_more}
 use Rattle.std.proofs.lemmas.Option.{slice_get_read}
 
 -- more files are found
@@ -39,22 +40,22 @@ places_count paths (l ∷ ls) [] p = absurd p
 places_count paths (l ∷ ls) (t ∷ ts) p = omega (arith, places_count paths ls ts p.1)
 
 -- more names are numbered
-step_to_more : (old more : List (List ℕ)) (place : ℕ) (e : Option Edge) (steps : List Step) → IsStepTo old place e steps → IsStepTo (old ++ more) place e steps
+step_to_more : (old more : List Name) (place : ℕ) (e : Option Edge) (steps : List Step) → IsStepTo old place e steps → IsStepTo (old ++ more) place e steps
 step_to_more old more place (Some (Imports literal optional)) steps s = s
-step_to_more old more place (Some (Declares name literal optional)) steps s = (s.0, get_more old more s.0 _ s.1, s.2)
+step_to_more old more place (Some (Declares name literal optional)) steps s = (s.0, s.1, named_more old more s.0 s.1 name s.2, s.3)
 step_to_more old more place None steps s = s
 
-pub step_more : (old more : List (List ℕ)) (i : Item) (t : Option ℕ) (steps : List Step) → IsStepOf old i t steps → IsStepOf (old ++ more) i t steps
+pub step_more : (old more : List Name) (i : Item) (t : Option ℕ) (steps : List Step) → IsStepOf old i t steps → IsStepOf (old ++ more) i t steps
 step_more old more i None steps s = s
 step_more old more i (Some place) steps s = step_to_more old more place (edge_of i) steps s
 
-pub steps_more : (old more : List (List ℕ)) (is : List Item) (ts : List (Option ℕ)) (row : List Step) → AreSteps old is ts row → AreSteps (old ++ more) is ts row
+pub steps_more : (old more : List Name) (is : List Item) (ts : List (Option ℕ)) (row : List Step) → AreSteps old is ts row → AreSteps (old ++ more) is ts row
 steps_more old more [] [] row s = s
 steps_more old more [] (t ∷ ts) row s = absurd s
 steps_more old more (i ∷ is) [] row s = absurd s
 steps_more old more (i ∷ is) (t ∷ ts) row s = (s.0, s.1, step_more old more i t s.0 s.2, steps_more old more is ts s.1 s.3, s.4)
 
-pub steps_push : (names : List (List ℕ)) (is : List Item) (ts : List (Option ℕ)) (row : List Step) (i : Item) (t : Option ℕ) (steps : List Step) → AreSteps names is ts row → IsStepOf names i t steps
+pub steps_push : (names : List Name) (is : List Item) (ts : List (Option ℕ)) (row : List Step) (i : Item) (t : Option ℕ) (steps : List Step) → AreSteps names is ts row → IsStepOf names i t steps
     → AreSteps names (is ++ i ∷ []) (ts ++ t ∷ []) (row ++ steps)
 steps_push names [] [] row i t steps s p = (steps, [], p, refl, ap (λ r. r ++ steps) s ∙ sym (append-nil steps))
 steps_push names [] (x ∷ ts) row i t steps s p = absurd s
@@ -68,7 +69,7 @@ grows_on P Q old mid new g h f = (g.0 ++ h.0, h.1 ∙ ap (λ xs. xs ++ h.0) g.1 
 pub grows_by : (P Q : List ℕ → Type 0) (old new : List (List ℕ)) → Grows P old new → ((t : List ℕ) → P t → Q t) → Grows Q old new
 grows_by P Q old new g f = (g.0, g.1, λ t c. f t (g.2 t c))
 
-pub extends_on : (old mid new : List (List ℕ)) → Extends old mid → Extends mid new → Extends old new
+pub extends_on : {A : Type 0} (old mid new : List A) → Extends old mid → Extends mid new → Extends old new
 extends_on old mid new g h = (g.0 ++ h.0, h.1 ∙ ap (λ xs. xs ++ h.0) g.1 ∙ append_assoc old g.0 h.0)
 
 contains_map : {A B : Type 0} (f : A → B) (xs : List A) (i : ℕ) (x : A) → i < length xs → x ≡ get_or xs i x → Contains (map f xs) (f x)
@@ -87,7 +88,7 @@ targets_step L items i x old mid new ts more t h is places grows place one e =
       grows_on (λ p. L x ≡ To p) (λ p. Contains (map L items) (To p)) old mid new grows one (λ p to. subst (Contains (map L items)) to (contains_map L items i x h is)),
     )
 
-pub row_step : (items : List Item) (targets : List (Option ℕ)) (i : ℕ) (x : Item) (t : Option ℕ) (old mid new : List (List ℕ)) (row more : List Step) → i < length items → length targets ≡ length items → x ≡ get_or items i x → t ≡ get_or targets i t
+pub row_step : (items : List Item) (targets : List (Option ℕ)) (i : ℕ) (x : Item) (t : Option ℕ) (old mid new : List Name) (row more : List Step) → i < length items → length targets ≡ length items → x ≡ get_or items i x → t ≡ get_or targets i t
     → AreSteps mid (take i items) (take i targets) row → Extends old mid → (steps : List Step) × IsStepOf new x t steps × (more ≡ row ++ steps) → Extends mid new
     → AreSteps new (take (i + 1) items) (take (i + 1) targets) more × Extends old new
 row_step items targets i x t old mid new row more h count is at before extends one on =

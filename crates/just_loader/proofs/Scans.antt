@@ -5,8 +5,9 @@ use Rattle.std.specs.List.{Contains, slice_get}
 use Rattle.std.specs.Option.{option_map, option_and_then}
 use Rattle.just_graph.specs.declared.unfolding.Step.{Step}
 use Rattle.just_parts.specs.Bare.{bare_item}
-use Rattle.just_parts.specs.Clean.{folder_of}
-use Rattle.just_parts.specs.Entries.{find}
+use Rattle.just_names.specs.Clean.{folder_of}
+use Rattle.just_names.specs.declared.name.Name.{Name}
+use Rattle.just_table.specs.Entries.{find}
 use Rattle.just_parts.specs.Syntax.{Refuses}
 use Rattle.just_parts.specs.declared.layers.ast.Item.{Item}
 use Rattle.just_parts.specs.declared.layers.error.Error.{Error}
@@ -29,12 +30,12 @@ pub links_bare : (files : Files) (home : Option (List ℕ)) (enabled : Item → 
 links_bare files home enabled folder [] = refl
 links_bare files home enabled folder (i ∷ is) = λ j. link_bare files home enabled folder i j ∷ links_bare files home enabled folder is j
 
-step_bare : (names : List (List ℕ)) (i : Item) (t : Option ℕ) (steps : List Step) → IsStepOf names i t steps → IsStepOf names (bare_item i) t steps
+step_bare : (names : List Name) (i : Item) (t : Option ℕ) (steps : List Step) → IsStepOf names i t steps → IsStepOf names (bare_item i) t steps
 step_bare names i None steps s = s
 step_bare names i (Some place) steps s = subst (λ e. IsStepTo names place e steps) (sym (edge_bare i)) s
 
 -- so are its steps
-steps_bare : (names : List (List ℕ)) (is : List Item) (ts : List (Option ℕ)) (row : List Step) → AreSteps names is ts row → AreSteps names (map bare_item is) ts row
+steps_bare : (names : List Name) (is : List Item) (ts : List (Option ℕ)) (row : List Step) → AreSteps names is ts row → AreSteps names (map bare_item is) ts row
 steps_bare names [] [] row s = s
 steps_bare names [] (t ∷ ts) row s = absurd s
 steps_bare names (i ∷ is) [] row s = absurd s
@@ -107,7 +108,7 @@ module _ (w : World) (f : SourceFile) (file : find f.path w.files ≡ Some f) wh
         let here = map_get (link w (folder_of f.path)) (map bare_item items) at.0 i at.1 ∙ ap Some fault in
         no_fault paths links ts at.0 c places (ap (λ ls. slice_get ls at.0) (sym bare) ∙ here)
 
-    pub is_scanned : (paths names : List (List ℕ)) (s : ScannedFile) (row : List Step) → s.path ≡ f.path → s.text ≡ f.text → s.relative ≡ relative_to_root w f.path → s.items ≡ items → ArePlacesOf paths links s.targets.items → AreSteps names items s.targets.items row
+    pub is_scanned : (paths : List (List ℕ)) (names : List Name) (s : ScannedFile) (row : List Step) → s.path ≡ f.path → s.text ≡ f.text → s.relative ≡ relative_to_root w f.path → s.items ≡ items → ArePlacesOf paths links s.targets.items → AreSteps names items s.targets.items row
         → IsScanned w paths names s row
     is_scanned paths names s row path text relative same targets steps = record {
       text = ap (text_at w.files) path ∙ text_there ∙ ap Some (sym text);

@@ -5,7 +5,7 @@ use Rattle.std.specs.Option.{option_copied}
 use Rattle.std.proofs.lemmas.List.Elements.{All-contains}
 use Rattle.std.proofs.lemmas.Map.Views.{Contains-from_lookup}
 use Rattle.std.proofs.lemmas.Slice.Eq.{bytes_eq-Decides}
-use Rattle.just_parts.specs.Entries.{find, IsKeyed}
+use Rattle.just_table.specs.Entries.{find, IsKeyed}
 use Rattle.just_loader.specs.Sources.{Files}
 use Rattle.just_loader.specs.declared.sources.SourceFile.{SourceFile}
 

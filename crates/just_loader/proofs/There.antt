@@ -7,11 +7,11 @@ use Rattle.std.proofs.lemmas.Cmp.{nat_list_eq_equiv}
 use Rattle.std.proofs.lemmas.List.Elements.{All-nil, All-cons, All-head, All-append, All-filter, Contains-get_or}
 use Rattle.std.proofs.lemmas.Map.Views.{IsSome-lookup_from_Contains}
 use Rattle.just_parts.specs.Bare.{bare_item}
-use Rattle.just_parts.specs.Entries.{find}
-use Rattle.just_parts.specs.Join.{clean_join}
-use Rattle.just_parts.specs.Name.{text_of_name}
-use Rattle.just_parts.specs.Token.{Place}
-use Rattle.just_parts.specs.declared.layers.name.Name.{Name}
+use Rattle.just_table.specs.Entries.{find}
+use Rattle.just_names.specs.Join.{clean_join}
+use Rattle.just_names.specs.Name.{text_of_name}
+use Rattle.just_names.specs.Token.{Place}
+use Rattle.just_names.specs.declared.name.Name.{Name}
 use Rattle.just_parts.specs.declared.layers.ast.Item.{Item}
 use Rattle.just_parts.specs.Edge.{Edge, Imports, Declares, edge_of}
 use Rattle.just_loader.specs.Links.{Link, Nowhere, To, expanded, given, unless, import_link, choice, module_link, edge_link, link_in}

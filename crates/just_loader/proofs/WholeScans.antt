@@ -15,12 +15,13 @@ use Rattle.just_graph.specs.declared.unfolding.Step.{Step}
 use Rattle.just_graph.proofs.Members.{In, contained, is_in, in_cases, from_map, without}
 use Rattle.just_graph.proofs.Index.{same_lists}
 use Rattle.just_graph.specs.Unfolded.{AreApart}
-use Rattle.just_parts.specs.Clean.{IsClean, folder_of}
-use Rattle.just_parts.specs.Entries.{find}
+use Rattle.just_names.specs.Clean.{IsClean, folder_of}
+use Rattle.just_names.specs.declared.name.Name.{Name}
+use Rattle.just_table.specs.Entries.{find}
 use Rattle.just_parts.specs.declared.layers.ast.Item.{Item}
 use Rattle.just_parts.specs.Edge.{Edge, Imports, Declares, edge_of}
 use Rattle.just_loader.specs.Links.{Link, Nowhere, To, Fault}
-use Rattle.just_loader.specs.Numbering.{AreFound, paths_of, texts_of}
+use Rattle.just_loader.specs.Numbering.{AreFound, paths_of}
 use Rattle.just_loader.specs.Reached.{World, Reached, from_root, from_file, items_of, link, LeadsTo, NamesAt, NamesInScan}
 use Rattle.just_parts.specs.Causes.{Cause}
 use Rattle.just_loader.specs.Scanned.{IsPlaceOf, ArePlacesOf, IsStepTo, IsStepOf, AreSteps, IsScanned, AreScanned, IsScan, paths_in, Grows, Extends}
@@ -33,7 +34,7 @@ use Rattle.just_loader.proofs.Numberings.{get_cases, get_map, get_more, got, map
 use Rattle.just_loader.proofs.Scanning.{places_more, steps_more}
 
 -- The files so far: those that are found are reached, and the first of them are scanned.
-pub record ScannedSoFar (w : World) (paths names : List (List ℕ)) (files : List ScannedFile) (rows : List (Vec Step Global)) : Type 0 where
+pub record ScannedSoFar (w : World) (paths : List (List ℕ)) (names : List Name) (files : List ScannedFile) (rows : List (Vec Step Global)) : Type 0 where
   pub first : slice_get paths 0 ≡ Some w.root
   pub reached : (path : List ℕ) → Contains paths path → Reached w path
   pub count : length rows ≡ length files
@@ -55,7 +56,7 @@ text_file None h = h
 text_file (Some f) h = refl
 
 -- the root is found
-pub start : (w : World) (old paths names : List (List ℕ)) (place : ℕ) (files : List ScannedFile) (rows : List (Vec Step Global)) → old ≡ [] → (paths ≡ old) ⊎ (paths ≡ old ++ w.root ∷ []) → slice_get paths place ≡ Some w.root
+pub start : (w : World) (old paths : List (List ℕ)) (names : List Name) (place : ℕ) (files : List ScannedFile) (rows : List (Vec Step Global)) → old ≡ [] → (paths ≡ old) ⊎ (paths ≡ old ++ w.root ∷ []) → slice_get paths place ≡ Some w.root
     → files ≡ [] → rows ≡ [] → ScannedSoFar w paths names files rows
 start w old paths names place files rows none added at no_files no_rows =
     let is : paths ≡ w.root ∷ [] = only_one w.root paths place (elim added [ inl e ↦ inl (e ∙ none) | inr e ↦ inr (e ∙ ap (λ xs. xs ++ w.root ∷ []) none) ]) at in
@@ -70,8 +71,8 @@ start w old paths names place files rows none added at no_files no_rows =
     }
 
 -- more is found
-scanned_more : (w : World) (paths names more_paths more_names : List (List ℕ)) (file : ScannedFile) (row : List Step) → IsScanned w paths names file row → IsScanned w (paths ++ more_paths) (names ++ more_names) file row
-scanned_more w paths names more_paths more_names file row s = record {
+scanned_more : (w : World) (paths more_paths : List (List ℕ)) (names more_names : List Name) (file : ScannedFile) (row : List Step) → IsScanned w paths names file row → IsScanned w (paths ++ more_paths) (names ++ more_names) file row
+scanned_more w paths more_paths names more_names file row s = record {
   text = s.text;
   relative = s.relative;
   items = s.items;
@@ -81,15 +82,15 @@ scanned_more w paths names more_paths more_names file row s = record {
   steps = steps_more names more_names s.items file.targets.items row s.steps;
 }
 
-scanned_on : (w : World) (paths names paths' names' : List (List ℕ)) (file : ScannedFile) (row : List Step) → Extends paths paths' → Extends names names' → IsScanned w paths names file row → IsScanned w paths' names' file row
-scanned_on w paths names paths' names' file row g h s =
-    subst (λ ps. IsScanned w ps names' file row) (sym g.1) (subst (λ ns. IsScanned w (paths ++ g.0) ns file row) (sym h.1) (scanned_more w paths names g.0 h.0 file row s))
+scanned_on : (w : World) (paths paths' : List (List ℕ)) (names names' : List Name) (file : ScannedFile) (row : List Step) → Extends paths paths' → Extends names names' → IsScanned w paths names file row → IsScanned w paths' names' file row
+scanned_on w paths paths' names names' file row g h s =
+    subst (λ ps. IsScanned w ps names' file row) (sym g.1) (subst (λ ns. IsScanned w (paths ++ g.0) ns file row) (sym h.1) (scanned_more w paths g.0 names h.0 file row s))
 
 -- one more file is scanned
-pub scan_one : (w : World) (paths names paths' names' : List (List ℕ)) (files files' : List ScannedFile) (rows rows' : List (Vec Step Global)) (f : SourceFile) (s : ScannedFile) (row : Vec Step Global)
+pub scan_one : (w : World) (paths paths' : List (List ℕ)) (names names' : List Name) (files files' : List ScannedFile) (rows rows' : List (Vec Step Global)) (f : SourceFile) (s : ScannedFile) (row : Vec Step Global)
     → ScannedSoFar w paths names files rows → slice_get paths (length files) ≡ Some f.path → s.path ≡ f.path → IsScanned w paths' names' s row.items → ((c : Cause) → NamesAt w f.path c → ⊥)
     → Grows (LeadsTo w f.path) paths paths' → Extends names names' → files' ≡ files ++ s ∷ [] → rows' ≡ rows ++ row ∷ [] → ScannedSoFar w paths' names' files' rows'
-scan_one w paths names paths' names' files files' rows rows' f s row so at path scanned kept grows extends is_files is_rows =
+scan_one w paths paths' names names' files files' rows rows' f s row so at path scanned kept grows extends is_files is_rows =
     let here : Reached w f.path = so.reached f.path (got paths (length files) f.path at) in
     let inside : length files < length paths = slice_get_within paths (length files) f.path at in
     let stays : (k : ℕ) (p : List ℕ) → slice_get paths k ≡ Some p → slice_get paths' k ≡ Some p = λ k p e. ap (λ ps. slice_get ps k) grows.1 ∙ get_more paths grows.0 k p e in
@@ -109,7 +110,7 @@ scan_one w paths names paths' names' files files' rows rows' f s row so at path 
       ];
       scanned = λ k file r e h. elim (get_cases files s file k (ap (λ fs. slice_get fs k) (sym is_files) ∙ e)) [
         | inl old ↦ elim (get_cases rows row r k (ap (λ rs. slice_get rs k) (sym is_rows) ∙ h)) [
-          | inl before ↦ scanned_on w paths names paths' names' file r.items (grows.0, grows.1) extends (so.scanned k file r old before)
+          | inl before ↦ scanned_on w paths paths' names names' file r.items (grows.0, grows.1) extends (so.scanned k file r old before)
           | inr last ↦ absurd (omega (arith, last.0, so.count, slice_get_within files k file old))
         ]
         | inr new ↦ elim (get_cases rows row r k (ap (λ rs. slice_get rs k) (sym is_rows) ∙ h)) [
@@ -148,16 +149,16 @@ places_inside paths (l ∷ ls) (t ∷ ts) place ps (inr h) = places_inside paths
 pub one_target : (steps : List Step) (x s : Step) → steps ≡ x ∷ [] → In s steps → s ≡ x
 one_target steps x s e h = elim (subst (In s) e h) [ inl same ↦ same | inr none ↦ absurd none ]
 
-step_to_target : (names : List (List ℕ)) (place : ℕ) (e : Option Edge) (steps : List Step) (s : Step) → IsStepTo names place e steps → In s steps → s.target ≡ place
+step_to_target : (names : List Name) (place : ℕ) (e : Option Edge) (steps : List Step) (s : Step) → IsStepTo names place e steps → In s steps → s.target ≡ place
 step_to_target names place (Some (Imports literal optional)) steps s is h = ap (λ (x : Step). x.target) (one_target steps _ s is h)
-step_to_target names place (Some (Declares name literal optional)) steps s is h = ap (λ (x : Step). x.target) (one_target steps _ s is.2 h)
+step_to_target names place (Some (Declares name literal optional)) steps s is h = ap (λ (x : Step). x.target) (one_target steps _ s is.3 h)
 step_to_target names place None steps s is h = absurd (subst (In s) is h)
 
-step_target : (names : List (List ℕ)) (i : Item) (t : Option ℕ) (steps : List Step) (s : Step) → IsStepOf names i t steps → In s steps → Some s.target ≡ t
+step_target : (names : List Name) (i : Item) (t : Option ℕ) (steps : List Step) (s : Step) → IsStepOf names i t steps → In s steps → Some s.target ≡ t
 step_target names i None steps s is h = absurd (subst (In s) is h)
 step_target names i (Some place) steps s is h = ap Some (step_to_target names place (edge_of i) steps s is h)
 
-pub steps_target : (names : List (List ℕ)) (is : List Item) (ts : List (Option ℕ)) (row : List Step) (s : Step) → AreSteps names is ts row → In s row → In (Some s.target) ts
+pub steps_target : (names : List Name) (is : List Item) (ts : List (Option ℕ)) (row : List Step) (s : Step) → AreSteps names is ts row → In s row → In (Some s.target) ts
 steps_target names [] [] row s are h = subst (In s) are h
 steps_target names [] (t ∷ ts) row s are h = absurd are
 steps_target names (i ∷ is) [] row s are h = absurd are
@@ -171,7 +172,7 @@ row_at [] a s h = absurd h
 row_at (row ∷ rows) zero s h = (row, refl, h)
 row_at (row ∷ rows) (suc a) s h = row_at rows a s h
 
-module _ (w : World) (paths names : List (List ℕ)) (files : List ScannedFile) (rows : List (Vec Step Global)) (so : ScannedSoFar w paths names files rows) (all : length paths ≤ length files) where
+module _ (w : World) (paths : List (List ℕ)) (names : List Name) (files : List ScannedFile) (rows : List (Vec Step Global)) (so : ScannedSoFar w paths names files rows) (all : length paths ≤ length files) where
   all_paths : paths_in files ≡ paths
   all_paths = same_lists (paths_in files) paths (omega (arith, length-map files (λ (f : ScannedFile). f.path), so.within)) (λ k x y e f.
       let file = get_map (λ (f : ScannedFile). f.path) files k x e in
@@ -214,22 +215,21 @@ module _ (w : World) (paths names : List (List ℕ)) (files : List ScannedFile) 
       omega (arith, so.count, inside, s.2)
 
 -- a scan whose files are all that are found
-pub is_scan : (w : World) (paths : List (List ℕ)) (scan : Scan) → ScannedSoFar w paths (texts_of scan.names.items) scan.files.items scan.rows.items → length paths ≤ length scan.files.items
-    → AreApart paths → All IsClean paths → AreApart (texts_of scan.names.items) → IsScan w scan
-is_scan w paths scan so all once clean names =
+pub is_scan : (w : World) (paths : List (List ℕ)) (scan : Scan) → ScannedSoFar w paths scan.names.items scan.files.items scan.rows.items → length paths ≤ length scan.files.items
+    → AreApart paths → All IsClean paths → IsScan w scan
+is_scan w paths scan so all once clean =
     let files = scan.files.items in
     let rows = scan.rows.items in
-    let texts = texts_of scan.names.items in
-    let is_paths : paths_in files ≡ paths = all_paths w paths texts files rows so all in
+    let names = scan.names.items in
+    let is_paths : paths_in files ≡ paths = all_paths w paths names files rows so all in
     record {
-      reached = λ p. (λ c. so.reached p (subst (λ ps. Contains ps p) is_paths c), λ r. subst (λ ps. Contains ps p) (sym is_paths) (all_reached w paths texts files rows so all p r));
+      reached = λ p. (λ c. so.reached p (subst (λ ps. Contains ps p) is_paths c), λ r. subst (λ ps. Contains ps p) (sym is_paths) (all_reached w paths names files rows so all p r));
       once = subst AreApart (sym is_paths) once;
       clean = subst (All IsClean) (sym is_paths) clean;
       root = ap (λ ps. slice_get ps 0) is_paths ∙ so.first;
       count = so.count;
-      scanned = subst (λ ps. AreScanned w ps texts files rows) (sym is_paths) so.scanned;
-      within = step_inside w paths texts files rows so all;
-      names = names;
+      scanned = subst (λ ps. AreScanned w ps names files rows) (sym is_paths) so.scanned;
+      within = step_inside w paths names files rows so all;
     }
 
 -- texts of a list that are there once are no more than the list has

@@ -5,10 +5,11 @@ use Rattle.std.specs.Option.{option_map}
 use Rattle.just_graph.specs.Unfolding.{AreFirstOf, KeyOf, KeyStepsOf, NodeOf}
 use Rattle.just_graph.specs.Unfolded.{AreApart}
 use Rattle.just_parts.specs.Asts.{AstKey}
-use Rattle.just_parts.specs.Clean.{folder_of}
+use Rattle.just_names.specs.Clean.{folder_of}
 use Rattle.just_parts.specs.Edge.{Edge, Imports, Declares, edge_of}
-use Rattle.just_parts.specs.Name.{text_of_name}
-use Rattle.just_parts.specs.Modulepath.{Text}
+use Rattle.just_names.specs.Name.{text_of_name}
+use Rattle.just_names.specs.declared.name.Name.{Name}
+use Rattle.just_names.specs.Modulepath.{Text}
 use Rattle.just_parts.specs.declared.layers.ast.Item.{Item}
 use Rattle.just_parts.specs.Causes.{Cause, NoFile, NoNumber}
 use Rattle.just_loader.specs.FileCircles.{NamesCircle}
@@ -26,16 +27,19 @@ end_of Nowhere = []
 end_of (To path) = path ∷ []
 end_of (Fault cause) = []
 
--- A step from a file: where it leads, the offset of the quoted text of an import, and the name of the module that it enters; an import enters none.
+-- A step from a file: where it leads, the offset of the quoted text of an import, and of the module that it enters the text of its name and the name of
+-- the item that declares it; an import enters none.
 pub record FileStep : Type 0 where
   pub to : Text
   pub offset : ℕ
   pub enters : Option Text
+  pub name : Option Name
 
 -- the step of an item, by where it leads
 abbrev pub steps_by : Option Edge → Link → List FileStep
-steps_by (Some (Imports literal optional)) l = map (λ path. record { to = path; offset = literal.token.offset; enters = None }) (end_of l)
-steps_by (Some (Declares name literal optional)) l = map (λ path. record { to = path; offset = 0; enters = Some (text_of_name name) }) (end_of l)
+steps_by (Some (Imports literal optional)) l = map (λ path. record { to = path; offset = literal.token.offset; enters = None; name = None }) (end_of l)
+steps_by (Some (Declares name literal optional)) l =
+    map (λ path. record { to = path; offset = 0; enters = Some (text_of_name name); name = Some name }) (end_of l)
 steps_by None l = []
 
 -- the steps of the items of a file, in order

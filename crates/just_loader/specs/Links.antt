@@ -3,13 +3,13 @@ use Rattle.std.specs.Prelude.{◌==◌, Bool, List, [], ◌∷◌, ◌++◌, map
 use Rattle.std.specs.Option.{option_map}
 use Rattle.just_parts.specs.Bare.{bare_item}
 use Rattle.just_parts.specs.Edge.{Edge, Imports, Declares, edge_of}
-use Rattle.just_parts.specs.Entries.{find}
-use Rattle.just_parts.specs.Join.{clean_join}
-use Rattle.just_parts.specs.Name.{text_of_name}
+use Rattle.just_table.specs.Entries.{find}
+use Rattle.just_names.specs.Join.{clean_join}
+use Rattle.just_names.specs.Name.{text_of_name}
 use Rattle.just_parts.specs.Syntax.{SyntaxAnswers}
-use Rattle.just_parts.specs.Token.{Place}
-use Rattle.just_parts.specs.Modulepath.{Text}
-use Rattle.just_parts.specs.declared.layers.name.Name.{Name}
+use Rattle.just_names.specs.Token.{Place}
+use Rattle.just_names.specs.Modulepath.{Text}
+use Rattle.just_names.specs.declared.name.Name.{Name}
 use Rattle.just_parts.specs.declared.layers.ast.Item.{Item}
 use Rattle.just_parts.specs.declared.layers.ast.StringLiteral.{StringLiteral}
 use Rattle.just_parts.specs.declared.layers.config.Config.{Config}

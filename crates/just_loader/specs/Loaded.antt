@@ -1,16 +1,19 @@
 -- What the keys of a compilation hold, and what loading answers.
 use Rattle.std.specs.Prelude.{◌≡◌, ℕ, not, false, List, [], ◌∷◌, map, filter, Option, None, Some, Result, IfOk, IfErr}
 use Rattle.std.specs.HashMap.{get}
-use Rattle.std.specs.List.{All, Contains}
+use Rattle.std.specs.List.{All, Contains, filter_map}
 use Rattle.std.specs.Str.{bytes_eq}
 use Rattle.just_graph.specs.Unfolding.{HasKeyOf, key_of}
 use Rattle.just_parts.specs.Asts.{AstKey, same_ast_key}
 use Rattle.just_parts.specs.Bare.{bare_ast}
 use Rattle.just_parts.specs.Causes.{Keeps, Reports}
-use Rattle.just_parts.specs.Clean.{folder_of}
+use Rattle.just_names.specs.Clean.{folder_of}
 use Rattle.just_parts.specs.Edge.{with_absolute}
 use Rattle.just_parts.specs.Syntax.{AreRising, IsFrom, PriorsAreDependencies, components_of, numbers}
-use Rattle.just_parts.specs.Modulepath.{Text}
+use Rattle.just_names.specs.Modulepath.{Text}
+use Rattle.just_names.specs.Name.{names_of_path}
+use Rattle.just_names.specs.declared.name.Name.{Name}
+use Rattle.just_names.specs.declared.name.Namepath.{Namepath}
 use Rattle.just_parts.specs.declared.layers.ast.Ast.{Ast}
 use Rattle.just_parts.specs.declared.layers.ast.Item.{Item}
 use Rattle.just_parts.specs.declared.layers.error.Error.{Error}
@@ -30,12 +33,22 @@ abbrev pub own_after : Text → List FileStep → Text
 own_after own [] = own
 own_after own (s ∷ ss) = own_after (entered own s.enters s.to) ss
 
--- How a node's file came in: the files of its trail, the offsets since its module was entered, that module, the folder of the module's own file,
--- and the least depth of its key.
+-- the names of a module's path; the root has none
+abbrev pub names_in : Option Namepath → List Name
+names_in None = []
+names_in (Some path) = names_of_path path
+
+-- the names of the items that declare the modules that steps enter
+abbrev pub names_on : List FileStep → List Name
+names_on = filter_map (λ (s : FileStep). s.name)
+
+-- How a node's file came in: the files of its trail, the offsets since its module was entered, that module, named by the items that declare it,
+-- the folder of the module's own file, and the least depth of its key.
 pub record CameIn (w : World) (n : FileNode) (source : Source) : Type 0 where
   pub chain : source.file_path ≡ w.root ∷ map (λ (s : FileStep). s.to) n.trail
   pub offsets : source.import_offsets ≡ n.offsets
   pub components : components_of source.namepath ≡ n.path
+  pub names : names_in source.namepath ≡ names_on n.trail
   pub path : source.path ≡ n.node
   pub folder : source.working_directory ≡ folder_of (own_after w.root n.trail)
   pub depth : IsLeastFileDepth w (key_of n) source.file_depth

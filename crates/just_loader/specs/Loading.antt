@@ -6,17 +6,17 @@ use Rattle.just_graph.specs.Unfolded.{AreLeast, AllTold, IsUnfolded}
 use Rattle.just_graph.specs.declared.unfolding.Step.{Step}
 use Rattle.just_graph.specs.declared.unfolding.Unfolded.{Unfolded}
 use Rattle.just_parts.specs.Bare.{bare_ast}
-use Rattle.just_parts.specs.Clean.{folder_of}
+use Rattle.just_names.specs.Clean.{folder_of}
 use Rattle.just_parts.specs.Syntax.{SyntaxAnswers, AreRising, IsFrom, components_of, numbers}
-use Rattle.just_parts.specs.Modulepath.{Text}
+use Rattle.just_names.specs.Modulepath.{Text}
 use Rattle.just_parts.specs.declared.layers.ast.Ast.{Ast}
 use Rattle.just_parts.specs.declared.layers.ast.Item.{Item}
 use Rattle.just_parts.specs.declared.layers.error.Error.{Error}
 use Rattle.just_parts.specs.declared.layers.error.Error.TheVariants as error
 use Rattle.just_parts.specs.declared.source.Source.{Source}
 use Rattle.just_loader.specs.Keys.{spends_at}
-use Rattle.just_loader.specs.Loaded.{CameIn, IsAstOf, with_path}
-use Rattle.just_loader.specs.Placed.{file_at, file_node, name_at}
+use Rattle.just_loader.specs.Loaded.{CameIn, IsAstOf, names_in, names_on, with_path}
+use Rattle.just_loader.specs.Placed.{file_at, file_node, name_at, text_step}
 use Rattle.just_loader.specs.Reached.{World, ast_of, link}
 use Rattle.just_loader.specs.Scanned.{ArePlacesOf, IsScan, paths_in}
 use Rattle.just_loader.specs.declared.scanned.Scan.{Scan}
@@ -54,6 +54,7 @@ pub record ComesNext (scan : Scan) (before : Source) (s : Step) (source : Source
   pub chain : source.file_path ≡ before.file_path ++ file_at scan s.target ∷ []
   pub offsets : source.import_offsets ≡ offsets_after before.import_offsets s.offset s.enters
   pub components : components_of source.namepath ≡ components_after scan (components_of before.namepath) s.enters
+  pub names : names_in source.namepath ≡ names_in before.namepath ++ names_on (text_step scan s ∷ [])
   pub path : source.path ≡ file_at scan s.target
   pub folder : source.working_directory ≡ folder_after before.working_directory s.enters (file_at scan s.target)
 

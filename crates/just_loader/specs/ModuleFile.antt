@@ -4,11 +4,11 @@ use Rattle.std.specs.Borrow.{Bor}
 use Rattle.std.specs.List.{filter}
 use Rattle.std.specs.Map.{keys_of}
 use Rattle.std.specs.Str.{bytes_eq, str_eq_ignore_ascii_case}
-use Rattle.just_parts.specs.Entries.{find}
-use Rattle.just_parts.specs.Join.{clean_join}
-use Rattle.just_parts.specs.Name.{text_of_name}
-use Rattle.just_parts.specs.Modulepath.{Text}
-use Rattle.just_parts.specs.declared.layers.name.Name.{Name}
+use Rattle.just_table.specs.Entries.{find}
+use Rattle.just_names.specs.Join.{clean_join}
+use Rattle.just_names.specs.Name.{text_of_name}
+use Rattle.just_names.specs.Modulepath.{Text}
+use Rattle.just_names.specs.declared.name.Name.{Name}
 use Rattle.just_parts.specs.declared.layers.error.Error.{Error}
 use Rattle.just_parts.specs.declared.layers.error.Error.TheVariants as error
 use Rattle.just_parts.specs.declared.layers.error.LoadError.TheVariants as load

@@ -1,9 +1,9 @@
 -- Files by their places and names by their numbers.
-use Rattle.std.specs.Prelude.{◌==◌, ℕ, not, false, List, [], ◌∷◌, map, filter, get_or}
-use Rattle.std.specs.Option.{option_map}
+use Rattle.std.specs.Prelude.{◌==◌, ℕ, not, false, List, [], ◌∷◌, map, filter, get_or, slice_get}
+use Rattle.std.specs.Option.{option_and_then, option_map}
 use Rattle.just_graph.specs.Unfolding.{Node}
 use Rattle.just_graph.specs.declared.unfolding.Step.{Step}
-use Rattle.just_parts.specs.Modulepath.{Text}
+use Rattle.just_names.specs.Modulepath.{Text}
 use Rattle.just_parts.specs.Asts.{AstKey}
 use Rattle.just_loader.specs.Keys.{FileNode, FileStep}
 use Rattle.just_loader.specs.Numbering.{texts_of}
@@ -23,7 +23,12 @@ key_at scan path place = (record { components = map (name_at scan) path; spaced 
 
 -- a step and a node by texts
 abbrev pub text_step : Scan → Step → FileStep
-text_step scan s = record { to = file_at scan s.target; offset = s.offset; enters = option_map (name_at scan) s.enters }
+text_step scan s = record {
+  to = file_at scan s.target;
+  offset = s.offset;
+  enters = option_map (name_at scan) s.enters;
+  name = option_and_then (λ (number : ℕ). slice_get scan.names.items s.tag) s.enters;
+}
 
 abbrev pub file_node : Scan → Node → FileNode
 file_node scan n = record { path = map (name_at scan) n.path; node = file_at scan n.node; offsets = n.offsets; trail = map (text_step scan) n.trail }

@@ -2,10 +2,10 @@
 use Rattle.std.specs.Prelude.{◌≡◌, ◌^◌, ◌<◌, List, Option, None, Some}
 use Rattle.std.specs.List.{Contains}
 use Rattle.std.specs.Option.{option_and_then, option_map}
-use Rattle.just_parts.specs.Clean.{folder_of}
+use Rattle.just_names.specs.Clean.{folder_of}
 use Rattle.just_parts.specs.Syntax.{SyntaxAnswers}
-use Rattle.just_parts.specs.Modulepath.{Text}
-use Rattle.just_parts.specs.Token.{Place}
+use Rattle.just_names.specs.Modulepath.{Text}
+use Rattle.just_names.specs.Token.{Place}
 use Rattle.just_parts.specs.declared.layers.ast.Ast.{Ast}
 use Rattle.just_parts.specs.declared.layers.ast.Item.{Item}
 use Rattle.just_parts.specs.declared.layers.config.Config.{Config}

@@ -1,9 +1,8 @@
 //! What a scan has found: files under their places, and names under their numbers.
 
-ghost use Rattle.std.specs.Prelude.{◌≡◌, [], IsSome, Some, IfOk, OnOk, slice_get};
-ghost use Rattle.just_parts.specs.Entries.{find};
-ghost use Rattle.just_parts.specs.Name.{text_of_name};
-ghost use Rattle.just_loader.specs.Numbering.{AreFound, AreNumbered, HasAlso, paths_found, texts_numbered};
+ghost use Rattle.std.specs.Prelude.{◌≡◌, ◌++◌, ◌∷◌, [], IsSome, Some, length, IfOk, OnOk, slice_get};
+ghost use Rattle.just_table.specs.Entries.{find};
+ghost use Rattle.just_loader.specs.Numbering.{AreFound, AreNumbered, HasAlso, IsNamed, paths_found};
 ghost use Rattle.just_loader.specs.Sources.{Files};
 
 use crate::sources::{SourceFile, Sources};
@@ -19,7 +18,7 @@ pub(crate) struct Found<'src> {
     places: HashMap<BorrowedText<'src>, usize>,
 }
 
-/// Names in the order in which their texts first come, and the number of each text.
+/// Names in the order in which they are met, and the number of each text: the place of the first name that has it.
 #[derive(Drop)]
 pub(crate) struct NameNumbers<'src> {
     pub(crate) names: Vec<Name<'src>>,
@@ -71,20 +70,20 @@ impl<'src> NameNumbers<'src> {
         }
     }
 
-    // The number of a name's text. Where it is not there the name is put last.
+    // Puts a name last. It answers the number of its text.
     pub(crate) fn number(&mut self, name: &Name<'src>) -> Result<usize, AllocError>
         requires { AreNumbered self.old }
-        ensures number { IfOk result (λ number. slice_get (texts_numbered self.new) number ≡ Some (text_of_name name.now)) }
-        ensures names { OnOk result (HasAlso (texts_numbered self.old) (text_of_name name.now) (texts_numbered self.new)) }
+        ensures named { IfOk result (λ number. IsNamed self.new.names.items number (length self.old.names.items) name.now) }
+        ensures last { OnOk result (self.new.names.items ≡ self.old.names.items ++ name.now ∷ []) }
         ensures numbered { OnOk result (AreNumbered self.new) }
     {
+        let place = self.names.len();
+        self.names.push(name.copied())?;
         let text = BorrowedText::new(name.lexeme());
         if let Some(number) = self.numbers.get(&text) {
             return Ok(*number);
         }
-        let number = self.names.len();
-        self.numbers.insert(text, number)?;
-        self.names.push(name.copied())?;
-        Ok(number)
+        self.numbers.insert(text, place)?;
+        Ok(place)
     }
 }

@@ -2,15 +2,15 @@
 
 ghost use Rattle.std.specs.Prelude.{◌≡◌, None, Some, is_some, map, option_map, string_bytes, IfOk, IfErr};
 ghost use Rattle.just_parts.specs.Edge.{Imports};
-ghost use Rattle.just_parts.specs.Entries.{find};
-ghost use Rattle.just_parts.specs.Join.{clean_join};
+ghost use Rattle.just_table.specs.Entries.{find};
+ghost use Rattle.just_names.specs.Join.{clean_join};
 ghost use Rattle.just_loader.specs.Links.{Nowhere, To, Fault, without_slashes, expanded, given, module_link, edge_link, link_by, linked};
 ghost use Rattle.just_parts.specs.Causes.{NoHome, Reports};
 
 use crate::module_file::{after, find_module_file};
 use crate::sources::Sources;
 use just_data::Text;
-use just_parts::clean_join;
+use just_names::clean_join;
 use just_parts::layers::{Config, Edge, Error, Item, LoadError, Name, StringLiteral, Syntax};
 use std::alloc::Global;
 
@@ -39,7 +39,7 @@ fn expand<'src>(alloc: Global, home: &Option<Text>, text: &str) -> Result<Text, 
     let mut path = String::from_str(alloc, home.as_str())?;
     path.push('/')?;
     path.push_str(without_slashes(rest))?;
-    Ok(Text::from_string(path))
+    Ok(Text::from_string(path)?)
 }
 
 // What an import leads to from a folder.

@@ -6,7 +6,7 @@ ghost use Rattle.std.specs.List.{All};
 ghost use Rattle.std.specs.Option.{option_map};
 ghost use Rattle.just_graph.specs.Unfolding.{Node};
 ghost use Rattle.just_graph.specs.declared.unfolding.Unfolded.{Unfolded};
-ghost use Rattle.just_parts.specs.Clean.{IsClean};
+ghost use Rattle.just_names.specs.Clean.{IsClean};
 ghost use Rattle.just_parts.specs.Syntax.{AreRising, PriorsAreDependencies, numbers};
 ghost use Rattle.just_parts.specs.declared.layers.ast.Ast.{Ast};
 ghost use Rattle.just_parts.specs.Asts.{same_ast_key};
@@ -16,7 +16,7 @@ ghost use Rattle.just_loader.specs.Placed.{at_first_places, file_at};
 ghost use Rattle.just_loader.specs.Loading.{AreNodes, AreNumberedBy, AreParsedBy, AreSources, AreUnfolded, CameInAt, CameInSoFar, ComesNext, HavePaths, InWorlds, IsSaid, IsScanBy, Stops, StopsInFile, spent_by};
 ghost use Rattle.just_loader.specs.Parsed.{AreHeld, AreKeyed, relative_at};
 ghost use Rattle.just_loader.specs.Reached.{World, link, world_of};
-ghost use Rattle.just_loader.specs.Scanned.{ArePlacesOf, IsPlaceOf, IsScan, paths_in};
+ghost use Rattle.just_loader.specs.Scanned.{ArePlacesOf, EntersName, IsPlaceOf, IsScan, paths_in};
 
 use crate::circles::check_circles;
 use crate::loaded::Loaded;
@@ -25,8 +25,9 @@ use crate::scanned::Scan;
 use crate::sources::Sources;
 use just_data::{Sequence, Text};
 use just_graph::unfolding::{Step, Unfolded, unfold};
+use just_names::Modulepath;
+use just_parts::Source;
 use just_parts::layers::{Ast, Config, Error, Item, LoadError, Numerator, Syntax};
-use just_parts::{Modulepath, Source};
 use std::alloc::{AllocError, Global};
 use std::collections::HashMap;
 
@@ -38,7 +39,7 @@ fn next_source<'src>(
     step: Step,
 ) -> Result<Source<'src>, Error<'src>>
     requires target { step.target < length scan.now.files.items }
-    requires number { IfSome step.enters (λ number. number < length scan.now.names.items) }
+    requires named { EntersName scan.now.names.items step }
     requires clean { All IsClean (paths_in scan.now.files.items) }
     requires shallow { before.now.file_depth < u64.MAX }
     ensures next { IfOk result (ComesNext scan.now before.now step) }
@@ -47,7 +48,7 @@ fn next_source<'src>(
     let path = scan.files[step.target].path.as_str();
     match step.enters {
         None => before.import(alloc, path, step.offset),
-        Some(number) => before.module(alloc, &scan.names[number], path),
+        Some(_) => before.module(alloc, &scan.names[step.tag], path),
     }
 }
 

@@ -2,12 +2,12 @@
 
 ghost use Rattle.std.specs.Prelude.{◌≡◌, ◌^◌, ◌<◌, ◌≤◌, Some, map, length, IsSome, IfOk, IfErr, OnOk};
 ghost use Rattle.just_parts.specs.Bare.{bare_item};
-ghost use Rattle.just_parts.specs.Clean.{IsClean};
-ghost use Rattle.just_parts.specs.Entries.{find};
+ghost use Rattle.just_names.specs.Clean.{IsClean};
+ghost use Rattle.just_table.specs.Entries.{find};
 ghost use Rattle.just_parts.specs.Syntax.{Refuses};
 ghost use Rattle.just_loader.specs.Links.{To, Fault, link_by, links_by};
 ghost use Rattle.just_loader.specs.ModuleFile.{relative};
-ghost use Rattle.just_loader.specs.Numbering.{AreFound, AreNumbered, IsFile, paths_found, texts_numbered};
+ghost use Rattle.just_loader.specs.Numbering.{AreFound, AreNumbered, IsFile, paths_found};
 ghost use Rattle.just_loader.specs.Reached.{LeadsTo, NamesAt, NamesInScan, items_said, world_of};
 ghost use Rattle.just_parts.specs.Causes.{Keeps, Reports};
 ghost use Rattle.just_loader.specs.Sources.{text_at};
@@ -20,13 +20,13 @@ use crate::scanned::{Scan, ScannedFile};
 use crate::sources::{SourceFile, Sources};
 use just_data::{BorrowedText, Sequence};
 use just_graph::unfolding::Step;
+use just_names::folder_of;
 use just_parts::Source;
 use just_parts::layers::{Config, Edge, Error, Item, Numerator, Syntax};
-use just_parts::source::folder_of;
 use std::alloc::{AllocError, Global};
 
-// A path from a folder, where it lies below it.
-fn relative_path<'text>(
+/// A clean path as it is shown: from a folder, where it lies below it, and else whole.
+pub fn relative_path<'text>(
     alloc: Global,
     folder: &str,
     path: &'text str,
@@ -111,8 +111,8 @@ fn push_step<'src>(
     row: &mut Vec<Step>,
 ) -> Result<(), AllocError>
     requires { AreNumbered names.old }
-    ensures pushed { OnOk result (HasAlsoSteps (texts_numbered names.new) item.now target row.old.items row.new.items) }
-    ensures extends { OnOk result (Extends (texts_numbered names.old) (texts_numbered names.new)) }
+    ensures pushed { OnOk result (HasAlsoSteps names.new.names.items item.now target row.old.items row.new.items) }
+    ensures extends { OnOk result (Extends names.old.names.items names.new.names.items) }
     ensures numbered { OnOk result (AreNumbered names.new) }
 {
     let Some(place) = target else {
@@ -124,14 +124,17 @@ fn push_step<'src>(
                 target: place,
                 offset: relative.token.offset(),
                 enters: None,
+                tag: 0,
             })?;
         }
         Some(Edge::Module { name, .. }) => {
+            let tag = names.names.len();
             let number = names.number(name)?;
             row.push(Step {
                 target: place,
                 offset: 0,
                 enters: Some(number),
+                tag,
             })?;
         }
         None => {}
@@ -148,8 +151,8 @@ fn row<'src>(
 ) -> Result<Vec<Step>, AllocError>
     requires count { length targets.now ≡ length items.now }
     requires numbered { AreNumbered names.old }
-    ensures steps { IfOk result (λ row. AreSteps (texts_numbered names.new) items.now targets.now row.items) }
-    ensures extends { OnOk result (Extends (texts_numbered names.old) (texts_numbered names.new)) }
+    ensures steps { IfOk result (λ row. AreSteps names.new.names.items items.now targets.now row.items) }
+    ensures extends { OnOk result (Extends names.old.names.items names.new.names.items) }
     ensures numbered { OnOk result (AreNumbered names.new) }
 {
     let mut row = Vec::new(alloc);
@@ -178,7 +181,7 @@ fn scan_file<'src, S: Syntax>(
     ensures scanned { IfOk result (λ s. IsScannedIn (world_of sources.now config.now (S.answers syntax.now) root.now) found.new names.new s.0 s.1.items) }
     ensures kept { IfOk result (λ _. Keeps (NamesAt (world_of sources.now config.now (S.answers syntax.now) root.now) file.now.path)) }
     ensures grows { OnOk result (Finds (LeadsTo (world_of sources.now config.now (S.answers syntax.now) root.now) file.now.path) found.old found.new) }
-    ensures extends { OnOk result (Extends (texts_numbered names.old) (texts_numbered names.new)) }
+    ensures extends { OnOk result (Extends names.old.names.items names.new.names.items) }
     ensures found { OnOk result (AreFound sources.now found.new) }
     ensures numbered { OnOk result (AreNumbered names.new) }
     ensures named { IfErr result (Reports (NamesAt (world_of sources.now config.now (S.answers syntax.now) root.now) file.now.path)) }

@@ -20,14 +20,15 @@ pub struct ScannedFile<'src> {
     pub targets: Vec<Option<usize>>,
 }
 
-/// The reached files in the order in which they are found, and the steps of each, which enter groups by the numbers of
-/// names.
+/// The reached files in the order in which they are found, and the steps of each. That of a module enters the group of
+/// its name's number, and its tag is the place of the name.
 #[derive(Debug, Drop)]
 pub struct Scan<'src> {
     /// The reached files, the root first.
     pub files: Vec<ScannedFile<'src>>,
     /// The steps from each file.
     pub rows: Vec<Vec<Step>>,
-    /// The names of modules, under their numbers.
+    /// The names that declare modules, as often as steps enter them. A name's number is the place of the first one with
+    /// its text.
     pub names: Vec<Name<'src>>,
 }

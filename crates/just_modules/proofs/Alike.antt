@@ -3,8 +3,8 @@ use Rattle.std.proofs.Common.{◌≡◌, ℕ, zero, suc, ◌+◌, ◌<◌, List,
 use Rattle.std.specs.List.{Contains}
 use Rattle.std.proofs.lemmas.List.{length-map}
 use Rattle.just_parts.specs.Causes.{Cause, Keeps}
-use Rattle.just_parts.specs.Name.{texts_of_path}
-use Rattle.just_parts.specs.Token.{Place, lexeme}
+use Rattle.just_names.specs.Name.{texts_of_path}
+use Rattle.just_names.specs.Token.{Place, lexeme}
 use Rattle.just_parts.specs.declared.layers.ast.UnresolvedDependency.{UnresolvedDependency}
 use Rattle.just_parts.specs.declared.recipe.Recipe.{Recipe}
 use Rattle.just_modules.specs.Index.{Repeats}

@@ -5,7 +5,7 @@ use Rattle.std.specs.List.{list_any, fold}
 use Rattle.std.proofs.lemmas.List.{length-map}
 use Rattle.just_parts.specs.Bare.{bare_parameter, bare_recipe}
 use Rattle.just_parts.specs.Located.{located_recipe}
-use Rattle.just_parts.specs.Name.{text_of_name}
+use Rattle.just_names.specs.Name.{text_of_name}
 use Rattle.just_parts.specs.Parameter.{is_required, is_variadic, least_arguments, most_arguments}
 use Rattle.just_parts.specs.declared.layers.ast.UnresolvedDependency.{UnresolvedDependency}
 use Rattle.just_parts.specs.declared.layers.parameter.Parameter.{Parameter}

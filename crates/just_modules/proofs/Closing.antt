@@ -9,13 +9,13 @@ use Rattle.std.proofs.lemmas.List.Elements.{Contains-get_or}
 use Rattle.just_graph.specs.Levels.{AreLevels, before, level}
 use Rattle.just_graph.proofs.Members.{In, contained, from_map, in_cases, in_flat, in_left, in_map, in_right, is_in}
 use Rattle.just_parts.specs.Asts.{AstKey}
-use Rattle.just_parts.specs.Entries.{find, put}
-use Rattle.just_parts.specs.Modulepath.{Text}
+use Rattle.just_table.specs.Entries.{find, put}
+use Rattle.just_names.specs.Modulepath.{Text}
 use Rattle.just_parts.specs.declared.dependency.Dependency.{Dependency}
 use Rattle.just_parts.specs.declared.layers.ast.Ast.{Ast}
 use Rattle.just_parts.specs.declared.layers.ast.Item.{Item}
 use Rattle.just_parts.specs.declared.layers.ast.UnresolvedDependency.{UnresolvedDependency}
-use Rattle.just_parts.specs.declared.layers.number.Number.{Number}
+use Rattle.just_names.specs.declared.number.Number.{Number}
 use Rattle.just_parts.specs.declared.recipe.Recipe.{Recipe}
 use Rattle.just_invoke.specs.Closed.{AreClosed, IsClosed, IsResolved, all_closed, recipe_of_key, recipe_of_number}
 use Rattle.just_invoke.specs.Module.{module_name}

@@ -19,7 +19,7 @@ use Rattle.just_parts.specs.Located.{located_item}
 use Rattle.just_parts.specs.declared.layers.ast.Ast.{Ast}
 use Rattle.just_parts.specs.declared.layers.ast.Item.{Item}
 use Rattle.just_parts.specs.declared.layers.ast.Item.TheVariants as item
-use Rattle.just_parts.specs.declared.modulepath.Modulepath.{Modulepath}
+use Rattle.just_names.specs.declared.modulepath.Modulepath.{Modulepath}
 use Rattle.just_parts.proofs.AstKeys.{key_same, keys_equivalent}
 use Rattle.just_modules.specs.Files.{ArePlaced, ArePlacesOf, AreRows, LeadsTo, all_led, asts_in, led, led_from, led_in}
 use Rattle.just_modules.specs.Reading.{Reading, Submodule, declared, enabled_items, imports_of, items_in, located_ast, reading_of, submodules_of}
@@ -98,7 +98,7 @@ key_of_entry es p k a e = map_get (λ (x : AstKey × Ast). x.0) es p (k, a) e
 value_of_entry : (es : List (AstKey × Ast)) (p : ℕ) (k : AstKey) (a : Ast) → slice_get es p ≡ Some (k, a) → slice_get (values_of es) p ≡ Some a
 value_of_entry es p k a e = map_get (λ (x : AstKey × Ast). x.1) es p (k, a) e
 
-holds_at : (P : AstKey → Type 0) (ks : List AstKey) (q : ℕ) (k : AstKey) → AllByRecursion P ks → slice_get ks q ≡ Some k → P k
+pub holds_at : (P : AstKey → Type 0) (ks : List AstKey) (q : ℕ) (k : AstKey) → AllByRecursion P ks → slice_get ks q ≡ Some k → P k
 holds_at P [] q k all e = absurd (none_some e)
 holds_at P (x ∷ ks) zero k all e = subst P (some_same e) all.0
 holds_at P (x ∷ ks) (suc q) k all e = holds_at P ks q k all.1 e

@@ -4,7 +4,7 @@ use Rattle.std.proofs.lemmas.Bool.{cases_lt, false_from_ne_true}
 use Rattle.std.proofs.lemmas.List.{get_or_default}
 use Rattle.std.proofs.lemmas.Slice.Eq.{bytes_eq-Decides}
 use Rattle.std.specs.Str.{bytes_eq}
-use Rattle.just_parts.proofs.SameTexts.{same_or_not}
+use Rattle.just_names.proofs.SameTexts.{same_or_not}
 use Rattle.just_modules.specs.Index.{name_at, Repeats, IsLast}
 
 pub texts_apart : (a b : List ℕ) → a ≢ b → bytes_eq a b ≡ false

@@ -6,13 +6,13 @@ use Rattle.std.specs.Ordering.{nat_cmp, match_ordering}
 use Rattle.std.specs.Cmp.Lexicographic.{slice_cmp}
 use Rattle.std.specs.declared.cmp.Ordering.{Ordering}
 use Rattle.std.specs.declared.cmp.Ordering.TheVariants.{Less, Equal, Greater}
-use Rattle.just_parts.specs.Entries.{find, put}
+use Rattle.just_table.specs.Entries.{find, put}
 use Rattle.just_parts.specs.declared.layers.ast.UnresolvedDependency.{UnresolvedDependency}
 use Rattle.just_parts.specs.declared.recipe.Recipe.{Recipe}
 use Rattle.just_invoke.specs.declared.justfile.RecipeKey.{RecipeKey}
 use Rattle.just_modules.specs.Analysis.{IsKeyOf, AreKeysOf}
 use Rattle.just_modules.specs.Recipes.{name_of, recipe_at}
-use Rattle.just_parts.specs.Name.{text_of_name}
+use Rattle.just_names.specs.Name.{text_of_name}
 use Rattle.just_modules.proofs.Resolving.{number_read}
 
 module _ (Q : RecipeKey → Type 0) where

@@ -12,12 +12,12 @@ use Rattle.just_graph.proofs.Index.{get_map, got_in, map_get, some_same}
 use Rattle.just_graph.proofs.Mapped.{every_level}
 use Rattle.just_graph.proofs.Members.{In, contained, from_flat, from_map, in_map, is_in}
 use Rattle.just_parts.specs.Asts.{AstKey, same_ast_key}
-use Rattle.just_parts.specs.Modulepath.{Text}
-use Rattle.just_parts.specs.Name.{text_of_name}
+use Rattle.just_names.specs.Modulepath.{Text}
+use Rattle.just_names.specs.Name.{text_of_name}
 use Rattle.just_parts.specs.declared.layers.ast.Ast.{Ast}
 use Rattle.just_parts.specs.declared.layers.ast.Item.{Item}
 use Rattle.just_parts.specs.declared.layers.ast.Item.TheVariants as item
-use Rattle.just_parts.specs.declared.modulepath.Modulepath.{Modulepath}
+use Rattle.just_names.specs.declared.modulepath.Modulepath.{Modulepath}
 use Rattle.just_modules.specs.Contents.{texts_of_names}
 use Rattle.just_modules.specs.Files.{ArePlaced, AreRows}
 use Rattle.just_modules.specs.Index.{AreDifferent, name_at}

@@ -7,7 +7,7 @@ use Rattle.std.proofs.lemmas.List.{append-nil, append_assoc, take_more}
 use Rattle.just_graph.specs.Graph.{HasEdge, targets}
 use Rattle.just_graph.specs.Steps.{in_take}
 use Rattle.just_graph.proofs.Members.{In, contained, from_flat, from_map, in_map, is_in}
-use Rattle.just_parts.specs.Modulepath.{Text}
+use Rattle.just_names.specs.Modulepath.{Text}
 use Rattle.just_parts.specs.declared.dependency.Dependency.{Dependency}
 use Rattle.just_parts.specs.Causes.{Reports}
 use Rattle.just_parts.specs.declared.layers.ast.Item.{Item}

@@ -38,6 +38,3 @@ pub leads_more : (keys more : List AstKey) (k l : AstKey) (n : ℕ) (old new : A
 leads_more keys more k l n old new count same pushed is leads =
     subst (λ ks. LeadsTo ks new) (sym pushed)
     (λ q. leads_on keys k q (old q) (new q) (same_ast_key k q) refl (is q ∙ ap (λ m. cond (same_ast_key l q) (Some m) (old q)) count ∙ ap (λ x. cond (same_ast_key x q) (Some (length keys)) (old q)) same) (leads q))
-
-pub leads_none : (places : AstKey → Option ℕ) → ((q : AstKey) → places q ≡ None) → LeadsTo [] places
-leads_none places none = λ q. subst (λ o. MatchOption o ((p : ℕ) → slice_get [] p ≡ Some q → ⊥) (λ p. slice_get [] p ≡ Some q)) (sym (none q)) (λ p e. none_some e)

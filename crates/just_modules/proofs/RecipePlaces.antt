@@ -12,7 +12,7 @@ use Rattle.just_parts.specs.declared.layers.error.Definition.TheVariants as defi
 use Rattle.just_modules.specs.Recipes.{name_of, token_of, line_of, parameter_names, lent, no_recipe, recipe_at, names_of}
 use Rattle.just_modules.specs.Index.{name_at, Repeats, AreDifferent}
 use Rattle.just_parts.specs.Causes.{Cause, Broken}
-use Rattle.just_parts.specs.Token.{Place}
+use Rattle.just_names.specs.Token.{Place}
 use Rattle.just_modules.specs.Rules.{Parameters, Bodies, IsLater, duplicate_parameter, redefinition}
 
 pub recipe_read : (rs : List (Recipe UnresolvedDependency)) (i : ℕ) (r : Recipe UnresolvedDependency) → slice_get rs i ≡ Some r → r ≡ recipe_at rs i

@@ -6,7 +6,7 @@ use Rattle.std.specs.declared.alloc.Global.{Global}
 use Rattle.just_graph.specs.Graph.{HasEdge, targets}
 use Rattle.just_graph.specs.Building.{EachRow}
 use Rattle.just_graph.specs.Steps.{IsOrder, order_by}
-use Rattle.just_parts.specs.Name.{texts_of_path}
+use Rattle.just_names.specs.Name.{texts_of_path}
 use Rattle.just_parts.specs.declared.layers.ast.UnresolvedDependency.{UnresolvedDependency}
 use Rattle.just_parts.specs.declared.recipe.Recipe.{Recipe}
 use Rattle.just_modules.specs.Index.{AreDifferent}

@@ -7,10 +7,10 @@ use Rattle.std.proofs.lemmas.Option.{slice_get_within, get_or_from_slice_get}
 use Rattle.std.proofs.lemmas.List.Elements.{Contains-get_or, All-push}
 use Rattle.just_graph.specs.Steps.{in_take, IsOnce}
 use Rattle.just_parts.specs.declared.dependency.Dependency.{Dependency}
-use Rattle.just_parts.specs.declared.layers.name.Namepath.{Namepath}
-use Rattle.just_parts.specs.declared.layers.number.Number.{Number}
+use Rattle.just_names.specs.declared.name.Namepath.{Namepath}
+use Rattle.just_names.specs.declared.number.Number.{Number}
 use Rattle.just_parts.specs.declared.layers.ast.UnresolvedDependency.{UnresolvedDependency}
-use Rattle.just_parts.specs.declared.modulepath.Modulepath.{Modulepath}
+use Rattle.just_names.specs.declared.modulepath.Modulepath.{Modulepath}
 use Rattle.just_parts.specs.declared.recipe.Recipe.{Recipe}
 use Rattle.just_invoke.specs.Recipes.{numbers, needs, IsNew}
 use Rattle.just_invoke.specs.Closed.{IsResolved}

@@ -8,7 +8,7 @@ use Rattle.std.specs.declared.cmp.Ordering.{Ordering}
 use Rattle.std.specs.declared.cmp.Ordering.TheVariants.{Less, Equal, Greater}
 use Rattle.std.proofs.lemmas.List.Elements.{All-head, All-tail}
 use Rattle.std.proofs.lemmas.Map.Lookups.{exact_bytes}
-use Rattle.just_parts.specs.Entries.{put, IsKeyed}
+use Rattle.just_table.specs.Entries.{put, IsKeyed}
 use Rattle.just_graph.proofs.Members.{In, contained, is_in}
 
 module _ {V : Type 0} where
@@ -44,21 +44,6 @@ module _ {V : Type 0} where
   module _ (key_of : V → List ℕ) where
     abbrev Fits : List ℕ × V → Type 0
     Fits e = key_of e.1 ≡ e.0
-
-    keeps : (k : List ℕ) (v : V) (es : List (List ℕ × V)) (x : V) → IsKeyed key_of es → (key_of x ≡ k → ⊥) → In x (values_of es) → In x (values_of (put k v es))
-    keeps k v [] x keyed other h = absurd h
-    keeps k v (e ∷ es) x keyed other h = go (slice_cmp nat_cmp k e.0) refl (keeps k v es x (All-tail Fits e es keyed) other) h
-      where
-        go : (o : Ordering) → slice_cmp nat_cmp k e.0 ≡ o → (In x (values_of es) → In x (values_of (put k v es))) → In x (values_of (e ∷ es)) → In x (values_of (match_ordering o ((k, v) ∷ e ∷ es) ((e.0, v) ∷ es) (e ∷ put k v es)))
-        go Less q ih i = inr i
-        go Equal q ih (inl is) = absurd (other (ap key_of is ∙ (All-head Fits e es keyed ∙ sym (exact_bytes k e.0 q))))
-        go Equal q ih (inr i) = inr i
-        go Greater q ih (inl is) = inl is
-        go Greater q ih (inr i) = inr (ih i)
-
-    -- a value of another key stays
-    pub put_keeps : (k : List ℕ) (v : V) (es : List (List ℕ × V)) (x : V) → IsKeyed key_of es → (key_of x ≡ k → ⊥) → Contains (values_of es) x → Contains (values_of (put k v es)) x
-    put_keeps k v es x keyed other c = contained x (values_of (put k v es)) (keeps k v es x keyed other (is_in x (values_of es) c))
 
     -- the keys of the values are those of the entries
     pub keyed_values : (es : List (List ℕ × V)) → IsKeyed key_of es → map key_of (values_of es) ≡ keys_of es

@@ -6,9 +6,9 @@ use Rattle.std.proofs.lemmas.Option.{slice_get_read}
 use Rattle.just_graph.specs.Steps.{IsOnce, in_take}
 use Rattle.just_graph.proofs.Members.{contained, in_left, in_right, is_in}
 use Rattle.just_graph.proofs.Index.{get_map, map_get, some_same}
-use Rattle.just_parts.specs.Entries.{put}
-use Rattle.just_parts.specs.Modulepath.{Text}
-use Rattle.just_parts.specs.declared.layers.name.Name.{Name}
+use Rattle.just_table.specs.Entries.{put}
+use Rattle.just_names.specs.Modulepath.{Text}
+use Rattle.just_names.specs.declared.name.Name.{Name}
 use Rattle.just_invoke.specs.Module.{module_name}
 use Rattle.just_invoke.specs.declared.justfile.Justfile.{Justfile}
 use Rattle.just_modules.specs.Justfiles.{held_by_name, slot, with_name, with_names}

@@ -3,12 +3,17 @@ use Rattle.std.specs.Prelude.{◌≡◌, ℕ, Bool, true, Option, Some, IsSome}
 use Rattle.std.specs.List.{All, Contains}
 use Rattle.just_graph.specs.Steps.{IsOnce}
 use Rattle.just_parts.specs.Asts.{AstKey}
+use Rattle.just_names.specs.Modulepath.{Text}
 use Rattle.just_parts.specs.Bare.{bare_item}
 use Rattle.just_parts.specs.declared.layers.ast.Ast.{Ast}
 use Rattle.just_parts.specs.declared.layers.ast.Item.{Item}
 use Rattle.just_modules.specs.Files.{led}
 use Rattle.just_modules.specs.Recipes.{recipes_of}
 use Rattle.just_modules.specs.Resolved.{HasPriors, unresolved_numbers}
+
+-- a table of paths has the file of each key
+abbrev pub HavePaths : (AstKey → Option Ast) → (Text → Option Text) → Type 0
+HavePaths asts paths = (k : AstKey) → IsSome (asts k) → IsSome (paths k.1)
 
 -- Asts hold every key that an enabled item leads to, each under the path of its module; no two recipes have one number, and none has more priors than dependencies.
 pub record AreAnalyzable (enabled : Item → Bool) (asts : AstKey → Option Ast) : Type 0 where

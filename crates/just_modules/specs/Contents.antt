@@ -1,8 +1,8 @@
 -- What the rules read of a module.
 use Rattle.std.specs.Prelude.{List, [], map}
-use Rattle.just_parts.specs.Modulepath.{Text}
-use Rattle.just_parts.specs.Name.{text_of_name}
-use Rattle.just_parts.specs.declared.layers.name.Name.{Name}
+use Rattle.just_names.specs.Modulepath.{Text}
+use Rattle.just_names.specs.Name.{text_of_name}
+use Rattle.just_names.specs.declared.name.Name.{Name}
 use Rattle.just_parts.specs.declared.layers.ast.UnresolvedDependency.{UnresolvedDependency}
 use Rattle.just_parts.specs.declared.recipe.Recipe.{Recipe}
 

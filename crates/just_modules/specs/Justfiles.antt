@@ -2,13 +2,13 @@
 use Rattle.std.specs.Prelude.{◌≡◌, ℕ, Bool, List, [], ◌∷◌, map, flat_map, get_or, Option, None, Some}
 use Rattle.std.specs.Map.{values_of}
 use Rattle.just_parts.specs.Asts.{AstKey}
-use Rattle.just_parts.specs.Entries.{put}
-use Rattle.just_parts.specs.Modulepath.{Text}
+use Rattle.just_table.specs.Entries.{put}
+use Rattle.just_names.specs.Modulepath.{Text}
 use Rattle.just_parts.specs.declared.dependency.Dependency.{Dependency}
 use Rattle.just_parts.specs.declared.layers.ast.Ast.{Ast}
 use Rattle.just_parts.specs.declared.layers.ast.Item.{Item}
 use Rattle.just_parts.specs.declared.layers.ast.UnresolvedDependency.{UnresolvedDependency}
-use Rattle.just_parts.specs.declared.layers.name.Name.{Name}
+use Rattle.just_names.specs.declared.name.Name.{Name}
 use Rattle.just_parts.specs.declared.recipe.Recipe.{Recipe}
 use Rattle.std.specs.List.{Contains}
 use Rattle.just_invoke.specs.Module.{module_name}

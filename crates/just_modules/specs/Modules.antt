@@ -3,10 +3,10 @@ use Rattle.std.specs.Prelude.{◌≡◌, Bool, false, List, [], ◌∷◌, map, 
 use Rattle.std.specs.List.{Contains}
 use Rattle.just_graph.specs.Levels.{AreLevels}
 use Rattle.just_parts.specs.Asts.{AstKey, same_ast_key}
-use Rattle.just_parts.specs.Modulepath.{Text}
+use Rattle.just_names.specs.Modulepath.{Text}
 use Rattle.just_parts.specs.declared.layers.ast.Ast.{Ast}
 use Rattle.just_parts.specs.declared.layers.ast.StringLiteral.{StringLiteral}
-use Rattle.just_parts.specs.declared.layers.name.Name.{Name}
+use Rattle.just_names.specs.declared.name.Name.{Name}
 use Rattle.just_modules.specs.Contents.{Contents}
 use Rattle.just_modules.specs.Recipes.{recipes_said}
 use Rattle.just_modules.specs.Reading.{Reading, Submodule, imports_of, submodules_of}

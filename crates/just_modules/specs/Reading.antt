@@ -4,12 +4,12 @@ use Rattle.std.specs.Option.{option_map}
 use Rattle.just_parts.specs.Asts.{AstKey}
 use Rattle.just_parts.specs.Bare.{ast_of_items, bare_item}
 use Rattle.just_parts.specs.Located.{located_item}
-use Rattle.just_parts.specs.Name.{text_of_name}
+use Rattle.just_names.specs.Name.{text_of_name}
 use Rattle.just_parts.specs.declared.layers.ast.Ast.{Ast}
 use Rattle.just_parts.specs.declared.layers.ast.Item.{Item}
 use Rattle.just_parts.specs.declared.layers.ast.Item.TheVariants as item
-use Rattle.just_parts.specs.declared.layers.name.Name.{Name}
-use Rattle.just_parts.specs.declared.modulepath.Modulepath.{Modulepath}
+use Rattle.just_names.specs.declared.name.Name.{Name}
+use Rattle.just_names.specs.declared.modulepath.Modulepath.{Modulepath}
 use Rattle.just_modules.specs.Resolved.{path_to}
 
 abbrev pub Reading : Type 0

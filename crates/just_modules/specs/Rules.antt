@@ -2,10 +2,10 @@
 use Rattle.std.specs.Prelude.{◌≡◌, ◌≢◌, ℕ, ◌+◌, ◌-◌, ◌<◌, ◌≤◌, ◌⊎◌, min, List, [], ◌∷◌, length, get_or, Some}
 use Rattle.std.specs.List.{Contains, slice_get}
 use Rattle.just_parts.specs.Causes.{Cause, Broken, Keeps}
-use Rattle.just_parts.specs.Name.{text_of_name, texts_of_path}
-use Rattle.just_parts.specs.Token.{Place}
-use Rattle.just_parts.specs.declared.layers.name.Name.{Name}
-use Rattle.just_parts.specs.declared.layers.name.Namepath.{Namepath}
+use Rattle.just_names.specs.Name.{text_of_name, texts_of_path}
+use Rattle.just_names.specs.Token.{Place}
+use Rattle.just_names.specs.declared.name.Name.{Name}
+use Rattle.just_names.specs.declared.name.Namepath.{Namepath}
 use Rattle.just_parts.specs.declared.layers.error.Definition.TheVariants as definition
 use Rattle.just_parts.specs.declared.layers.error.CompileErrorKind.TheVariants as kind
 use Rattle.just_parts.specs.declared.layers.ast.UnresolvedDependency.{UnresolvedDependency}
@@ -61,9 +61,3 @@ pub data Dependencies (recipes : List (Recipe UnresolvedDependency)) : Cause →
       → Contains (dependency_paths (recipe_at recipes i)) (texts_of_path dependency) → texts_of_path dependency ≡ name_of (recipe_at recipes j) ∷ []
       → found ≡ 0 → least_of (recipe_at recipes j) ≡ least → most_of (recipe_at recipes j) ≡ most → (found < least) ⊎ (most < found)
       → Dependencies recipes (Broken place (kind.DependencyArgumentCountMismatch dependency found least most))
-
--- all groups of a module are kept
-pub record KeepsModule (m : Contents) : Type 0 where
-  pub headers : Keeps (Headers m)
-  pub bodies : Keeps (Bodies m.recipes)
-  pub dependencies : Keeps (Dependencies m.recipes)

@@ -7,12 +7,13 @@ use Rattle.just_graph.specs.Graph.{HasEdge, targets}
 use Rattle.just_graph.specs.Steps.{IsOnce, ListsStepsFirst}
 use Rattle.just_parts.specs.Asts.{AstKey}
 use Rattle.just_parts.specs.Causes.{Cause}
-use Rattle.just_parts.specs.Modulepath.{Text}
+use Rattle.just_names.specs.Modulepath.{Text}
+use Rattle.just_parts.specs.Syntax.{SyntaxAnswers}
 use Rattle.just_parts.specs.declared.dependency.Dependency.{Dependency}
 use Rattle.just_parts.specs.declared.layers.ast.Ast.{Ast}
 use Rattle.just_parts.specs.declared.layers.ast.Item.{Item}
 use Rattle.just_parts.specs.declared.layers.ast.UnresolvedDependency.{UnresolvedDependency}
-use Rattle.just_parts.specs.declared.layers.name.Name.{Name}
+use Rattle.just_names.specs.declared.name.Name.{Name}
 use Rattle.just_parts.specs.declared.recipe.Recipe.{Recipe}
 use Rattle.just_invoke.specs.declared.justfile.Justfile.{Justfile, out-Justfile}
 use Rattle.just_modules.specs.Analysis.{IsOf}
@@ -64,8 +65,8 @@ pub record CompilesPlace (enabled : Item → Bool) (files : Files) (joined : Joi
   pub others : (q : ℕ) → (q ≡ p → ⊥) → (Contains (targets joined.modules.items p) q → ⊥) → slot new q ≡ slot old q
   pub room : length new ≡ length old
 
-abbrev pub CompilesAt : (Item → Bool) → Files → Joined → List Text → ℕ → Vec (Option Justfile) Global → Vec (Option Justfile) Global → List (Recipe Dependency) → List (Recipe Dependency) → Type 0
-CompilesAt enabled files joined loaded p old new before after = CompilesPlace enabled files joined loaded p old.items new.items before after
+abbrev pub CompilesAt : SyntaxAnswers → Files → Joined → List Text → ℕ → Vec (Option Justfile) Global → Vec (Option Justfile) Global → List (Recipe Dependency) → List (Recipe Dependency) → Type 0
+CompilesAt answers files joined loaded p old new before after = CompilesPlace answers.enabled files joined loaded p old.items new.items before after
 
 -- Modules that can be compiled in this order: each place once, after those of the modules in it, each of which stands in one module, and no number of a recipe in two modules.
 pub record CanCompileAll (enabled : Item → Bool) (files : Files) (joined : Joined) (order : List ℕ) : Type 0 where

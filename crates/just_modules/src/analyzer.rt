@@ -27,7 +27,7 @@ use crate::module_names::check_module_names;
 use crate::recipe_resolver::{order_recipes, resolve_in_order};
 use just_data::{Sequence, Shared, Text};
 use just_invoke::{Justfile, Recipes};
-use just_parts::Modulepath;
+use just_names::Modulepath;
 use just_parts::layers::{Ast, Config, Error, Evaluation, Name, Number, StringLiteral, Syntax};
 use std::alloc::{AllocError, Global};
 use std::collections::HashMap;
@@ -137,8 +137,9 @@ pub struct Analyzer;
 impl Analyzer {
     ghost use Rattle.std.specs.Prelude.{◌≡◌, IfErr, IfOk, IsSome};
     ghost use Rattle.std.specs.HashMap.{get};
+    ghost use Rattle.std.specs.Str.{bytes_eq};
     ghost use Rattle.just_parts.specs.Asts.{same_ast_key};
-    ghost use Rattle.just_modules.specs.Analyzable.{AreAnalyzable};
+    ghost use Rattle.just_modules.specs.Analyzable.{AreAnalyzable, HavePaths};
     ghost use Rattle.just_modules.specs.Analyzed.{Analyzes, NamesAnalyzed};
     ghost use Rattle.just_modules.specs.Modules.{label};
 
@@ -146,7 +147,8 @@ impl Analyzer {
     /// `doc`, `groups`, `private`), and the recipes of it and of the modules in it, those of a module after those of the
     /// modules in it. An error names a rule that one of them breaks.
     ///
-    /// Neither `config` nor the evaluation is asked anything yet, and `overrides` stays as it is.
+    /// `paths` leads from the clean path of each file to the one that is shown. Neither `config`, nor `paths`, nor the
+    /// evaluation is asked anything yet, and `overrides` stays as it is.
     pub fn analyze<'src, S: Syntax, E: Evaluation>(
         alloc: Global,
         asts: &HashMap<(Modulepath, Text), Ast<'src>>,
@@ -157,6 +159,7 @@ impl Analyzer {
         module_path: &Modulepath,
         name: Option<Name<'src>>,
         overrides: &mut HashMap<Number, Text>,
+        paths: &HashMap<Text, Text>,
         private: bool,
         root: &str,
         syntax: &S,
@@ -164,7 +167,8 @@ impl Analyzer {
     ) -> Result<(Justfile<'src>, Recipes<'src>), Error<'src>>
         requires held { IsSome (get same_ast_key asts.now (module_path.now, root.now)) }
         requires asts { AreAnalyzable (S.answers syntax.now).enabled (get same_ast_key asts.now) }
-        ensures analyzed { IfOk result (Analyzes (S.answers syntax.now) asts.now loaded.now module_path.now root.now (label name.entry doc groups.now private)) }
+        requires paths { HavePaths (get same_ast_key asts.now) (get bytes_eq paths.now) }
+        ensures made { IfOk result (Analyzes (S.answers syntax.now) asts.now loaded.now module_path.now root.now (label name.entry doc groups.now private)) }
         ensures named { IfErr result (NamesAnalyzed (S.answers syntax.now) asts.now module_path.now root.now (label name.entry doc groups.now private)) }
         ensures overrides { overrides.new ≡ overrides.old }
     {

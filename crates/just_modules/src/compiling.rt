@@ -38,7 +38,7 @@ fn compile_place<'a, 'src, S: Syntax>(
     requires ready { CanCompile (S.answers syntax.now).enabled files.now joined.now place }
     requires inner { (js : List Justfile) × (map Some js ≡ map (slot slots.old.items) (targets joined.now.modules.items place)) }
     requires apart { AreNew recipes.old (recipes_of_place (S.answers syntax.now).enabled files.now joined.now place) }
-    ensures compiled { OnOk result (CompilesAt (S.answers syntax.now).enabled files.now joined.now loaded.now place slots.old slots.new recipes.old recipes.new) }
+    ensures compiled { OnOk result (CompilesAt (S.answers syntax.now) files.now joined.now loaded.now place slots.old slots.new recipes.old recipes.new) }
     ensures named { IfErr result (Reports (BreaksRecipes (recipes_of_place (S.answers syntax.now).enabled files.now joined.now place))) }
 {
     let row = joined.files[place].as_slice();

@@ -1,7 +1,7 @@
 ghost use Rattle.std.specs.Prelude.{◌≡◌, ◌<◌, ℕ, length, min, IfOk, IfErr, OnOk, map};
 ghost use Rattle.std.specs.Str.{bytes_eq};
 ghost use Rattle.std.specs.HashMap.{get};
-ghost use Rattle.just_parts.specs.Name.{text_of_name};
+ghost use Rattle.just_names.specs.Name.{text_of_name};
 ghost use Rattle.just_parts.specs.declared.layers.parameter.Parameter.{Parameter};
 ghost use Rattle.just_parts.specs.declared.layers.error.CompileErrorKind.TheVariants as kind;
 ghost use Rattle.just_parts.specs.declared.layers.error.Definition.TheVariants as definition;

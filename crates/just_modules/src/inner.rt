@@ -10,8 +10,8 @@ ghost use Rattle.just_modules.specs.Modules.{label_of};
 
 use just_data::{Sequence, Text};
 use just_invoke::Justfile;
-use just_parts::Table;
 use just_parts::layers::{Name, StringLiteral};
+use just_table::Table;
 use std::alloc::{AllocError, Global};
 
 /// What the declaration of a module says of it.

@@ -10,8 +10,9 @@ ghost use Rattle.just_modules.specs.Recipes.{names_of};
 use crate::definitions::{Definitions, recipe_at};
 use just_data::{Sequence, Shared, Text};
 use just_invoke::{Justfile, RecipeKey};
+use just_parts::UnresolvedRecipe;
 use just_parts::layers::Ast;
-use just_parts::{Table, UnresolvedRecipe};
+use just_table::Table;
 use std::alloc::{AllocError, Global};
 
 // The keys of the recipes, under their names.

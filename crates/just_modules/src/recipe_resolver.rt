@@ -2,7 +2,7 @@ ghost use Rattle.std.specs.Prelude.{◌≡◌, ◌<◌, ℕ, [], length, get_or,
 ghost use Rattle.std.specs.Str.{bytes_eq};
 ghost use Rattle.std.specs.HashMap.{get};
 ghost use Rattle.std.specs.List.{All};
-ghost use Rattle.just_parts.specs.Name.{texts_of_path};
+ghost use Rattle.just_names.specs.Name.{texts_of_path};
 ghost use Rattle.just_graph.specs.Building.{EachRow};
 ghost use Rattle.just_graph.specs.Graph.{targets};
 ghost use Rattle.just_graph.specs.Steps.{IsOnce};
@@ -18,7 +18,7 @@ use crate::definitions::{Definitions, recipe_at};
 use crate::unresolved_recipe::resolve;
 use just_data::{BorrowedText, Sequence};
 use just_invoke::Recipes;
-use just_parts::Modulepath;
+use just_names::Modulepath;
 use just_parts::layers::{CompileError, CompileErrorKind, Error, Namepath, Token};
 use std::alloc::{AllocError, Global};
 use std::collections::HashMap;

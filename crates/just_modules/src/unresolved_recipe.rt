@@ -6,8 +6,9 @@ ghost use Rattle.just_parts.specs.declared.layers.ast.UnresolvedDependency.{Unre
 
 use crate::definitions::{Definitions, recipe_at};
 use just_data::Sequence;
+use just_names::Modulepath;
 use just_parts::layers::UnresolvedDependency;
-use just_parts::{Dependency, Modulepath, Recipe, UnresolvedRecipe};
+use just_parts::{Dependency, Recipe, UnresolvedRecipe};
 use std::alloc::{AllocError, Global};
 
 // The dependencies, each with the number of the recipe at the place beside it.

@@ -1,8 +1,8 @@
 -- What files say, under the path of their module and their own.
 use Rattle.std.specs.Prelude.{ℕ, Bool, false, ◌&&◌, List, [], nat_eq}
 use Rattle.std.specs.Cmp.Lexicographic.{pointwise}
-use Rattle.just_parts.specs.declared.modulepath.Modulepath.{Modulepath}
-use Rattle.just_parts.specs.contracts.modulepath.ModulepathPartialEq.TheImpl as path_eq
+use Rattle.just_names.specs.declared.modulepath.Modulepath.{Modulepath}
+use Rattle.just_names.specs.contracts.modulepath.ModulepathPartialEq.TheImpl as path_eq
 
 -- the path of a module, and that of a file
 abbrev pub AstKey : Type 0

@@ -1,6 +1,6 @@
 -- Records without their numbers, and without what the source of a text says.
 use Rattle.std.specs.Prelude.{false, List, [], map, None}
-use Rattle.just_parts.specs.declared.layers.number.Number.{Number}
+use Rattle.just_names.specs.declared.number.Number.{Number}
 use Rattle.just_parts.specs.declared.layers.parameter.Parameter.{Parameter}
 use Rattle.just_parts.specs.declared.layers.ast.UnresolvedDependency.{UnresolvedDependency}
 use Rattle.just_parts.specs.declared.recipe.Recipe.{Recipe}

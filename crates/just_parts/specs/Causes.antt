@@ -1,7 +1,7 @@
 -- What reports a broken rule, and groups of rules.
 use Rattle.std.specs.Prelude.{ℕ, List}
-use Rattle.just_parts.specs.Token.{Place}
-use Rattle.just_parts.specs.declared.layers.name.Name.{Name}
+use Rattle.just_names.specs.Token.{Place}
+use Rattle.just_names.specs.declared.name.Name.{Name}
 use Rattle.just_parts.specs.declared.layers.error.LoadError.TheVariants as load
 use Rattle.just_parts.specs.declared.layers.error.CompileErrorKind.{CompileErrorKind}
 use Rattle.just_parts.specs.declared.layers.error.Error.{Error}

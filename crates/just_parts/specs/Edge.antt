@@ -1,6 +1,6 @@
 -- How an item leads to a file.
 use Rattle.std.specs.Prelude.{ℕ, Bool, List, Option, None, Some}
-use Rattle.just_parts.specs.declared.layers.name.Name.{Name}
+use Rattle.just_names.specs.declared.name.Name.{Name}
 use Rattle.just_parts.specs.declared.layers.ast.StringLiteral.{StringLiteral}
 use Rattle.just_parts.specs.declared.layers.ast.Item.{Item}
 use Rattle.just_parts.specs.declared.layers.ast.Item.TheVariants as item

@@ -1,9 +1,9 @@
 -- The names of errors, and what they say.
 use Rattle.std.specs.Prelude.{ℕ, ◌==◌, false, List, length, ◌++◌, codes, decimal, if◌then◌else◌}
-use Rattle.just_parts.specs.Modulepath.{joined, text_of}
-use Rattle.just_parts.specs.Name.{texts_of_path}
+use Rattle.just_names.specs.Modulepath.{joined, text_of}
+use Rattle.just_names.specs.Name.{texts_of_path}
 use Rattle.just_parts.specs.Wording.{arguments_text, takes_text, place_text, at_text}
-use Rattle.just_parts.specs.declared.layers.name.Namepath.{Namepath}
+use Rattle.just_names.specs.declared.name.Namepath.{Namepath}
 use Rattle.just_parts.specs.declared.layers.error.LoadError.{LoadError}
 use Rattle.just_parts.specs.declared.layers.error.LoadError.TheVariants as load
 use Rattle.just_parts.specs.declared.layers.error.Definition.{Definition}

@@ -2,8 +2,8 @@
 use Rattle.std.specs.Prelude.{◌≡◌, ℕ, ◌+◌, ◌<◌, ◌≤◌, ◌^◌, Bool, List, [], ◌∷◌, map, length, Option, Some, None, false}
 use Rattle.std.specs.List.{All, flat_map}
 use Rattle.just_parts.specs.Edge.{absolute_of}
-use Rattle.just_parts.specs.Name.{texts_of_path}
-use Rattle.just_parts.specs.declared.layers.name.Namepath.{Namepath}
+use Rattle.just_names.specs.Name.{texts_of_path}
+use Rattle.just_names.specs.declared.name.Namepath.{Namepath}
 use Rattle.just_parts.specs.declared.layers.parameter.Parameter.{Parameter}
 use Rattle.just_parts.specs.declared.layers.ast.UnresolvedDependency.{UnresolvedDependency}
 use Rattle.just_parts.specs.declared.recipe.Recipe.{Recipe}

@@ -1,6 +1,7 @@
 -- Parts of messages: counts of arguments, and places in a file.
-use Rattle.std.specs.Prelude.{ℕ, ◌+◌, ◌==◌, nat_le, min, List, ◌++◌, codes, decimal, if◌then◌else◌}
-use Rattle.just_parts.specs.Token.{Place}
+use Rattle.std.specs.Prelude.{ℕ, ◌+◌, ◌==◌, nat_le, min, List, [], ◌∷◌, ◌++◌, codes, decimal, if◌then◌else◌}
+use Rattle.std.specs.List.{flat_map}
+use Rattle.just_names.specs.Token.{Place}
 
 abbrev pub noun_text : ℕ → List ℕ
 noun_text count = if count == 1 then codes "argument" else codes "arguments"
@@ -22,3 +23,8 @@ place_text n = decimal (min (n + 1) 18446744073709551615)
 -- where a token stands
 abbrev pub at_text : Place → List ℕ
 at_text token = token.path ++ (codes ":" ++ (place_text token.line ++ (codes ":" ++ place_text token.column)))
+
+-- paths in backquotes, with commas between them
+abbrev pub listed_text : List (List ℕ) → List ℕ
+listed_text [] = []
+listed_text (path ∷ paths) = (codes "`" ++ (path ++ codes "`")) ++ flat_map (λ p. codes ", `" ++ (p ++ codes "`")) paths

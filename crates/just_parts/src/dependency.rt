@@ -1,7 +1,6 @@
 //! What a resolved recipe depends on.
-use crate::layers::name::Namepath;
-use crate::layers::number::Number;
 use just_data::Exact;
+use just_names::{Namepath, Number};
 
 /// What a resolved recipe depends on: a recipe, and the path by which it is named.
 #[derive(Clone, Debug, PartialEq, Eq, Drop)]

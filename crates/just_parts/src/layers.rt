@@ -6,12 +6,9 @@ pub mod edge;
 pub mod error;
 pub mod evaluation;
 pub mod host;
-pub mod name;
-pub mod number;
 pub mod output;
 pub mod parameter;
 pub mod syntax;
-pub mod token;
 mod wording;
 
 pub use ast::{Ast, Item, StringLiteral, UnresolvedDependency};
@@ -22,9 +19,7 @@ pub use error::{
 };
 pub use evaluation::Evaluation;
 pub use host::{Entry, Groups, Host};
-pub use name::{Name, Namepath};
-pub use number::{Exhausted, Number, Numerator};
+pub use just_names::{Exhausted, Name, Namepath, Number, Numerator, Token};
 pub use output::{Output, WriteFailed};
 pub use parameter::{Parameter, ParameterKind};
 pub use syntax::Syntax;
-pub use token::Token;

@@ -6,11 +6,9 @@ ghost use Rattle.just_parts.specs.Parameter.{is_required, is_variadic, least_arg
 
 use crate::dependency::Dependency;
 use crate::layers::ast::UnresolvedDependency;
-use crate::layers::name::Name;
-use crate::layers::number::Number;
 use crate::layers::parameter::Parameter;
-use crate::modulepath::Modulepath;
 use just_data::{Chain, Exact, Sequence};
+use just_names::{Modulepath, Name, Number};
 use std::alloc::AllocError;
 
 /// A recipe. Its first `priors` dependencies run before it, the others after it. The last two fields are there once

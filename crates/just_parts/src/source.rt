@@ -1,42 +1,12 @@
-//! Clean paths, and how a file came in.
-ghost use Rattle.std.specs.Prelude.{◌≡◌, ◌↔◌, ◌⊎◌, ◌+◌, [], ◌∷◌, ◌++◌, Some, None, IsTrue, IfOk, IfErr, IsErrOf, MatchResult};
-ghost use Rattle.just_parts.specs.Clean.{IsClean, is_component, folder_of};
-ghost use Rattle.just_parts.specs.Name.{submodule_path};
+//! How a file came in.
+ghost use Rattle.std.specs.Prelude.{◌≡◌, ◌↔◌, ◌⊎◌, ◌+◌, [], ◌∷◌, ◌++◌, Some, None, IfOk, IfErr, IsErrOf, MatchResult};
+ghost use Rattle.just_names.specs.Clean.{IsClean, folder_of};
+ghost use Rattle.just_names.specs.Name.{submodule_path};
 
 use crate::layers::error::Error;
-use crate::layers::name::{Name, Namepath};
-use crate::layers::number::Exhausted;
 use just_data::{Chain, Exact, Text};
+use just_names::{Exhausted, Name, Namepath, folder_of};
 use std::alloc::{AllocError, Global};
-
-// Whether the text may stand between two slashes of a clean path.
-pub(crate) fn is_component(text: &str) -> bool
-    ensures { result ≡ is_component text.now }
-{
-    !(text.is_empty() || text == "." || text == "..")
-}
-
-/// Whether a path is clean: it begins with `/`, and its components, at least one, are none of empty, `.` and `..`.
-/// A clean path lies in a folder.
-pub fn is_clean(path: &str) -> bool
-    ensures { IsTrue result ↔ IsClean path.now }
-{
-    match path.strip_prefix('/') {
-        Some(rest) => rest.split('/').all(|component| is_component(component)),
-        None => false,
-    }
-}
-
-/// The folder that a clean path lies in.
-pub fn folder_of(path: &str) -> &str
-    requires { IsClean path.now }
-    ensures { result.now ≡ folder_of path.now }
-{
-    match path.rsplit_once('/') {
-        Some((folder, _)) => { if folder.is_empty() { "/" } else { folder } }
-        None => "/",
-    }
-}
 
 /// A file of a compilation, and how it came in: `file_depth` imports and modules lead to it from the root, by the files
 /// `file_path`, itself the last. It is imported at `import_offsets`, and it belongs to the module `namepath`, none for

@@ -1,8 +1,9 @@
 //! Copies are equal to what they are of, and there is memory for them.
 use just_bench::{PlainSyntax, Recorder};
 use just_data::{Boxed, Exact, Sequence, Text};
+use just_names::{Modulepath, is_clean};
+use just_parts::Source;
 use just_parts::layers::{Ast, Config, Error, Groups, Host, LoadError, Numerator, Syntax};
-use just_parts::{Modulepath, Source, is_clean};
 use std::alloc::{AllocError, Global};
 use std::test::Fail;
 

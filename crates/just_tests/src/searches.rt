@@ -2,8 +2,9 @@
 use just_bench::PlainSyntax;
 use just_data::Text;
 use just_loader::{Sources, find_module_file};
+use just_names::is_clean;
+use just_parts::Source;
 use just_parts::layers::{Ast, Error, Item, LoadError, Name, Numerator, Syntax};
-use just_parts::{Source, is_clean};
 use std::alloc::{AllocError, Global};
 use std::test::Fail;
 

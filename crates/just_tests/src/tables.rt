@@ -1,6 +1,6 @@
 //! A table that is collected from values, and gives them away.
 use just_data::BorrowedText;
-use just_parts::{Keyed, Table};
+use just_table::{Keyed, Table};
 use std::alloc::Global;
 use std::test::Fail;
 

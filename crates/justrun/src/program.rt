@@ -1,6 +1,6 @@
 //! The program, over a reader and two writers.
 ghost use Rattle.std.specs.Prelude.{◌≡◌, ◌≢◌, ◌<◌, [], slice_get, IsNone, IfOk, IfSome};
-ghost use Rattle.just_parts.specs.Clean.{IsClean};
+ghost use Rattle.just_names.specs.Clean.{IsClean};
 ghost use Rattle.just_invoke.specs.Closed.{IsClosed};
 
 use crate::fault::Fault;
@@ -11,8 +11,8 @@ use just_bench::bundle::{read_sources, read_text};
 use just_bench::{PlainEvaluation, PlainSyntax, Recorder, StopWriter};
 use just_data::Text;
 use std::alloc::Global;
-use std::io;
 use std::io::{Read, Write};
+use std::io;
 
 // Writes the texts of a group in brackets.
 fn write_group<W: Write>(output: &mut W, texts: &[Text]) -> io::Result<()> {

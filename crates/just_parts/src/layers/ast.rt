@@ -1,9 +1,7 @@
 //! What a source text says.
-use crate::layers::name::{Name, Namepath};
-use crate::layers::token::Token;
-use crate::modulepath::Modulepath;
 use crate::recipe::UnresolvedRecipe;
 use just_data::{Exact, Sequence, Text};
+use just_names::{Modulepath, Name, Namepath, Token};
 
 /// What a recipe of a source text depends on.
 #[derive(Clone, Debug, PartialEq, Eq, Drop)]

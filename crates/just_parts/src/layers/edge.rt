@@ -3,8 +3,8 @@ ghost use Rattle.std.specs.Prelude.{◌≡◌, option_map};
 ghost use Rattle.just_parts.specs.Edge.{edge_of, lent_edge, with_absolute};
 
 use crate::layers::ast::{Item, StringLiteral};
-use crate::layers::name::Name;
 use just_data::Text;
+use just_names::Name;
 
 /// How an item leads to a file. Where it is optional, the file may be missing.
 #[derive(Drop)]

@@ -1,14 +1,12 @@
 //! Errors, their names and what they say.
 ghost use Rattle.std.specs.Prelude.{◌≡◌, OnOk, codes};
 ghost use Rattle.std.specs.Fmt.{HasWritten, IsPlainFormatter, WritesOnOk};
-ghost use Rattle.just_parts.specs.Modulepath.{joined};
+ghost use Rattle.just_names.specs.Modulepath.{joined};
 ghost use Rattle.just_parts.specs.Messages.{load_name, kind_name, invocation_name, run_name, error_name, chain_text, circle_text};
 
-use crate::layers::name::{Name, Namepath};
-use crate::layers::number::Exhausted;
-use crate::layers::token::Token;
 use crate::layers::wording::{Arguments, At, Listed, Takes, noun};
 use just_data::{BorrowedText, Sequence, Text};
+use just_names::{Exhausted, Name, Namepath, Token};
 use std::alloc::{AllocError, AllocFailed};
 use std::fmt;
 use thiserror::Error;

@@ -3,8 +3,8 @@ ghost use Rattle.std.specs.Prelude.{◌≡◌, ◌++◌, ◌∷◌, [], List, Op
 ghost use Rattle.just_parts.specs.declared.layers.host.Entry.{Entry};
 ghost use Rattle.just_parts.specs.Host.{Answer, KeepsPromises};
 
-use crate::modulepath::Modulepath;
 use just_data::{Exact, Sequence, Text};
+use just_names::Modulepath;
 use std::alloc::AllocError;
 
 /// The arguments of a recipe: for each parameter the texts that it was given.

@@ -2,9 +2,8 @@
 ghost use Rattle.std.specs.Prelude.{◌≡◌};
 ghost use Rattle.just_parts.specs.Parameter.{is_variadic, is_required};
 
-use crate::layers::name::Name;
-use crate::layers::number::Number;
 use just_data::Exact;
+use just_names::{Name, Number};
 
 /// How many words a parameter takes.
 #[derive(Clone, Copy, Debug, PartialEq, Eq)]

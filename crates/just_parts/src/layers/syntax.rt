@@ -6,8 +6,8 @@ ghost use Rattle.std.specs.List.{All};
 
 use crate::layers::ast::{Ast, Item};
 use crate::layers::error::Error;
-use crate::layers::number::Numerator;
 use crate::source::Source;
+use just_names::Numerator;
 use std::alloc::Global;
 
 /// The grammar of the source texts.

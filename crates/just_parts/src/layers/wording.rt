@@ -2,8 +2,8 @@
 ghost use Rattle.std.specs.Prelude.{◌≡◌};
 ghost use Rattle.just_parts.specs.Wording.{noun_text};
 
-use crate::layers::token::Token;
 use just_data::Text;
+use just_names::Token;
 use std::fmt;
 
 // The most arguments of what takes any number of them.
@@ -81,6 +81,11 @@ impl<'a, 'src> fmt::Display for At<'a, 'src> {
 pub(crate) struct Listed<'a>(pub &'a [Text]);
 
 impl<'a> fmt::Display for Listed<'a> {
+    ghost use Rattle.std.specs.Prelude.{Some};
+    ghost use Rattle.just_parts.specs.Wording.{listed_text};
+
+    ghost output = { λ listed. Some (listed_text listed.0.now) };
+
     fn fmt<W: fmt::Write>(&self, f: &mut fmt::Formatter<W>) -> fmt::Result {
         let Some((first, rest)) = self.0.split_first() else {
             return Ok(());

@@ -3,7 +3,7 @@ use Rattle.std.proofs.lemmas.Iterator.{YieldsList-from_slice}
 use Rattle.std.proofs.lemmas.Iterator.Search.{YieldsList-from_take_while}
 use Rattle.std.proofs.lemmas.Iterator.Consumers.{count_from_yields_List}
 use Rattle.std.proofs.lemmas.List.Folds.{length-prefix_len}
-use Rattle.just_parts.specs.Identifier.{is_identifier_continue}
+use Rattle.just_names.specs.Identifier.{is_identifier_continue}
 use Rattle.just_bench.proofs.lexer.name_rest.Goals as goal
 
 pub returns-clause-is : goal.returns-clause-is

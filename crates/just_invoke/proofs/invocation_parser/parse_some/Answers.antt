@@ -1,8 +1,8 @@
 use Rattle.std.proofs.Common.{[], rules, IfSome, refl, ap, arith, length, length-drop, map, drop}
 use Rattle.std.proofs.lemmas.Result.{IfErr-weaker}
-use Rattle.just_parts.specs.Modulepath.{texts}
+use Rattle.just_names.specs.Modulepath.{texts}
 use Rattle.just_invoke.specs.Cause.{cause_of}
-use Rattle.just_invoke.specs.Split.{reading_of, Stops, IsFault}
+use Rattle.just_invoke.specs.Split.{invoked_of, Stops, IsFault}
 use Rattle.just_invoke.proofs.SplitLemmas.{fault_after, chain_all, chain_more, held_more}
 use Rattle.just_invoke.proofs.invocation_parser.parse_some.Goals as goal
 
@@ -19,11 +19,11 @@ returns-in_err-invocation-clause-fault c =
     IfErr-weaker c.from_residual.result
     (λ e. IfSome (cause_of e) (Stops c.args.root.now c.args.recipes.now (texts c.after.result.now)))
     (λ e. IfSome (cause_of e) (IsFault c.args.root.now c.args.recipes.now (texts c.args.words.now)))
-    (λ e. fault_after c.args.root.now c.args.recipes.now (texts c.args.words.now) c.args.words.now c.loop-next.next (map reading_of c.loop-next.invocations.items)
+    (λ e. fault_after c.args.root.now c.args.recipes.now (texts c.args.words.now) c.args.words.now c.loop-next.next (map invoked_of c.loop-next.invocations.items)
     (cause_of e) c.after.result.now (omega arith) c.after.ensures (c.loop-next.invariant.chain [] (texts (drop c.loop-next.next c.args.words.now)) refl))
     (search rules)
 
 pub returns-clause-chain : goal.returns-clause-chain
 returns-clause-chain c =
-    chain_all c.args.root.now c.args.recipes.now (texts c.args.words.now) c.args.words.now c.loop-next.next (map reading_of c.loop-next.invocations.items)
+    chain_all c.args.root.now c.args.recipes.now (texts c.args.words.now) c.args.words.now c.loop-next.next (map invoked_of c.loop-next.invocations.items)
     (omega arith) c.loop-next.invariant.chain

@@ -1,6 +1,6 @@
 use Rattle.std.proofs.Common.{◌≡◌, Some, subst, sym, rules, IfErr}
 use Rattle.std.specs.Option.{option_map}
-use Rattle.just_parts.specs.Token.{lexeme}
+use Rattle.just_names.specs.Token.{lexeme}
 use Rattle.just_loader.specs.ModuleFile.{candidates}
 use Rattle.just_loader.specs.Links.{Fault, given, module_link}
 use Rattle.just_parts.specs.Causes.{Reports}

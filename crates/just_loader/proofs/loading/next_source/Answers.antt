@@ -1,5 +1,5 @@
 use Rattle.std.proofs.Common.{◌∙◌, sym, subst}
-use Rattle.just_parts.specs.Clean.{IsClean}
+use Rattle.just_names.specs.Clean.{IsClean}
 use Rattle.just_loader.proofs.ComingIn.{module_next, name_is, path_clean, path_is}
 use Rattle.just_loader.proofs.loading.next_source.Goals as goal
 
@@ -8,7 +8,7 @@ module-requires c = subst IsClean (sym c.as_str-path.ensures) (path_clean c.args
 
 pub returns-in-Some-clause-next : goal.returns-in-Some-clause-next
 returns-in-Some-clause-next c =
-    module_next c.args.scan.now c.args.before.now c.args.step c.in-Some.number c.index-in-Some.result.now c.as_str-path.result.now c.module.result c.in-Some.is
-    (name_is c.args.scan.now c.in-Some.number c.index-in-Some.result.now (rw c.in-Some.is at c.requires.number) c.index-in-Some.ensures)
+    module_next c.args.scan.now c.args.before.now c.args.step c.in-Some.field-0 c.index-in-Some.result.now c.as_str-path.result.now c.module.result c.in-Some.is
+    (name_is c.args.scan.now c.in-Some.field-0 c.args.step.tag c.index-in-Some.result.now (rw c.in-Some.is at c.requires.named) c.index-in-Some.ensures)
     (c.as_str-path.ensures ∙ path_is c.args.scan.now c.args.step.target c.index.result.now c.requires.target c.index.ensures)
     c.module.ensures.chain c.module.ensures.offsets c.module.ensures.module c.module.ensures.path c.module.ensures.folder

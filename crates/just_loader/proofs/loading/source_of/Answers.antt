@@ -1,9 +1,10 @@
-use Rattle.std.proofs.Common.{◌≡◌, ◌∙◌, ◌<◌, length, IfSome, ap, sym, subst, arith}
+use Rattle.std.proofs.Common.{◌≡◌, ◌∙◌, ◌<◌, length, ap, sym, subst, arith}
 use Rattle.just_graph.specs.declared.unfolding.Step.{Step}
-use Rattle.just_parts.specs.Clean.{IsClean}
+use Rattle.just_names.specs.Clean.{IsClean}
 use Rattle.just_parts.specs.declared.source.Source.{Source}
 use Rattle.just_loader.specs.Loading.{CameInWorlds}
 use Rattle.just_loader.specs.Placed.{file_at}
+use Rattle.just_loader.specs.Scanned.{EntersName}
 use Rattle.just_loader.proofs.ComingIn.{came_by, came_over, came_root, element_is, over, path_clean, path_is, row_inside, step_inside, step_is}
 use Rattle.just_loader.proofs.FileKeys.{node_inside}
 use Rattle.just_loader.proofs.loading.source_of.Goals as goal
@@ -58,11 +59,11 @@ next_source-requires-clause-target c =
     let s : c.index-step.result.now ≡ h.step = step_is h c.index-nodes-origin.result c.index-in-Some.result.now c.index-in-Some.ensures c.index-step.result.now c.index-step.ensures in
     subst (λ (x : Step). x.target < length c.args.scan.now.files.items) (sym s) h.target
 
-pub next_source-requires-clause-number : goal.next_source-requires-clause-number
-next_source-requires-clause-number c =
+pub next_source-requires-clause-named : goal.next_source-requires-clause-named
+next_source-requires-clause-named c =
     let h = over c.requires.scan.0 c.args.scan.now c.requires.scan.1 c.args.nodes.now c.requires.nodes c.args.sources.now c.args.node.now c.requires.node c.requires.sources c.in-Some.origin c.in-Some.is in
     let s : c.index-step.result.now ≡ h.step = step_is h c.index-nodes-origin.result c.index-in-Some.result.now c.index-in-Some.ensures c.index-step.result.now c.index-step.ensures in
-    subst (λ (x : Step). IfSome x.enters (λ number. number < length c.args.scan.now.names.items)) (sym s) h.number
+    subst (EntersName c.args.scan.now.names.items) (sym s) h.named
 
 pub next_source-requires-clause-shallow : goal.next_source-requires-clause-shallow
 next_source-requires-clause-shallow c =

@@ -1,6 +1,5 @@
 use Rattle.std.proofs.Common.{None, get_or, arith}
 use Rattle.std.proofs.lemmas.List.{get_or_default}
-use Rattle.just_loader.specs.Numbering.{texts_of}
 use Rattle.just_loader.proofs.Scanning.{row_step}
 use Rattle.just_loader.proofs.scan.row.Goals as goal
 
@@ -8,6 +7,6 @@ pub loop-place-preserved : goal.loop-place-preserved
 loop-place-preserved c =
     let t = get_or c.args.targets.now c.loop-place.place None in
     let both = row_step c.args.items.now c.args.targets.now c.loop-place.place c.index-items-place.result t
-    (texts_of c.args.names.now.names.items) (texts_of c.loop-place.names.names.items) (texts_of c.push_step.new.names.names.items) c.loop-place.row.items c.push_step.new.row.items c.loop-place-test.true c.requires.count c.index-items-place.is
+    c.args.names.now.names.items c.loop-place.names.names.items c.push_step.new.names.names.items c.loop-place.row.items c.push_step.new.row.items c.loop-place-test.true c.requires.count c.index-items-place.is
     (get_or_default c.args.targets.now c.loop-place.place None t (omega (arith, c.loop-place-test.true, c.requires.count))) c.loop-place.invariant.steps c.loop-place.invariant.extends c.in_ok-push_step.ensures.pushed c.in_ok-push_step.ensures.extends in
     record { steps = both.0; extends = both.1; numbered = c.in_ok-push_step.ensures.numbered }

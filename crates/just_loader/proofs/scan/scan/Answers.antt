@@ -5,8 +5,8 @@ use Rattle.std.specs.Str.{bytes_eq}
 use Rattle.std.proofs.lemmas.Grind.{common_steps}
 use Rattle.std.proofs.lemmas.List.{length-map, length_push}
 use Rattle.std.proofs.lemmas.Option.{slice_get_read}
-use Rattle.just_parts.specs.Entries.{find}
-use Rattle.just_loader.specs.Numbering.{paths_of, texts_of}
+use Rattle.just_table.specs.Entries.{find}
+use Rattle.just_loader.specs.Numbering.{paths_of}
 use Rattle.just_loader.specs.Reached.{World, world_of, NamesAt, NamesInScan}
 use Rattle.just_loader.specs.declared.sources.SourceFile.{SourceFile}
 use Rattle.just_parts.proofs.Lifts.{lifted}
@@ -26,7 +26,7 @@ loop-alloc-init g c =
     record {
       found = c.in_ok-place.ensures.found;
       numbered = c.new-names.ensures.numbered;
-      so_far = start w (paths_of c.new-found.result.files.items) (paths_of c.place.new.self.files.items) (texts_of c.new-names.result.names.items) c.in_ok-place.field-0 c.new-files.result.items c.new-rows.result.items
+      so_far = start w (paths_of c.new-found.result.files.items) (paths_of c.place.new.self.files.items) c.new-names.result.names.items c.in_ok-place.field-0 c.new-files.result.items c.new-rows.result.items
           (ap paths_of c.new-found.ensures.none) c.in_ok-place.ensures.files c.in_ok-place.ensures.place c.new-files.ensures.items c.new-rows.ensures.items;
     }
 
@@ -70,7 +70,7 @@ loop-alloc-preserved g c =
     record {
       found = c.in_ok-scanned.ensures.found;
       numbered = c.in_ok-scanned.ensures.numbered;
-      so_far = scan_one w (paths_of c.loop-alloc.found.files.items) (texts_of c.loop-alloc.names.names.items) (paths_of c.scan_file.new.found.files.items) (texts_of c.scan_file.new.names.names.items)
+      so_far = scan_one w (paths_of c.loop-alloc.found.files.items) (paths_of c.scan_file.new.found.files.items) c.loop-alloc.names.names.items c.scan_file.new.names.names.items
           c.loop-alloc.files.items c.push.new.self.items c.loop-alloc.rows.items c.push-in-loop-alloc.new.self.items c.copied-file.result c.in_ok-scanned.scanned c.in_ok-scanned.row c.loop-alloc.invariant.so_far path
           c.in_ok-scanned.ensures.path c.in_ok-scanned.ensures.scanned c.in_ok-scanned.ensures.kept c.in_ok-scanned.ensures.grows c.in_ok-scanned.ensures.extends c.in_ok-push.ensures.items c.in_ok-push-2.ensures.items;
     }
@@ -81,11 +81,11 @@ returns-clause-scan g c =
     let found : length c.loop-alloc.found.files.items ≤ length c.loop-alloc.files.items = grind (arith, common_steps) in
     let all : length (paths_of c.loop-alloc.found.files.items) ≤ length c.loop-alloc.files.items = omega (arith, found, length-map c.loop-alloc.found.files.items (λ (f : SourceFile). f.path)) in
     is_scan w (paths_of c.loop-alloc.found.files.items) (record { files = c.loop-alloc.files; rows = c.loop-alloc.rows; names = c.loop-alloc.names.names }) c.loop-alloc.invariant.so_far all
-    (once (paths_of c.loop-alloc.found.files.items) (get bytes_eq c.loop-alloc.found.places) c.loop-alloc.invariant.found.numbering) (found_clean c.args.sources.now c.loop-alloc.found c.loop-alloc.invariant.found) (once (texts_of c.loop-alloc.names.names.items) (get bytes_eq c.loop-alloc.names.numbers) c.loop-alloc.invariant.numbered)
+    (once (paths_of c.loop-alloc.found.files.items) (get bytes_eq c.loop-alloc.found.places) c.loop-alloc.invariant.found.numbering) (found_clean c.args.sources.now c.loop-alloc.found c.loop-alloc.invariant.found)
 
 pub returns-clause-kept : goal.returns-clause-kept
 returns-clause-kept g c =
     let w : World = world_of c.args.sources.now c.args.config.now (g.S.Syntax.answers c.args.syntax.now) c.args.root.now in
     let found : length c.loop-alloc.found.files.items ≤ length c.loop-alloc.files.items = grind (arith, common_steps) in
     let all : length (paths_of c.loop-alloc.found.files.items) ≤ length c.loop-alloc.files.items = omega (arith, found, length-map c.loop-alloc.found.files.items (λ (f : SourceFile). f.path)) in
-    none_in_scan w (paths_of c.loop-alloc.found.files.items) (texts_of c.loop-alloc.names.names.items) c.loop-alloc.files.items c.loop-alloc.rows.items c.loop-alloc.invariant.so_far all
+    none_in_scan w (paths_of c.loop-alloc.found.files.items) c.loop-alloc.names.names.items c.loop-alloc.files.items c.loop-alloc.rows.items c.loop-alloc.invariant.so_far all

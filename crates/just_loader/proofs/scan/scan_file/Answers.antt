@@ -2,10 +2,10 @@ use Rattle.std.proofs.Common.{◌≡◌, ◌∙◌, ◌≤◌, ◌^◌, Some, ma
 use Rattle.std.specs.List.{Contains}
 use Rattle.std.proofs.lemmas.List.{length-map}
 use Rattle.just_parts.specs.Bare.{bare_item}
-use Rattle.just_parts.specs.Clean.{folder_of}
+use Rattle.just_names.specs.Clean.{folder_of}
 use Rattle.just_loader.specs.Links.{To, Fault, link_in}
 use Rattle.just_loader.specs.ModuleFile.{relative}
-use Rattle.just_loader.specs.Numbering.{paths_of, texts_of}
+use Rattle.just_loader.specs.Numbering.{paths_of}
 use Rattle.just_loader.specs.Reached.{World, world_of, LeadsTo, NamesAt, items_said, relative_to_root}
 use Rattle.just_loader.specs.Scanned.{ArePlacesOf, AreSteps}
 use Rattle.just_parts.proofs.Lifts.{lifted}
@@ -46,10 +46,10 @@ returns-clause-scanned g c =
     ap (λ x. map (link_in w.files w.home w.answers.enabled x) c.as_slice.result.now) folder ∙ ap (map (link_in w.files w.home w.answers.enabled (folder_of c.args.file.now.path))) c.as_slice.ensures in
     let places : ArePlacesOf (paths_of c.targets.new.found.files.items) (map (link_in w.files w.home w.answers.enabled (folder_of c.args.file.now.path)) c.in_ok-items.items) c.in_ok-targets.targets.items =
     subst (λ ls. ArePlacesOf (paths_of c.targets.new.found.files.items) ls c.in_ok-targets.targets.items) links c.in_ok-targets.ensures.places in
-    let steps : AreSteps (texts_of c.row.new.names.names.items) c.in_ok-items.items c.in_ok-targets.targets.items c.in_ok-row.row.items =
-    subst (λ is. AreSteps (texts_of c.row.new.names.names.items) is c.in_ok-targets.targets.items c.in_ok-row.row.items) c.as_slice-2.ensures
-    (subst (λ ts. AreSteps (texts_of c.row.new.names.names.items) c.as_slice-2.result.now ts c.in_ok-row.row.items) c.as_slice-3.ensures.value c.in_ok-row.ensures.steps) in
-    is_scanned w c.args.file.now c.requires.file.0 c.in_ok-items.items parsed (paths_of c.targets.new.found.files.items) (texts_of c.row.new.names.names.items)
+    let steps : AreSteps c.row.new.names.names.items c.in_ok-items.items c.in_ok-targets.targets.items c.in_ok-row.row.items =
+    subst (λ is. AreSteps c.row.new.names.names.items is c.in_ok-targets.targets.items c.in_ok-row.row.items) c.as_slice-2.ensures
+    (subst (λ ts. AreSteps c.row.new.names.names.items c.as_slice-2.result.now ts c.in_ok-row.row.items) c.as_slice-3.ensures.value c.in_ok-row.ensures.steps) in
+    is_scanned w c.args.file.now c.requires.file.0 c.in_ok-items.items parsed (paths_of c.targets.new.found.files.items) c.row.new.names.names.items
     (record { path = c.copied.result; text = c.copied-2.result; relative = c.new.result; items = c.in_ok-items.items; targets = c.in_ok-targets.targets }) c.in_ok-row.row.items c.copied.ensures c.copied-2.ensures (c.new.ensures ∙ shown) refl places steps
 
 pub returns-clause-kept : goal.returns-clause-kept

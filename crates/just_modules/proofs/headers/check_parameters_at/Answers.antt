@@ -1,6 +1,6 @@
 use Rattle.std.proofs.Common.{◌≡◌, ◌<◌, ◌∙◌, ap, length, map, get_or, [], arith, sym}
 use Rattle.std.proofs.lemmas.List.{get_or_default}
-use Rattle.just_parts.specs.Name.{text_of_name}
+use Rattle.just_names.specs.Name.{text_of_name}
 use Rattle.just_parts.specs.declared.layers.parameter.Parameter.{Parameter}
 use Rattle.just_modules.specs.Index.{Repeats}
 use Rattle.just_modules.specs.Definitions.{recipes_in}

@@ -1,5 +1,5 @@
 use Rattle.std.proofs.Common.{◌≡◌, map, take}
-use Rattle.just_parts.specs.Name.{text_of_name}
+use Rattle.just_names.specs.Name.{text_of_name}
 use Rattle.just_modules.proofs.headers.texts_of.Given as goal
 
 abbrev pub invariant-loop-name : goal.invariant-loop-name

@@ -2,7 +2,7 @@ use Rattle.std.proofs.Common.{◌≡◌, ◌∙◌, [], length, take, slice_inde
 use Rattle.std.specs.List.{Contains}
 use Rattle.std.proofs.lemmas.List.{take_all}
 use Rattle.std.proofs.lemmas.Option.{slice_get_read}
-use Rattle.just_parts.specs.Entries.{put}
+use Rattle.just_table.specs.Entries.{put}
 use Rattle.just_invoke.specs.Module.{module_name}
 use Rattle.just_graph.proofs.Index.{some_same}
 use Rattle.just_modules.specs.Justfiles.{held_by_name, labelled_as, with_name, with_names}

@@ -1,6 +1,6 @@
 use Rattle.std.proofs.Common.{◌≡◌, ◌∙◌, refl, sym, ap, length, arith}
-use Rattle.just_parts.specs.Name.{text_of_name}
-use Rattle.just_parts.specs.Token.{lexeme}
+use Rattle.just_names.specs.Name.{text_of_name}
+use Rattle.just_names.specs.Token.{lexeme}
 use Rattle.just_modules.specs.Definitions.{recipes_in}
 use Rattle.just_modules.specs.Recipes.{name_of, recipe_at}
 use Rattle.just_modules.proofs.RecipePlaces.{length-lent}

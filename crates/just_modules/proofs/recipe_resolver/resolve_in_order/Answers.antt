@@ -1,6 +1,6 @@
 use Rattle.std.proofs.Common.{◌≡◌, ◌<◌, ◌∙◌, ℕ, List, ap, sym, subst, arith, length, slice_index}
 use Rattle.std.proofs.lemmas.List.{length-map}
-use Rattle.just_parts.specs.Name.{texts_of_path}
+use Rattle.just_names.specs.Name.{texts_of_path}
 use Rattle.just_parts.specs.declared.layers.ast.UnresolvedDependency.{UnresolvedDependency}
 use Rattle.just_parts.specs.declared.recipe.Recipe.{Recipe}
 use Rattle.just_modules.specs.Recipes.{dependency_paths}

@@ -3,7 +3,7 @@ use Rattle.std.specs.HashMap.{get}
 use Rattle.just_invoke.specs.Closed.{is_closed}
 use Rattle.just_parts.specs.Asts.{AstKey, root_ast_key, same_ast_key}
 use Rattle.just_parts.specs.Causes.{Reports}
-use Rattle.just_parts.specs.declared.modulepath.Modulepath.{Modulepath}
+use Rattle.just_names.specs.declared.modulepath.Modulepath.{Modulepath}
 use Rattle.just_parts.proofs.Lifts.{lifted}
 use Rattle.just_loader.specs.Keys.{NamesInFiles}
 use Rattle.just_loader.specs.Reached.{World, world_of}
@@ -30,6 +30,13 @@ returns-in_err-asts g c =
 pub returns-in_err-loaded : goal.returns-in_err-loaded
 returns-in_err-loaded g c =
     refused (world_of c.args.sources.now c.args.config.now (g.S.Syntax.answers c.args.syntax.now) c.args.root.now) c.from_residual-in_err-loaded.result (search rules) (search rules)
+
+pub returns-in_err-paths : goal.returns-in_err-paths
+returns-in_err-paths g c =
+    refused (world_of c.args.sources.now c.args.config.now (g.S.Syntax.answers c.args.syntax.now) c.args.root.now) c.from_residual-in_err-paths.result (search rules) (search rules)
+
+pub analyze-requires-clause-paths : goal.analyze-requires-clause-paths
+analyze-requires-clause-paths g c = λ k held. subst (λ o. IsSome o) (sym (c.in_ok-paths.ensures k held)) refl
 
 pub analyze-requires-clause-held : goal.analyze-requires-clause-held
 analyze-requires-clause-held g c =
@@ -62,7 +69,7 @@ returns g c =
     let shared : c.in_ok-loaded.loaded ≡ loaded = c.in_ok-loaded.ensures in
     let analyzed : IsAnalyzed w.answers.enabled asts loaded (root_heading w) c.in_ok-justfile.justfile c.in_ok-justfile.recipes =
     subst (λ l. IsAnalyzed w.answers.enabled asts l (root_heading w) c.in_ok-justfile.justfile c.in_ok-justfile.recipes) shared
-    (subst (λ m. IsAnalyzed w.answers.enabled asts c.in_ok-loaded.loaded (heading (m, w.root) (label None None [] false)) c.in_ok-justfile.justfile c.in_ok-justfile.recipes) top c.in_ok-justfile.ensures.analyzed) in
+    (subst (λ m. IsAnalyzed w.answers.enabled asts c.in_ok-loaded.loaded (heading (m, w.root) (label None None [] false)) c.in_ok-justfile.justfile c.in_ok-justfile.recipes) top c.in_ok-justfile.ensures.made) in
     record {
       kept = all_kept w asts loaded c.in_ok-asts.ensures.loaded c.in_ok-asts.ensures.kept c.in_ok-justfile.justfile c.in_ok-justfile.recipes analyzed;
       unnamed = none_named w asts loaded c.in_ok-asts.ensures.loaded c.in_ok-asts.ensures.kept c.in_ok-justfile.justfile c.in_ok-justfile.recipes analyzed;

@@ -1,6 +1,6 @@
 use Rattle.std.proofs.Common.{rules, ◌≡◌, sym, subst}
-use Rattle.just_parts.specs.Clean.{IsClean}
-use Rattle.just_parts.specs.Entries.{put}
+use Rattle.just_names.specs.Clean.{IsClean}
+use Rattle.just_table.specs.Entries.{put}
 use Rattle.just_loader.specs.Sources.{folder_prefix, HoldsFolders}
 use Rattle.just_loader.proofs.Folders.{held_on}
 use Rattle.just_loader.proofs.Paths.{put_holds}

@@ -2,8 +2,8 @@ use Rattle.std.proofs.Common.{rules, ◌≡◌, ◌∙◌, ◌++◌, [], ◌∷�
 use Rattle.std.specs.List.{filter}
 use Rattle.std.proofs.lemmas.List.{map-append}
 use Rattle.std.specs.Map.{keys_of}
-use Rattle.just_parts.specs.Entries.{shown, find, from_key, IsSorted}
-use Rattle.just_parts.specs.Modulepath.{texts}
+use Rattle.just_table.specs.Entries.{shown, find, from_key, IsSorted}
+use Rattle.just_names.specs.Modulepath.{texts}
 use Rattle.just_loader.specs.ModuleFile.{slashed, after, is_module_name, is_module_file}
 use Rattle.just_loader.proofs.Tables.{keyed_found}
 use Rattle.just_loader.proofs.Folders.{none_in, some_with, stops, takes, skips, sorted_on, from_on}

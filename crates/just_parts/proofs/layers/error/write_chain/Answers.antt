@@ -1,6 +1,6 @@
 use Rattle.std.proofs.Common.{ℕ, List, ◌≡◌, ◌∙◌, ap, refl, ◌++◌, append_assoc, codes}
 use Rattle.std.proofs.lemmas.Grind.{put_three}
-use Rattle.just_parts.specs.Modulepath.{joined}
+use Rattle.just_names.specs.Modulepath.{joined}
 use Rattle.just_parts.specs.Messages.{chain_text}
 use Rattle.just_parts.proofs.layers.error.write_chain.Goals as goal
 

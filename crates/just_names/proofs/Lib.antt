@@ -1,0 +1,5 @@
+pub mod Joins
+pub mod ModulepathLemmas
+pub mod PathTexts
+pub mod SameTexts
+pub mod Slashes

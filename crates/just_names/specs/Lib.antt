@@ -1,0 +1,6 @@
+pub mod Clean
+pub mod Identifier
+pub mod Join
+pub mod Modulepath
+pub mod Name
+pub mod Token
