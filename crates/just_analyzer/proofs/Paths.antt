@@ -28,7 +28,10 @@ module _ (folder : Text) where
   put_at file text o same = subst (λ b. cond b (Some (relative folder file)) o ≡ Some (relative folder text)) (sym ((bytes_eq-Decides file text).1 (sym same))) (ap (λ t. Some (relative folder t)) (sym same))
 
   -- one more file keeps the paths of the others
-  module _ (file : Text) (old new : Text → Option Text) (is : (q : Text) → new q ≡ cond (bytes_eq file q) (Some (relative folder file)) (old q)) where
+  module _ (file shown : Text) (told : shown ≡ relative folder file) (old new : Text → Option Text) (put : (q : Text) → new q ≡ cond (bytes_eq file q) (Some shown) (old q)) where
+    is : (q : Text) → new q ≡ cond (bytes_eq file q) (Some (relative folder file)) (old q)
+    is q = put q ∙ ap (λ s. cond (bytes_eq file q) (Some s) (old q)) told
+
     has_still : (k : AstKey) → HasPath old k → HasPath new k
     has_still k e = is k.1 ∙ after_put file k.1 (old k.1) (bytes_eq file k.1) refl e
 
