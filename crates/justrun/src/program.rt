@@ -11,8 +11,8 @@ use just_bench::bundle::{read_sources, read_text};
 use just_bench::{PlainEvaluation, PlainSyntax, Recorder, StopWriter};
 use just_data::Text;
 use std::alloc::Global;
-use std::io::{Read, Write};
 use std::io;
+use std::io::{Read, Write};
 
 // Writes the texts of a group in brackets.
 fn write_group<W: Write>(output: &mut W, texts: &[Text]) -> io::Result<()> {
