@@ -6,7 +6,7 @@ ghost use Rattle.just_parts.specs.declared.layers.host.Entry.{Entry};
 ghost use Rattle.just_invoke.specs.Cause.{Cause};
 ghost use Rattle.just_invoke.specs.Closed.{IsClosed, AreClosed};
 ghost use Rattle.just_invoke.specs.Head.{Words, Held};
-ghost use Rattle.just_invoke.specs.Split.{Invoked, Invokes, IsSplit, IsFault};
+ghost use Rattle.just_invoke.specs.Split.{Invokes, IsSplit, IsFault};
 ghost use Rattle.just_invoke.specs.Steady.{IsSteady};
 ghost use Rattle.just_invoke.specs.declared.justfile.Justfile.{Justfile, out-Justfile};
 
@@ -18,12 +18,12 @@ pub fn closes_its_modules()
 
 /// Words are invocations in at most one way.
 pub fn one_split()
-    ensures { (root : Justfile) (recipes : Held) (words : Words) (a b : List Invoked) → IsSplit root recipes words a → IsSplit root recipes words b → a ≡ b }
+    ensures { (root : Justfile) (recipes : Held) (words : Words) (a b : _) → IsSplit root recipes words a → IsSplit root recipes words b → a ≡ b }
 {}
 
 /// Words that are invocations have no fault.
 pub fn no_fault()
-    ensures { (root : Justfile) (recipes : Held) (words : Words) (a : List Invoked) (cause : Cause) → IsSplit root recipes words a → IsFault root recipes words cause → ⊥ }
+    ensures { (root : Justfile) (recipes : Held) (words : Words) (a : _) (c : _) → IsSplit root recipes words a → IsFault root recipes words c → ⊥ }
 {}
 
 /// Words have at most one fault.
@@ -33,12 +33,12 @@ pub fn one_fault()
 
 /// Words are invocations, or have a fault.
 pub fn split_or_fault()
-    ensures { (root : Justfile) (recipes : Held) (words : Words) → ((is : List Invoked) × IsSplit root recipes words is) ⊎ ((cause : Cause) × IsFault root recipes words cause) }
+    ensures { (root : Justfile) (recipes : Held) (words : Words) → ((is : _) × IsSplit root recipes words is) ⊎ ((c : _) × IsFault root recipes words c) }
 {}
 
 /// An invocation with which some words begin takes at least one of them.
 pub fn takes_some()
-    ensures { (root : Justfile) (recipes : Held) (words after : Words) (i : Invoked) → words ≢ [] → Invokes root recipes words after i → length after < length words }
+    ensures { (root : Justfile) (recipes : Held) (words after : Words) (i : _) → words ≢ [] → Invokes root recipes words after i → length after < length words }
 {}
 
 /// A host that is steady on some questions stays so while it keeps its promises, as it does in a run.

@@ -13,6 +13,5 @@ pub mod sources;
 
 pub use loaded::Loaded;
 pub use loading::load;
-pub use module_file::find_module_file;
-pub use scan::relative_path;
+pub use module_file::{find_module_file, relative_path};
 pub use sources::Sources;

@@ -35,6 +35,18 @@ pub(crate) fn after<'text>(text: &'text str, prefix: &str) -> Option<&'text str>
     text.strip_prefix(prefix)
 }
 
+/// A clean path as it is shown: from a folder, where it lies below it, and else whole.
+pub fn relative_path<'text>(
+    alloc: Global,
+    folder: &str,
+    path: &'text str,
+) -> Result<&'text str, AllocError>
+    ensures { IfOk result (λ shown. shown.now ≡ relative folder.now path.now) }
+{
+    let prefix = slashed(alloc, folder)?;
+    Ok(after(path, prefix.as_str()).unwrap_or(path))
+}
+
 // The file at a path, where it is there.
 fn file_at<'src>(
     alloc: Global,

@@ -6,7 +6,6 @@ ghost use Rattle.just_names.specs.Clean.{IsClean};
 ghost use Rattle.just_table.specs.Entries.{find};
 ghost use Rattle.just_parts.specs.Syntax.{Refuses};
 ghost use Rattle.just_loader.specs.Links.{To, Fault, link_by, links_by};
-ghost use Rattle.just_loader.specs.ModuleFile.{relative};
 ghost use Rattle.just_loader.specs.Numbering.{AreFound, AreNumbered, IsFile, paths_found};
 ghost use Rattle.just_loader.specs.Reached.{LeadsTo, NamesAt, NamesInScan, items_said, world_of};
 ghost use Rattle.just_parts.specs.Causes.{Keeps, Reports};
@@ -15,7 +14,7 @@ ghost use Rattle.just_loader.specs.Scanned.{ArePlacesIn, IsPlaceOf, AreSteps, Is
 
 use crate::found::{Found, NameNumbers};
 use crate::links::link;
-use crate::module_file::{after, slashed};
+use crate::module_file::relative_path;
 use crate::scanned::{Scan, ScannedFile};
 use crate::sources::{SourceFile, Sources};
 use just_data::{BorrowedText, Sequence};
@@ -24,18 +23,6 @@ use just_names::folder_of;
 use just_parts::Source;
 use just_parts::layers::{Config, Edge, Error, Item, Numerator, Syntax};
 use std::alloc::{AllocError, Global};
-
-/// A clean path as it is shown: from a folder, where it lies below it, and else whole.
-pub fn relative_path<'text>(
-    alloc: Global,
-    folder: &str,
-    path: &'text str,
-) -> Result<&'text str, AllocError>
-    ensures { IfOk result (λ shown. shown.now ≡ relative folder.now path.now) }
-{
-    let prefix = slashed(alloc, folder)?;
-    Ok(after(path, prefix.as_str()).unwrap_or(path))
-}
 
 // The items of a text.
 fn parse<'src, S: Syntax>(

@@ -1,36 +1,24 @@
-use Rattle.std.proofs.Common.{◌≡◌, ◌∙◌, ◌++◌, ◌∷◌, [], Some, ap, subst, sym, rules}
+use Rattle.std.proofs.Common.{◌∙◌, Some, ap, rules}
 use Rattle.std.specs.HashMap.{get}
-use Rattle.std.specs.List.{AllByRecursion}
 use Rattle.std.specs.Map.{keys_of}
 use Rattle.std.specs.Str.{bytes_eq}
-use Rattle.std.proofs.lemmas.List.{append_assoc}
 use Rattle.just_loader.specs.ModuleFile.{relative}
-use Rattle.just_analyzer.proofs.Paths.{HasPath, has_more, held_path}
+use Rattle.just_analyzer.proofs.Paths.{held_path, one_less}
 use Rattle.just_analyzer.proofs.compiler.relative_paths.Goals as goal
 
 pub loop-key-preserved : goal.loop-key-preserved
-loop-key-preserved c =
-    let done = c.loop-key.invariant.2.0 in (
-      search rules,
-      search rules,
-      (
-        done ++ c.in-Some.key.now ∷ [],
-        append_assoc done (c.in-Some.key.now ∷ []) (keys_of c.next.new.self) ∙ ap (λ es. done ++ keys_of es) (sym c.in-Some.ensures.steps) ∙ c.loop-key.invariant.2.1,
-        has_more c.folder_of-folder.result.now c.in_ok-clone.field-0 c.in_ok-shown-2.shown (search rules) (get bytes_eq c.loop-key.paths) (get bytes_eq c.insert.new.self) c.in_ok-insert.ensures.updates.0 done c.in-Some.key.now (search rules) c.loop-key.invariant.2.2,
-      ),
-    )
+loop-key-preserved c = (
+  search rules,
+  search rules,
+  one_less c.folder_of-folder.result.now c.in_ok-clone.field-0 c.in_ok-shown-2.shown (search rules) (get bytes_eq c.loop-key.paths) (get bytes_eq c.insert.new.self) c.in_ok-insert.ensures.updates.0 c.in-Some.key.now _ _ _ (search rules) (ap keys_of c.in-Some.ensures.steps) c.loop-key.invariant.2,
+)
 
 pub loop-key-preserved-in_ok-insert : goal.loop-key-preserved-in_ok-insert
-loop-key-preserved-in_ok-insert c =
-    let done = c.loop-key.invariant.2.0 in (
-      search rules,
-      search rules,
-      (
-        done ++ c.in-Some.key.now ∷ [],
-        append_assoc done (c.in-Some.key.now ∷ []) (keys_of c.next.new.self) ∙ ap (λ es. done ++ keys_of es) (sym c.in-Some.ensures.steps) ∙ c.loop-key.invariant.2.1,
-        has_more c.folder_of-folder.result.now c.in_ok-clone.field-0 c.in_ok-shown-2.shown (search rules) (get bytes_eq c.loop-key.paths) (get bytes_eq c.insert.new.self) c.in_ok-insert.ensures.updates.0 done c.in-Some.key.now (search rules) c.loop-key.invariant.2.2,
-      ),
-    )
+loop-key-preserved-in_ok-insert c = (
+  search rules,
+  search rules,
+  one_less c.folder_of-folder.result.now c.in_ok-clone.field-0 c.in_ok-shown-2.shown (search rules) (get bytes_eq c.loop-key.paths) (get bytes_eq c.insert.new.self) c.in_ok-insert.ensures.updates.0 c.in-Some.key.now _ _ _ (search rules) (ap keys_of c.in-Some.ensures.steps) c.loop-key.invariant.2,
+)
 
 pub returns : goal.returns
 returns c = λ k held.

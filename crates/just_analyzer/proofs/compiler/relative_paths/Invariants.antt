@@ -1,14 +1,11 @@
-use Rattle.std.proofs.Common.{◌≡◌, ◌++◌, List}
 use Rattle.std.specs.HashMap.{get}
-use Rattle.std.specs.List.{AllByRecursion}
 use Rattle.std.specs.Map.{keys_of}
 use Rattle.std.specs.Str.{bytes_eq}
-use Rattle.just_parts.specs.Asts.{AstKey}
-use Rattle.just_analyzer.proofs.Paths.{HasPath}
+use Rattle.just_analyzer.proofs.Paths.{HaveSoFar}
 use Rattle.just_analyzer.proofs.compiler.relative_paths.Given as goal
 
 abbrev pub invariant-loop-key : goal.invariant-loop-key
 invariant-loop-key l =
     (goal.iterator-loop-key).can_next l.key-iterator ×
     (goal.iterator-loop-key).is_finite l.key-iterator ×
-    ((done : List AstKey) × (done ++ keys_of l.key-iterator ≡ keys_of l.asts.entries) × AllByRecursion (HasPath l.folder (get bytes_eq l.paths)) done)
+    HaveSoFar l.folder (get bytes_eq l.paths) (keys_of l.key-iterator) (keys_of l.asts.entries)
