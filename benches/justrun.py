@@ -24,6 +24,16 @@ def chain(count):
     return bundle(*(f"r{n}: r{n + 1}" for n in range(count - 1)), f"r{count - 1}:"), ["r0"]
 
 
+def followed(count):
+    """Each recipe is followed by the next."""
+    return bundle(*(f"r{n}: && r{n + 1}" for n in range(count - 1)), f"r{count - 1}:"), ["r0"]
+
+
+def in_turn(count):
+    """Each recipe depends on the next, or is followed by it, in turn."""
+    return bundle(*(f"r{n}: {'' if n % 2 else '&& '}r{n + 1}" for n in range(count - 1)), f"r{count - 1}:"), ["r0"]
+
+
 def two_each(count, width=1_000):
     """Levels of recipes: each depends on two of the next level. The words name the first level."""
     def row(n):
@@ -92,6 +102,9 @@ def words(count):
 INPUTS = {
     "chain of 1,000 recipes": chain(1_000),
     "chain of 10,000 recipes": chain(10_000),
+    "chain of 1,000,000 recipes": chain(1_000_000),
+    "100,000 recipes, each followed by the next": followed(100_000),
+    "100,000 recipes, prior and subsequent in turn": in_turn(100_000),
     "100,000 recipes with two dependencies each": two_each(100_000),
     "40 diamonds on top of each other": diamonds(40),
     "100,000 lines": lines(100_000),

@@ -9,6 +9,11 @@ ghost use Rattle.just_bench.specs.Lines.{lines_of};
 ghost use Rattle.just_bench.specs.Lexemes.{IsQuoted};
 ghost use Rattle.just_bench.specs.Grammar.{import_line, module_line, heading, sorted};
 ghost use Rattle.just_bench.specs.Items.{between_quotes};
+ghost use Rattle.just_bench.specs.Promises.{EachIsPromised};
+
+use crate::plain_evaluation::PlainEvaluation;
+use crate::recorder::Recorder;
+use just_parts::layers::{Evaluation, Host};
 
 /// Nothing of a text is lost: its lines, joined by line ends, are the text. The call does nothing.
 pub fn lines_joined(text: &str)
@@ -28,4 +33,10 @@ pub fn lines_told_apart()
     ensures imports { (lexemes : List Lexeme) (import : Meaning) → import_line lexemes ≡ Some import → sorted (Some lexemes) ≡ import }
     ensures modules { (lexemes : List Lexeme) (declared : Meaning) → module_line lexemes ≡ Some declared → sorted (Some lexemes) ≡ declared }
     ensures headings { (lexemes : List Lexeme) (h : Heading) → heading lexemes ≡ Some h → sorted (Some lexemes) ≡ Begins h }
+{}
+
+/// The recorder and the plain evaluation promise that each question is done, whatever they were asked before. So each
+/// run of a bundle has promised answers. The call does nothing.
+pub fn each_answer_is_promised(host: &Recorder, evaluation: &PlainEvaluation)
+    ensures { EachIsPromised (⟦<PlainEvaluation as Evaluation>⟧.promised evaluation.now) (⟦<Recorder as Host>⟧.promised host.now) }
 {}

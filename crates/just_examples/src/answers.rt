@@ -46,7 +46,7 @@ fn run<'src>(
         config,
         &compilation.recipes,
         &PlainSyntax,
-        &PlainEvaluation,
+        &mut PlainEvaluation,
         host,
         &mut writer,
         words,

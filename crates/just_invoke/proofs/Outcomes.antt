@@ -1,64 +1,107 @@
 -- From the words' invocations to the outcome of their run.
-use Rattle.std.proofs.Common.{◌≡◌, ◌≤◌, ℕ, Bool, true, false, List, [], ◌∷◌, map, length, Result, Ok, Err, IfOk, IfErr, refl, ap, subst, sym, inr}
-use Rattle.std.proofs.lemmas.List.{length-map}
+use Rattle.std.proofs.Common.{◌≡◌, ◌≤◌, ◌<◌, ℕ, true, false, List, [], length, Option, Ok, Err, IfSome, refl, sym, ◌∙◌, ap, subst, inl, inr, arith}
+use Rattle.std.specs.Prelude.{IsErrAnd, Result}
+use Rattle.std.proofs.lemmas.Bool.{true≢false}
+use Rattle.std.proofs.lemmas.List.{append-nil}
 use Rattle.just_parts.specs.declared.dependency.Dependency.{Dependency}
-use Rattle.just_parts.specs.declared.layers.host.Entry.{Entry}
+use Rattle.just_parts.specs.declared.layers.config.Config.{Config}
 use Rattle.just_parts.specs.declared.layers.error.Error.{Error}
-use Rattle.just_parts.specs.declared.layers.error.RunError.TheVariants.{ExcessInvocations, NotYet}
 use Rattle.just_parts.specs.declared.layers.error.Error.TheVariants.{Load, Compile, Invocation, Run, Exhausted, Memory}
+use Rattle.just_parts.specs.declared.layers.error.RunError.TheVariants.{ExcessInvocations, NotYet}
+use Rattle.just_parts.specs.declared.layers.halt.Halt.{Halt}
+use Rattle.just_parts.specs.declared.layers.halt.Halt.TheVariants as halt
+use Rattle.just_parts.specs.declared.layers.host.Entry.{Entry}
 use Rattle.just_parts.specs.declared.recipe.Recipe.{Recipe}
-use Rattle.just_invoke.specs.declared.invocation.Invocation as parsed
+use Rattle.just_parts.specs.Evaluation.{Inquiry}
+use Rattle.just_parts.specs.Halts.{come_to}
+use Rattle.just_parts.specs.Host.{Answer}
+use Rattle.just_running.specs.declared.running.Report.{Report}
+use Rattle.just_running.specs.Reports.{IsExpectedRun}
+use Rattle.just_running.specs.Unready.{IsUnready, AreReady}
 use Rattle.just_invoke.specs.declared.justfile.Justfile.{Justfile}
-use Rattle.just_invoke.specs.declared.running.Report.{Report}
-use Rattle.just_invoke.specs.Pairs.{Task, tasks, top_of, pairs_of, tops_of}
-use Rattle.just_invoke.specs.Run.{IsRun}
-use Rattle.just_invoke.specs.Split.{Invoked, invoked_of, IsSplit}
-use Rattle.just_invoke.specs.Unready.{IsUnready, AreReady, IsReason}
-use Rattle.just_invoke.specs.Outcome.{pairs_read, tops, expected_run, IsOutcome, IsRefusal, MayRun, IsWhole}
-use Rattle.just_invoke.specs.Account.{OnceTables, own, AreIn, Complete, counts}
-use Rattle.just_invoke.specs.declared.pair.Pair.{Pair}
+use Rattle.just_invoke.specs.Cause as cause
+use Rattle.just_invoke.specs.Going.{Goes, Stops}
+use Rattle.just_invoke.specs.Outcome.{tops, Refuses, fault, excess, not_yet, memory, MayRun, IsOutcome, refused, ran}
+use Rattle.just_invoke.specs.Split.{Invoked, IsSplit, IsFault}
+use Rattle.just_invoke.proofs.Faults.{split_no_fault}
+use Rattle.just_invoke.proofs.Unique.{split_once}
 
-pub same_read : (recipes : List (Recipe Dependency)) (is : List parsed.Invocation) → pairs_of recipes is ≡ pairs_read recipes (map invoked_of is)
-same_read recipes [] = refl
-same_read recipes (i ∷ is) = ap (λ ps. top_of recipes i ∷ ps) (same_read recipes is)
+-- what is expected where these are invoked
+abbrev IsSo : (Inquiry → Option Answer) → (Entry → Option Answer) → List (Recipe Dependency) → List Invoked → List Entry → List Entry → Result Report Error → Type 0
+IsSo evaluator host recipes invoked old new result =
+    (ended : Result Report Halt) × (result ≡ come_to ended) × IsExpectedRun evaluator host recipes (tops recipes invoked) old new ended
 
-pub tops_read : (recipes : List (Recipe Dependency)) (is : List parsed.Invocation) → tops_of recipes is ≡ tops recipes (map invoked_of is)
-tops_read recipes is = ap (tasks false) (same_read recipes is)
+module _ (root : Justfile) (recipes : List (Recipe Dependency)) (words : List (List ℕ)) (config : Config) where
+  -- words that are not read
+  unread : (e : Error) → cause.IsExpected e → IfSome (cause.cause_of e) (IsFault root recipes words) → Refuses root recipes words config.one e
+  unread (Invocation e) x h = fault e h
+  unread Memory x h = memory
+  unread (Load e) x h = absurd x
+  unread (Compile e) x h = absurd x
+  unread (Run e) x h = absurd x
+  unread Exhausted x h = absurd x
 
--- words that are run
-pub outcome_run : (root : Justfile) (recipes : List (Recipe Dependency)) (words : List (List ℕ)) (old new : List Entry) (invoked : List Invoked) (r : Result Report Error) → IsSplit root recipes words invoked → IsRun (expected_run recipes invoked) old new r → IsOutcome root recipes words old new r
-outcome_run root recipes words old new invoked (Ok report) s x = (invoked, s, x)
-outcome_run root recipes words old new invoked (Err (Load e)) s x = absurd x
-outcome_run root recipes words old new invoked (Err (Compile e)) s x = absurd x
-outcome_run root recipes words old new invoked (Err (Invocation e)) s x = absurd x
-outcome_run root recipes words old new invoked (Err (Run e)) s x = (invoked, s, x)
-outcome_run root recipes words old new invoked (Err Exhausted) s x = (invoked, s, x)
-outcome_run root recipes words old new invoked (Err Memory) s x = inr (invoked, s, x)
+  -- they are not expected to run
+  out : (p : Inquiry → Option Answer) (q : Entry → Option Answer) (invoked : List Invoked) (old : List Entry) → IsSo p q recipes invoked old old (Err Memory)
+  out p q invoked old = (Err halt.Memory, refl, λ f steady even. inr (inl refl, ([], _, refl, sym (append-nil old))))
 
--- what is known of a success
-pub whole_run : (root : Justfile) (recipes : List (Recipe Dependency)) (words : List (List ℕ)) (invoked : List Invoked) (ts : List Task) (t : OnceTables) (r : Result Report Error) → IsSplit root recipes words invoked → ts ≡ tops recipes invoked
-    → IfOk r (λ report. AreIn (own t) ts × Complete recipes t × (report.calls.items ≡ counts ts t)) → IfOk r (IsWhole root recipes words ts t)
-whole_run root recipes words invoked ts t (Err e) s is x = tt
-whole_run root recipes words invoked ts t (Ok report) s is x = record { invoked = invoked; split = s; tops_are = is; all_begun = x.0; complete = x.1; counted = x.2 }
+  -- nor are words that have a fault
+  unread-expected : (e : Error) → cause.IsExpected e → IfSome (cause.cause_of e) (IsFault root recipes words) → (p : Inquiry → Option Answer) (q : Entry → Option Answer) (invoked : List Invoked) → IsSplit root recipes words invoked →
+      (old : List Entry) → IsSo p q recipes invoked old old (Err e)
+  unread-expected (Invocation e) x h p q invoked split old = absurd (split_no_fault root recipes words invoked (cause.cause_of_fault e) split h)
+  unread-expected Memory x h p q invoked split old = out p q invoked old
+  unread-expected (Load e) x h p q invoked split old = absurd x
+  unread-expected (Compile e) x h p q invoked split old = absurd x
+  unread-expected (Run e) x h p q invoked split old = absurd x
+  unread-expected Exhausted x h p q invoked split old = absurd x
 
--- what a run of invocations refuses is a refusal of their words
-pub refused_run : (root : Justfile) (recipes : List (Recipe Dependency)) (words : List (List ℕ)) (one : Bool) (invoked : List Invoked) (ps : List Pair) (r : Result Report Error) → IsSplit root recipes words invoked → ps ≡ pairs_read recipes invoked
-    → (one ≡ true → length invoked ≤ 1) → IfErr r (IsReason recipes ps) → IfErr r (IsRefusal root recipes words one)
-refused_run root recipes words one invoked ps (Ok report) s is few x = tt
-refused_run root recipes words one invoked ps (Err (Run (NotYet name))) s is few x = (invoked, s, few, subst (λ qs. IsUnready recipes qs name) is x)
-refused_run root recipes words one invoked ps (Err (Run (ExcessInvocations n))) s is few x = absurd x
-refused_run root recipes words one invoked ps (Err (Load e)) s is few x = tt
-refused_run root recipes words one invoked ps (Err (Compile e)) s is few x = tt
-refused_run root recipes words one invoked ps (Err (Invocation e)) s is few x = tt
-refused_run root recipes words one invoked ps (Err Exhausted) s is few x = tt
-refused_run root recipes words one invoked ps (Err Memory) s is few x = tt
+  -- what is answered for them
+  answered : (r : Result Report Error) (e : Error) → IsErrAnd r (λ y. y ≡ e) → r ≡ Err e
+  answered (Ok report) e h = absurd h
+  answered (Err y) e h = ap (λ y. Err y) h
 
--- what runs may run
-pub allowed_run : (root : Justfile) (recipes : List (Recipe Dependency)) (words : List (List ℕ)) (one : Bool) (invoked : List Invoked) (ps : List Pair) (r : Result Report Error) → IsSplit root recipes words invoked → ps ≡ pairs_read recipes invoked
-    → (one ≡ true → length invoked ≤ 1) → IfOk r (λ _. AreReady recipes ps) → IfOk r (λ _. MayRun root recipes words one)
-allowed_run root recipes words one invoked ps (Err e) s is few x = tt
-allowed_run root recipes words one invoked ps (Ok report) s is few x = (invoked, s, few, subst (AreReady recipes) is x)
+  pub unread-outcome : (e : Error) → cause.IsExpected e → IfSome (cause.cause_of e) (IsFault root recipes words) → (r : Result Report Error) → IsErrAnd r (λ y. y ≡ e) → (old : List Entry) →
+      IsOutcome root recipes words config old old r
+  unread-outcome e x h r is old = refused e (answered r e is) (unread e x h) refl
 
--- there are as many invoked as invocations
-pub few_readings : (is : List parsed.Invocation) → length is ≤ 1 → length (map invoked_of is) ≤ 1
-few_readings is few = subst (λ n. n ≤ 1) (sym (length-map is invoked_of)) few
+  pub unread-so : (e : Error) → cause.IsExpected e → IfSome (cause.cause_of e) (IsFault root recipes words) → (r : Result Report Error) → IsErrAnd r (λ y. y ≡ e) → (p : Inquiry → Option Answer) (q : Entry → Option Answer) (old : List Entry) →
+      (invoked : List Invoked) → MayRun root recipes words config.one invoked → IsSo p q recipes invoked old old r
+  unread-so e x h r is p q old invoked may = subst (λ r. IsSo p q recipes invoked old old r) (sym (answered r e is)) (unread-expected e x h p q invoked may.split old)
+
+  -- what leads to a recipe that cannot be run is not ready
+  not-ready : (invoked : List Invoked) (name : List ℕ) → IsUnready recipes (tops recipes invoked) name → AreReady recipes (tops recipes invoked) → ⊥
+  not-ready invoked name (place, recipe, led, at, unready, is) ready = true≢false (sym unready ∙ ready place recipe led at)
+
+  module _ (p : Inquiry → Option Answer) (q : Entry → Option Answer) (invoked : List Invoked) (split : IsSplit root recipes words invoked) (few : config.one ≡ true → length invoked ≤ 1) (old new : List Entry) (result : Result Report Error) where
+    stopped : (e : Error) → Stops recipes (tops recipes invoked) e → Refuses root recipes words config.one e
+    stopped e (inl is) = subst (Refuses root recipes words config.one) (sym is) memory
+    stopped e (inr (name, is, unready)) = subst (Refuses root recipes words config.one) (sym is) (not_yet name invoked split few unready)
+
+    pub went : Goes p q recipes (tops recipes invoked) old new result → IsOutcome root recipes words config old new result
+    went (inl (e, is, stops, same)) = refused e is (stopped e stops) same
+    went (inr (ready, ended, is, run, expected)) = ran invoked ended (record { split = split; few = few; ready = ready }) is run
+
+    stopped-expected : (e : Error) → Stops recipes (tops recipes invoked) e → AreReady recipes (tops recipes invoked) → result ≡ Err e → new ≡ old → IsSo p q recipes invoked old new result
+    stopped-expected e (inl is) ready answer same =
+        subst (λ r. IsSo p q recipes invoked old new r) (sym (answer ∙ ap (λ e. Err e) is)) (subst (λ n. IsSo p q recipes invoked old n (Err Memory)) (sym same) (out p q invoked old))
+    stopped-expected e (inr (name, is, unready)) ready answer same = absurd (not-ready invoked name unready ready)
+
+    went-so : AreReady recipes (tops recipes invoked) → Goes p q recipes (tops recipes invoked) old new result → IsSo p q recipes invoked old new result
+    went-so ready (inl (e, is, stops, same)) = stopped-expected e stops ready is same
+    went-so ready (inr (all, ended, is, run, expected)) = (ended, is, expected)
+
+    pub went-expected : Goes p q recipes (tops recipes invoked) old new result → (others : List Invoked) → MayRun root recipes words config.one others → IsSo p q recipes others old new result
+    went-expected goes others may =
+        let same : invoked ≡ others = split_once root recipes words invoked others split may.split in
+        subst (λ is. IsSo p q recipes is old new result) same (went-so (subst (λ is. AreReady recipes (tops recipes is)) (sym same) may.ready) goes)
+
+  -- several invocations where one alone is allowed
+  module _ (invoked : List Invoked) (split : IsSplit root recipes words invoked) (alone : config.one ≡ true) (n : ℕ) (count : n ≡ length invoked) (several : 1 < n) where
+    pub many : Refuses root recipes words config.one (Run (ExcessInvocations n))
+    many = subst (λ k. Refuses root recipes words config.one (Run (ExcessInvocations k))) (sym count) (excess invoked split alone (omega arith))
+
+    pub many-not : (others : List Invoked) → MayRun root recipes words config.one others → ⊥
+    many-not others may =
+        let same : length invoked ≡ length others = ap length (split_once root recipes words invoked others split may.split) in
+        let few : length others ≤ 1 = may.few alone in
+        omega arith

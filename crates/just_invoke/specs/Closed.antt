@@ -1,5 +1,5 @@
 -- Modules whose recipes are among those that are held.
-use Rattle.std.specs.Prelude.{◌≡◌, ◌≤◌, ℕ, List, length, Option, Some, None, IsSome}
+use Rattle.std.specs.Prelude.{◌≡◌, ℕ, List, Option, Some, None, IsSome}
 use Rattle.std.specs.List.{All, Contains}
 use Rattle.just_table.specs.Entries.{find}
 use Rattle.just_names.specs.declared.number.Number.{Number}
@@ -7,7 +7,7 @@ use Rattle.just_parts.specs.declared.dependency.Dependency.{Dependency}
 use Rattle.just_parts.specs.declared.recipe.Recipe.{Recipe}
 use Rattle.just_invoke.specs.declared.justfile.Justfile.{Justfile, out-Justfile}
 use Rattle.just_invoke.specs.declared.justfile.RecipeKey.{RecipeKey}
-use Rattle.just_invoke.specs.Recipes.{find_number}
+use Rattle.just_running.specs.Recipes.{find_number, IsResolved}
 
 -- the recipe is held, under its number
 abbrev pub IsHeld : List (Recipe Dependency) → Recipe Dependency → Type 0
@@ -28,11 +28,6 @@ recipe_of_number recipes (Some number) = find_number recipes number.0
 -- the recipe that is run without words
 abbrev pub default_recipe : Justfile → List (Recipe Dependency) → Option (Recipe Dependency)
 default_recipe justfile recipes = recipe_of_number recipes (out-Justfile justfile).default
-
--- A recipe as it is resolved: it has its path, and no more dependencies run before it than it has.
-pub record IsResolved (recipe : Recipe Dependency) : Type 0 where
-  pub path : IsSome recipe.recipe_path
-  pub priors : recipe.priors ≤ length recipe.dependencies
 
 -- Each name of the module, and its default, is that of a recipe that is held, and the held recipes are resolved.
 pub record IsClosed (justfile : Justfile) (recipes : List (Recipe Dependency)) : Type 0 where

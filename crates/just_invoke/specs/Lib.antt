@@ -1,16 +1,8 @@
-pub mod Account
 pub mod Cause
 pub mod Closed
-pub mod Expansion
-pub mod Firsts
+pub mod Going
 pub mod Head
 pub mod Module
 pub mod Outcome
-pub mod Pairs
-pub mod Recipes
-pub mod Run
 pub mod Split
-pub mod Steady
 pub mod Tail
-pub mod Unready
-pub mod Walk

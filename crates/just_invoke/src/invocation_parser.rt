@@ -15,11 +15,11 @@ ghost use Rattle.just_invoke.specs.Split.{invoked_of, Invokes, Chain, IsSplit, S
 
 use crate::invocation::Invocation;
 use crate::justfile::Justfile;
-use crate::recipes::Recipes;
 use just_data::{BorrowedText, Text};
 use just_names::Modulepath;
 use just_parts::Recipe;
 use just_parts::layers::{Error, Evaluation, InvocationError, Parameter};
+use just_running::Recipes;
 use std::alloc::{AllocError, Global};
 
 /// Reads command words as invocations of recipes.

@@ -1,12 +1,12 @@
 //! Compiled modules, and their run.
 use crate::invocation_parser::InvocationParser;
-use crate::recipes::Recipes;
-use crate::running::{Report, run_invocations};
+use crate::running::run_invocations;
 use just_data::{Exact, Sequence, Shared, Text};
 use just_names::Modulepath;
 use just_parts::layers::{
     Config, Error, Evaluation, Host, Name, Number, Output, RunError, StringLiteral, Syntax,
 };
+use just_running::{Recipes, Report};
 use just_table::{Keyed, Table};
 use std::alloc::Global;
 use std::collections::HashMap;
@@ -97,17 +97,16 @@ impl<'src> Justfile<'src> {
 }
 
 impl<'src> Justfile<'src> {
-    ghost use Rattle.std.specs.Prelude.{◌≡◌, List, IfOk, IfErr};
+    ghost use Rattle.std.specs.Prelude.{◌≡◌};
     ghost use Rattle.just_parts.specs.Host.{KeepsPromises};
     ghost use Rattle.just_names.specs.Modulepath.{texts};
-    ghost use Rattle.just_invoke.specs.Account.{OnceTables};
     ghost use Rattle.just_invoke.specs.Closed.{IsClosed};
-    ghost use Rattle.just_invoke.specs.Outcome.{IsOutcome, IsRefusal, MayRun, HasAccount, IsWhole};
-    ghost use Rattle.just_invoke.specs.Pairs.{Task};
+    ghost use Rattle.just_invoke.specs.Outcome.{IsExpected, IsOutcome};
 
     /// Runs what the words mean: each invocation in turn under one once table, where a recipe with equal arguments runs
-    /// once, its prior dependencies before it, and its subsequent ones after it under a table of their own. Where the
-    /// words are refused, or a recipe that they lead to can't be run yet, the host is left as it was.
+    /// once, its prior dependencies before it, and its subsequent ones after it under a table of their own. The run ends
+    /// at the first step that fails, with its error. Where the words are refused, or a recipe that they lead to can't be
+    /// run yet, the host is left as it was.
     ///
     /// The writer and the layers that evaluate are asked nothing yet.
     pub fn run<S: Syntax, E: Evaluation, H: Host, W: Output>(
@@ -116,30 +115,36 @@ impl<'src> Justfile<'src> {
         config: &Config,
         recipes: &Recipes<'src>,
         syntax: &S,
-        evaluation: &E,
+        evaluation: &mut E,
         host: &mut H,
         writer: &mut W,
         words: &[&str],
         overrides: &HashMap<Number, Text>,
     ) -> Result<Report, Error<'src>>
         requires { IsClosed self.now recipes.now }
-        ensures keeps { KeepsPromises (H.promised host.old) (H.promised host.new) }
-        ensures outcome { IsOutcome self.now recipes.now (texts words.now) (H.entries host.old) (H.entries host.new) result }
-        ensures refused { IfErr result (IsRefusal self.now recipes.now (texts words.now) config.now.one) }
-        ensures allowed { IfOk result (λ _. MayRun self.now recipes.now (texts words.now) config.now.one) }
+        // Promises are kept.
+        ensures keeps { KeepsPromises (E.promised evaluation.old) (E.promised evaluation.new) }
+        ensures keeps_host { KeepsPromises (H.promised host.old) (H.promised host.new) }
+        // For every host.
+        ensures outcome { IsOutcome self.now recipes.now (texts words.now) config.now (H.entries host.old) (H.entries host.new) result }
+        // For promised answers.
+        ensures expected { IsExpected self.now recipes.now (texts words.now) config.now (E.promised evaluation.old) (H.promised host.old) (H.entries host.old) (H.entries host.new) result }
         // The writer is left as it was.
         ensures unwritten { W.written writer.new ≡ W.written writer.old }
         ensures unfailed { W.failed writer.new ≡ W.failed writer.old }
-        ensures account { (ts : List Task) × (t : OnceTables) × HasAccount recipes.now (H.entries host.old) (H.entries host.new) ts t × IfOk result (IsWhole self.now recipes.now (texts words.now) ts t) }
     {
         let invocations = InvocationParser::parse_invocations(
-            alloc, self, recipes, evaluation, words,
+            alloc,
+            self,
+            recipes,
+            &*evaluation,
+            words,
         )?;
         if config.one && invocations.len() > 1 {
             return Err(Error::Run(RunError::ExcessInvocations {
                 invocations: invocations.len(),
             }));
         }
-        run_invocations(alloc, recipes, host, invocations.as_slice())
+        run_invocations(alloc, recipes, evaluation, host, invocations.as_slice())
     }
 }

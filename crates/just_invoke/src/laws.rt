@@ -1,13 +1,12 @@
 //! Laws: calls that do nothing, whose contracts say what definitions keep.
-ghost use Rattle.std.specs.Prelude.{◌≡◌, ◌≢◌, Option, ◌<◌, ◌⊎◌, List, [], length};
+ghost use Rattle.std.specs.Prelude.{◌≡◌, ◌≢◌, ◌<◌, ◌⊎◌, List, [], length};
 ghost use Rattle.std.specs.List.{Contains};
 ghost use Rattle.just_parts.specs.Host.{Answer, KeepsPromises};
-ghost use Rattle.just_parts.specs.declared.layers.host.Entry.{Entry};
+ghost use Rattle.just_parts.specs.Steps.{Question, IsSteady};
 ghost use Rattle.just_invoke.specs.Cause.{Cause};
 ghost use Rattle.just_invoke.specs.Closed.{IsClosed, AreClosed};
 ghost use Rattle.just_invoke.specs.Head.{Words, Held};
 ghost use Rattle.just_invoke.specs.Split.{Invokes, IsSplit, IsFault};
-ghost use Rattle.just_invoke.specs.Steady.{IsSteady};
 ghost use Rattle.just_invoke.specs.declared.justfile.Justfile.{Justfile, out-Justfile};
 
 /// Where a module and those below it are closed, the module itself is, and so is each of its modules with those below it.
@@ -41,7 +40,7 @@ pub fn takes_some()
     ensures { (root : Justfile) (recipes : Held) (words after : Words) (i : _) → words ≢ [] → Invokes root recipes words after i → length after < length words }
 {}
 
-/// A host that is steady on some questions stays so while it keeps its promises, as it does in a run.
+/// Answers that are promised to some questions stay so while promises are kept, as they are in a run.
 pub fn stays_steady()
-    ensures { (old new : Entry → Option Answer) (answer : Entry → Answer) (questions : List Entry) → KeepsPromises old new → IsSteady old answer questions → IsSteady new answer questions }
+    ensures { (old new : _) (f : Question → Answer) (asked : List Question) → KeepsPromises old new → IsSteady old f asked → IsSteady new f asked }
 {}

@@ -1,61 +1,15 @@
-ghost use Rattle.std.specs.Prelude.{◌≡◌, ◌<◌, [], length, map, IfOk};
-ghost use Rattle.std.specs.List.{All, Contains};
-ghost use Rattle.just_parts.specs.declared.dependency.Dependency.{Dependency};
-ghost use Rattle.just_parts.specs.declared.layers.parameter.Parameter.{Parameter};
+ghost use Rattle.std.specs.Prelude.{◌≡◌, length, map, IfOk};
+ghost use Rattle.std.specs.List.{All};
+ghost use Rattle.just_running.specs.Pairs.{AllBelow};
 ghost use Rattle.just_invoke.specs.declared.invocation.Invocation.{Invocation};
-ghost use Rattle.just_invoke.specs.declared.pair.Pair.{Pair};
 ghost use Rattle.just_invoke.specs.Closed.{IsHeld};
-ghost use Rattle.just_invoke.specs.Pairs.{pair_of, top_of, pairs_of};
-ghost use Rattle.just_invoke.specs.Recipes.{numbers};
+ghost use Rattle.just_invoke.specs.Outcome.{tops_of};
 
 use crate::invocation::Invocation;
-use crate::pair::Pair;
-use crate::recipes::Recipes;
 use just_data::{Sequence, Text};
-use just_parts::Dependency;
-use just_parts::layers::{Groups, Parameter};
+use just_parts::layers::Groups;
+use just_running::{Pair, Recipes, Task};
 use std::alloc::{AllocError, Global};
-
-// An empty group for each parameter.
-fn empty_groups(alloc: Global, parameters: &[Parameter]) -> Result<Groups, AllocError>
-    ensures { IfOk result (λ groups. groups ≡ map (λ (p : Parameter). []) parameters.now) }
-{
-    let mut groups = Sequence::new(alloc);
-    for _parameter in parameters {
-        groups.push(Sequence::new(alloc))?;
-    }
-    Ok(groups)
-}
-
-// The pair of a dependency.
-fn name_dependency(
-    alloc: Global,
-    recipes: &Recipes,
-    dependency: &Dependency,
-) -> Result<Pair, AllocError>
-    requires { Contains (numbers recipes.now) dependency.now.recipe.0 }
-    ensures { IfOk result (λ pair. pair ≡ pair_of recipes.now dependency.now) }
-{
-    let recipe = recipes.place(dependency.recipe);
-    let groups = empty_groups(alloc, recipes.at(recipe).parameters.as_slice())?;
-    Ok(Pair { recipe, groups })
-}
-
-/// The pairs of dependencies.
-pub fn name_all(
-    alloc: Global,
-    recipes: &Recipes,
-    dependencies: &[Dependency],
-) -> Result<Vec<Pair>, AllocError>
-    requires { All (λ (d : Dependency). Contains (numbers recipes.now) d.recipe.0) dependencies.now }
-    ensures { IfOk result (λ pairs. pairs.items ≡ map (pair_of recipes.now) dependencies.now) }
-{
-    let mut pairs = Vec::new(alloc);
-    for dependency in dependencies {
-        pairs.push(name_dependency(alloc, recipes, dependency)?)?;
-    }
-    Ok(pairs)
-}
 
 // The texts of words.
 fn copy_words(alloc: Global, words: &[&str]) -> Result<Sequence<Text>, AllocError>
@@ -79,21 +33,24 @@ fn copy_groups(alloc: Global, arguments: &[Vec<&str>]) -> Result<Groups, AllocEr
     Ok(groups)
 }
 
-/// The pairs of invocations.
+/// The tasks of invocations.
 pub fn name_tops(
     alloc: Global,
     recipes: &Recipes,
     invocations: &[Invocation],
-) -> Result<Vec<Pair>, AllocError>
+) -> Result<Vec<Task>, AllocError>
     requires { All (λ (i : Invocation). IsHeld recipes.now i.recipe.now) invocations.now }
-    ensures named { IfOk result (λ pairs. pairs.items ≡ pairs_of recipes.now invocations.now) }
-    ensures below { IfOk result (λ pairs. All (λ (p : Pair). p.recipe < length recipes.now) pairs.items) }
+    ensures named { IfOk result (λ tasks. tasks.items ≡ tops_of recipes.now invocations.now) }
+    ensures below { IfOk result (λ tasks. AllBelow (length recipes.now) tasks.items) }
 {
-    let mut pairs = Vec::new(alloc);
+    let mut tasks = Vec::new(alloc);
     for invocation in invocations {
-        let recipe = recipes.place(invocation.recipe.number);
+        let recipe = recipes.place_of(invocation.recipe.number).unwrap();
         let groups = copy_groups(alloc, &invocation.arguments)?;
-        pairs.push(Pair { recipe, groups })?;
+        tasks.push(Task {
+            pair: Pair { recipe, groups },
+            dependency: false,
+        })?;
     }
-    Ok(pairs)
+    Ok(tasks)
 }

@@ -20,7 +20,7 @@ use Rattle.just_parts.specs.declared.layers.ast.Ast.{Ast}
 use Rattle.just_parts.specs.declared.layers.ast.Item.{Item}
 use Rattle.just_names.specs.declared.modulepath.Modulepath.{Modulepath}
 use Rattle.just_parts.specs.declared.recipe.Recipe.{Recipe}
-use Rattle.just_invoke.specs.Closed.{IsResolved}
+use Rattle.just_running.specs.Recipes.{IsResolved}
 use Rattle.just_invoke.specs.declared.justfile.Justfile.{Justfile}
 use Rattle.just_modules.specs.Analyzable.{AreAnalyzable}
 use Rattle.just_modules.specs.Analyzed.{ComeAfter, IsAnalyzed}

@@ -17,9 +17,10 @@ use Rattle.just_parts.specs.declared.layers.ast.Item.{Item}
 use Rattle.just_parts.specs.declared.layers.ast.UnresolvedDependency.{UnresolvedDependency}
 use Rattle.just_names.specs.declared.number.Number.{Number}
 use Rattle.just_parts.specs.declared.recipe.Recipe.{Recipe}
-use Rattle.just_invoke.specs.Closed.{AreClosed, IsClosed, IsResolved, all_closed, recipe_of_key, recipe_of_number}
+use Rattle.just_invoke.specs.Closed.{AreClosed, IsClosed, all_closed, recipe_of_key, recipe_of_number}
+use Rattle.just_running.specs.Recipes.{IsResolved}
 use Rattle.just_invoke.specs.Module.{module_name}
-use Rattle.just_invoke.specs.Recipes.{find_number, numbers}
+use Rattle.just_running.specs.Recipes.{find_number, numbers}
 use Rattle.just_invoke.specs.declared.justfile.Justfile.{Justfile, out-Justfile}
 use Rattle.just_invoke.specs.declared.justfile.RecipeKey.{RecipeKey}
 use Rattle.just_modules.specs.Analysis.{IsDefaultOf, IsKeyOf}

@@ -14,7 +14,7 @@ use Rattle.just_parts.specs.declared.layers.ast.Item.{Item}
 use Rattle.just_parts.specs.declared.layers.error.Error.{Error}
 use Rattle.just_parts.proofs.Lifts.{reports_by}
 use Rattle.just_parts.specs.declared.recipe.Recipe.{Recipe}
-use Rattle.just_invoke.specs.Recipes.{numbers}
+use Rattle.just_running.specs.Recipes.{numbers}
 use Rattle.just_invoke.specs.declared.justfile.Justfile.{Justfile, roll-Justfile}
 use Rattle.just_modules.specs.Justfiles.{slot}
 use Rattle.just_modules.specs.Named.{BreaksRecipes}

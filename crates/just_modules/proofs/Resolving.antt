@@ -12,8 +12,8 @@ use Rattle.just_names.specs.declared.number.Number.{Number}
 use Rattle.just_parts.specs.declared.layers.ast.UnresolvedDependency.{UnresolvedDependency}
 use Rattle.just_names.specs.declared.modulepath.Modulepath.{Modulepath}
 use Rattle.just_parts.specs.declared.recipe.Recipe.{Recipe}
-use Rattle.just_invoke.specs.Recipes.{numbers, needs, IsNew}
-use Rattle.just_invoke.specs.Closed.{IsResolved}
+use Rattle.just_running.specs.Recipes.{numbers, needs, IsNew}
+use Rattle.just_running.specs.Recipes.{IsResolved}
 use Rattle.just_modules.specs.Index.{AreDifferent}
 use Rattle.just_modules.specs.Recipes.{names_of, Depends}
 use Rattle.just_modules.specs.Rows.{IsRow, IsOrderOf}

@@ -7,7 +7,7 @@ ghost use Rattle.just_graph.specs.Steps.{IsOnce};
 ghost use Rattle.just_parts.specs.Asts.{same_ast_key};
 ghost use Rattle.just_parts.specs.Causes.{Reports};
 ghost use Rattle.just_parts.specs.declared.layers.ast.Ast.{Ast};
-ghost use Rattle.just_invoke.specs.Recipes.{numbers};
+ghost use Rattle.just_running.specs.Recipes.{numbers};
 ghost use Rattle.just_invoke.specs.declared.justfile.Justfile.{Justfile, out-Justfile};
 ghost use Rattle.just_modules.specs.Analyzable.{AreAnalyzable};
 ghost use Rattle.just_modules.specs.Analyzed.{Analyzes, NamesAnalyzed};

@@ -17,9 +17,9 @@ ghost use Rattle.just_modules.specs.Rules.{Dependencies};
 use crate::definitions::{Definitions, recipe_at};
 use crate::unresolved_recipe::resolve;
 use just_data::{BorrowedText, Sequence};
-use just_invoke::Recipes;
 use just_names::Modulepath;
 use just_parts::layers::{CompileError, CompileErrorKind, Error, Namepath, Token};
+use just_running::Recipes;
 use std::alloc::{AllocError, Global};
 use std::collections::HashMap;
 

@@ -1,3 +1,4 @@
 pub mod AstKeys
 pub mod Edges
 pub mod Lifts
+pub mod StepLemmas

@@ -2,9 +2,12 @@ pub mod Asts
 pub mod Bare
 pub mod Causes
 pub mod Edge
+pub mod Evaluation
+pub mod Halts
 pub mod Host
 pub mod Located
 pub mod Messages
 pub mod Parameter
+pub mod Steps
 pub mod Syntax
 pub mod Wording

@@ -5,6 +5,7 @@ pub mod config;
 pub mod edge;
 pub mod error;
 pub mod evaluation;
+pub mod halt;
 pub mod host;
 pub mod output;
 pub mod parameter;
@@ -18,6 +19,7 @@ pub use error::{
     CompileError, CompileErrorKind, Error, InvocationError, LoadError, RunError, SourceError,
 };
 pub use evaluation::Evaluation;
+pub use halt::Halt;
 pub use host::{Entry, Groups, Host};
 pub use just_names::{Exhausted, Name, Namepath, Number, Numerator, Token};
 pub use output::{Output, WriteFailed};

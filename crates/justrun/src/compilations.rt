@@ -67,7 +67,7 @@ fn run<'src>(
         &Config::default(),
         &compilation.recipes,
         &PlainSyntax,
-        &PlainEvaluation,
+        &mut PlainEvaluation,
         host,
         &mut writer,
         &["a"],

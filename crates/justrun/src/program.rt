@@ -73,7 +73,7 @@ fn run_words<'src>(
         config,
         &compilation.recipes,
         &PlainSyntax,
-        &PlainEvaluation,
+        &mut PlainEvaluation,
         host,
         &mut writer,
         words,

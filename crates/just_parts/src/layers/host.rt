@@ -1,7 +1,7 @@
 //! The layer that is told what runs.
-ghost use Rattle.std.specs.Prelude.{◌≡◌, ◌++◌, ◌∷◌, [], List, Option, OnOk, OnErr};
+ghost use Rattle.std.specs.Prelude.{◌≡◌, ◌++◌, List, Option};
 ghost use Rattle.just_parts.specs.declared.layers.host.Entry.{Entry};
-ghost use Rattle.just_parts.specs.Host.{Answer, KeepsPromises};
+ghost use Rattle.just_parts.specs.Host.{Answer, Answers, KeepsPromises, done_answer, kept};
 
 use just_data::{Exact, Sequence, Text};
 use just_names::Modulepath;
@@ -34,7 +34,7 @@ pub trait Host {
 
     /// The recipe at this path begins, with these groups.
     fn begin(&mut self, path: &Modulepath, groups: &Groups) -> Result<(), AllocError>
-        ensures recorded { OnOk result (entries self.new ≡ entries self.old ++ Entry.Begin path.now groups.now ∷ []) }
-        ensures refused { OnErr result (entries self.new ≡ entries self.old) }
+        ensures recorded { entries self.new ≡ entries self.old ++ kept (Entry.Begin path.now groups.now) (done_answer result) }
+        ensures answers { Answers (promised self.old (Entry.Begin path.now groups.now)) (done_answer result) }
         ensures keeps { KeepsPromises (promised self.old) (promised self.new) };
 }

@@ -1,11 +1,11 @@
-use Rattle.std.proofs.Common.{◌≡◌, ◌<◌, map, take, length}
-use Rattle.std.specs.List.{All}
-use Rattle.just_invoke.specs.declared.pair.Pair.{Pair}
-use Rattle.just_invoke.specs.Pairs.{top_of}
+use Rattle.std.proofs.Common.{◌≡◌, map, take, length}
+use Rattle.just_running.specs.Pairs.{AllBelow}
+use Rattle.just_invoke.specs.Outcome.{top}
+use Rattle.just_invoke.specs.Split.{invoked_of}
 use Rattle.just_invoke.proofs.naming.name_tops.Given as goal
 
 abbrev pub invariant-loop-invocation : goal.invariant-loop-invocation
 invariant-loop-invocation l = record {
-  named : l.pairs.items ≡ map (top_of l.recipes) (take l.invocation-index l.invocations);
-  below : All (λ (p : Pair). p.recipe < length l.recipes) l.pairs.items;
+  named : l.tasks.items ≡ map (λ i. top l.recipes (invoked_of i)) (take l.invocation-index l.invocations);
+  below : AllBelow (length l.recipes) l.tasks.items;
 }

@@ -1,6 +1,0 @@
-use Rattle.std.proofs.Common.{◌≡◌, [], map, take}
-use Rattle.just_parts.specs.declared.layers.parameter.Parameter.{Parameter}
-use Rattle.just_invoke.proofs.naming.empty_groups.Given as goal
-
-abbrev pub invariant-loop-parameter : goal.invariant-loop-parameter
-invariant-loop-parameter l = l.groups ≡ map (λ (p : Parameter). []) (take l._parameter-index l.parameters)

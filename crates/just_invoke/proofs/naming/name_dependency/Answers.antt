@@ -1,8 +1,0 @@
-use Rattle.std.proofs.Common.{ap, ◌∙◌, map, []}
-use Rattle.just_parts.specs.declared.layers.parameter.Parameter.{Parameter}
-use Rattle.just_invoke.proofs.Places.{pair-made}
-use Rattle.just_invoke.proofs.naming.name_dependency.Goals as goal
-
-pub returns : goal.returns
-returns c = pair-made c.args.recipes.now c.args.dependency.now c.place-recipe.result c.in_ok-groups.groups c.at.result.now c.place-recipe.ensures.is c.at.ensures
-    (c.in_ok-groups.ensures ∙ ap (map (λ (p : Parameter). [])) c.as_slice.ensures)

@@ -1,8 +1,0 @@
-use Rattle.std.proofs.Common.{ap, ◌∙◌}
-use Rattle.just_invoke.specs.Firsts.{has}
-use Rattle.just_invoke.specs.Pairs.{same_pair}
-use Rattle.just_invoke.proofs.Pairs.{held}
-use Rattle.just_invoke.proofs.once.Once.contains.Goals as goal
-
-pub returns : goal.returns
-returns c = c.contains.ensures ∙ held c.self.inside.pairs.keys c.args.pair.now ∙ ap (λ ps. has same_pair ps c.args.pair.now) c.self.view_is

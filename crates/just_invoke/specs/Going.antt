@@ -1,0 +1,27 @@
+-- For the private functions: what the run of tasks comes to.
+use Rattle.std.specs.Prelude.{◌≡◌, ◌⊎◌, ℕ, List, Option, Result, Err}
+use Rattle.just_parts.specs.declared.dependency.Dependency.{Dependency}
+use Rattle.just_parts.specs.declared.layers.error.Error.{Error}
+use Rattle.just_parts.specs.declared.layers.error.Error.TheVariants.{Run, Memory}
+use Rattle.just_parts.specs.declared.layers.error.RunError.TheVariants.{NotYet}
+use Rattle.just_parts.specs.declared.layers.halt.Halt.{Halt}
+use Rattle.just_parts.specs.declared.layers.host.Entry.{Entry}
+use Rattle.just_parts.specs.declared.recipe.Recipe.{Recipe}
+use Rattle.just_parts.specs.Halts.{come_to}
+use Rattle.just_parts.specs.Evaluation.{Inquiry}
+use Rattle.just_parts.specs.Host.{Answer}
+use Rattle.just_running.specs.declared.running.Report.{Report}
+use Rattle.just_running.specs.declared.task.Task.{Task}
+use Rattle.just_running.specs.Reports.{IsRun, IsExpectedRun}
+use Rattle.just_running.specs.Unready.{IsUnready, AreReady}
+
+-- why tasks are not run: memory is refused, or they lead to a recipe that cannot be run yet
+abbrev pub Stops : List (Recipe Dependency) → List Task → Error → Type 0
+Stops recipes ts e = (e ≡ Memory) ⊎ ((name : List ℕ) × (e ≡ Run (NotYet name)) × IsUnready recipes ts name)
+
+-- tasks are not run, and the host is as it was; or they are
+abbrev pub Goes : (Inquiry → Option Answer) → (Entry → Option Answer) → List (Recipe Dependency) → List Task → List Entry → List Entry → Result Report Error → Type 0
+Goes evaluator host recipes ts old new result =
+    ((e : Error) × (result ≡ Err e) × Stops recipes ts e × (new ≡ old))
+    ⊎ (AreReady recipes ts × (ended : Result Report Halt) × (result ≡ come_to ended)
+    × IsRun recipes ts old new ended × IsExpectedRun evaluator host recipes ts old new ended)

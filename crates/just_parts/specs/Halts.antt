@@ -1,0 +1,21 @@
+-- The error that tells why a run ended.
+use Rattle.std.specs.Prelude.{Result, Ok, Err}
+use Rattle.just_parts.specs.declared.layers.error.Error.{Error}
+use Rattle.just_parts.specs.declared.layers.error.Error.TheVariants as error
+use Rattle.just_parts.specs.declared.layers.halt.Halt.{Halt}
+use Rattle.just_parts.specs.declared.layers.halt.Halt.TheVariants as halt
+
+abbrev pub error_of : Halt → Error
+error_of halt.Memory = error.Memory
+error_of halt.Exhausted = error.Exhausted
+error_of (halt.Failed e) = error.Run e
+
+-- what is answered for a run that came to this
+abbrev pub come_to : {A : Type 0} → Result A Halt → Result A Error
+come_to (Ok x) = Ok x
+come_to (Err h) = Err (error_of h)
+
+-- a run without its value
+abbrev pub without : {A : Type 0} → Result A Halt → Result (Unit {0}) Halt
+without (Ok x) = Ok tt
+without (Err h) = Err h

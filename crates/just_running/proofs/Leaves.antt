@@ -1,0 +1,30 @@
+-- The tasks that recipes name stand at lower places.
+use Rattle.std.proofs.Common.{ℕ, zero, suc, List, [], ◌∷◌, refl, subst}
+use Rattle.just_parts.specs.declared.dependency.Dependency.{Dependency}
+use Rattle.just_parts.specs.declared.recipe.Recipe.{Recipe}
+use Rattle.just_parts.specs.Host.{Answer}
+use Rattle.just_parts.specs.Steps.{Question}
+use Rattle.just_running.specs.Expansion.{Part, Ask, Block}
+use Rattle.just_running.specs.Leaves.{leaves_of}
+use Rattle.just_running.specs.Lower.{IsLower}
+use Rattle.just_running.specs.declared.task.Task.{Task}
+use Rattle.just_running.specs.Pairs.{AllBelow, priors, subsequents}
+use Rattle.just_running.specs.Recipes.{IsOrdered}
+use Rattle.just_running.specs.Run.{subsequents_by, parts, Each, IsEvenPart, IsEven}
+use Rattle.just_running.proofs.Places.{priors-before, subsequents-before}
+
+pub leaves-lower : (recipes : List (Recipe Dependency)) → IsOrdered recipes → IsLower (leaves_of recipes)
+leaves-lower recipes ordered = record {
+  priors = λ t ps g. subst (AllBelow t.pair.recipe) g (priors-before recipes t.pair ordered);
+  subsequents = λ t ts g. subst (AllBelow t.pair.recipe) g (subsequents-before recipes t.pair ordered);
+}
+
+-- the priors of a task do not hang on how it is called
+parts-even : (recipes : List (Recipe Dependency)) (f : Question → Answer) (run : List Task → Type 0) → ((ts : List Task) → run ts) → (xs : List (Part Task)) → Each (IsEvenPart (leaves_of recipes) f run) xs
+parts-even recipes f run h [] = tt
+parts-even recipes f run h (Ask t ∷ xs) = (refl, parts-even recipes f run h xs)
+parts-even recipes f run h (Block t ∷ xs) = (h (subsequents_by (leaves_of recipes) f t), parts-even recipes f run h xs)
+
+pub leaves-even : (recipes : List (Recipe Dependency)) (f : Question → Answer) (n : ℕ) (tops : List Task) → IsEven (leaves_of recipes) f n tops
+leaves-even recipes f zero tops = tt
+leaves-even recipes f (suc n) tops = parts-even recipes f (IsEven (leaves_of recipes) f n) (leaves-even recipes f n) (parts (leaves_of recipes) f (suc n) tops)

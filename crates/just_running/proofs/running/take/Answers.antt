@@ -1,0 +1,28 @@
+use Rattle.std.proofs.Common.{List, Option, sym, subst}
+use Rattle.just_parts.specs.Host.{Answer}
+use Rattle.just_parts.specs.Steps.{Question, Took, both}
+use Rattle.just_running.specs.declared.frame.Frame.{Frame}
+use Rattle.just_running.specs.Frames.{Goes, left_of, left_with, state_of}
+use Rattle.just_running.specs.Leaves.{leaves_of}
+use Rattle.just_running.proofs.FrameLemmas.{back-left}
+use Rattle.just_running.proofs.WeightLemmas.{taken-lighter}
+use Rattle.just_running.proofs.running.take.Goals as goal
+
+pub returns-in-Call-clause-goes : goal.returns-in-Call-clause-goes
+returns-in-Call-clause-goes g c =
+    let p : Question → Option Answer = both (g.E.Evaluation.promised c.args.evaluation.now) (g.H.Host.promised c.args.host.now) in
+    let L = leaves_of c.args.recipes.now in
+    let old = g.H.Host.entries c.args.host.now in
+    subst (λ (x : Frame). Goes p (left_with L x c.args.course.now) old (left_of L c.call_task.new.course) old c.call_task.result) (sym c.in-Call.is)
+    (c.call_task.ensures.goes (g.H.Host.promised c.args.host.now) old)
+
+pub returns-in-Back-clause-goes : goal.returns-in-Back-clause-goes
+returns-in-Back-clause-goes g c = λ new r t.
+    let p : Question → Option Answer = both (g.E.Evaluation.promised c.args.evaluation.now) (g.H.Host.promised c.args.host.now) in
+    let L = leaves_of c.args.recipes.now in
+    let old = g.H.Host.entries c.args.host.now in
+    subst (λ (x : Frame). Took p (left_with L x c.args.course.now) old new r) (sym c.in-Back.is)
+    (subst (λ u. Took p u old new r) (sym (back-left L c.args.course.now.frames.items c.in-Back.outer (state_of c.args.course.now))) t)
+
+pub returns-in-Back-clause-lighter : goal.returns-in-Back-clause-lighter
+returns-in-Back-clause-lighter g c = taken-lighter _ c.args.course.now.frames.items c.args.frame

@@ -1,0 +1,13 @@
+pub mod Account
+pub mod Expansion
+pub mod Firsts
+pub mod Frames
+pub mod Leaves
+pub mod Lower
+pub mod Pairs
+pub mod Recipes
+pub mod Reports
+pub mod Run
+pub mod Unready
+pub mod Walk
+pub mod Walking

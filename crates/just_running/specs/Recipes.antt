@@ -1,0 +1,46 @@
+-- Recipes as a list, each after those that it depends on.
+use Rattle.std.specs.Prelude.{◌≡◌, ◌≤◌, ℕ, ◌<◌, ◌==◌, List, [], ◌∷◌, ◌++◌, map, length, Option, Some, IsSome, slice_index, find}
+use Rattle.std.specs.List.{All, Contains}
+use Rattle.just_parts.specs.declared.dependency.Dependency.{Dependency}
+use Rattle.just_parts.specs.declared.recipe.Recipe.{Recipe}
+
+-- the numbers of recipes, in order
+abbrev pub numbers : List (Recipe Dependency) → List ℕ
+numbers = map (λ r. r.number.0)
+
+-- the numbers of the recipes that a recipe depends on, in order
+abbrev pub needs : Recipe Dependency → List ℕ
+needs recipe = map (λ d. d.recipe.0) recipe.dependencies
+
+-- no recipe has the number
+abbrev pub IsNew : List (Recipe Dependency) → ℕ → Type 0
+IsNew recipes number = Contains (numbers recipes) number → ⊥
+
+-- no number is in both
+abbrev pub AreApart : List (Recipe Dependency) → List (Recipe Dependency) → Type 0
+AreApart these those = (number : ℕ) → Contains (numbers these) number → Contains (numbers those) number → ⊥
+
+-- the recipe of a number
+abbrev pub find_number : List (Recipe Dependency) → ℕ → Option (Recipe Dependency)
+find_number recipes number = find (λ r. r.number.0 == number) recipes
+
+-- the recipe at the place has the number
+abbrev pub IsPlaceOf : List (Recipe Dependency) → ℕ → ℕ → Type 0
+IsPlaceOf recipes number place = (place < length recipes) × (slice_index (numbers recipes) place ≡ number)
+
+-- where these numbers stand already: each recipe has a number of its own, and depends on numbers that stand before it
+abbrev pub AreOrderedAfter : List ℕ → List (Recipe Dependency) → Type 0
+AreOrderedAfter before [] = Unit {0}
+AreOrderedAfter before (r ∷ rs) = (Contains before r.number.0 → ⊥) × All (Contains before) (needs r) × AreOrderedAfter (before ++ r.number.0 ∷ []) rs
+
+abbrev pub IsOrdered : List (Recipe Dependency) → Type 0
+IsOrdered recipes = AreOrderedAfter [] recipes
+
+-- the place of each recipe stands under its number
+abbrev pub IsIndex : List (Recipe Dependency) → (ℕ → Option ℕ) → Type 0
+IsIndex recipes place_of = (k : ℕ) → k < length recipes → place_of (slice_index (numbers recipes) k) ≡ Some k
+
+-- A recipe as it is resolved: it has its path, and no more dependencies run before it than it has.
+pub record IsResolved (recipe : Recipe Dependency) : Type 0 where
+  pub path : IsSome recipe.recipe_path
+  pub priors : recipe.priors ≤ length recipe.dependencies

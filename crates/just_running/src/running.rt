@@ -1,0 +1,223 @@
+//! The run of tasks: each pair once under a table, after its priors.
+ghost use Rattle.std.specs.Prelude.{◌<◌, length, OnOk};
+ghost use Rattle.std.specs.List.{All};
+ghost use Rattle.just_parts.specs.Host.{KeepsPromises};
+ghost use Rattle.just_running.specs.Frames.{BlockLeads, CallLeads, Finishes, IsLighter, IsOpen, IsSound, Leads, items_of};
+ghost use Rattle.just_running.specs.Leaves.{AsksAlone, Executes, ask_steps, follow_steps};
+ghost use Rattle.just_running.specs.Pairs.{AllBelow};
+ghost use Rattle.just_running.specs.Recipes.{IsOrdered, IsResolved};
+ghost use Rattle.just_running.specs.Reports.{IsExpectedRun, IsRun, Starts};
+
+use crate::course::{Course, count_call, push_calls};
+use crate::frame::Frame;
+use crate::naming::name_all;
+use crate::recipes::Recipes;
+use crate::task::Task;
+use just_parts::layers::{Evaluation, Halt, Host};
+use std::alloc::Global;
+
+/// How often a recipe was called under each once table, in the order of opening.
+#[derive(Debug, Drop)]
+pub struct Report {
+    /// One count for each once table: a call counts also where the recipe ran already.
+    pub calls: Vec<u64>,
+}
+
+// The priors of a task; nothing is asked for them yet.
+fn ask<'src, E: Evaluation>(
+    alloc: Global,
+    recipes: &Recipes<'src>,
+    _evaluation: &mut E,
+    task: &Task,
+) -> Result<Vec<Task>, Halt<'src>>
+    requires place { task.now.pair.recipe < length recipes.now }
+    requires resolved { All IsResolved recipes.now }
+    ensures keeps { KeepsPromises (E.promised _evaluation.old) (E.promised _evaluation.new) }
+    ensures took { AsksAlone (E.promised _evaluation.old) (ask_steps recipes.now task.now) (items_of result) }
+{
+    Ok(name_all(alloc, recipes, recipes.priors(task.pair.recipe))?)
+}
+
+// The subsequents of a task; nothing is asked for them yet.
+fn follow<'src, E: Evaluation>(
+    alloc: Global,
+    recipes: &Recipes<'src>,
+    _evaluation: &mut E,
+    task: &Task,
+) -> Result<Vec<Task>, Halt<'src>>
+    requires place { task.now.pair.recipe < length recipes.now }
+    requires resolved { All IsResolved recipes.now }
+    ensures keeps { KeepsPromises (E.promised _evaluation.old) (E.promised _evaluation.new) }
+    ensures took { AsksAlone (E.promised _evaluation.old) (follow_steps recipes.now task.now) (items_of result) }
+{
+    Ok(name_all(alloc, recipes, recipes.subsequents(task.pair.recipe))?)
+}
+
+// The beginning of a task; it has no body yet.
+fn execute<'src, E: Evaluation, H: Host>(
+    recipes: &Recipes<'src>,
+    _evaluation: &mut E,
+    host: &mut H,
+    task: &Task,
+) -> Result<(), Halt<'src>>
+    requires place { task.now.pair.recipe < length recipes.now }
+    requires resolved { All IsResolved recipes.now }
+    ensures keeps { KeepsPromises (E.promised _evaluation.old) (E.promised _evaluation.new) }
+    ensures keeps_host { KeepsPromises (H.promised host.old) (H.promised host.new) }
+    ensures took { Executes (E.promised _evaluation.old) (H.promised host.old) recipes.now task.now (H.entries host.old) (H.entries host.new) result }
+{
+    let recipe = recipes.at(task.pair.recipe);
+    host.begin(recipe.recipe_path(), &task.pair.groups)?;
+    Ok(())
+}
+
+// Calls a task: its priors are called next, and then its block, unless its pair ran.
+fn call_task<'src, E: Evaluation>(
+    alloc: Global,
+    recipes: &Recipes<'src>,
+    evaluation: &mut E,
+    course: &mut Course,
+    task: Task,
+) -> Result<(), Halt<'src>>
+    requires ordered { IsOrdered recipes.now }
+    requires resolved { All IsResolved recipes.now }
+    requires place { task.pair.recipe < length recipes.now }
+    requires sound { IsSound (length recipes.now) course.old }
+    ensures keeps { KeepsPromises (E.promised evaluation.old) (E.promised evaluation.new) }
+    ensures goes { CallLeads (E.promised evaluation.old) recipes.now task course.old course.new result }
+    ensures sound { OnOk result (IsSound (length recipes.now) course.new) }
+    ensures lighter { OnOk result (IsLighter course.new.frames.items course.old.frames.items (Frame.Call task)) }
+{
+    count_call(&mut course.calls, course.current.number)?;
+    if course.current.table.contains(&task.pair) {
+        return Ok(());
+    }
+    let priors = ask(alloc, recipes, evaluation, &task)?;
+    course.frames.push(Frame::Block(task))?;
+    push_calls(&mut course.frames, priors)?;
+    Ok(())
+}
+
+// Runs the block of a task: it is executed, and its subsequents are called next under a table of their own.
+fn run_block<'src, E: Evaluation, H: Host>(
+    alloc: Global,
+    recipes: &Recipes<'src>,
+    evaluation: &mut E,
+    host: &mut H,
+    course: &mut Course,
+    task: Task,
+) -> Result<(), Halt<'src>>
+    requires ordered { IsOrdered recipes.now }
+    requires resolved { All IsResolved recipes.now }
+    requires place { task.pair.recipe < length recipes.now }
+    requires sound { IsSound (length recipes.now) course.old }
+    ensures keeps { KeepsPromises (E.promised evaluation.old) (E.promised evaluation.new) }
+    ensures keeps_host { KeepsPromises (H.promised host.old) (H.promised host.new) }
+    ensures goes { BlockLeads (E.promised evaluation.old) (H.promised host.old) recipes.now task course.old (H.entries host.old) course.new (H.entries host.new) result }
+    ensures sound { OnOk result (IsSound (length recipes.now) course.new) }
+    ensures lighter { OnOk result (IsLighter course.new.frames.items course.old.frames.items (Frame.Block task)) }
+{
+    execute(recipes, evaluation, host, &task)?;
+    let subsequents = follow(alloc, recipes, evaluation, &task)?;
+    course.current.table.insert(task.pair)?;
+    course.open(alloc, subsequents)?;
+    Ok(())
+}
+
+// Takes a frame.
+fn take<'src, E: Evaluation, H: Host>(
+    alloc: Global,
+    recipes: &Recipes<'src>,
+    evaluation: &mut E,
+    host: &mut H,
+    course: &mut Course,
+    frame: Frame,
+) -> Result<(), Halt<'src>>
+    requires ordered { IsOrdered recipes.now }
+    requires resolved { All IsResolved recipes.now }
+    requires there { IsOpen (length recipes.now) (length course.old.calls.items) frame }
+    requires sound { IsSound (length recipes.now) course.old }
+    ensures keeps { KeepsPromises (E.promised evaluation.old) (E.promised evaluation.new) }
+    ensures keeps_host { KeepsPromises (H.promised host.old) (H.promised host.new) }
+    ensures goes { Leads (E.promised evaluation.old) (H.promised host.old) recipes.now frame course.old (H.entries host.old) course.new (H.entries host.new) result }
+    ensures sound { OnOk result (IsSound (length recipes.now) course.new) }
+    ensures lighter { OnOk result (IsLighter course.new.frames.items course.old.frames.items frame) }
+{
+    match frame {
+        Frame::Call(task) => call_task(alloc, recipes, evaluation, course, task),
+        Frame::Block(task) => run_block(alloc, recipes, evaluation, host, course, task),
+        Frame::Back(outer) => {
+            course.current = outer;
+            Ok(())
+        }
+    }
+}
+
+// Takes frames until none is left.
+fn finish<'src, E: Evaluation, H: Host>(
+    alloc: Global,
+    recipes: &Recipes<'src>,
+    evaluation: &mut E,
+    host: &mut H,
+    course: &mut Course,
+) -> Result<(), Halt<'src>>
+    requires ordered { IsOrdered recipes.now }
+    requires resolved { All IsResolved recipes.now }
+    requires sound { IsSound (length recipes.now) course.old }
+    ensures keeps { KeepsPromises (E.promised evaluation.old) (E.promised evaluation.new) }
+    ensures keeps_host { KeepsPromises (H.promised host.old) (H.promised host.new) }
+    ensures took { Finishes (E.promised evaluation.old) (H.promised host.old) recipes.now course.old (H.entries host.old) course.new (H.entries host.new) result }
+{
+    while let Some(frame) = course.frames.pop() {
+        take(alloc, recipes, evaluation, host, course, frame)?;
+    }
+    Ok(())
+}
+
+// Takes the calls of tasks under a first table, and all that they lead to.
+fn start<'src, E: Evaluation, H: Host>(
+    alloc: Global,
+    recipes: &Recipes<'src>,
+    evaluation: &mut E,
+    host: &mut H,
+    tasks: Vec<Task>,
+) -> Result<Report, Halt<'src>>
+    requires ordered { IsOrdered recipes.now }
+    requires resolved { All IsResolved recipes.now }
+    requires below { AllBelow (length recipes.now) tasks.items }
+    ensures keeps { KeepsPromises (E.promised evaluation.old) (E.promised evaluation.new) }
+    ensures keeps_host { KeepsPromises (H.promised host.old) (H.promised host.new) }
+    ensures took { Starts (E.promised evaluation.old) (H.promised host.old) recipes.now tasks.items (H.entries host.old) (H.entries host.new) result }
+{
+    if tasks.is_empty() {
+        return Ok(Report {
+            calls: Vec::new(alloc),
+        });
+    }
+    let mut course = Course::new(alloc)?;
+    push_calls(&mut course.frames, tasks)?;
+    finish(alloc, recipes, evaluation, host, &mut course)?;
+    Ok(Report {
+        calls: course.calls,
+    })
+}
+
+/// Runs tasks in turn under one once table: each pair once, after its priors, and its subsequents after it under a table
+/// of their own. The run ends at the first step that fails. It takes no stack for a chain of recipes.
+pub fn run_tasks<'src, E: Evaluation, H: Host>(
+    alloc: Global,
+    recipes: &Recipes<'src>,
+    evaluation: &mut E,
+    host: &mut H,
+    tasks: Vec<Task>,
+) -> Result<Report, Halt<'src>>
+    requires resolved { All IsResolved recipes.now }
+    requires below { AllBelow (length recipes.now) tasks.items }
+    ensures keeps { KeepsPromises (E.promised evaluation.old) (E.promised evaluation.new) }
+    ensures keeps_host { KeepsPromises (H.promised host.old) (H.promised host.new) }
+    ensures account { IsRun recipes.now tasks.items (H.entries host.old) (H.entries host.new) result }
+    ensures expected { IsExpectedRun (E.promised evaluation.old) (H.promised host.old) recipes.now tasks.items (H.entries host.old) (H.entries host.new) result }
+{
+    recipes.are_ordered();
+    start(alloc, recipes, evaluation, host, tasks)
+}
