@@ -20,7 +20,7 @@ use Rattle.just_running.specs.Reports.{IsExpectedRun}
 use Rattle.just_running.specs.Unready.{IsUnready, AreReady}
 use Rattle.just_invoke.specs.declared.justfile.Justfile.{Justfile}
 use Rattle.just_invoke.specs.Cause as cause
-use Rattle.just_invoke.specs.Going.{Goes, Stops}
+use Rattle.just_invoke.specs.Going.{ComesTo, IsHindered}
 use Rattle.just_invoke.specs.Outcome.{tops, Refuses, fault, excess, not_yet, memory, MayRun, IsOutcome, refused, ran}
 use Rattle.just_invoke.specs.Split.{Invoked, IsSplit, IsFault}
 use Rattle.just_invoke.proofs.Faults.{split_no_fault}
@@ -73,24 +73,24 @@ module _ (root : Justfile) (recipes : List (Recipe Dependency)) (words : List (L
   not-ready invoked name (place, recipe, led, at, unready, is) ready = true≢false (sym unready ∙ ready place recipe led at)
 
   module _ (p : Inquiry → Option Answer) (q : Entry → Option Answer) (invoked : List Invoked) (split : IsSplit root recipes words invoked) (few : config.one ≡ true → length invoked ≤ 1) (old new : List Entry) (result : Result Report Error) where
-    stopped : (e : Error) → Stops recipes (tops recipes invoked) e → Refuses root recipes words config.one e
+    stopped : (e : Error) → IsHindered recipes (tops recipes invoked) e → Refuses root recipes words config.one e
     stopped e (inl is) = subst (Refuses root recipes words config.one) (sym is) memory
     stopped e (inr (name, is, unready)) = subst (Refuses root recipes words config.one) (sym is) (not_yet name invoked split few unready)
 
-    pub went : Goes p q recipes (tops recipes invoked) old new result → IsOutcome root recipes words config old new result
+    pub went : ComesTo p q recipes (tops recipes invoked) old new result → IsOutcome root recipes words config old new result
     went (inl (e, is, stops, same)) = refused e is (stopped e stops) same
     went (inr (ready, ended, is, run, expected)) = ran invoked ended (record { split = split; few = few; ready = ready }) is run
 
-    stopped-expected : (e : Error) → Stops recipes (tops recipes invoked) e → AreReady recipes (tops recipes invoked) → result ≡ Err e → new ≡ old → IsSo p q recipes invoked old new result
+    stopped-expected : (e : Error) → IsHindered recipes (tops recipes invoked) e → AreReady recipes (tops recipes invoked) → result ≡ Err e → new ≡ old → IsSo p q recipes invoked old new result
     stopped-expected e (inl is) ready answer same =
         subst (λ r. IsSo p q recipes invoked old new r) (sym (answer ∙ ap (λ e. Err e) is)) (subst (λ n. IsSo p q recipes invoked old n (Err Memory)) (sym same) (out p q invoked old))
     stopped-expected e (inr (name, is, unready)) ready answer same = absurd (not-ready invoked name unready ready)
 
-    went-so : AreReady recipes (tops recipes invoked) → Goes p q recipes (tops recipes invoked) old new result → IsSo p q recipes invoked old new result
+    went-so : AreReady recipes (tops recipes invoked) → ComesTo p q recipes (tops recipes invoked) old new result → IsSo p q recipes invoked old new result
     went-so ready (inl (e, is, stops, same)) = stopped-expected e stops ready is same
     went-so ready (inr (all, ended, is, run, expected)) = (ended, is, expected)
 
-    pub went-expected : Goes p q recipes (tops recipes invoked) old new result → (others : List Invoked) → MayRun root recipes words config.one others → IsSo p q recipes others old new result
+    pub went-expected : ComesTo p q recipes (tops recipes invoked) old new result → (others : List Invoked) → MayRun root recipes words config.one others → IsSo p q recipes others old new result
     went-expected goes others may =
         let same : invoked ≡ others = split_once root recipes words invoked others split may.split in
         subst (λ is. IsSo p q recipes is old new result) same (went-so (subst (λ is. AreReady recipes (tops recipes is)) (sym same) may.ready) goes)

@@ -16,12 +16,12 @@ use Rattle.just_running.specs.Reports.{IsRun, IsExpectedRun}
 use Rattle.just_running.specs.Unready.{IsUnready, AreReady}
 
 -- why tasks are not run: memory is refused, or they lead to a recipe that cannot be run yet
-abbrev pub Stops : List (Recipe Dependency) → List Task → Error → Type 0
-Stops recipes ts e = (e ≡ Memory) ⊎ ((name : List ℕ) × (e ≡ Run (NotYet name)) × IsUnready recipes ts name)
+abbrev pub IsHindered : List (Recipe Dependency) → List Task → Error → Type 0
+IsHindered recipes ts e = (e ≡ Memory) ⊎ ((name : List ℕ) × (e ≡ Run (NotYet name)) × IsUnready recipes ts name)
 
 -- tasks are not run, and the host is as it was; or they are
-abbrev pub Goes : (Inquiry → Option Answer) → (Entry → Option Answer) → List (Recipe Dependency) → List Task → List Entry → List Entry → Result Report Error → Type 0
-Goes evaluator host recipes ts old new result =
-    ((e : Error) × (result ≡ Err e) × Stops recipes ts e × (new ≡ old))
+abbrev pub ComesTo : (Inquiry → Option Answer) → (Entry → Option Answer) → List (Recipe Dependency) → List Task → List Entry → List Entry → Result Report Error → Type 0
+ComesTo evaluator host recipes ts old new result =
+    ((e : Error) × (result ≡ Err e) × IsHindered recipes ts e × (new ≡ old))
     ⊎ (AreReady recipes ts × (ended : Result Report Halt) × (result ≡ come_to ended)
     × IsRun recipes ts old new ended × IsExpectedRun evaluator host recipes ts old new ended)

@@ -19,7 +19,7 @@ use Rattle.just_running.specs.Account.{Asked, OnceTables, Empty, Asks, Runs, own
 use Rattle.just_running.specs.Firsts.{has}
 use Rattle.just_running.specs.Leaves.{begin_steps, recipe_steps, leaves_of}
 use Rattle.just_running.specs.declared.task.Task.{Task}
-use Rattle.just_running.specs.Pairs.{Table, same_pair, place_of, task_of, prior_dependencies, subsequent_dependencies, AllBelow}
+use Rattle.just_running.specs.Pairs.{OnceTable, same_pair, place_of, task_of, prior_dependencies, subsequent_dependencies, AllBelow}
 use Rattle.just_running.specs.Recipes.{IsOrdered, IsResolved}
 use Rattle.just_running.specs.Walking.{Leaves, State, counted, all_steps, opened, fresh_steps, block_steps, ran, ran_steps, visit_steps, walk_steps}
 use Rattle.just_running.proofs.Joined.{with_priors, asks, join, still-new, In-left, In-right, add-zero, none-in, none-below}
@@ -214,7 +214,7 @@ module _ (recipes : List (Recipe Dependency)) (leaves : Leaves) (p : Question �
           | inl h ↦
               let given : Took p (Give (counted s)) old new r = subst (λ (q : Steps State). Took p q old new r)
               (cond-true (s.table t.pair) (Give (counted s)) (asking n s t) h) visit in
-              let here : has same_pair done t.pair ≡ true = sym (ap (λ (f : Table). f t.pair) a.table) ∙ h in (
+              let here : has same_pair done t.pair ≡ true = sym (ap (λ (f : OnceTable). f t.pair) a.table) ∙ h in (
                 Empty,
                 gave recipes tops before done (suc t.pair.recipe) s (counted s) (t ∷ []) old new r refl a.table refl
                     (All-cons (λ (q : Task). has same_pair done q.pair ≡ true) t [] here (none-in done)) given.0 given.1,
@@ -222,7 +222,7 @@ module _ (recipes : List (Recipe Dependency)) (leaves : Leaves) (p : Question �
           | inr h ↦
               let going : Took p (asking n s t) old new r = subst (λ (q : Steps State). Took p q old new r)
               (cond-false (s.table t.pair) (Give (counted s)) (asking n s t) h) visit in
-              let missing : has same_pair done t.pair ≡ false = sym (ap (λ (f : Table). f t.pair) a.table) ∙ h in
+              let missing : has same_pair done t.pair ≡ false = sym (ap (λ (f : OnceTable). f t.pair) a.table) ∙ h in
               visit-at n walk tops before done s t old new r within a missing going
         ]
       ]

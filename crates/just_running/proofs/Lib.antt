@@ -15,5 +15,6 @@ pub mod Runs
 pub mod Standing
 pub mod Told
 pub mod Walked
+pub mod Walks
 pub mod WeightLemmas
 pub mod Whole

@@ -15,7 +15,7 @@ use Rattle.just_running.specs.declared.pair.Pair.{Pair}
 use Rattle.just_running.specs.Account.{Asked, OnceTables, Empty, Asks, Runs, own, begun, executions, In, AreIn, known, AreNamed, AskFits, RunFits, Fits, Complete, prior_count, asked_count, counts_below, counts, IsFullBelow, IsFull}
 use Rattle.just_running.specs.Firsts.{has}
 use Rattle.just_running.specs.declared.task.Task.{Task}
-use Rattle.just_running.specs.Pairs.{Table, put, same_pair, prior_dependencies, subsequent_dependencies}
+use Rattle.just_running.specs.Pairs.{OnceTable, put, same_pair, prior_dependencies, subsequent_dependencies}
 use Rattle.just_running.specs.Walking.{State, add_at, counted, opened, ran}
 use Rattle.just_running.proofs.Joined.{with_priors, asks, AllLow, AreDone, Settled, AllNamed, join, own-join, priors-join, asked-join, even-join, Complete-join, AllNamed-join, full-join, Fits-join, AllLow-more, has-last, known-more, known-priors, known-all, length-known, length-known_one, length-known_none, length-known_tops, AreDone-join, Settled-low, Settled-then, Settled-asked, unasked, add-twice, count-added, length-added, count-opened, length-opened, joined-counts, block-counts, opened-counts, joined-begun, joined-low, joined-own, joined-asks, none-in, none-below, one-below, has-more}
 use Rattle.just_running.proofs.Keeps.{has-append, or_false}
@@ -396,10 +396,10 @@ visit-gained : (recipes : List (Recipe Dependency)) (u v : OnceTables) (old mid 
 visit-gained recipes u v old mid next new g h k = joined-begun recipes u v (executed old) (executed next) (executed new) (h ∙ ap (λ x. x ++ executions recipes (begun u)) g) k
 
 -- the table after the block
-table-put : (table : Table) (now done : List Pair) (pair : Pair) → table ≡ has same_pair now → now ++ pair ∷ [] ≡ done → put table pair ≡ has same_pair done
+table-put : (table : OnceTable) (now done : List Pair) (pair : Pair) → table ≡ has same_pair now → now ++ pair ∷ [] ≡ done → put table pair ≡ has same_pair done
 table-put table now done pair h k =
     let here : (q : Pair) → put table pair q ≡ has same_pair (now ++ pair ∷ []) q = λ q.
-    ap (λ (f : Table). f q || same_pair pair q) h ∙ ap (λ b. has same_pair now q || b) (sym (or_false (same_pair pair q))) ∙ sym (has-append same_pair now (pair ∷ []) q) in
+    ap (λ (f : OnceTable). f q || same_pair pair q) h ∙ ap (λ b. has same_pair now q || b) (sym (or_false (same_pair pair q))) ∙ sym (has-append same_pair now (pair ∷ []) q) in
     (λ i q. here q i) ∙ ap (has same_pair) k
 
 -- the block failed after the priors

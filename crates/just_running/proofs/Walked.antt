@@ -15,7 +15,7 @@ use Rattle.just_running.specs.Lower.{IsLower}
 use Rattle.just_running.specs.declared.task.Task.{Task}
 use Rattle.just_running.specs.Pairs.{same_pair, put, key, AllBelow}
 use Rattle.just_running.specs.Run.{tasks_in, priors_by, subsequents_by, part_steps, in_turn, Each}
-use Rattle.just_running.specs.Walk.{blocks, walk, walks}
+use Rattle.just_running.proofs.Walks.{blocks, walk, walks}
 use Rattle.just_running.specs.Walking.{Leaves, State, counted, count_steps, all_steps, opened, fresh_steps, block_steps, ran, ran_steps, visit_steps, walk_steps}
 use Rattle.just_running.proofs.FrameLemmas.{agree, fresh-same}
 use Rattle.just_running.proofs.Keeps.{has-append, or_false}

@@ -13,7 +13,7 @@ use Rattle.just_running.specs.Lower.{IsLower}
 use Rattle.just_running.specs.declared.task.Task.{Task}
 use Rattle.just_running.specs.Pairs.{same_pair, key, task, AllBelow}
 use Rattle.just_running.specs.Run.{tasks_in, priors_by, subsequents_by, part_steps, in_turn, parts, run_steps, Each, IsEvenPart, IsEven}
-use Rattle.just_running.specs.Walk.{blocks, walk, walks}
+use Rattle.just_running.proofs.Walks.{blocks, walk, walks}
 use Rattle.just_running.specs.Walking.{Leaves, fresh_steps, walk_steps}
 use Rattle.just_running.proofs.Keeps.{Exact}
 use Rattle.just_running.proofs.Keyed.{walks-firsts_by}

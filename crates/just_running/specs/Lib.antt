@@ -9,5 +9,4 @@ pub mod Recipes
 pub mod Reports
 pub mod Run
 pub mod Unready
-pub mod Walk
 pub mod Walking

@@ -13,19 +13,19 @@ abbrev pub same_pair : Pair → Pair → Bool
 same_pair p q = (p.recipe == q.recipe) && pointwise (pointwise (pointwise nat_eq)) p.groups q.groups
 
 -- which pairs ran under a table
-abbrev pub Table : Type 0
-Table = Pair → Bool
+abbrev pub OnceTable : Type 0
+OnceTable = Pair → Bool
 
 -- those of a list did
-abbrev pub table_of : List Pair → Table
+abbrev pub table_of : List Pair → OnceTable
 table_of pairs = has same_pair pairs
 
 -- none did
-abbrev pub none : Table
+abbrev pub none : OnceTable
 none p = false
 
 -- one more did
-abbrev pub put : Table → Pair → Table
+abbrev pub put : OnceTable → Pair → OnceTable
 put table pair p = table p || same_pair pair p
 
 -- the pair alone is what a once table holds

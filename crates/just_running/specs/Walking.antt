@@ -3,7 +3,7 @@ use Rattle.std.specs.Prelude.{◌==◌, ◌^◌, ◌+◌, ℕ, zero, suc, cond, 
 use Rattle.just_parts.specs.declared.layers.halt.Halt.TheVariants.{Exhausted}
 use Rattle.just_parts.specs.Steps.{Steps, Give, Fail, and_then}
 use Rattle.just_running.specs.declared.task.Task.{Task}
-use Rattle.just_running.specs.Pairs.{Table, none, put}
+use Rattle.just_running.specs.Pairs.{OnceTable, none, put}
 
 -- what is asked of one task: before its priors, which that gives; for its body; and for its subsequents, which that gives
 pub record Leaves : Type 0 where
@@ -14,7 +14,7 @@ pub record Leaves : Type 0 where
 -- where a run stands: the number of its table, the pairs that ran under it, and the counters of all tables
 pub record State : Type 0 where
   pub number : ℕ
-  pub table : Table
+  pub table : OnceTable
   pub calls : List ℕ
 
 -- the list with k more at a place
