@@ -1,5 +1,5 @@
 -- From the words' invocations to the outcome of their run.
-use Rattle.std.proofs.Common.{◌≡◌, ◌≤◌, ◌<◌, ℕ, true, false, List, [], length, Option, Ok, Err, IfSome, refl, sym, ◌∙◌, ap, subst, inl, inr, arith}
+use Rattle.std.proofs.Common.{◌≡◌, ◌≤◌, ◌<◌, ℕ, true, List, [], length, Option, Ok, Err, IfSome, refl, sym, ◌∙◌, ap, subst, inl, inr, arith}
 use Rattle.std.specs.Prelude.{IsErrAnd, Result}
 use Rattle.std.proofs.lemmas.Bool.{true≢false}
 use Rattle.std.proofs.lemmas.List.{append-nil}
@@ -7,7 +7,7 @@ use Rattle.just_parts.specs.declared.dependency.Dependency.{Dependency}
 use Rattle.just_parts.specs.declared.layers.config.Config.{Config}
 use Rattle.just_parts.specs.declared.layers.error.Error.{Error}
 use Rattle.just_parts.specs.declared.layers.error.Error.TheVariants.{Load, Compile, Invocation, Run, Exhausted, Memory}
-use Rattle.just_parts.specs.declared.layers.error.RunError.TheVariants.{ExcessInvocations, NotYet}
+use Rattle.just_parts.specs.declared.layers.error.RunError.TheVariants.{ExcessInvocations}
 use Rattle.just_parts.specs.declared.layers.halt.Halt.{Halt}
 use Rattle.just_parts.specs.declared.layers.halt.Halt.TheVariants as halt
 use Rattle.just_parts.specs.declared.layers.host.Entry.{Entry}
@@ -16,11 +16,11 @@ use Rattle.just_parts.specs.Evaluation.{Inquiry}
 use Rattle.just_parts.specs.Halts.{come_to}
 use Rattle.just_parts.specs.Host.{Answer}
 use Rattle.just_running.specs.declared.running.Report.{Report}
-use Rattle.just_running.specs.Reports.{IsExpectedRun}
+use Rattle.just_running.specs.Reports.{IsAsExpected}
 use Rattle.just_running.specs.Unready.{IsUnready, AreReady}
 use Rattle.just_invoke.specs.declared.justfile.Justfile.{Justfile}
 use Rattle.just_invoke.specs.Cause as cause
-use Rattle.just_invoke.specs.Going.{ComesTo, IsHindered}
+use Rattle.just_invoke.specs.Going.{TasksComeTo, IsHindered}
 use Rattle.just_invoke.specs.Outcome.{tops, Refuses, fault, excess, not_yet, memory, MayRun, IsOutcome, refused, ran}
 use Rattle.just_invoke.specs.Split.{Invoked, IsSplit, IsFault}
 use Rattle.just_invoke.proofs.Faults.{split_no_fault}
@@ -29,7 +29,7 @@ use Rattle.just_invoke.proofs.Unique.{split_once}
 -- what is expected where these are invoked
 abbrev IsSo : (Inquiry → Option Answer) → (Entry → Option Answer) → List (Recipe Dependency) → List Invoked → List Entry → List Entry → Result Report Error → Type 0
 IsSo evaluator host recipes invoked old new result =
-    (ended : Result Report Halt) × (result ≡ come_to ended) × IsExpectedRun evaluator host recipes (tops recipes invoked) old new ended
+    (ended : Result Report Halt) × (result ≡ come_to ended) × IsAsExpected evaluator host recipes (tops recipes invoked) old new ended
 
 module _ (root : Justfile) (recipes : List (Recipe Dependency)) (words : List (List ℕ)) (config : Config) where
   -- words that are not read
@@ -77,7 +77,7 @@ module _ (root : Justfile) (recipes : List (Recipe Dependency)) (words : List (L
     stopped e (inl is) = subst (Refuses root recipes words config.one) (sym is) memory
     stopped e (inr (name, is, unready)) = subst (Refuses root recipes words config.one) (sym is) (not_yet name invoked split few unready)
 
-    pub went : ComesTo p q recipes (tops recipes invoked) old new result → IsOutcome root recipes words config old new result
+    pub went : TasksComeTo p q recipes (tops recipes invoked) old new result → IsOutcome root recipes words config old new result
     went (inl (e, is, stops, same)) = refused e is (stopped e stops) same
     went (inr (ready, ended, is, run, expected)) = ran invoked ended (record { split = split; few = few; ready = ready }) is run
 
@@ -86,11 +86,11 @@ module _ (root : Justfile) (recipes : List (Recipe Dependency)) (words : List (L
         subst (λ r. IsSo p q recipes invoked old new r) (sym (answer ∙ ap (λ e. Err e) is)) (subst (λ n. IsSo p q recipes invoked old n (Err Memory)) (sym same) (out p q invoked old))
     stopped-expected e (inr (name, is, unready)) ready answer same = absurd (not-ready invoked name unready ready)
 
-    went-so : AreReady recipes (tops recipes invoked) → ComesTo p q recipes (tops recipes invoked) old new result → IsSo p q recipes invoked old new result
+    went-so : AreReady recipes (tops recipes invoked) → TasksComeTo p q recipes (tops recipes invoked) old new result → IsSo p q recipes invoked old new result
     went-so ready (inl (e, is, stops, same)) = stopped-expected e stops ready is same
     went-so ready (inr (all, ended, is, run, expected)) = (ended, is, expected)
 
-    pub went-expected : ComesTo p q recipes (tops recipes invoked) old new result → (others : List Invoked) → MayRun root recipes words config.one others → IsSo p q recipes others old new result
+    pub went-expected : TasksComeTo p q recipes (tops recipes invoked) old new result → (others : List Invoked) → MayRun root recipes words config.one others → IsSo p q recipes others old new result
     went-expected goes others may =
         let same : invoked ≡ others = split_once root recipes words invoked others split may.split in
         subst (λ is. IsSo p q recipes is old new result) same (went-so (subst (λ is. AreReady recipes (tops recipes is)) (sym same) may.ready) goes)

@@ -12,16 +12,22 @@ use Rattle.just_parts.specs.Evaluation.{Inquiry}
 use Rattle.just_parts.specs.Host.{Answer}
 use Rattle.just_running.specs.declared.running.Report.{Report}
 use Rattle.just_running.specs.declared.task.Task.{Task}
-use Rattle.just_running.specs.Reports.{IsRun, IsExpectedRun}
+use Rattle.just_running.specs.Reports.{IsRun, IsAsExpected}
 use Rattle.just_running.specs.Unready.{IsUnready, AreReady}
+use Rattle.just_invoke.specs.declared.invocation.Invocation.{Invocation}
+use Rattle.just_invoke.specs.Outcome.{tops_of}
 
 -- why tasks are not run: memory is refused, or they lead to a recipe that cannot be run yet
 abbrev pub IsHindered : List (Recipe Dependency) → List Task → Error → Type 0
 IsHindered recipes ts e = (e ≡ Memory) ⊎ ((name : List ℕ) × (e ≡ Run (NotYet name)) × IsUnready recipes ts name)
 
 -- tasks are not run, and the host is as it was; or they are
-abbrev pub ComesTo : (Inquiry → Option Answer) → (Entry → Option Answer) → List (Recipe Dependency) → List Task → List Entry → List Entry → Result Report Error → Type 0
-ComesTo evaluator host recipes ts old new result =
+abbrev pub TasksComeTo : (Inquiry → Option Answer) → (Entry → Option Answer) → List (Recipe Dependency) → List Task → List Entry → List Entry → Result Report Error → Type 0
+TasksComeTo evaluator host recipes ts old new result =
     ((e : Error) × (result ≡ Err e) × IsHindered recipes ts e × (new ≡ old))
     ⊎ (AreReady recipes ts × (ended : Result Report Halt) × (result ≡ come_to ended)
-    × IsRun recipes ts old new ended × IsExpectedRun evaluator host recipes ts old new ended)
+    × IsRun recipes ts old new ended × IsAsExpected evaluator host recipes ts old new ended)
+
+-- likewise of invocations
+abbrev pub ComesTo : (Inquiry → Option Answer) → (Entry → Option Answer) → List (Recipe Dependency) → List Invocation → List Entry → List Entry → Result Report Error → Type 0
+ComesTo evaluator host recipes invocations old new result = TasksComeTo evaluator host recipes (tops_of recipes invocations) old new result

@@ -15,7 +15,7 @@ use Rattle.just_parts.specs.Host.{Answer}
 use Rattle.just_running.specs.declared.running.Report.{Report}
 use Rattle.just_running.specs.declared.task.Task.{Task}
 use Rattle.just_running.specs.Pairs.{task, place_of}
-use Rattle.just_running.specs.Reports.{IsRun, IsExpectedRun}
+use Rattle.just_running.specs.Reports.{IsRun, IsAsExpected}
 use Rattle.just_running.specs.Unready.{IsUnready, AreReady}
 use Rattle.just_invoke.specs.declared.invocation.Invocation as parsed
 use Rattle.just_invoke.specs.declared.justfile.Justfile.{Justfile}
@@ -59,4 +59,4 @@ pub data IsOutcome (root : Justfile) (recipes : List (Recipe Dependency)) (words
 abbrev pub IsExpected : Justfile → List (Recipe Dependency) → List (List ℕ) → Config → (Inquiry → Option Answer) → (Entry → Option Answer) → List Entry → List Entry → Result Report Error → Type 0
 IsExpected root recipes words config evaluator host old new result =
     (invoked : List Invoked) → MayRun root recipes words config.one invoked →
-    (ended : Result Report Halt) × (result ≡ come_to ended) × IsExpectedRun evaluator host recipes (tops recipes invoked) old new ended
+    (ended : Result Report Halt) × (result ≡ come_to ended) × IsAsExpected evaluator host recipes (tops recipes invoked) old new ended

@@ -1,5 +1,5 @@
 -- Words as invocations, and why words are none.
-use Rattle.std.specs.Prelude.{◌≡◌, ◌≢◌, ◌⊎◌, true, false, List, [], ◌∷◌, ◌++◌, length}
+use Rattle.std.specs.Prelude.{◌≡◌, ◌≢◌, ◌⊎◌, ℕ, true, false, List, [], ◌∷◌, ◌++◌, length}
 use Rattle.just_parts.specs.Parameter.{least_arguments, most_arguments}
 use Rattle.just_parts.specs.declared.dependency.Dependency.{Dependency}
 use Rattle.just_parts.specs.declared.recipe.Recipe.{Recipe}
@@ -38,6 +38,10 @@ abbrev pub IsSplit : Justfile → Held → Words → List Invoked → Type 0
 IsSplit root recipes [] is = (i : Invoked) × (is ≡ i ∷ []) × Invokes root recipes [] [] i
 IsSplit root recipes (w ∷ ws) is = Chain root recipes (w ∷ ws) is []
 
+-- why a recipe is not run with so many words
+abbrev pub misfit : Recipe Dependency → ℕ → Cause
+misfit recipe found = count_mismatch (name_of recipe) found (least_arguments recipe.parameters) (most_arguments recipe.parameters)
+
 -- the words begin with a head and a tail, in which a group is empty that may not be
 pub record Lacks (root : Justfile) (recipes : Held) (words : Words) (cause : Cause) : Type 0 where
   pub recipe : Recipe Dependency
@@ -49,8 +53,7 @@ pub record Lacks (root : Justfile) (recipes : Held) (words : Words) (cause : Cau
   pub names : IsHead root recipes head (tail ++ after) recipe
   pub reads : IsTail recipe.parameters tail after groups
   pub lacks : any_missing recipe.parameters groups ≡ true
-  pub says : cause ≡ count_mismatch (name_of recipe) (length tail) (least_arguments recipe.parameters)
-      (most_arguments recipe.parameters)
+  pub says : cause ≡ misfit recipe (length tail)
 
 -- why no invocation begins here
 abbrev pub Stops : Justfile → Held → Words → Cause → Type 0

@@ -3,15 +3,14 @@ ghost use Rattle.std.specs.Prelude.{◌≡◌, ◌≤◌, ◌<◌, ◌++◌, ◌
 ghost use Rattle.std.specs.List.{All};
 ghost use Rattle.std.specs.Option.{option_copied};
 ghost use Rattle.just_names.specs.Modulepath.{texts};
-ghost use Rattle.just_parts.specs.Parameter.{least_arguments, most_arguments};
 ghost use Rattle.just_parts.specs.declared.layers.error.Error.TheVariants as error;
 ghost use Rattle.just_parts.specs.declared.layers.error.InvocationError.TheVariants as fault;
-ghost use Rattle.just_invoke.specs.Cause.{cause_of, count_mismatch, IsExpected};
+ghost use Rattle.just_invoke.specs.Cause.{cause_of, IsExpected};
 ghost use Rattle.just_invoke.specs.Closed.{recipe_named, default_recipe, IsHeld, IsClosed};
 ghost use Rattle.just_invoke.specs.declared.justfile.Justfile.{out-Justfile};
 ghost use Rattle.just_invoke.specs.Head.{Words, name_of, has_colon, is_empty, goes_on, TakesDefault, NoDefault, BadName, WordsLead, WordsMislead, IsPathWord, PathLeads, NoPath, IsHead, NoHead};
 ghost use Rattle.just_invoke.specs.Tail.{shown, first_variadic, IsTail, is_missing, any_missing};
-ghost use Rattle.just_invoke.specs.Split.{invoked_of, Invokes, Chain, IsSplit, Stops, IsFault};
+ghost use Rattle.just_invoke.specs.Split.{invoked_of, misfit, Invokes, Chain, IsSplit, Stops, IsFault};
 
 use crate::invocation::Invocation;
 use crate::justfile::Justfile;
@@ -370,7 +369,7 @@ fn any_missing(parameters: &[Parameter], groups: &[Vec<&str>]) -> bool
 
 // Why a recipe is not run with so many positional words.
 fn count_mismatch<'src>(recipe: &Recipe<'src>, found: usize) -> Error<'src>
-    ensures cause { cause_of result ≡ Some (count_mismatch (name_of recipe.now) found (least_arguments recipe.now.parameters) (most_arguments recipe.now.parameters)) }
+    ensures cause { cause_of result ≡ Some (misfit recipe.now found) }
     ensures expected { IsExpected result }
 {
     Error::Invocation(InvocationError::PositionalArgumentCountMismatch {

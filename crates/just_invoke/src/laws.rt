@@ -12,7 +12,7 @@ ghost use Rattle.just_invoke.specs.declared.justfile.Justfile.{Justfile, out-Jus
 /// Where a module and those below it are closed, the module itself is, and so is each of its modules with those below it.
 pub fn closes_its_modules()
     ensures itself { (recipes : Held) (root : Justfile) → AreClosed recipes root → IsClosed root recipes }
-    ensures modules { (recipes : Held) (root inner : Justfile) → AreClosed recipes root → Contains (out-Justfile root).modules inner → AreClosed recipes inner }
+    ensures modules { (recipes : _) (root inner : Justfile) → AreClosed recipes root → Contains (out-Justfile root).modules inner → AreClosed recipes inner }
 {}
 
 /// Words are invocations in at most one way.
@@ -37,7 +37,7 @@ pub fn split_or_fault()
 
 /// An invocation with which some words begin takes at least one of them.
 pub fn takes_some()
-    ensures { (root : Justfile) (recipes : Held) (words after : Words) (i : _) → words ≢ [] → Invokes root recipes words after i → length after < length words }
+    ensures { (root : _) (recipes : _) (words after : Words) (i : _) → words ≢ [] → Invokes root recipes words after i → length after < length words }
 {}
 
 /// Answers that are promised to some questions stay so while promises are kept, as they are in a run.

@@ -4,7 +4,6 @@ ghost use Rattle.just_running.specs.Recipes.{IsResolved};
 ghost use Rattle.just_invoke.specs.declared.invocation.Invocation.{Invocation};
 ghost use Rattle.just_invoke.specs.Closed.{IsHeld};
 ghost use Rattle.just_invoke.specs.Going.{ComesTo};
-ghost use Rattle.just_invoke.specs.Outcome.{tops_of};
 
 use crate::invocation::Invocation;
 use crate::naming::name_tops;
@@ -24,7 +23,7 @@ pub(crate) fn run_invocations<'src, E: Evaluation, H: Host>(
     requires held { All (λ (i : Invocation). IsHeld recipes.now i.recipe.now) invocations.now }
     ensures keeps { KeepsPromises (E.promised evaluation.old) (E.promised evaluation.new) }
     ensures keeps_host { KeepsPromises (H.promised host.old) (H.promised host.new) }
-    ensures comes { ComesTo (E.promised evaluation.old) (H.promised host.old) recipes.now (tops_of recipes.now invocations.now) (H.entries host.old) (H.entries host.new) result }
+    ensures comes { ComesTo (E.promised evaluation.old) (H.promised host.old) recipes.now invocations.now (H.entries host.old) (H.entries host.new) result }
 {
     let tops = name_tops(alloc, recipes, invocations)?;
     if let Some(recipe) = find_unready(alloc, recipes, &tops)? {

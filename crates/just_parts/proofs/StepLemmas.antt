@@ -54,11 +54,6 @@ took-out p (Give x) old new n = (n, inr refl)
 took-out p (Fail f) old new n = (n, inr refl)
 took-out p (Asks x g) old new n = inl (n, refl)
 
--- one question to the host
-pub took-called : {A : Type 0} (e : Inquiry → Option Answer) (h : Entry → Option Answer) (x : Entry) (g : Answer → Steps A) (a : Answer) (old mid new : List Entry) (r : Result A Halt) →
-    Answers (h x) (Some a) → mid ≡ old ++ kept x (Some a) → Took (both e h) (g a) mid new r → Took (both e h) (Asks (ToHost x) g) old new r
-took-called e h x g a old mid new r l n t = inr (a, (λ b m. l b a m refl), subst (λ o. Took (both e h) (g a) o new r) n t)
-
 -- an end of the first
 pub took-stop : {A B : Type 0} (p : Question → Option Answer) (s : Steps A) (next : A → Steps B) (old new : List Entry) (e : Halt) → Took p s old new (Err e) → Took p (and_then s next) old new (Err e)
 took-stop p (Give x) next old new e (n, inl h) = absurd (cc)

@@ -1,5 +1,5 @@
 -- What is left of a run, frame by frame.
-use Rattle.std.proofs.Common.{◌≡◌, ◌≢◌, ℕ, zero, suc, ◌<◌, ◌≤◌, true, false, cond, List, [], ◌∷◌, ◌++◌, refl, sym, ◌∙◌, ap, subst, arith, append_assoc}
+use Rattle.std.proofs.Common.{◌≡◌, ◌≢◌, ℕ, zero, suc, ◌<◌, true, false, cond, List, [], ◌∷◌, ◌++◌, refl, sym, ◌∙◌, ap, arith}
 use Rattle.std.proofs.lemmas.Bool.{cond-true, cond-false}
 use Rattle.std.proofs.lemmas.List.Elements.{All-head, All-tail}
 use Rattle.just_parts.specs.declared.layers.halt.Halt.TheVariants.{Exhausted}
@@ -8,7 +8,7 @@ use Rattle.just_parts.proofs.StepLemmas.{then-assoc, then-give, then-each, then-
 use Rattle.just_running.specs.declared.frame.Frame.{Frame}
 use Rattle.just_running.specs.declared.frame.Frame.TheVariants.{Call, Block, Back}
 use Rattle.just_running.specs.declared.frame.OpenTable.{OpenTable}
-use Rattle.just_running.specs.Frames.{walk_at, block_at, with_calls, under, frame_steps, left, calls_of}
+use Rattle.just_running.specs.Frames.{walk_at, under, frame_steps, left, calls_of}
 use Rattle.just_running.specs.Lower.{IsLower}
 use Rattle.just_running.specs.declared.task.Task.{Task}
 use Rattle.just_running.specs.Pairs.{AllBelow}

@@ -1,18 +1,15 @@
 -- From what was left of a run to what is left of it.
-use Rattle.std.proofs.Common.{◌≡◌, ◌≢◌, ℕ, ◌+◌, ◌<◌, ◌^◌, true, false, List, [], ◌∷◌, ◌++◌, length, get_or, Option, refl, sym, ◌∙◌, ap, subst, arith, eq-eqb, inl, inr, ◌==◌, Ok, Err}
+use Rattle.std.proofs.Common.{◌≡◌, ◌≢◌, ℕ, ◌+◌, ◌<◌, ◌^◌, true, false, List, [], ◌∷◌, ◌++◌, get_or, Option, refl, sym, ◌∙◌, ap, subst, arith, eq-eqb, inl, ◌==◌, Ok, Err}
 use Rattle.std.specs.Prelude.{Result, IsErrAnd}
 use Rattle.std.proofs.lemmas.Bool.{cond-true, cond-false, ne_eqb}
-use Rattle.std.proofs.lemmas.List.Elements.{All-append, All-cons, All-nil, All-weaker}
-use Rattle.just_parts.specs.declared.dependency.Dependency.{Dependency}
 use Rattle.just_parts.specs.declared.layers.halt.Halt.{Halt}
 use Rattle.just_parts.specs.declared.layers.halt.Halt.TheVariants.{Memory, Exhausted}
 use Rattle.just_parts.specs.declared.layers.host.Entry.{Entry}
-use Rattle.just_parts.specs.declared.recipe.Recipe.{Recipe}
 use Rattle.just_parts.specs.Host.{Answer, KeepsPromises}
 use Rattle.just_parts.specs.Steps.{Question, Steps, Give, Fail, and_then, Took}
 use Rattle.just_parts.proofs.StepLemmas.{keeps-self, took-out, took-stop, took-then, took-kept}
 use Rattle.just_running.specs.declared.frame.Frame.{Frame}
-use Rattle.just_running.specs.declared.frame.Frame.TheVariants.{Call, Block, Back}
+use Rattle.just_running.specs.declared.frame.Frame.TheVariants.{Call, Block}
 use Rattle.just_running.specs.Frames.{walk_at, with_calls, left, calls_of, Goes, with_value}
 use Rattle.just_running.specs.Lower.{IsLower}
 use Rattle.just_running.specs.declared.task.Task.{Task}

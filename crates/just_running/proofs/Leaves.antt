@@ -1,14 +1,16 @@
 -- The tasks that recipes name stand at lower places.
-use Rattle.std.proofs.Common.{ℕ, zero, suc, List, [], ◌∷◌, refl, subst}
+use Rattle.std.proofs.Common.{ℕ, zero, suc, List, [], ◌∷◌, Option, None, Ok, refl, subst}
 use Rattle.just_parts.specs.declared.dependency.Dependency.{Dependency}
 use Rattle.just_parts.specs.declared.recipe.Recipe.{Recipe}
+use Rattle.just_parts.specs.Evaluation.{Inquiry}
 use Rattle.just_parts.specs.Host.{Answer}
-use Rattle.just_parts.specs.Steps.{Question}
+use Rattle.just_parts.specs.Steps.{Question, both}
+use Rattle.just_parts.proofs.StepLemmas.{took-gives}
 use Rattle.just_running.specs.Expansion.{Part, Ask, Block}
-use Rattle.just_running.specs.Leaves.{leaves_of}
+use Rattle.just_running.specs.Leaves.{AsksAlone, ask_steps, follow_steps, leaves_of}
 use Rattle.just_running.specs.Lower.{IsLower}
 use Rattle.just_running.specs.declared.task.Task.{Task}
-use Rattle.just_running.specs.Pairs.{AllBelow, priors, subsequents}
+use Rattle.just_running.specs.Pairs.{AllBelow}
 use Rattle.just_running.specs.Recipes.{IsOrdered}
 use Rattle.just_running.specs.Run.{subsequents_by, parts, Each, IsEvenPart, IsEven}
 use Rattle.just_running.proofs.Places.{priors-before, subsequents-before}
@@ -18,6 +20,13 @@ leaves-lower recipes ordered = record {
   priors = λ t ps g. subst (AllBelow t.pair.recipe) g (priors-before recipes t.pair ordered);
   subsequents = λ t ts g. subst (AllBelow t.pair.recipe) g (subsequents-before recipes t.pair ordered);
 }
+
+-- what a task was asked for and answered leads to lower places
+pub asked-below : (recipes : List (Recipe Dependency)) → IsOrdered recipes → (e : Inquiry → Option Answer) (t : Task) (ps : List Task) → AsksAlone e (ask_steps recipes t) (Ok ps) → AllBelow t.pair.recipe ps
+asked-below recipes ordered e t ps took = (leaves-lower recipes ordered).priors t ps (took-gives (both e (λ entry. None)) (ask_steps recipes t) [] [] ps (took (λ entry. None) []))
+
+pub followed-below : (recipes : List (Recipe Dependency)) → IsOrdered recipes → (e : Inquiry → Option Answer) (t : Task) (ts : List Task) → AsksAlone e (follow_steps recipes t) (Ok ts) → AllBelow t.pair.recipe ts
+followed-below recipes ordered e t ts took = (leaves-lower recipes ordered).subsequents t ts (took-gives (both e (λ entry. None)) (follow_steps recipes t) [] [] ts (took (λ entry. None) []))
 
 -- the priors of a task do not hang on how it is called
 parts-even : (recipes : List (Recipe Dependency)) (f : Question → Answer) (run : List Task → Type 0) → ((ts : List Task) → run ts) → (xs : List (Part Task)) → Each (IsEvenPart (leaves_of recipes) f run) xs

@@ -1,7 +1,7 @@
 -- Recipes by their places.
 use Rattle.std.proofs.Common.{◌≡◌, ℕ, zero, suc, ◌+◌, ◌<◌, ◌≢◌, List, [], ◌∷◌, ◌++◌, map, take, drop, length, get_or, Option, Some, None, Result, Ok, Err, refl, sym, ◌∙◌, ap, subst, arith, inl, inr, append_assoc, eqb-true, eq-eqb}
 use Rattle.std.specs.List.{slice_get, All, Contains}
-use Rattle.std.specs.Prelude.{slice_index, ◌==◌, IfOk, OnOk}
+use Rattle.std.specs.Prelude.{slice_index, ◌==◌, OnOk}
 use Rattle.std.proofs.lemmas.Bool.{cases_Bool, cond-true, cond-false, true≢false, ne_eqb}
 use Rattle.std.proofs.lemmas.List.Elements.{All-head, All-tail, All-nil, All-cons, All-append, All-take, All-drop, All-weaker, All-map, Contains-append_left, Contains-append_right}
 use Rattle.std.proofs.lemmas.List.{append-nil, length_push, get_or_default, map-append, take_more, get_or-map}
@@ -151,10 +151,6 @@ priors-before rs p ordered = dependencies-below rs p.recipe (prior_dependencies 
 pub subsequents-before : (rs : List (Recipe Dependency)) (p : Pair) → IsOrdered rs → AllBelow p.recipe (map (task_of rs) (subsequent_dependencies rs p.recipe))
 subsequents-before rs p ordered = dependencies-below rs p.recipe (subsequent_dependencies rs p.recipe)
     (at-before (λ r. drop r.priors r.dependencies) (λ r P h. All-drop P r.priors r.dependencies h) rs p.recipe (slice_get rs p.recipe) ordered refl)
-
-pub IfOk-map : {A E : Type 0} (P Q : A → Type 0) (r : Result A E) → ((a : A) → P a → Q a) → IfOk r P → IfOk r Q
-IfOk-map P Q (Ok a) f h = f a h
-IfOk-map P Q (Err e) f h = tt
 
 pub OnOk-map : {A E P Q : Type 0} (r : Result A E) → (P → Q) → OnOk r P → OnOk r Q
 OnOk-map (Ok a) f h = f h

@@ -14,7 +14,7 @@ use Rattle.just_running.specs.declared.task.Task.{Task}
 use Rattle.just_running.specs.Leaves.{leaves_of}
 use Rattle.just_running.specs.Pairs.{AllBelow}
 use Rattle.just_running.specs.Recipes.{IsOrdered}
-use Rattle.just_running.specs.Reports.{calls_in, IsRun, IsExpectedRun, Starts, expected_steps}
+use Rattle.just_running.specs.Reports.{calls_in, IsRun, IsAsExpected, Starts, expected_steps}
 use Rattle.just_running.specs.Walking.{fresh_steps, walk_steps}
 use Rattle.just_running.proofs.Accounted.{fresh-account}
 use Rattle.just_running.proofs.Leaves.{leaves-lower}
@@ -30,7 +30,7 @@ module _ (recipes : List (Recipe Dependency)) (ordered : IsOrdered recipes) (e :
   pub account-run : IsRun recipes tops old new r
   account-run = let a = fresh-account recipes ordered (both e h) tops below old new (calls_in r) took in record { tables = a.0; account = a.1; tells = a.2 }
 
-  pub expected-run : IsExpectedRun e h recipes tops old new r
+  pub expected-run : IsAsExpected e h recipes tops old new r
   expected-run = λ f steady even.
       let steps = expected_steps recipes f tops in
       subst (Follows (path f steps) (outcome f steps) old new) (without-calls r)

@@ -7,7 +7,7 @@ use Rattle.std.proofs.lemmas.List.Elements.{All-cons, All-head, All-nil, All-tai
 use Rattle.just_parts.specs.declared.layers.halt.Halt.TheVariants.{Exhausted}
 use Rattle.just_parts.specs.Host.{Answer}
 use Rattle.just_parts.specs.Steps.{Question, Steps, Give, Fail, and_then, Gives, path, outcome}
-use Rattle.just_parts.proofs.StepLemmas.{then-assoc, then-each, then-give, then-same}
+use Rattle.just_parts.proofs.StepLemmas.{then-assoc, then-give}
 use Rattle.just_running.specs.declared.pair.Pair.{Pair}
 use Rattle.just_running.specs.Expansion.{Part, Ask, Block, part_key}
 use Rattle.just_running.specs.Firsts.{has}
@@ -16,7 +16,7 @@ use Rattle.just_running.specs.declared.task.Task.{Task}
 use Rattle.just_running.specs.Pairs.{same_pair, put, key, AllBelow}
 use Rattle.just_running.specs.Run.{tasks_in, priors_by, subsequents_by, part_steps, in_turn, Each}
 use Rattle.just_running.proofs.Walks.{blocks, walk, walks}
-use Rattle.just_running.specs.Walking.{Leaves, State, counted, count_steps, all_steps, opened, fresh_steps, block_steps, ran, ran_steps, visit_steps, walk_steps}
+use Rattle.just_running.specs.Walking.{Leaves, State, counted, all_steps, opened, fresh_steps, block_steps, ran, ran_steps, visit_steps, walk_steps}
 use Rattle.just_running.proofs.FrameLemmas.{agree, fresh-same}
 use Rattle.just_running.proofs.Keeps.{has-append, or_false}
 use Rattle.just_running.proofs.Ranks.{Below, blocks-append}

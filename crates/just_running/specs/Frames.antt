@@ -105,12 +105,12 @@ Leads evaluator host recipes frame old kept new keeps result =
     Goes (both evaluator host) (left_with (leaves_of recipes) frame old) kept (left_of (leaves_of recipes) new) keeps result
 
 -- the call of a task, which asks the host nothing; and its block
-abbrev pub CallLeads : (Inquiry → Option Answer) → List (Recipe Dependency) → Task → Course → Course → Result (Unit {0}) Halt → Type 0
-CallLeads evaluator recipes task old new result =
+abbrev pub Calls : (Inquiry → Option Answer) → List (Recipe Dependency) → Task → Course → Course → Result (Unit {0}) Halt → Type 0
+Calls evaluator recipes task old new result =
     (host : Entry → Option Answer) (kept : List Entry) → Leads evaluator host recipes (Call task) old kept new kept result
 
-abbrev pub BlockLeads : (Inquiry → Option Answer) → (Entry → Option Answer) → List (Recipe Dependency) → Task → Course → List Entry → Course → List Entry → Result (Unit {0}) Halt → Type 0
-BlockLeads evaluator host recipes task old kept new keeps result = Leads evaluator host recipes (Block task) old kept new keeps result
+abbrev pub Blocks : (Inquiry → Option Answer) → (Entry → Option Answer) → List (Recipe Dependency) → Task → Course → List Entry → Course → List Entry → Result (Unit {0}) Halt → Type 0
+Blocks evaluator host recipes task old kept new keeps result = Leads evaluator host recipes (Block task) old kept new keeps result
 
 -- all that was left was taken
 abbrev pub Finishes : (Inquiry → Option Answer) → (Entry → Option Answer) → List (Recipe Dependency) → Course → List Entry → Course → List Entry → Result (Unit {0}) Halt → Type 0

@@ -13,6 +13,7 @@ use Rattle.just_running.specs.declared.running.Report.{Report}
 use Rattle.just_running.specs.declared.task.Task.{Task}
 use Rattle.just_running.specs.Account.{OnceTables, HasAccount, Tells}
 use Rattle.just_running.specs.Leaves.{leaves_of}
+use Rattle.just_running.specs.Pairs.{AllBelow}
 use Rattle.just_running.specs.Run.{run_steps, IsEven}
 use Rattle.just_running.specs.Walking.{fresh_steps, walk_steps}
 
@@ -31,10 +32,14 @@ pub record IsRun (recipes : List (Recipe Dependency)) (tops : List Task) (old ne
 abbrev pub expected_steps : List (Recipe Dependency) → (Question → Answer) → List Task → Steps (Unit {0})
 expected_steps recipes f tops = run_steps (leaves_of recipes) f (length recipes) tops
 
+-- with so much fuel, or more, the expected run of tasks of these recipes is whole
+abbrev pub IsEnough : List (Recipe Dependency) → ℕ → Type 0
+IsEnough recipes n = (f : Question → Answer) (tops : List Task) → AllBelow (length recipes) tops → run_steps (leaves_of recipes) f n tops ≡ expected_steps recipes f tops
+
 -- Where the answers f are promised to all that the expected run of these tasks asks, and priors do not hang on how a task is called,
 -- exactly that run is made, up to its first failing step; where memory or a number is refused, a beginning of it.
-abbrev pub IsExpectedRun : (Inquiry → Option Answer) → (Entry → Option Answer) → List (Recipe Dependency) → List Task → List Entry → List Entry → Result Report Halt → Type 0
-IsExpectedRun evaluator host recipes tops old new result =
+abbrev pub IsAsExpected : (Inquiry → Option Answer) → (Entry → Option Answer) → List (Recipe Dependency) → List Task → List Entry → List Entry → Result Report Halt → Type 0
+IsAsExpected evaluator host recipes tops old new result =
     (f : Question → Answer) → IsSteady (both evaluator host) f (path f (expected_steps recipes f tops)) → IsEven (leaves_of recipes) f (length recipes) tops →
     Follows (path f (expected_steps recipes f tops)) (outcome f (expected_steps recipes f tops)) old new (without result)
 

@@ -1,6 +1,6 @@
 -- Which recipes a run leads to, and which of them cannot be run yet.
-use Rattle.std.specs.Prelude.{◌≡◌, ℕ, Bool, true, false, List, [], map, Some}
-use Rattle.std.specs.List.{list_any, slice_get, Contains}
+use Rattle.std.specs.Prelude.{◌≡◌, ◌<◌, ℕ, Bool, true, false, List, [], length, map, Some}
+use Rattle.std.specs.List.{All, list_any, slice_get, Contains}
 use Rattle.just_graph.specs.Steps.{Reached}
 use Rattle.just_parts.specs.Parameter.{is_variadic}
 use Rattle.just_names.specs.Token.{lexeme}
@@ -13,6 +13,10 @@ use Rattle.just_running.specs.Pairs.{place_of, needed}
 -- the places of what the recipe at a place depends on
 abbrev pub needed_places : List (Recipe Dependency) → ℕ → List ℕ
 needed_places recipes place = map (λ (d : Dependency). place_of recipes d.recipe.0) (needed recipes place)
+
+-- they are the places of what the recipe at a place depends on, each of a recipe that is there
+abbrev pub IsRow : List (Recipe Dependency) → ℕ → List ℕ → Type 0
+IsRow recipes place row = (row ≡ needed_places recipes place) × All (λ target. target < length recipes) row
 
 -- what stands at place a depends on what stands at place b
 abbrev pub DependsOn : List (Recipe Dependency) → ℕ → ℕ → Type 0

@@ -1,5 +1,5 @@
 //! Laws: calls that do nothing, whose contracts say what definitions keep.
-ghost use Rattle.std.specs.Prelude.{◌≡◌, ◌≤◌, ℕ, List, Result, Err, length};
+ghost use Rattle.std.specs.Prelude.{◌≤◌, ℕ, List, Result, Err, length};
 ghost use Rattle.just_parts.specs.declared.dependency.Dependency.{Dependency};
 ghost use Rattle.just_parts.specs.declared.layers.halt.Halt.{Halt};
 ghost use Rattle.just_parts.specs.declared.layers.host.Entry.{Entry};
@@ -8,14 +8,13 @@ ghost use Rattle.just_parts.specs.Host.{Answer};
 ghost use Rattle.just_parts.specs.Steps.{Question, Follows};
 ghost use Rattle.just_running.specs.declared.task.Task.{Task};
 ghost use Rattle.just_running.specs.Leaves.{leaves_of};
-ghost use Rattle.just_running.specs.Pairs.{AllBelow};
 ghost use Rattle.just_running.specs.Recipes.{IsOrdered};
-ghost use Rattle.just_running.specs.Reports.{IsOne, expected_steps};
-ghost use Rattle.just_running.specs.Run.{run_steps, IsEven};
+ghost use Rattle.just_running.specs.Reports.{IsEnough, IsOne};
+ghost use Rattle.just_running.specs.Run.{IsEven};
 
 /// An expected run with as much fuel as there are recipes is whole: more fuel changes nothing.
 pub fn enough_fuel()
-    ensures { (rs : _) (f : _) (n : ℕ) (ts : _) → IsOrdered rs → length rs ≤ n → AllBelow (length rs) ts → run_steps (leaves_of rs) f n ts ≡ expected_steps rs f ts }
+    ensures { (recipes : _) (n : ℕ) → IsOrdered recipes → length recipes ≤ n → IsEnough recipes n }
 {}
 
 /// The priors of these recipes do not hang on how a task is called.

@@ -12,7 +12,6 @@ mod running;
 mod task;
 mod unready;
 
-pub use just_parts::layers::Halt;
 pub use pair::Pair;
 pub use recipes::Recipes;
 pub use running::{Report, run_tasks};

@@ -2,11 +2,11 @@
 ghost use Rattle.std.specs.Prelude.{◌<◌, length, OnOk};
 ghost use Rattle.std.specs.List.{All};
 ghost use Rattle.just_parts.specs.Host.{KeepsPromises};
-ghost use Rattle.just_running.specs.Frames.{BlockLeads, CallLeads, Finishes, IsLighter, IsOpen, IsSound, Leads, items_of};
+ghost use Rattle.just_running.specs.Frames.{Blocks, Calls, Finishes, IsLighter, IsOpen, IsSound, Leads, items_of};
 ghost use Rattle.just_running.specs.Leaves.{AsksAlone, Executes, ask_steps, follow_steps};
 ghost use Rattle.just_running.specs.Pairs.{AllBelow};
 ghost use Rattle.just_running.specs.Recipes.{IsOrdered, IsResolved};
-ghost use Rattle.just_running.specs.Reports.{IsExpectedRun, IsRun, Starts};
+ghost use Rattle.just_running.specs.Reports.{IsAsExpected, IsRun, Starts};
 
 use crate::course::{Course, count_call, push_calls};
 use crate::frame::Frame;
@@ -76,25 +76,25 @@ fn call_task<'src, E: Evaluation>(
     alloc: Global,
     recipes: &Recipes<'src>,
     evaluation: &mut E,
-    course: &mut Course,
+    run: &mut Course,
     task: Task,
 ) -> Result<(), Halt<'src>>
     requires ordered { IsOrdered recipes.now }
     requires resolved { All IsResolved recipes.now }
     requires place { task.pair.recipe < length recipes.now }
-    requires sound { IsSound (length recipes.now) course.old }
+    requires sound { IsSound (length recipes.now) run.old }
     ensures keeps { KeepsPromises (E.promised evaluation.old) (E.promised evaluation.new) }
-    ensures goes { CallLeads (E.promised evaluation.old) recipes.now task course.old course.new result }
-    ensures sound { OnOk result (IsSound (length recipes.now) course.new) }
-    ensures lighter { OnOk result (IsLighter course.new.frames.items course.old.frames.items (Frame.Call task)) }
+    ensures goes { Calls (E.promised evaluation.old) recipes.now task run.old run.new result }
+    ensures sound { OnOk result (IsSound (length recipes.now) run.new) }
+    ensures lighter { OnOk result (IsLighter run.new.frames.items run.old.frames.items (Frame.Call task)) }
 {
-    count_call(&mut course.calls, course.current.number)?;
-    if course.current.table.contains(&task.pair) {
+    count_call(&mut run.calls, run.current.number)?;
+    if run.current.table.contains(&task.pair) {
         return Ok(());
     }
     let priors = ask(alloc, recipes, evaluation, &task)?;
-    course.frames.push(Frame::Block(task))?;
-    push_calls(&mut course.frames, priors)?;
+    run.frames.push(Frame::Block(task))?;
+    push_calls(&mut run.frames, priors)?;
     Ok(())
 }
 
@@ -104,23 +104,23 @@ fn run_block<'src, E: Evaluation, H: Host>(
     recipes: &Recipes<'src>,
     evaluation: &mut E,
     host: &mut H,
-    course: &mut Course,
+    run: &mut Course,
     task: Task,
 ) -> Result<(), Halt<'src>>
     requires ordered { IsOrdered recipes.now }
     requires resolved { All IsResolved recipes.now }
     requires place { task.pair.recipe < length recipes.now }
-    requires sound { IsSound (length recipes.now) course.old }
+    requires sound { IsSound (length recipes.now) run.old }
     ensures keeps { KeepsPromises (E.promised evaluation.old) (E.promised evaluation.new) }
     ensures keeps_host { KeepsPromises (H.promised host.old) (H.promised host.new) }
-    ensures goes { BlockLeads (E.promised evaluation.old) (H.promised host.old) recipes.now task course.old (H.entries host.old) course.new (H.entries host.new) result }
-    ensures sound { OnOk result (IsSound (length recipes.now) course.new) }
-    ensures lighter { OnOk result (IsLighter course.new.frames.items course.old.frames.items (Frame.Block task)) }
+    ensures goes { Blocks (E.promised evaluation.old) (H.promised host.old) recipes.now task run.old (H.entries host.old) run.new (H.entries host.new) result }
+    ensures sound { OnOk result (IsSound (length recipes.now) run.new) }
+    ensures lighter { OnOk result (IsLighter run.new.frames.items run.old.frames.items (Frame.Block task)) }
 {
     execute(recipes, evaluation, host, &task)?;
     let subsequents = follow(alloc, recipes, evaluation, &task)?;
-    course.current.table.insert(task.pair)?;
-    course.open(alloc, subsequents)?;
+    run.current.table.insert(task.pair)?;
+    run.open(alloc, subsequents)?;
     Ok(())
 }
 
@@ -130,24 +130,24 @@ fn take<'src, E: Evaluation, H: Host>(
     recipes: &Recipes<'src>,
     evaluation: &mut E,
     host: &mut H,
-    course: &mut Course,
+    run: &mut Course,
     frame: Frame,
 ) -> Result<(), Halt<'src>>
     requires ordered { IsOrdered recipes.now }
     requires resolved { All IsResolved recipes.now }
-    requires there { IsOpen (length recipes.now) (length course.old.calls.items) frame }
-    requires sound { IsSound (length recipes.now) course.old }
+    requires there { IsOpen (length recipes.now) (length run.old.calls.items) frame }
+    requires sound { IsSound (length recipes.now) run.old }
     ensures keeps { KeepsPromises (E.promised evaluation.old) (E.promised evaluation.new) }
     ensures keeps_host { KeepsPromises (H.promised host.old) (H.promised host.new) }
-    ensures goes { Leads (E.promised evaluation.old) (H.promised host.old) recipes.now frame course.old (H.entries host.old) course.new (H.entries host.new) result }
-    ensures sound { OnOk result (IsSound (length recipes.now) course.new) }
-    ensures lighter { OnOk result (IsLighter course.new.frames.items course.old.frames.items frame) }
+    ensures goes { Leads (E.promised evaluation.old) (H.promised host.old) recipes.now frame run.old (H.entries host.old) run.new (H.entries host.new) result }
+    ensures sound { OnOk result (IsSound (length recipes.now) run.new) }
+    ensures lighter { OnOk result (IsLighter run.new.frames.items run.old.frames.items frame) }
 {
     match frame {
-        Frame::Call(task) => call_task(alloc, recipes, evaluation, course, task),
-        Frame::Block(task) => run_block(alloc, recipes, evaluation, host, course, task),
+        Frame::Call(task) => call_task(alloc, recipes, evaluation, run, task),
+        Frame::Block(task) => run_block(alloc, recipes, evaluation, host, run, task),
         Frame::Back(outer) => {
-            course.current = outer;
+            run.current = outer;
             Ok(())
         }
     }
@@ -159,17 +159,17 @@ fn finish<'src, E: Evaluation, H: Host>(
     recipes: &Recipes<'src>,
     evaluation: &mut E,
     host: &mut H,
-    course: &mut Course,
+    run: &mut Course,
 ) -> Result<(), Halt<'src>>
     requires ordered { IsOrdered recipes.now }
     requires resolved { All IsResolved recipes.now }
-    requires sound { IsSound (length recipes.now) course.old }
+    requires sound { IsSound (length recipes.now) run.old }
     ensures keeps { KeepsPromises (E.promised evaluation.old) (E.promised evaluation.new) }
     ensures keeps_host { KeepsPromises (H.promised host.old) (H.promised host.new) }
-    ensures took { Finishes (E.promised evaluation.old) (H.promised host.old) recipes.now course.old (H.entries host.old) course.new (H.entries host.new) result }
+    ensures took { Finishes (E.promised evaluation.old) (H.promised host.old) recipes.now run.old (H.entries host.old) run.new (H.entries host.new) result }
 {
-    while let Some(frame) = course.frames.pop() {
-        take(alloc, recipes, evaluation, host, course, frame)?;
+    while let Some(frame) = run.frames.pop() {
+        take(alloc, recipes, evaluation, host, run, frame)?;
     }
     Ok(())
 }
@@ -204,20 +204,23 @@ fn start<'src, E: Evaluation, H: Host>(
 
 /// Runs tasks in turn under one once table: each pair once, after its priors, and its subsequents after it under a table
 /// of their own. The run ends at the first step that fails. It takes no stack for a chain of recipes.
+///
+/// Each recipe has its path and at least as many dependencies as priors, and each task is that of a recipe that is there:
+/// compiling promises the one, and `InvocationParser` the other.
 pub fn run_tasks<'src, E: Evaluation, H: Host>(
     alloc: Global,
     recipes: &Recipes<'src>,
     evaluation: &mut E,
     host: &mut H,
-    tasks: Vec<Task>,
+    tops: Vec<Task>,
 ) -> Result<Report, Halt<'src>>
     requires resolved { All IsResolved recipes.now }
-    requires below { AllBelow (length recipes.now) tasks.items }
+    requires below { AllBelow (length recipes.now) tops.items }
     ensures keeps { KeepsPromises (E.promised evaluation.old) (E.promised evaluation.new) }
     ensures keeps_host { KeepsPromises (H.promised host.old) (H.promised host.new) }
-    ensures account { IsRun recipes.now tasks.items (H.entries host.old) (H.entries host.new) result }
-    ensures expected { IsExpectedRun (E.promised evaluation.old) (H.promised host.old) recipes.now tasks.items (H.entries host.old) (H.entries host.new) result }
+    ensures account { IsRun recipes.now tops.items (H.entries host.old) (H.entries host.new) result }
+    ensures expected { IsAsExpected (E.promised evaluation.old) (H.promised host.old) recipes.now tops.items (H.entries host.old) (H.entries host.new) result }
 {
     recipes.are_ordered();
-    start(alloc, recipes, evaluation, host, tasks)
+    start(alloc, recipes, evaluation, host, tops)
 }

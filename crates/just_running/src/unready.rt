@@ -1,8 +1,7 @@
 ghost use Rattle.std.specs.Prelude.{◌≡◌, ◌<◌, length, IfOk, IfSome, IfNone};
-ghost use Rattle.std.specs.List.{All};
 ghost use Rattle.just_graph.specs.Building.{EachRow};
 ghost use Rattle.just_running.specs.Pairs.{AllBelow};
-ghost use Rattle.just_running.specs.Unready.{needed_places, places, is_unready, IsUnready, AreReady};
+ghost use Rattle.just_running.specs.Unready.{IsRow, places, is_unready, IsUnready, AreReady};
 
 use crate::recipes::Recipes;
 use crate::task::Task;
@@ -14,8 +13,7 @@ use std::alloc::{AllocError, Global};
 // The places of the recipes that the recipe at a place depends on.
 fn row(alloc: Global, recipes: &Recipes, place: usize) -> Result<Vec<usize>, AllocError>
     requires { place < length recipes.now }
-    ensures named { IfOk result (λ row. row.items ≡ needed_places recipes.now place) }
-    ensures below { IfOk result (λ row. All (λ target. target < length recipes.now) row.items) }
+    ensures { IfOk result (λ row. IsRow recipes.now place row.items) }
 {
     let needed = recipes.dependencies(place);
     let mut row = Vec::new(alloc);
@@ -27,7 +25,7 @@ fn row(alloc: Global, recipes: &Recipes, place: usize) -> Result<Vec<usize>, All
 
 // What each recipe depends on, by places.
 fn rows(alloc: Global, recipes: &Recipes) -> Result<Vec<Vec<usize>>, AllocError>
-    ensures { IfOk result (λ rows. EachRow (λ place row. (row ≡ needed_places recipes.now place) × All (λ target. target < length recipes.now) row) (length recipes.now) rows.items) }
+    ensures { IfOk result (λ rows. EachRow (IsRow recipes.now) (length recipes.now) rows.items) }
 {
     let mut rows = Vec::new(alloc);
     for place in 0..recipes.len() {
@@ -58,7 +56,8 @@ fn is_unready(recipe: &Recipe) -> bool
         .any(|parameter| parameter.kind.is_variadic())
 }
 
-/// The name of a recipe that tasks lead to and that cannot be run yet, if there is one.
+/// The name of a recipe that tasks lead to and that cannot be run yet, if there is one. Each task is that of a recipe
+/// that is there.
 pub fn find_unready<'src>(
     alloc: Global,
     recipes: &Recipes<'src>,

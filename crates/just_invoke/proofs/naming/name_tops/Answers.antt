@@ -1,9 +1,7 @@
-use Rattle.std.proofs.Common.{◌≡◌, ◌<◌, ◌++◌, ◌∷◌, [], ◌∙◌, sym, ap, subst, false, length, map, take, arith, rules}
-use Rattle.std.specs.List.{Contains}
+use Rattle.std.proofs.Common.{◌≡◌, ◌<◌, ◌++◌, ◌∷◌, [], ◌∙◌, sym, ap, subst, false, length, map, arith, rules}
 use Rattle.std.proofs.lemmas.List.{take_all}
 use Rattle.std.proofs.lemmas.Simd.{map-map}
 use Rattle.just_running.specs.declared.task.Task.{Task}
-use Rattle.just_running.specs.Recipes.{numbers}
 use Rattle.just_running.proofs.Places.{found-number, map-more, all-more}
 use Rattle.just_invoke.specs.declared.invocation.Invocation.{Invocation}
 use Rattle.just_invoke.specs.Closed.{IsHeld}

@@ -1,4 +1,4 @@
-use Rattle.std.proofs.Common.{◌≡◌, ◌∙◌, List, sym, inl, inr}
+use Rattle.std.proofs.Common.{◌∙◌, List, sym, inl, inr}
 use Rattle.std.specs.Prelude.{Result}
 use Rattle.just_parts.specs.declared.layers.halt.Halt.{Halt}
 use Rattle.just_parts.specs.declared.layers.host.Entry.{Entry}

@@ -19,13 +19,13 @@ loop-frame-preserved g c =
     let L : Leaves = leaves_of c.args.recipes.now in
     let old : List Entry = g.H.Host.entries c.loop-frame.host in
     let mid : List Entry = g.H.Host.entries c.take.new.host in
-    let s : State = state_of c.loop-frame.course in
+    let s : State = state_of c.loop-frame.run in
     record {
       keeps = keeps-then _ _ _ c.loop-frame.invariant.keeps c.take.ensures.keeps;
       keeps_host = keeps-then _ _ _ c.loop-frame.invariant.keeps_host c.take.ensures.keeps_host;
       sound = c.in_ok-take.ensures.sound;
       rest = λ new r t. c.loop-frame.invariant.rest new r (subst (λ xs. Took p (left L xs s) old new r) (sym {A = List Frame} c.in-Some.ensures.items)
-          (c.in_ok-take.ensures.goes new r (took-kept p q (keeps-both _ _ _ _ c.take.ensures.keeps c.take.ensures.keeps_host) (left_of L c.take.new.course) mid new r t)));
+          (c.in_ok-take.ensures.goes new r (took-kept p q (keeps-both _ _ _ _ c.take.ensures.keeps c.take.ensures.keeps_host) (left_of L c.take.new.run) mid new r t)));
     }
 
 pub returns-in_err-take-clause-took : goal.returns-in_err-take-clause-took
@@ -35,14 +35,14 @@ returns-in_err-take-clause-took g c =
     let L : Leaves = leaves_of c.args.recipes.now in
     let old : List Entry = g.H.Host.entries c.loop-frame.host in
     let mid : List Entry = g.H.Host.entries c.take.new.host in
-    let s : State = state_of c.loop-frame.course in
+    let s : State = state_of c.loop-frame.run in
     let r : Result State Halt = Err c.in_err-take.field-0.0 in
-    ended-took first (left_of L c.args.course.now) (g.H.Host.entries c.args.host.now) mid c.in_err-take.field-0.0 (state_of c.take.new.course) c.from_residual.result (search rules)
+    ended-took first (left_of L c.args.run.now) (g.H.Host.entries c.args.host.now) mid c.in_err-take.field-0.0 (state_of c.take.new.run) c.from_residual.result (search rules)
     (c.loop-frame.invariant.rest mid r (subst (λ xs. Took p (left L xs s) old mid r) (sym {A = List Frame} c.in-Some.ensures.items) c.in_err-take.ensures.goes))
 
 pub returns-clause-took : goal.returns-clause-took
 returns-clause-took g c =
     let p : Question → Option Answer = both (g.E.Evaluation.promised c.loop-frame.evaluation) (g.H.Host.promised c.loop-frame.host) in
     let L : Leaves = leaves_of c.args.recipes.now in
-    let none : c.loop-frame.course.frames.items ≡ [] = search rules in
-    c.loop-frame.invariant.rest _ _ (none-took L p c.loop-frame.course.frames.items (state_of c.loop-frame.course) (g.H.Host.entries c.loop-frame.host) none)
+    let none : c.loop-frame.run.frames.items ≡ [] = search rules in
+    c.loop-frame.invariant.rest _ _ (none-took L p c.loop-frame.run.frames.items (state_of c.loop-frame.run) (g.H.Host.entries c.loop-frame.host) none)

@@ -13,10 +13,10 @@ abbrev pub invariant-loop-frame : goal.invariant-loop-frame
 invariant-loop-frame g l = record {
   keeps : KeepsPromises (g.E.Evaluation.promised l.fn.evaluation) (g.E.Evaluation.promised l.evaluation);
   keeps_host : KeepsPromises (g.H.Host.promised l.fn.host) (g.H.Host.promised l.host);
-  sound : IsSound (length l.recipes) l.course;
-  rest : (new : List Entry) (r : Result State Halt) → Took (both (g.E.Evaluation.promised l.evaluation) (g.H.Host.promised l.host)) (left_of (leaves_of l.recipes) l.course) (g.H.Host.entries l.host) new r
-      → Took (both (g.E.Evaluation.promised l.fn.evaluation) (g.H.Host.promised l.fn.host)) (left_of (leaves_of l.recipes) l.fn.course) (g.H.Host.entries l.fn.host) new r;
+  sound : IsSound (length l.recipes) l.run;
+  rest : (new : List Entry) (r : Result State Halt) → Took (both (g.E.Evaluation.promised l.evaluation) (g.H.Host.promised l.host)) (left_of (leaves_of l.recipes) l.run) (g.H.Host.entries l.host) new r
+      → Took (both (g.E.Evaluation.promised l.fn.evaluation) (g.H.Host.promised l.fn.host)) (left_of (leaves_of l.recipes) l.fn.run) (g.H.Host.entries l.fn.host) new r;
 }
 
 abbrev pub decreases-loop-frame : goal.decreases-loop-frame
-decreases-loop-frame g l = weight (2 ^ 64) l.course.frames.items
+decreases-loop-frame g l = weight (2 ^ 64) l.run.frames.items

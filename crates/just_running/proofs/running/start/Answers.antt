@@ -42,4 +42,4 @@ returns-clause-took g c =
     let rs = c.args.recipes.now in
     let some : c.args.tasks.items ≢ [] = search rules in
     whole-took (leaves_of rs) (leaves-lower rs c.requires.ordered) (length rs) c.args.tasks.items some c.requires.below c.push_calls.new.frames.items (state_of c.in_ok-course.course)
-    (first-calls _ _ c.args.tasks.items c.in_ok-course.ensures.frames c.in_ok-push_calls.ensures) c.in_ok-course.ensures.state p _ _ (state_of c.finish.new.course) c.in_ok-finish.ensures.took
+    (first-calls _ _ c.args.tasks.items c.in_ok-course.ensures.frames c.in_ok-push_calls.ensures) c.in_ok-course.ensures.state p _ _ (state_of c.finish.new.run) c.in_ok-finish.ensures.took

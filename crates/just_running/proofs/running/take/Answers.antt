@@ -1,4 +1,4 @@
-use Rattle.std.proofs.Common.{List, Option, sym, subst}
+use Rattle.std.proofs.Common.{Option, sym, subst}
 use Rattle.just_parts.specs.Host.{Answer}
 use Rattle.just_parts.specs.Steps.{Question, Took, both}
 use Rattle.just_running.specs.declared.frame.Frame.{Frame}
@@ -13,7 +13,7 @@ returns-in-Call-clause-goes g c =
     let p : Question → Option Answer = both (g.E.Evaluation.promised c.args.evaluation.now) (g.H.Host.promised c.args.host.now) in
     let L = leaves_of c.args.recipes.now in
     let old = g.H.Host.entries c.args.host.now in
-    subst (λ (x : Frame). Goes p (left_with L x c.args.course.now) old (left_of L c.call_task.new.course) old c.call_task.result) (sym c.in-Call.is)
+    subst (λ (x : Frame). Goes p (left_with L x c.args.run.now) old (left_of L c.call_task.new.run) old c.call_task.result) (sym c.in-Call.is)
     (c.call_task.ensures.goes (g.H.Host.promised c.args.host.now) old)
 
 pub returns-in-Back-clause-goes : goal.returns-in-Back-clause-goes
@@ -21,8 +21,8 @@ returns-in-Back-clause-goes g c = λ new r t.
     let p : Question → Option Answer = both (g.E.Evaluation.promised c.args.evaluation.now) (g.H.Host.promised c.args.host.now) in
     let L = leaves_of c.args.recipes.now in
     let old = g.H.Host.entries c.args.host.now in
-    subst (λ (x : Frame). Took p (left_with L x c.args.course.now) old new r) (sym c.in-Back.is)
-    (subst (λ u. Took p u old new r) (sym (back-left L c.args.course.now.frames.items c.in-Back.outer (state_of c.args.course.now))) t)
+    subst (λ (x : Frame). Took p (left_with L x c.args.run.now) old new r) (sym c.in-Back.is)
+    (subst (λ u. Took p u old new r) (sym (back-left L c.args.run.now.frames.items c.in-Back.outer (state_of c.args.run.now))) t)
 
 pub returns-in-Back-clause-lighter : goal.returns-in-Back-clause-lighter
-returns-in-Back-clause-lighter g c = taken-lighter _ c.args.course.now.frames.items c.args.frame
+returns-in-Back-clause-lighter g c = taken-lighter _ c.args.run.now.frames.items c.args.frame

@@ -19,6 +19,9 @@ loop-dependency-preserved c =
       below = all-more (λ target. target < length c.args.recipes.now) c.loop-dependency.row.items c.push.new.self.items c.place.result c.loop-dependency.invariant.below pushed c.place.ensures.within;
     }
 
-pub returns-clause-named : goal.returns-clause-named
-returns-clause-named c = c.loop-dependency.invariant.named
-    ∙ ap (map (λ (d : Dependency). place_of c.args.recipes.now d.recipe.0)) (take_all c.loop-dependency.dependency-index c.dependencies-needed.result.now (omega arith) ∙ c.dependencies-needed.ensures.is)
+pub returns : goal.returns
+returns c = (
+  c.loop-dependency.invariant.named
+      ∙ ap (map (λ (d : Dependency). place_of c.args.recipes.now d.recipe.0)) (take_all c.loop-dependency.dependency-index c.dependencies-needed.result.now (omega arith) ∙ c.dependencies-needed.ensures.is),
+  c.loop-dependency.invariant.below,
+)

@@ -1,8 +1,8 @@
-use Rattle.std.proofs.Common.{◌≡◌, ◌∙◌, ◌≤◌, ◌<◌, true, map, length, Option, refl, sym, ap, subst, rules}
+use Rattle.std.proofs.Common.{◌≡◌, ◌∙◌, ◌≤◌, true, map, length, refl, sym, subst, rules}
 use Rattle.std.proofs.lemmas.List.{length-map}
 use Rattle.just_names.specs.Modulepath.{texts}
 use Rattle.just_invoke.specs.Going.{ComesTo}
-use Rattle.just_invoke.specs.Outcome.{tops_of, refused}
+use Rattle.just_invoke.specs.Outcome.{refused}
 use Rattle.just_invoke.specs.Split.{invoked_of}
 use Rattle.just_invoke.proofs.Outcomes.{unread-outcome, unread-so, went, went-expected, many, many-not}
 use Rattle.just_invoke.proofs.justfile.Justfile.run.Goals as goal
@@ -38,7 +38,7 @@ returns-clause-outcome g c =
     ] in
     went c.args.self.now c.args.recipes.now (texts c.args.words.now) c.args.config.now p q (map invoked_of c.in_ok-invocations.invocations.items) c.in_ok-invocations.ensures.split
     (λ yes. subst (λ n. n ≤ 1) (sym (length-map c.in_ok-invocations.invocations.items invoked_of)) (few yes)) _ _ c.run_invocations.result
-    (subst (λ is. ComesTo p q c.args.recipes.now (tops_of c.args.recipes.now is) (g.H.Host.entries c.args.host.now) (g.H.Host.entries c.run_invocations.new.host) c.run_invocations.result) c.as_slice.ensures.value c.run_invocations.ensures.comes)
+    (subst (λ is. ComesTo p q c.args.recipes.now is (g.H.Host.entries c.args.host.now) (g.H.Host.entries c.run_invocations.new.host) c.run_invocations.result) c.as_slice.ensures.value c.run_invocations.ensures.comes)
 
 pub returns-clause-expected : goal.returns-clause-expected
 returns-clause-expected g c =
@@ -50,4 +50,4 @@ returns-clause-expected g c =
     ] in
     went-expected c.args.self.now c.args.recipes.now (texts c.args.words.now) c.args.config.now p q (map invoked_of c.in_ok-invocations.invocations.items) c.in_ok-invocations.ensures.split
     (λ yes. subst (λ n. n ≤ 1) (sym (length-map c.in_ok-invocations.invocations.items invoked_of)) (few yes)) _ _ c.run_invocations.result
-    (subst (λ is. ComesTo p q c.args.recipes.now (tops_of c.args.recipes.now is) (g.H.Host.entries c.args.host.now) (g.H.Host.entries c.run_invocations.new.host) c.run_invocations.result) c.as_slice.ensures.value c.run_invocations.ensures.comes)
+    (subst (λ is. ComesTo p q c.args.recipes.now is (g.H.Host.entries c.args.host.now) (g.H.Host.entries c.run_invocations.new.host) c.run_invocations.result) c.as_slice.ensures.value c.run_invocations.ensures.comes)
