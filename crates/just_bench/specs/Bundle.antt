@@ -1,6 +1,7 @@
 -- Many files in one text.
-use Rattle.std.specs.Prelude.{◌≡◌, ◌≢◌, ◌⊎◌, ℕ, List, [], ◌∷◌, ◌++◌, map}
+use Rattle.std.specs.Prelude.{◌≡◌, ◌≢◌, ◌⊎◌, ℕ, List, [], ◌∷◌, ◌++◌, map, Option, IfSome}
 use Rattle.std.specs.List.{before_first, after_first}
+use Rattle.std.specs.Str.{IsUtf8}
 use Rattle.just_names.specs.Clean.{IsClean}
 use Rattle.just_table.specs.Entries.{put}
 use Rattle.just_loader.specs.declared.sources.SourceFile.{SourceFile}
@@ -60,6 +61,14 @@ IsNoBundle text error.NotClean = HasBadPath text
 IsNoBundle text error.Memory = Unit {0}
 IsNoBundle text error.Unreadable = ⊥
 IsNoBundle text error.NotText = ⊥
+
+-- why an input is not read as a text, where these bytes are left to read, if that is known
+abbrev pub IsUnread : Option Text → BundleError → Type 0
+IsUnread left error.NotText = IfSome left (λ bytes. IsUtf8 bytes → ⊥)
+IsUnread left error.Unreadable = Unit {0}
+IsUnread left error.Memory = Unit {0}
+IsUnread left error.NoFile = ⊥
+IsUnread left error.NotClean = ⊥
 
 -- why a part is no file
 abbrev pub IsNoFile : Text → BundleError → Type 0

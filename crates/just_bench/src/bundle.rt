@@ -1,7 +1,8 @@
 //! Many files in one text.
-ghost use Rattle.std.specs.Prelude.{◌≡◌, ◌≢◌, ◌∷◌, ◌++◌, [], ℕ, List, IfOk, IfErr, OnOk};
+ghost use Rattle.std.specs.Prelude.{◌≡◌, ◌≢◌, ◌∷◌, ◌++◌, [], ℕ, List, IfOk, IfErr, IfSome, OnOk, string_bytes};
+ghost use Rattle.std.specs.Io.KnownBytes.{IsAtEnd};
 ghost use Rattle.just_table.specs.Entries.{put};
-ghost use Rattle.just_bench.specs.Bundle.{file_of, mark, HoldsBundle, IsNoBundle, IsNoFile};
+ghost use Rattle.just_bench.specs.Bundle.{file_of, mark, HoldsBundle, IsNoBundle, IsNoFile, IsUnread};
 
 use just_loader::Sources;
 use just_parts::layers::SourceError;
@@ -35,8 +36,13 @@ pub enum BundleError {
     Memory,
 }
 
-/// The whole of an input as a text. The error tells that it can't be read, that it is not UTF-8, or want of memory.
-pub fn read_text<R: Read>(alloc: Global, input: &mut R) -> Result<String, BundleError> {
+/// The whole of an input as a text: all that was left to read. The error tells that it can't be read, that it is not
+/// UTF-8, or want of memory.
+pub fn read_text<R: Read>(alloc: Global, input: &mut R) -> Result<String, BundleError>
+    ensures text { IfOk result (λ text. IfSome (R.remaining input.old) (λ bytes. string_bytes text ≡ bytes)) }
+    ensures end { OnOk result (IsAtEnd (R.remaining input.new)) }
+    ensures fault { IfErr result (IsUnread (R.remaining input.old)) }
+{
     let mut bytes = Vec::new(alloc);
     if let Err(error) = input.read_to_end(&mut bytes) {
         if error.kind() == ErrorKind::OutOfMemory {
