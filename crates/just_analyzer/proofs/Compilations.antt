@@ -4,7 +4,7 @@ use Rattle.just_parts.specs.Asts.{AstKey}
 use Rattle.just_parts.specs.Causes.{Keeps, Reports}
 use Rattle.just_names.specs.Modulepath.{Text}
 use Rattle.just_parts.specs.declared.dependency.Dependency.{Dependency}
-use Rattle.just_parts.specs.declared.layers.ast.Ast.{Ast}
+use Rattle.just_parts.specs.Items.{Ast}
 use Rattle.just_parts.specs.declared.layers.error.Error.{Error}
 use Rattle.just_parts.specs.declared.recipe.Recipe.{Recipe}
 use Rattle.just_invoke.specs.declared.justfile.Justfile.{Justfile}
@@ -14,10 +14,9 @@ use Rattle.just_loader.specs.Reached.{World}
 use Rattle.just_loader.proofs.HeldKeys.{root_held}
 use Rattle.just_modules.specs.Analyzed.{IsAnalyzed}
 use Rattle.just_modules.proofs.Agreeing.{agreeing_kept, agreeing_unnamed}
-use Rattle.just_analyzer.specs.Compiled.{Compiles}
+use Rattle.just_analyzer.specs.Compiled.{Compilation, Compiles}
 use Rattle.just_analyzer.specs.Readings.{root_heading}
 use Rattle.just_analyzer.specs.Rules.{KeepsAll, Names, in_files, in_modules}
-use Rattle.just_analyzer.specs.declared.compilation.Compilation.{Compilation}
 use Rattle.just_analyzer.proofs.Readings.{are_analyzable, readings_agree}
 
 module _ (w : World) (asts : AstKey → Option Ast) (loaded : List Text) (is : IsLoaded w asts loaded) (files : Keeps (NamesInFiles w)) (justfile : Justfile) (recipes : List (Recipe Dependency))

@@ -2,3 +2,4 @@ pub mod Compilations
 pub mod Numbers
 pub mod Paths
 pub mod Readings
+pub mod WhatIsJudged

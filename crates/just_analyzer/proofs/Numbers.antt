@@ -6,8 +6,8 @@ use Rattle.std.proofs.lemmas.List.Elements.{All-contains, Contains-get_or}
 use Rattle.just_graph.proofs.Leveling.{Once}
 use Rattle.just_graph.proofs.Members.{In, contained, from_map, in_flat, is_in}
 use Rattle.just_parts.specs.Bare.{bare_item}
-use Rattle.just_parts.specs.Syntax.{AreRising, PriorsAreDependencies, item_numbers, numbers, parameter_numbers}
-use Rattle.just_parts.specs.declared.layers.ast.Item.{Item}
+use Rattle.just_parts.specs.Syntax.{AreRising, PriorsAreDependencies, item_numbers, numbers, function_numbers, parameter_numbers}
+use Rattle.just_parts.specs.Items.{Item}
 use Rattle.just_parts.specs.declared.layers.ast.Item.TheVariants as item
 use Rattle.just_parts.specs.declared.layers.ast.UnresolvedDependency.{UnresolvedDependency}
 use Rattle.just_parts.specs.declared.recipe.Recipe.{Recipe}
@@ -53,6 +53,9 @@ once_recipes enabled low (item.Recipe q ∷ is) high r =
     once_if (enabled (bare_item (item.Recipe q))) q (recipes_of enabled is)
     (λ h. let l : after.0 ≤ q.number.0 = rising_from after.0 (numbers is) high q.number.0 after.2 (recipe_number_in enabled q.number.0 is h) in absurd (omega (arith, l, after.1)))
     (once_recipes enabled after.0 is high after.2)
+once_recipes enabled low (item.Assignment a ∷ is) high r = once_recipes enabled (a.number.0 + 1) is high r.1
+once_recipes enabled low (item.Function f ∷ is) high r =
+    let after = rising_after low (function_numbers f) (numbers is) high r in once_recipes enabled after.0 is high after.2
 once_recipes enabled low (_ ∷ is) high r = once_recipes enabled low is high r
 
 all_by : {A : Type 0} (P : A → Type 0) (xs : List A) → ((x : A) → In x xs → P x) → All P xs

@@ -10,7 +10,7 @@ use Rattle.std.proofs.lemmas.Slice.Eq.{bytes_eq-Decides}
 use Rattle.just_graph.proofs.Index.{map_get}
 use Rattle.just_names.specs.Modulepath.{Text}
 use Rattle.just_parts.specs.Asts.{AstKey, same_ast_key}
-use Rattle.just_parts.specs.declared.layers.ast.Ast.{Ast}
+use Rattle.just_parts.specs.Items.{Ast}
 use Rattle.just_parts.proofs.AstKeys.{key_same}
 use Rattle.just_loader.specs.ModuleFile.{relative}
 use Rattle.just_modules.proofs.FilePlaces.{holds_at}

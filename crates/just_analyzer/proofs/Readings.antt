@@ -14,8 +14,7 @@ use Rattle.just_parts.specs.Edge.{absolute_of}
 use Rattle.just_parts.specs.Located.{located_item, with_depth}
 use Rattle.just_names.specs.Modulepath.{Text}
 use Rattle.just_parts.specs.Syntax.{numbers}
-use Rattle.just_parts.specs.declared.layers.ast.Ast.{Ast}
-use Rattle.just_parts.specs.declared.layers.ast.Item.{Item}
+use Rattle.just_parts.specs.Items.{Ast, Item}
 use Rattle.just_parts.specs.declared.layers.ast.Item.TheVariants as item
 use Rattle.just_names.specs.declared.modulepath.Modulepath.{Modulepath}
 use Rattle.just_parts.proofs.AstKeys.{key_same}
@@ -35,16 +34,14 @@ use Rattle.just_analyzer.proofs.Numbers.{once_recipes, recipe_number_in, recipe_
 
 -- an item that leads to a key has the path of its file
 led_by_path : (inside : Bool) (m : Modulepath) (i : Item) (l : AstKey) → In l (led inside m i) → (path : Text) × (absolute_of i ≡ Some path) × ((path_led m i, path) ≡ l)
-led_by_path true m (item.Import relative absolute optional) l h = absurd h
-led_by_path true m (item.Module name relative None optional) l h = absurd h
-led_by_path true m (item.Module name relative (Some file) optional) l (inl e) = (file, refl, sym e)
-led_by_path true m (item.Module name relative (Some file) optional) l (inr h) = absurd h
-led_by_path true m (item.Recipe r) l h = absurd h
+led_by_path true m (item.Module name relative None attributes doc optional) l h = absurd h
+led_by_path true m (item.Module name relative (Some file) attributes doc optional) l (inl e) = (file, refl, sym e)
+led_by_path true m (item.Module name relative (Some file) attributes doc optional) l (inr h) = absurd h
+led_by_path true m _ l h = absurd h
 led_by_path false m (item.Import relative None optional) l h = absurd h
 led_by_path false m (item.Import relative (Some file) optional) l (inl e) = (file, refl, sym e)
 led_by_path false m (item.Import relative (Some file) optional) l (inr h) = absurd h
-led_by_path false m (item.Module name relative absolute optional) l h = absurd h
-led_by_path false m (item.Recipe r) l h = absurd h
+led_by_path false m _ l h = absurd h
 
 -- items that count, along maps that change nothing of what is bare
 module _ (enabled : Item → Bool) (f g : Item → Item) (f_bare : (i : Item) → bare_item (f i) ≡ bare_item i) (g_bare : (i : Item) → bare_item (g i) ≡ bare_item i) where
@@ -63,13 +60,12 @@ module _ (enabled : Item → Bool) (f g : Item → Item) (f_bare : (i : Item) �
 
 located_bare : (i : Item) → bare_item (located_item i) ≡ bare_item i
 located_bare (item.Recipe r) = bare_twice (item.Recipe r)
-located_bare (item.Import relative absolute optional) = refl
-located_bare (item.Module name relative absolute optional) = refl
+located_bare (item.Function f) = bare_twice (item.Function f)
+located_bare _ = refl
 
 read_bare : (w : World) (folder : Text) (depth : ℕ) (i : Item) → bare_item (with_depth depth (with_path w folder i)) ≡ bare_item i
 read_bare w folder depth (item.Recipe r) = refl
-read_bare w folder depth (item.Import relative absolute optional) = refl
-read_bare w folder depth (item.Module name relative absolute optional) = refl
+read_bare w folder depth _ = refl
 
 module _ (w : World) (asts : AstKey → Option Ast) (loaded : List Text) (is : IsLoaded w asts loaded) where
   abbrev enabled : Item → Bool

@@ -11,7 +11,11 @@ use Rattle.just_loader.specs.Reached.{World}
 use Rattle.just_modules.specs.Analyzed.{IsAnalyzed}
 use Rattle.just_analyzer.specs.Readings.{root_heading}
 use Rattle.just_analyzer.specs.Rules.{KeepsAll, Names}
-use Rattle.just_analyzer.specs.declared.compilation.Compilation.{Compilation}
+use Rattle.just_parts.specs.Items.{Ast}
+use Rattle.just_analyzer.specs.declared.compilation.Compilation.{Compilation as CompilationOf}
+
+abbrev pub Compilation : Type 0
+Compilation = CompilationOf Ast
 
 -- The files are loaded, what they say is held, and the root's module is analyzed, with those in it.
 pub record IsCompilation (w : World) (c : Compilation) : Type 0 where

@@ -3,7 +3,7 @@ use Rattle.std.specs.Prelude.{◌≡◌, Option, Some, IsSome}
 use Rattle.just_names.specs.Clean.{folder_of}
 use Rattle.just_names.specs.Modulepath.{Text}
 use Rattle.just_parts.specs.Asts.{AstKey}
-use Rattle.just_parts.specs.declared.layers.ast.Ast.{Ast}
+use Rattle.just_parts.specs.Items.{Ast}
 use Rattle.just_loader.specs.ModuleFile.{relative}
 
 -- a table of paths leads from the file of each key to its path from the folder of the root, where it lies below it

@@ -4,7 +4,7 @@ use Rattle.just_parts.specs.Asts.{root_ast_key}
 use Rattle.just_parts.specs.Bare.{ast_of_items}
 use Rattle.just_names.specs.Clean.{folder_of}
 use Rattle.just_parts.specs.Located.{with_depth}
-use Rattle.just_parts.specs.declared.layers.ast.Item.{Item}
+use Rattle.just_parts.specs.Items.{Item}
 use Rattle.just_loader.specs.Keys.{FileKey, IsLeastFileDepth, ast_key, items_at}
 use Rattle.just_loader.specs.Loaded.{with_path}
 use Rattle.just_loader.specs.Reached.{World}

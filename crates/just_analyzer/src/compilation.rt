@@ -10,9 +10,9 @@ use std::collections::HashMap;
 
 /// What a source map is compiled to.
 #[derive(Drop)]
-pub struct Compilation<'src> {
+pub struct Compilation<'src, A = Ast<'src>> {
     /// What each file says, under the path of its module and its own.
-    pub asts: HashMap<(Modulepath, Text), Ast<'src>>,
+    pub asts: HashMap<(Modulepath, Text), A>,
     /// The root's module, with those in it.
     pub justfile: Justfile<'src>,
     /// The recipes of all modules, each after those that it depends on.

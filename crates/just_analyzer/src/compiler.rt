@@ -6,9 +6,11 @@ ghost use Rattle.just_parts.specs.Asts.{same_ast_key};
 ghost use Rattle.just_loader.specs.ModuleFile.{TellsSeveral, module_files};
 ghost use Rattle.just_loader.specs.Reached.{world_of};
 ghost use Rattle.just_analyzer.specs.Compiled.{Compiles};
+ghost use Rattle.just_analyzer.specs.Judged.{judged};
 ghost use Rattle.just_analyzer.specs.Paths.{AreRelative};
 
 use crate::compilation::Compilation;
+use crate::judging::Judging;
 use just_data::{Shared, Text};
 use just_loader::{Loaded, Sources, load, relative_path};
 use just_modules::Analyzer;
@@ -56,7 +58,9 @@ impl Compiler {
     }
 
     /// Compiles the file at `root` and those that it reaches, or names a rule that is broken. Where it succeeds no rule
-    /// is broken, and each recipe that the compilation names is held, after those that it depends on.
+    /// is broken, and each recipe that the compilation names is held, after those that it depends on. A text with what
+    /// compiling cannot judge yet (settings, variables, functions, attributes, defaults and marks of parameters, bodies)
+    /// is refused as one that does not follow the grammar.
     ///
     /// The evaluation is asked nothing yet.
     pub fn compile<'src, S: Syntax, E: Evaluation>(
@@ -68,10 +72,11 @@ impl Compiler {
         root: &str,
     ) -> Result<Compilation<'src>, Error<'src>>
         requires { IsClean root.now }
-        ensures { Compiles (world_of sources.now config.now (S.answers syntax.now) root.now) result }
+        ensures { Compiles (world_of sources.now config.now (judged (S.answers syntax.now)) root.now) result }
     {
         let path = Text::from_str(alloc, root)?;
-        let Loaded { asts, loaded } = load(alloc, config, syntax, sources, root)?;
+        let judging = Judging { syntax };
+        let Loaded { asts, loaded } = load(alloc, config, &judging, sources, root)?;
         let paths = relative_paths(alloc, &asts, root)?;
         let loaded = Shared::new(alloc, loaded)?;
         let module_path = Modulepath::root(alloc);
@@ -89,7 +94,7 @@ impl Compiler {
             &paths,
             false,
             root,
-            syntax,
+            &judging,
             evaluation,
         )?;
         Ok(Compilation {

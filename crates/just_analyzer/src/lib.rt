@@ -3,6 +3,7 @@
 
 pub mod compilation;
 pub mod compiler;
+mod judging;
 
 pub use compilation::Compilation;
 pub use compiler::Compiler;

@@ -1,14 +1,14 @@
 -- One line of the loop over the lines, and numbers.
-use Rattle.std.proofs.Common.{Some, Option, Bool, ◌≡◌, ℕ, ◌+◌, ◌^◌, ◌<◌, ◌≤◌, sym, ◌∙◌, ap, refl, subst, List, [], ◌∷◌, ◌++◌, length, map, drop, get_or, arith, add-one, length-append, Result, Ok, Err, IfErr}
+use Rattle.std.proofs.Common.{zero, suc, Some, Option, Bool, ◌≡◌, ℕ, ◌+◌, ◌^◌, ◌<◌, ◌≤◌, sym, ◌∙◌, ap, refl, subst, List, [], ◌∷◌, ◌++◌, length, map, drop, get_or, arith, add-one, length-append, Result, Ok, Err, IfErr}
 use Rattle.std.proofs.Math.Seq.{drop-cons}
 use Rattle.std.specs.List.{All, slice_get}
 use Rattle.std.proofs.lemmas.List.{map-append, append-nil, length-map}
 use Rattle.std.proofs.lemmas.List.Elements.{All-push}
 use Rattle.std.proofs.lemmas.Grind.{flat_map-append}
 use Rattle.just_parts.specs.declared.source.Source.{Source}
-use Rattle.just_parts.specs.declared.layers.ast.Item.{Item}
+use Rattle.just_parts.specs.Items.{Item}
 use Rattle.just_parts.specs.declared.layers.ast.Item.TheVariants as item
-use Rattle.just_parts.specs.declared.layers.parameter.Parameter.{Parameter}
+use Rattle.just_records.specs.declared.parameter.Parameter.{Parameter}
 use Rattle.just_parts.specs.declared.recipe.Recipe.{Recipe}
 use Rattle.just_parts.specs.declared.layers.ast.UnresolvedDependency.{UnresolvedDependency}
 use Rattle.just_names.specs.declared.name.Name.{Name}
@@ -16,8 +16,8 @@ use Rattle.just_bench.specs.declared.lines.Line.{Line}
 use Rattle.just_bench.specs.declared.grammar.Heading.{Heading}
 use Rattle.just_bench.specs.declared.grammar.Meaning.{Meaning}
 use Rattle.just_bench.specs.declared.grammar.Meaning.TheVariants.{Bad, Imports, Declares, Begins}
-use Rattle.just_parts.specs.Bare.{bare_item, bare_recipe}
-use Rattle.just_parts.specs.Syntax.{CameBy, ItemCameBy, PriorsAreDependencies, item_numbers, parameter_numbers, recipe_numbers, numbers, AreRising}
+use Rattle.just_parts.specs.Bare.{bare_item, bare_parameter, bare_recipe}
+use Rattle.just_parts.specs.Syntax.{AttributesNameParameters, CameBy, IsPlain, ItemCameBy, PriorsAreDependencies, item_numbers, parameter_numbers, recipe_numbers, numbers, AreRising}
 use Rattle.just_names.specs.Token.{Place}
 use Rattle.just_parts.specs.declared.layers.error.CompileErrorKind.TheVariants.{Syntax}
 use Rattle.just_bench.specs.Lines.{lines_of, line_place}
@@ -26,7 +26,7 @@ use Rattle.just_parts.specs.declared.layers.error.Error.TheVariants as error
 use Rattle.just_bench.specs.Refusal.{IsFirstBadLine, Spent, RefusesLine}
 use Rattle.just_bench.proofs.Cuts.{line_at_number}
 use Rattle.just_bench.specs.Grammar.{meaning}
-use Rattle.just_bench.specs.Items.{items_of, import_of, module_of, recipe, dependency, with_line, with_lines, spends, spends_line, spends_lines}
+use Rattle.just_bench.specs.Items.{items_of, import_of, module_of, parameter, recipe, dependency, with_line, with_lines, spends, spends_line, spends_lines}
 
 pub AreRising-lower : (low middle : ℕ) (ms : List ℕ) (high : ℕ) → low ≤ middle → AreRising middle ms high → AreRising low ms high
 AreRising-lower low middle [] high h q = omega (arith, h, q)
@@ -45,6 +45,7 @@ pub record Read (path text : List ℕ) (source : Source) (low : ℕ) (all : List
   pub whole : items_of path text ≡ with_lines path text (map bare_item items) (drop n all)
   pub source_of : All (ItemCameBy source) items
   pub priors : All PriorsAreDependencies items
+  pub attributes : All AttributesNameParameters items
   pub rising : AreRising low (numbers items) high
   pub spent : low + spends path text ≡ high + spends_lines path text (drop n all)
   pub onward : low ≤ high
@@ -81,6 +82,23 @@ priors_of r h bare =
     let some : r.priors ≡ length h.priors = ap (λ b. b.priors) bare in
     rw (all, some, length-append (map dependency h.priors) (map dependency h.subsequents), length-map h.priors dependency) (omega arith)
 
+-- nothing stands in brackets before it, and its parameters are names alone
+plain_at : (ps : List Parameter) (names : List Name) → map bare_parameter ps ≡ map parameter names → (k : ℕ) (d : Parameter) → k < length ps → IsPlain (get_or ps k d)
+plain_at [] names e k d h = absurd (omega (arith, h))
+plain_at (p ∷ ps) [] e k d h = absurd (omega (arith, ap length e))
+plain_at (p ∷ ps) (n ∷ names) e zero d h =
+    let head : bare_parameter p ≡ parameter n = cc in
+    (ap (λ (q : Parameter). q.pattern) head, ap (λ (q : Parameter). q.help) head)
+plain_at (p ∷ ps) (n ∷ names) e (suc k) d h =
+    let rest : map bare_parameter ps ≡ map parameter names = cc in
+    plain_at ps names rest k d (omega (arith, h))
+
+pub attributes_of : (r : Recipe UnresolvedDependency) (h : Heading) → bare_recipe r ≡ recipe h → AttributesNameParameters (item.Recipe r)
+attributes_of r h bare = record {
+  parameters = plain_at r.parameters h.parameters (ap (λ (b : Recipe UnresolvedDependency). b.parameters) bare);
+  attributes = λ k d within. absurd (omega (arith, within, ap (λ (b : Recipe UnresolvedDependency). length b.attributes) bare));
+}
+
 pub Read-recipe : (path text : List ℕ) (source : Source) (low : ℕ) (all : List Line) (n : ℕ) (items : List Item) (high : ℕ) (line : Line) (h : Heading) (r : Recipe UnresolvedDependency) (items' : List Item) (high' : ℕ)
     → Read path text source low all n items high → n < length all → get_or all n line ≡ line → Begins h ≡ meaning path text line
     → bare_recipe r ≡ recipe h → CameBy source r → AreRising high (recipe_numbers r) high' → high' ≡ high + (1 + length h.parameters) → high' ≤ 2 ^ 64
@@ -93,6 +111,7 @@ Read-recipe path text source low all n items high line h r items' high' so_far w
       whole = so_far.whole ∙ by_line path text (map bare_item items) all n line (Begins h) within is read ∙ ap (λ bares. with_lines path text bares (drop (n + 1) all)) (sym more);
       source_of = All-push (ItemCameBy source) items (item.Recipe r) so_far.source_of came;
       priors = All-push PriorsAreDependencies items (item.Recipe r) so_far.priors (priors_of r h bare);
+      attributes = All-push AttributesNameParameters items (item.Recipe r) so_far.attributes (attributes_of r h bare);
       rising = rw (all_numbers, append-nil (recipe_numbers r)) (AreRising-append low (numbers items) high (recipe_numbers r) high' so_far.rising given);
       spent = so_far.spent ∙ omega (arith, taken, spends_by_line path text all n line (Begins h) within is read);
       onward = omega (arith, so_far.onward, AreRising-onward high (recipe_numbers r) high' given);
@@ -106,6 +125,7 @@ pub record MakesItem (r : Meaning) (x : Item) : Type 0 where
   pub without_numbers : item_numbers x ≡ []
   pub came_by : (source : Source) → ItemCameBy source x
   pub has_priors : PriorsAreDependencies x
+  pub has_attributes : AttributesNameParameters x
 
 pub import_made : (path : Place) (optional : Bool) → MakesItem (Imports path optional) (import_of path optional)
 import_made path optional = record {
@@ -114,6 +134,7 @@ import_made path optional = record {
   without_numbers = refl;
   came_by = λ source. refl;
   has_priors = tt;
+  has_attributes = tt;
 }
 
 pub module_made : (name : Name) (path : Option Place) (optional : Bool) → MakesItem (Declares name path optional) (module_of name path optional)
@@ -123,6 +144,7 @@ module_made name path optional = record {
   without_numbers = refl;
   came_by = λ source. refl;
   has_priors = tt;
+  has_attributes = tt;
 }
 
 pub Read-item : (path text : List ℕ) (source : Source) (low : ℕ) (all : List Line) (n : ℕ) (items : List Item) (high : ℕ) (line : Line) (r : Meaning) (x : Item) (items' : List Item)
@@ -135,6 +157,7 @@ Read-item path text source low all n items high line r x items' made so_far with
       whole = so_far.whole ∙ by_line path text (map bare_item items) all n line r within is read ∙ made.puts line.number (map bare_item items) (λ bares. with_lines path text bares (drop (n + 1) all)) ∙ ap (λ bares. with_lines path text bares (drop (n + 1) all)) (sym more);
       source_of = All-push (ItemCameBy source) items x so_far.source_of (made.came_by source);
       priors = All-push PriorsAreDependencies items x so_far.priors made.has_priors;
+      attributes = All-push AttributesNameParameters items x so_far.attributes made.has_attributes;
       rising = rw all_numbers so_far.rising;
       spent = so_far.spent ∙ ap (λ k. high + k) (spends_by_line path text all n line r within is read ∙ made.spends_none (spends_lines path text (drop (n + 1) all)));
       onward = so_far.onward;

@@ -6,12 +6,12 @@ use Rattle.just_names.specs.Token.{Place, lexeme}
 use Rattle.just_parts.specs.Bare.{no_number, ast_of_items}
 use Rattle.just_parts.specs.Syntax.{SyntaxAnswers}
 use Rattle.just_names.specs.declared.name.Name.{Name}
-use Rattle.just_parts.specs.declared.layers.parameter.Parameter.{Parameter}
-use Rattle.just_parts.specs.declared.layers.parameter.ParameterKind.TheVariants as parameter_kind
+use Rattle.just_records.specs.declared.parameter.Parameter.{Parameter}
+use Rattle.just_records.specs.declared.parameter.ParameterKind.TheVariants as parameter_kind
 use Rattle.just_parts.specs.declared.layers.ast.UnresolvedDependency.{UnresolvedDependency}
 use Rattle.just_parts.specs.declared.recipe.Recipe.{Recipe}
-use Rattle.just_parts.specs.declared.layers.ast.StringLiteral.{StringLiteral}
-use Rattle.just_parts.specs.declared.layers.ast.Item.{Item}
+use Rattle.just_records.specs.declared.string_literal.StringLiteral.{StringLiteral}
+use Rattle.just_parts.specs.Items.{Item}
 use Rattle.just_parts.specs.declared.layers.ast.Item.TheVariants as item
 use Rattle.just_bench.specs.declared.lines.Line.{Line}
 use Rattle.just_bench.specs.declared.grammar.Heading.{Heading}
@@ -22,7 +22,19 @@ use Rattle.just_bench.specs.Grammar.{meaning}
 
 -- a parameter of one word
 abbrev pub parameter : Name → Parameter
-parameter name = record { name = name; number = no_number; kind = parameter_kind.Singular }
+parameter name = record {
+  name = name;
+  number = no_number;
+  kind = parameter_kind.Singular;
+  default = None;
+  value = None;
+  long = None;
+  short = None;
+  flag = false;
+  pattern = None;
+  help = None;
+  text = lexeme name.token;
+}
 
 -- a dependency on a recipe of the same module
 abbrev pub dependency : Name → UnresolvedDependency
@@ -36,7 +48,10 @@ is_private (b ∷ rest) = b == 95
 -- the recipe of a heading, without numbers and without what the source says
 abbrev pub recipe : Heading → Recipe UnresolvedDependency
 recipe h = record {
+  attributes = [];
+  body = [];
   dependencies = map dependency h.priors ++ map dependency h.subsequents;
+  doc = None;
   file_depth = 0;
   import_offsets = [];
   name = h.name;
@@ -44,8 +59,11 @@ recipe h = record {
   parameters = map parameter h.parameters;
   priors = length h.priors;
   private = is_private (lexeme h.name.token);
+  quiet = false;
+  shebang = false;
   module_path = None;
   recipe_path = None;
+  variable_references = [];
 }
 
 -- the text between the quotes of a quoted text
@@ -61,7 +79,7 @@ abbrev pub import_of : Place → Bool → Item
 import_of path optional = item.Import (literal path) None optional
 
 abbrev pub module_of : Name → Option Place → Bool → Item
-module_of name path optional = item.Module name (option_map literal path) None optional
+module_of name path optional = item.Module name (option_map literal path) None [] None optional
 
 -- a line after these items, and then those lines that follow
 abbrev pub with_line : Meaning → ℕ → List Item → (List Item → Result (List Item) ℕ) → Result (List Item) ℕ
@@ -102,4 +120,10 @@ answers = record {
   parsed = λ relative text. option_map ast_of_items (result_ok (items_of relative text));
   spends = spends;
   enabled = λ _. true;
+  keyword = λ _. None;
+  conflicts = λ _. [];
+  sigils = λ _ _. [];
+  is_comment = λ _. false;
+  is_continuation = λ _. false;
+  is_shebang = λ _. false;
 }

@@ -3,7 +3,7 @@ ghost use Rattle.std.specs.Prelude.{◌≡◌, ◌≤◌, ◌+◌, ◌^◌, ◌+
 ghost use Rattle.std.specs.List.{All};
 ghost use Rattle.just_names.specs.Token.{lexeme};
 ghost use Rattle.just_parts.specs.Bare.{bare_ast, bare_item, bare_recipe, bare_parameter};
-ghost use Rattle.just_parts.specs.Syntax.{IsFrom, CameBy, ItemCameBy, PriorsAreDependencies, components_of, parameter_numbers, recipe_numbers, numbers, AreRising};
+ghost use Rattle.just_parts.specs.Syntax.{IsFrom, AttributesNameParameters, CameBy, ItemCameBy, PriorsAreDependencies, components_of, parameter_numbers, recipe_numbers, numbers, AreRising};
 ghost use Rattle.just_bench.specs.Lexemes.{IsQuoted};
 ghost use Rattle.just_bench.specs.Refusal.{Spent, RefusesLine};
 ghost use Rattle.just_bench.specs.Items as spec;
@@ -13,8 +13,9 @@ use crate::lines::{line_token, lines};
 use just_data::{Sequence, Text};
 use just_names::Modulepath;
 use just_parts::layers::{
-    Ast, CompileError, CompileErrorKind, Error, Item, Name, Namepath, Numerator, Parameter,
-    ParameterKind, StringLiteral, Syntax, Token, UnresolvedDependency,
+    Ast, CompileError, CompileErrorKind, Error, Item, Keyword, Line, Name, Namepath, Numerator,
+    Parameter, ParameterKind, Setting, Settings, Sigil, StringLiteral, Syntax, Token,
+    UnresolvedDependency,
 };
 use just_parts::{Recipe, Source, UnresolvedRecipe};
 use std::alloc::{AllocError, Global};
@@ -46,6 +47,7 @@ impl Syntax for PlainSyntax {
         ensures source { IfOk result (IsFrom source.now) }
         ensures numbers { IfOk result (λ ast. AreRising numerator.old (numbers ast.items) numerator.new) }
         ensures priors { IfOk result (λ ast. All PriorsAreDependencies ast.items) }
+        ensures attributes { IfOk result (λ ast. All AttributesNameParameters ast.items) }
         ensures spent { OnOk result (numerator.new ≡ numerator.old + spec.spends relative.now text.now) }
         ensures fits { OnOk result (numerator.old ≤ 2 ^ 64 → numerator.old + spec.spends relative.now text.now ≤ 2 ^ 64) }
         ensures refused { IfErr result (λ e. RefusesLine relative.now text.now e (numerator.old + spec.spends relative.now text.now)) }
@@ -56,11 +58,47 @@ impl Syntax for PlainSyntax {
             items,
             module_path: module_path_of(alloc, &source.namepath)?,
             working_directory: source.working_directory.clone()?,
+            unstable_features: Sequence::new(alloc),
+            list_features: Sequence::new(alloc),
+            warnings: Sequence::new(alloc),
         })
     }
 
     fn is_enabled<'src>(&self, item: &Item<'src>) -> bool {
         true
+    }
+
+    fn keyword(&self, alloc: Global, name: &str) -> Result<Option<Keyword>, AllocError> {
+        Ok(None)
+    }
+
+    fn conflicts<'src>(
+        &self,
+        alloc: Global,
+        setting: &Setting<'src>,
+    ) -> Result<Sequence<Keyword>, AllocError> {
+        Ok(Sequence::new(alloc))
+    }
+
+    fn sigils<'src>(
+        &self,
+        alloc: Global,
+        line: &Line<'src>,
+        settings: &Settings,
+    ) -> Result<Sequence<Sigil>, AllocError> {
+        Ok(Sequence::new(alloc))
+    }
+
+    fn is_comment<'src>(&self, line: &Line<'src>) -> bool {
+        false
+    }
+
+    fn is_continuation<'src>(&self, line: &Line<'src>) -> bool {
+        false
+    }
+
+    fn is_shebang<'src>(&self, line: &Line<'src>) -> bool {
+        false
     }
 }
 
@@ -97,6 +135,14 @@ fn make_parameters<'src>(
             name: name.copied(),
             number,
             kind: ParameterKind::Singular,
+            default: None,
+            value: None,
+            long: None,
+            short: None,
+            flag: false,
+            pattern: None,
+            help: None,
+            text: Text::from_str(alloc, name.lexeme())?,
         })?;
     }
     Ok(made)
@@ -149,7 +195,10 @@ fn make_recipe<'src>(
     add_dependencies(alloc, &mut dependencies, heading.priors.as_slice())?;
     add_dependencies(alloc, &mut dependencies, heading.subsequents.as_slice())?;
     Ok(Recipe {
+        attributes: Sequence::new(alloc),
+        body: Sequence::new(alloc),
         dependencies: Sequence::from_vec(dependencies),
+        doc: None,
         file_depth: source.file_depth,
         import_offsets: source.import_offsets.clone()?,
         name: heading.name.copied(),
@@ -157,8 +206,11 @@ fn make_recipe<'src>(
         parameters,
         priors: heading.priors.len(),
         private: is_private(&heading.name),
+        quiet: false,
+        shebang: false,
         module_path: None,
         recipe_path: None,
+        variable_references: Sequence::new(alloc),
     })
 }
 
@@ -206,6 +258,8 @@ fn make_module<'src>(
         name,
         relative,
         absolute: None,
+        attributes: Sequence::new(alloc),
+        doc: None,
         optional,
     })
 }
@@ -232,6 +286,7 @@ fn parse<'src>(
     ensures source { IfOk result (λ items. All (ItemCameBy source.now) items) }
     ensures numbers { IfOk result (λ items. AreRising numerator.old (numbers items) numerator.new) }
     ensures priors { IfOk result (λ items. All PriorsAreDependencies items) }
+    ensures attributes { IfOk result (λ items. All AttributesNameParameters items) }
     ensures spent { OnOk result (numerator.new ≡ numerator.old + spec.spends relative.now text.now) }
     ensures fits { OnOk result (numerator.old ≤ 2 ^ 64 → numerator.old + spec.spends relative.now text.now ≤ 2 ^ 64) }
     ensures refused { IfErr result (λ e. RefusesLine relative.now text.now e (numerator.old + spec.spends relative.now text.now)) }

@@ -17,3 +17,7 @@ impl Exact for u64 {
 impl Exact for usize {
     ghost exact = { λ x y h. h };
 }
+
+impl Exact for char {
+    ghost exact = { λ x y h. h };
+}

@@ -4,6 +4,7 @@
 mod boxed;
 mod chain;
 mod exact;
+mod excerpt;
 mod sequence;
 mod shared;
 mod text;
@@ -11,6 +12,7 @@ mod text;
 pub use boxed::Boxed;
 pub use chain::{Chain, ChainIter};
 pub use exact::Exact;
+pub use excerpt::Excerpt;
 pub use sequence::Sequence;
 pub use shared::Shared;
 pub use text::{BorrowedText, Text};

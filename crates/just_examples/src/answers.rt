@@ -20,8 +20,8 @@ use std::alloc::{AllocError, Global};
 // Compiles the file at a path.
 fn compile<'src>(
     alloc: Global,
-    config: &Config,
     sources: &Sources<'src>,
+    config: &Config,
     root: &str,
 ) -> Result<Compilation<'src>, Error<'src>>
     requires { IsClean root.now }
@@ -33,8 +33,8 @@ fn compile<'src>(
 // Runs words over a compilation.
 fn run<'src>(
     alloc: Global,
-    config: &Config,
     compilation: &Compilation<'src>,
+    config: &Config,
     host: &mut Recorder,
     words: &[&str],
 ) -> Result<Report, Error<'src>>
@@ -77,10 +77,10 @@ fn add_invocations(text: &mut String, invocations: &[Invocation]) -> Result<(), 
 
 // Adds how words split, where they do.
 fn add_split(
-    text: &mut String,
-    alloc: Global,
     compilation: &Compilation,
+    alloc: Global,
     words: &[&str],
+    text: &mut String,
 ) -> Result<(), AllocError>
     requires { IsClosed compilation.now.justfile compilation.now.recipes }
 {
@@ -124,16 +124,16 @@ fn add_calls(text: &mut String, calls: &[u64]) -> Result<(), AllocError> {
 
 // Adds what a run did, and what it answered.
 fn add_run(
-    text: &mut String,
+    compilation: &Compilation,
     alloc: Global,
     config: &Config,
-    compilation: &Compilation,
     words: &[&str],
+    text: &mut String,
 ) -> Result<(), AllocError>
     requires { IsClosed compilation.now.justfile compilation.now.recipes }
 {
     let mut host = Recorder::new(alloc);
-    let ran = run(alloc, config, compilation, &mut host, words);
+    let ran = run(alloc, compilation, config, &mut host, words);
     add_executed(text, host.entries())?;
     match ran {
         Ok(report) => add_calls(text, report.calls.as_slice()),
@@ -143,17 +143,17 @@ fn add_run(
 
 // Adds what a compilation has, what words mean in it, and what running them does.
 fn add_whole(
-    text: &mut String,
+    compilation: &Compilation,
     alloc: Global,
     config: &Config,
-    compilation: &Compilation,
     words: &[&str],
+    text: &mut String,
 ) -> Result<(), AllocError>
     requires { IsClosed compilation.now.justfile compilation.now.recipes }
 {
-    add_compilation(text, alloc, compilation)?;
-    add_split(text, alloc, compilation, words)?;
-    add_run(text, alloc, config, compilation, words)
+    add_compilation(compilation, alloc, text)?;
+    add_split(compilation, alloc, words, text)?;
+    add_run(compilation, alloc, config, words, text)
 }
 
 // Adds what the files of a source map are compiled to, and what words do.
@@ -168,8 +168,8 @@ fn add_sources(
     if !is_clean(root) {
         return text.push_str("error NotClean\n");
     }
-    match compile(alloc, &asked.config, sources, root) {
-        Ok(compilation) => add_whole(text, alloc, &asked.config, &compilation, words),
+    match compile(alloc, sources, &asked.config, root) {
+        Ok(compilation) => add_whole(&compilation, alloc, &asked.config, words, text),
         Err(error) => add_fault(text, &error),
     }
 }

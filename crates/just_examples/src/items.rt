@@ -41,7 +41,13 @@ fn add_item(text: &mut String, item: &Item) -> Result<(), AllocError> {
                 None => Ok(()),
             }
         }
+        Item::Assignment(assignment) => write!(text, "assignment {}", assignment.name),
+        Item::Comment(_) => text.push_str("comment"),
+        Item::Function(function) => write!(text, "function {}", function.name),
+        Item::Newline => text.push_str("newline"),
         Item::Recipe(recipe) => write!(text, "recipe {}", recipe.name),
+        Item::Setting(set) => write!(text, "set {}", set.name),
+        Item::Unexport { name } => write!(text, "unexport {name}"),
     }
 }
 

@@ -16,7 +16,7 @@ struct Lines {
 }
 
 // Adds a recipe's path from the root.
-fn add_path(text: &mut String, recipe: &Recipe) -> Result<(), AllocError> {
+fn add_path(recipe: &Recipe, text: &mut String) -> Result<(), AllocError> {
     match &recipe.recipe_path {
         Some(path) => write!(text, "{path}"),
         None => write!(text, "{}", recipe.name),
@@ -24,7 +24,7 @@ fn add_path(text: &mut String, recipe: &Recipe) -> Result<(), AllocError> {
 }
 
 // Adds the file of a recipe, and the offsets of the imports by which it came in.
-fn add_entrance(text: &mut String, alloc: Global, recipe: &Recipe) -> Result<(), AllocError> {
+fn add_entrance(recipe: &Recipe, alloc: Global, text: &mut String) -> Result<(), AllocError> {
     write!(text, " {}", recipe.name.token.path())?;
     for offset in recipe.import_offsets.to_sequence(alloc)?.as_slice() {
         write!(text, " {offset}")?;
@@ -32,92 +32,82 @@ fn add_entrance(text: &mut String, alloc: Global, recipe: &Recipe) -> Result<(),
     Ok(())
 }
 
-impl Lines {
-    fn new(alloc: Global) -> Lines {
-        Lines {
-            modules: String::new(alloc),
-            recipes: String::new(alloc),
-            entrances: String::new(alloc),
-            numbers: HashSet::new(alloc),
-            count: 0,
+// Adds a recipe: its path with the depth of its file, and how that came in.
+fn add_recipe(recipe: &Recipe, alloc: Global, lines: &mut Lines) -> Result<(), AllocError> {
+    let Number(number) = recipe.number;
+    lines.numbers.insert(number)?;
+    lines.count = lines.count.saturating_add(1);
+    lines.recipes.push_str(next(&lines.recipes))?;
+    add_path(recipe, &mut lines.recipes)?;
+    write!(lines.recipes, "@{}", recipe.file_depth)?;
+    lines.entrances.push_str(next(&lines.entrances))?;
+    add_path(recipe, &mut lines.entrances)?;
+    add_entrance(recipe, alloc, &mut lines.entrances)
+}
+
+// Adds a module, its own file and the folder that it works in.
+fn add_module(module: &Justfile, lines: &mut Lines) -> Result<(), AllocError> {
+    lines.modules.push_str(next(&lines.modules))?;
+    if module.is_submodule() {
+        write!(lines.modules, "{} ", module.module_path)?;
+    }
+    write!(
+        lines.modules,
+        "{} in {}",
+        module.source, module.working_directory
+    )
+}
+
+// Adds the recipes of a module, in the order of its table.
+fn add_recipes<'src>(
+    compilation: &Compilation<'src>,
+    module: &Justfile<'src>,
+    alloc: Global,
+    lines: &mut Lines,
+) -> Result<(), AllocError> {
+    for key in module.recipes.values() {
+        if let Some(recipe) = compilation.recipes.get(key.number) {
+            add_recipe(recipe, alloc, lines)?;
         }
     }
+    Ok(())
+}
 
-    // A recipe: its path with the depth of its file, and how that came in.
-    fn add_recipe(&mut self, alloc: Global, recipe: &Recipe) -> Result<(), AllocError> {
-        let Number(number) = recipe.number;
-        self.numbers.insert(number)?;
-        self.count = self.count.saturating_add(1);
-        self.recipes.push_str(next(&self.recipes))?;
-        add_path(&mut self.recipes, recipe)?;
-        write!(self.recipes, "@{}", recipe.file_depth)?;
-        self.entrances.push_str(next(&self.entrances))?;
-        add_path(&mut self.entrances, recipe)?;
-        add_entrance(&mut self.entrances, alloc, recipe)
-    }
-
-    // A module, its own file and the folder that it works in.
-    fn add_module(&mut self, module: &Justfile) -> Result<(), AllocError> {
-        self.modules.push_str(next(&self.modules))?;
-        if module.is_submodule() {
-            write!(self.modules, "{} ", module.module_path)?;
+// The modules of a compilation with their recipes, each before those that it declares.
+fn lines_of(compilation: &Compilation, alloc: Global) -> Result<Lines, AllocError> {
+    let mut lines = Lines {
+        modules: String::new(alloc),
+        recipes: String::new(alloc),
+        entrances: String::new(alloc),
+        numbers: HashSet::new(alloc),
+        count: 0,
+    };
+    let mut left = Vec::new(alloc);
+    left.push(&compilation.justfile)?;
+    for _ in 0..u64::MAX {
+        let Some(module) = left.pop() else {
+            break;
+        };
+        add_module(module, &mut lines)?;
+        add_recipes(compilation, module, alloc, &mut lines)?;
+        for inner in module.modules.as_slice().iter().rev() {
+            left.push(inner)?;
         }
-        write!(
-            self.modules,
-            "{} in {}",
-            module.source, module.working_directory
-        )
     }
-
-    // The recipes of a module, in the order of its table.
-    fn add_recipes(
-        &mut self,
-        alloc: Global,
-        compilation: &Compilation,
-        module: &Justfile,
-    ) -> Result<(), AllocError> {
-        for key in module.recipes.values() {
-            if let Some(recipe) = compilation.recipes.get(key.number) {
-                self.add_recipe(alloc, recipe)?;
-            }
-        }
-        Ok(())
-    }
-
-    // The modules of a compilation with their recipes, each before those that it declares.
-    fn add_compilation(
-        &mut self,
-        alloc: Global,
-        compilation: &Compilation,
-    ) -> Result<(), AllocError> {
-        let mut left = Vec::new(alloc);
-        left.push(&compilation.justfile)?;
-        for _ in 0..u64::MAX {
-            let Some(module) = left.pop() else {
-                break;
-            };
-            self.add_module(module)?;
-            self.add_recipes(alloc, compilation, module)?;
-            for inner in module.modules.as_slice().iter().rev() {
-                left.push(inner)?;
-            }
-        }
-        Ok(())
-    }
+    Ok(lines)
 }
 
 /// Adds what a compilation has: the loaded files, how many texts were read, the modules, and of the recipes the depths,
 /// the files and how many different numbers they have.
 pub fn add_compilation(
-    text: &mut String,
-    alloc: Global,
     compilation: &Compilation,
+    alloc: Global,
+    text: &mut String,
 ) -> Result<(), AllocError> {
     text.push_str("loaded")?;
     add_list(text, compilation.justfile.loaded.get().as_slice())?;
     writeln!(text, "\ntexts {}", compilation.asts.len())?;
-    let mut lines = Lines::new(alloc);
-    lines.add_compilation(alloc, compilation)?;
+    let lines = lines_of(compilation, alloc)?;
     writeln!(text, "modules{}", lines.modules)?;
     writeln!(text, "recipes{}", lines.recipes)?;
     writeln!(text, "entrances{}", lines.entrances)?;

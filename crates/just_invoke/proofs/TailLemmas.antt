@@ -10,7 +10,7 @@ use Rattle.just_names.specs.Modulepath.{texts}
 use Rattle.just_names.specs.Modulepath.{Text}
 use Rattle.just_invoke.specs.Head.{Words}
 use Rattle.just_invoke.specs.Tail.{shown, place, uses_from, group, any_missing, is_missing}
-use Rattle.just_parts.specs.declared.layers.parameter.Parameter.{Parameter}
+use Rattle.just_records.specs.declared.parameter.Parameter.{Parameter}
 
 -- a word more in one group
 pub shown_pushed_at : (xs : List (Vec (Bor Text) Global)) (i : ℕ) (old new : Vec (Bor Text) Global) (w : Bor Text) → i < length xs →

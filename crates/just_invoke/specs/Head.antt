@@ -3,7 +3,7 @@ use Rattle.std.specs.Prelude.{◌≡◌, ◌⊎◌, Bool, true, false, not, ◌&
 use Rattle.std.specs.Bool.{MatchBool}
 use Rattle.std.specs.List.{list_any}
 use Rattle.just_names.specs.Token.{lexeme}
-use Rattle.just_parts.specs.Parameter.{least_arguments}
+use Rattle.just_records.specs.Parameter.{least_arguments}
 use Rattle.just_names.specs.Modulepath.{Text, IsWordPath, IsArgumentPath, text_of}
 use Rattle.just_parts.specs.declared.dependency.Dependency.{Dependency}
 use Rattle.just_parts.specs.declared.recipe.Recipe.{Recipe}

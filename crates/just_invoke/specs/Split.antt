@@ -1,6 +1,6 @@
 -- Words as invocations, and why words are none.
 use Rattle.std.specs.Prelude.{◌≡◌, ◌≢◌, ◌⊎◌, ℕ, true, false, List, [], ◌∷◌, ◌++◌, length}
-use Rattle.just_parts.specs.Parameter.{least_arguments, most_arguments}
+use Rattle.just_records.specs.Parameter.{least_arguments, most_arguments}
 use Rattle.just_parts.specs.declared.dependency.Dependency.{Dependency}
 use Rattle.just_parts.specs.declared.recipe.Recipe.{Recipe}
 use Rattle.just_invoke.specs.declared.invocation.Invocation.{Invocation}

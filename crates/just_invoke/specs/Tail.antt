@@ -5,8 +5,8 @@ use Rattle.std.specs.Borrow.{Bor}
 use Rattle.std.specs.declared.vec.Vec.{Vec}
 use Rattle.std.specs.declared.alloc.Global.{Global}
 use Rattle.just_names.specs.Modulepath.{Text, texts}
-use Rattle.just_parts.specs.Parameter.{is_variadic, is_required}
-use Rattle.just_parts.specs.declared.layers.parameter.Parameter.{Parameter}
+use Rattle.just_records.specs.Parameter.{is_variadic, is_required}
+use Rattle.just_records.specs.declared.parameter.Parameter.{Parameter}
 use Rattle.just_invoke.specs.Head.{Words}
 
 -- the groups of borrowed words, as texts

@@ -34,10 +34,10 @@ fn copy_groups(alloc: Global, arguments: &[Vec<&str>]) -> Result<Groups, AllocEr
 }
 
 /// The tasks of invocations.
-pub fn name_tops(
+pub fn name_tops<'src>(
     alloc: Global,
-    recipes: &Recipes,
-    invocations: &[Invocation],
+    recipes: &Recipes<'src>,
+    invocations: &[Invocation<'_, 'src, '_>],
 ) -> Result<Vec<Task>, AllocError>
     requires { All (λ (i : Invocation). IsHeld recipes.now i.recipe.now) invocations.now }
     ensures named { IfOk result (λ tasks. tasks.items ≡ tops_of recipes.now invocations.now) }

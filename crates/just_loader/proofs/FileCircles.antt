@@ -16,7 +16,7 @@ use Rattle.just_graph.proofs.Members.{In, contained, is_in, in_left, in_last, in
 use Rattle.just_graph.proofs.Trails.{of_reverse}
 use Rattle.just_names.specs.Clean.{folder_of}
 use Rattle.just_names.specs.Name.{text_of_name}
-use Rattle.just_parts.specs.declared.layers.ast.Item.{Item}
+use Rattle.just_parts.specs.Items.{Item}
 use Rattle.just_parts.specs.Bare.{bare_item}
 use Rattle.just_parts.specs.Edge.{Edge, Imports, Declares, edge_of}
 use Rattle.just_loader.specs.FileCircles.{HasRows, LeadsOn, by_edge, by_edges, ChainTo, at_root, and_next, NamesCircle, leads_back}

@@ -15,7 +15,7 @@ use Rattle.just_parts.specs.Edge.{Edge, Imports, Declares, edge_of}
 use Rattle.just_names.specs.Name.{text_of_name}
 use Rattle.just_names.specs.Modulepath.{Text}
 use Rattle.just_names.specs.declared.name.Name.{Name}
-use Rattle.just_parts.specs.declared.layers.ast.Item.{Item}
+use Rattle.just_parts.specs.Items.{Item}
 use Rattle.just_loader.specs.Keys.{FileStep, end_of, items_at, steps_by, steps_of}
 use Rattle.just_loader.specs.Links.{Link, Nowhere, To, Fault}
 use Rattle.just_loader.specs.Placed.{file_at, name_at, text_step}

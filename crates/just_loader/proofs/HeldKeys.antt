@@ -7,15 +7,14 @@ use Rattle.just_graph.specs.Unfolding.{key_of, key_child_of, path_after, stay}
 use Rattle.just_graph.proofs.KeySteps.{steps_more}
 use Rattle.just_graph.proofs.Members.{In, contained, from_map, in_flat, in_map, is_in}
 use Rattle.just_parts.specs.Asts.{AstKey, root_ast_key}
-use Rattle.just_parts.specs.Bare.{bare_item, bare_recipe}
+use Rattle.just_parts.specs.Bare.{bare_item, bare_assignment, bare_recipe}
 use Rattle.just_names.specs.Clean.{folder_of}
 use Rattle.just_parts.specs.Edge.{absolute_of, edge_of}
 use Rattle.just_parts.specs.Located.{located_item, with_depth}
 use Rattle.just_names.specs.Modulepath.{Text}
 use Rattle.just_names.specs.Name.{text_of_name}
 use Rattle.just_parts.specs.Syntax.{ItemCameBy}
-use Rattle.just_parts.specs.declared.layers.ast.Ast.{Ast}
-use Rattle.just_parts.specs.declared.layers.ast.Item.{Item}
+use Rattle.just_parts.specs.Items.{Ast, Item}
 use Rattle.just_parts.specs.declared.layers.ast.Item.TheVariants as item
 use Rattle.just_names.specs.declared.modulepath.Modulepath.{Modulepath}
 use Rattle.just_parts.specs.declared.source.Source.{Source}
@@ -27,15 +26,15 @@ use Rattle.just_loader.proofs.Numberings.{none_some, some_same}
 
 -- the module of the file to which an item of a module leads
 abbrev pub path_led : Modulepath → Item → Modulepath
-path_led m (item.Module name relative absolute optional) = record { components = m.components ++ text_of_name name ∷ []; spaced = m.spaced }
+path_led m (item.Module name relative absolute attributes doc optional) = record { components = m.components ++ text_of_name name ∷ []; spaced = m.spaced }
 path_led m _ = m
 
 -- an item as it came in, by its bare form
 located_one : (w : World) (folder : Text) (source : Source) (i : Item) → ItemCameBy source i
     → located_item (with_path w folder i) ≡ with_depth source.file_depth (with_path w folder (bare_item i))
-located_one w folder source (item.Import relative absolute optional) h = refl
-located_one w folder source (item.Module name relative absolute optional) h = refl
 located_one w folder source (item.Recipe r) h = ap (λ d. item.Recipe (record (bare_recipe r) { file_depth = d })) h.depth
+located_one w folder source (item.Assignment a) h = ap (λ d. item.Assignment (record (bare_assignment a) { file_depth = d })) h
+located_one w folder source _ h = refl
 
 located_all : (w : World) (folder : Text) (source : Source) (is : List Item) → ((i : Item) → In i is → ItemCameBy source i)
     → map located_item (map (with_path w folder) is) ≡ map (λ i. with_depth source.file_depth (with_path w folder i)) (map bare_item is)
@@ -63,15 +62,15 @@ led w folder m (item.Import relative absolute optional) path e =
       leads = refl;
       enters = refl;
     }
-led w folder m (item.Module name relative absolute optional) path e =
+led w folder m (item.Module name relative absolute attributes doc optional) path e =
     let s : FileStep = record { to = path; offset = 0; enters = Some (text_of_name name); name = Some name } in
     record {
       step = s;
-      has = subst (λ ps. In s (map (λ p. let x : FileStep = record { to = p; offset = 0; enters = Some (text_of_name name); name = Some name } in x) ps)) (sym (end_is (link w folder (item.Module name relative None optional)) path e)) (inl refl);
+      has = subst (λ ps. In s (map (λ p. let x : FileStep = record { to = p; offset = 0; enters = Some (text_of_name name); name = Some name } in x) ps)) (sym (end_is (link w folder (item.Module name relative None attributes doc optional)) path e)) (inl refl);
       leads = refl;
       enters = refl;
     }
-led w folder m (item.Recipe r) path e = absurd (none_some e)
+led w folder m _ path e = absurd (none_some e)
 
 -- a node says what the key holds, and the key is its own
 record HeldNode (w : World) (k : AstKey) (ast : Ast) : Type 0 where
@@ -107,7 +106,7 @@ module _ (w : World) (asts : AstKey → Option Ast) (loaded : List Text) (is : I
       let h = held_node k ast e in
       let texts : h.of.parsed.module_path.components ≡ h.node.path = h.of.from.components ∙ h.of.came.components in
       let own : h.of.parsed.module_path ≡ record { components = h.node.path; spaced = false } = λ j. record { components = texts j; spaced = h.of.from.spaced j } in
-      h.of.module_path ∙ own ∙ ap (λ (x : AstKey). x.0) h.key_is
+      ap (λ (a : Ast). a.module_path) h.of.rest ∙ own ∙ ap (λ (x : AstKey). x.0) h.key_is
 
   -- What is held is what the file's text says, with the least depth of the key, and the paths of what it leads to.
   pub said : (k : AstKey) (ast : Ast) → asts k ≡ Some ast

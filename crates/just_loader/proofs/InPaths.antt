@@ -17,11 +17,11 @@ use Rattle.just_graph.proofs.Members.{In, contained, is_in, in_map, from_map}
 use Rattle.just_parts.specs.Asts.{AstKey}
 use Rattle.just_names.specs.Modulepath.{Text}
 use Rattle.just_parts.specs.Syntax.{AreRising, PriorsAreDependencies, numbers}
-use Rattle.just_parts.specs.declared.layers.ast.Ast.{Ast}
+use Rattle.just_parts.specs.Items.{Ast}
 use Rattle.just_loader.specs.Keys.{AreFirstFiles, FileNode, FileStep, ast_key, steps_of}
 use Rattle.just_loader.specs.Loaded.{IsAstOf, IsLoaded, at_first}
 use Rattle.just_loader.specs.Placed.{at_first_places, file_at, file_node, key_at, name_at, text_step}
-use Rattle.just_loader.specs.Loading.{AreParsed}
+use Rattle.just_loader.specs.Loading.{AreParsed, KeepsPriors}
 use Rattle.just_loader.specs.Parsed.{AreHeld, relative_at}
 use Rattle.just_loader.specs.Reached.{World, relative_to_root}
 use Rattle.just_loader.specs.Scanned.{IsScan}
@@ -83,7 +83,7 @@ module _ (w : World) (scan : Scan) (is : IsScan w scan) where
 
 -- what is loaded, from what is scanned, unfolded, parsed and held
 pub is_loaded : (w : World) (scan : Scan) → IsScan w scan → (us : List Unfolded) (whole : IsWhole scan.rows.items us) (asts : List Ast) → AreParsed w scan whole.first.0 asts
-    → (high : ℕ) → AreRising 0 (flat_map (λ (ast : Ast). numbers ast.items) asts) high → All (λ (ast : Ast). All PriorsAreDependencies ast.items) asts
+    → (high : ℕ) → AreRising 0 (flat_map (λ (ast : Ast). numbers ast.items) asts) high → All KeepsPriors asts
     → (table : AstKey → Option Ast) → AreHeld scan us asts table → (loaded : List Text) → loaded ≡ map (relative_at scan) (at_first_places (places_of us)) → IsLoaded w table loaded
 is_loaded w scan is us whole asts parsed high rising priors table held loaded paths =
     let ns = whole.first.0 in

@@ -9,7 +9,7 @@ use Rattle.std.proofs.lemmas.Option.{slice_get_read}
 use Rattle.just_graph.specs.Unfolding.{Node}
 use Rattle.just_graph.specs.declared.unfolding.Unfolded.{Unfolded}
 use Rattle.just_parts.specs.Syntax.{AreRising, numbers}
-use Rattle.just_parts.specs.declared.layers.ast.Ast.{Ast}
+use Rattle.just_parts.specs.Items.{Ast}
 use Rattle.just_parts.specs.declared.layers.error.Error.{Error}
 use Rattle.just_parts.specs.declared.layers.error.Error.TheVariants as error
 use Rattle.just_parts.specs.declared.source.Source.{Source}
@@ -40,8 +40,7 @@ ast_at w scan is us ns sources nodes are k u source n ast h is_u is_source here 
       from = s.from;
       said = s.said;
       items = s.items;
-      module_path = s.module_path;
-      working_directory = s.working_directory;
+      rest = s.rest;
     }
 
 pub parsed_none : (w : World) (scan : Scan) (ns : List Node) (asts : List Ast) → asts ≡ [] → AreParsedSoFar w scan ns asts

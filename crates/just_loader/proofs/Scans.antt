@@ -9,7 +9,7 @@ use Rattle.just_names.specs.Clean.{folder_of}
 use Rattle.just_names.specs.declared.name.Name.{Name}
 use Rattle.just_table.specs.Entries.{find}
 use Rattle.just_parts.specs.Syntax.{Refuses}
-use Rattle.just_parts.specs.declared.layers.ast.Item.{Item}
+use Rattle.just_parts.specs.Items.{Item}
 use Rattle.just_parts.specs.declared.layers.error.Error.{Error}
 use Rattle.just_parts.specs.declared.layers.error.Error.TheVariants as error
 use Rattle.just_loader.specs.Links.{Link, Nowhere, To, Fault, edge_link, link_in}
@@ -108,14 +108,13 @@ module _ (w : World) (f : SourceFile) (file : find f.path w.files ≡ Some f) wh
         let here = map_get (link w (folder_of f.path)) (map bare_item items) at.0 i at.1 ∙ ap Some fault in
         no_fault paths links ts at.0 c places (ap (λ ls. slice_get ls at.0) (sym bare) ∙ here)
 
-    pub is_scanned : (paths : List (List ℕ)) (names : List Name) (s : ScannedFile) (row : List Step) → s.path ≡ f.path → s.text ≡ f.text → s.relative ≡ relative_to_root w f.path → s.items ≡ items → ArePlacesOf paths links s.targets.items → AreSteps names items s.targets.items row
+    pub is_scanned : (paths : List (List ℕ)) (names : List Name) (s : ScannedFile) (row : List Step) → s.path ≡ f.path → s.text ≡ f.text → s.relative ≡ relative_to_root w f.path → ArePlacesOf paths links s.targets.items → AreSteps names items s.targets.items row
         → IsScanned w paths names s row
-    is_scanned paths names s row path text relative same targets steps = record {
+    is_scanned paths names s row path text relative targets steps = record {
       text = ap (text_at w.files) path ∙ text_there ∙ ap Some (sym text);
       relative = relative ∙ ap (relative_to_root w) (sym path);
       items = map bare_item items;
       parsed = ap (items_of w) path ∙ said;
-      said = ap (map bare_item) (sym same);
       targets = subst (λ p. ArePlacesOf paths (map (link w (folder_of p)) (map bare_item items)) s.targets.items) (sym path) (subst (λ ls. ArePlacesOf paths ls s.targets.items) (sym bare) targets);
       steps = steps_bare names items s.targets.items row steps;
     }

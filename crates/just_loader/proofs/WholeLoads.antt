@@ -8,7 +8,7 @@ use Rattle.just_graph.specs.Unfolding.{steps}
 use Rattle.just_graph.specs.Unfolded.{AreApart, IsUnfolded, unfolded_key, AreReached}
 use Rattle.just_graph.specs.declared.unfolding.Step.{Step}
 use Rattle.just_graph.specs.declared.unfolding.Unfolded.{Unfolded}
-use Rattle.just_parts.specs.declared.layers.ast.Ast.{Ast}
+use Rattle.just_parts.specs.Items.{Ast}
 use Rattle.just_parts.specs.declared.layers.error.Error.{Error}
 use Rattle.just_parts.specs.declared.layers.error.Error.TheVariants as error
 use Rattle.just_parts.specs.Asts.{AstKey}
@@ -58,8 +58,8 @@ module _ (w : World) (scan : Scan) (is : IsScan w scan) (us : List Unfolded) (wh
         let n = read_at whole.first.0 k (omega (arith, whole.first.2.count, slice_get_within us k u e)) in
         let tells = whole.first.2.tells k u n.0 e n.1 in
         let of = parsed.each k n.0 ast n.1 f in
-        let texts : ast.module_path.components ≡ map (name_at scan) u.path.items = ap (λ m. m.components) of.module_path ∙ of.from.components ∙ of.came.components ∙ ap (map (name_at scan)) (sym tells.path) in
-        let spaced : ast.module_path.spaced ≡ false = ap (λ m. m.spaced) of.module_path ∙ of.from.spaced in
+        let texts : ast.module_path.components ≡ map (name_at scan) u.path.items = ap (λ (a : Ast). a.module_path.components) of.rest ∙ of.from.components ∙ of.came.components ∙ ap (map (name_at scan)) (sym tells.path) in
+        let spaced : ast.module_path.spaced ≡ false = ap (λ (a : Ast). a.module_path.spaced) of.rest ∙ of.from.spaced in
         λ j. record { components = texts j; spaced = spaced j };
   }
 

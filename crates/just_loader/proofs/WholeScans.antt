@@ -18,7 +18,7 @@ use Rattle.just_graph.specs.Unfolded.{AreApart}
 use Rattle.just_names.specs.Clean.{IsClean, folder_of}
 use Rattle.just_names.specs.declared.name.Name.{Name}
 use Rattle.just_table.specs.Entries.{find}
-use Rattle.just_parts.specs.declared.layers.ast.Item.{Item}
+use Rattle.just_parts.specs.Items.{Item}
 use Rattle.just_parts.specs.Edge.{Edge, Imports, Declares, edge_of}
 use Rattle.just_loader.specs.Links.{Link, Nowhere, To, Fault}
 use Rattle.just_loader.specs.Numbering.{AreFound, paths_of}
@@ -77,7 +77,6 @@ scanned_more w paths more_paths names more_names file row s = record {
   relative = s.relative;
   items = s.items;
   parsed = s.parsed;
-  said = s.said;
   targets = places_more paths more_paths (map (link w (folder_of file.path)) s.items) file.targets.items s.targets;
   steps = steps_more names more_names s.items file.targets.items row s.steps;
 }

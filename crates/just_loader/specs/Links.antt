@@ -10,8 +10,8 @@ use Rattle.just_parts.specs.Syntax.{SyntaxAnswers}
 use Rattle.just_names.specs.Token.{Place}
 use Rattle.just_names.specs.Modulepath.{Text}
 use Rattle.just_names.specs.declared.name.Name.{Name}
-use Rattle.just_parts.specs.declared.layers.ast.Item.{Item}
-use Rattle.just_parts.specs.declared.layers.ast.StringLiteral.{StringLiteral}
+use Rattle.just_parts.specs.Items.{Item}
+use Rattle.just_records.specs.declared.string_literal.StringLiteral.{StringLiteral}
 use Rattle.just_parts.specs.declared.layers.config.Config.{Config}
 use Rattle.just_loader.specs.ModuleFile.{after, candidates, relative}
 use Rattle.just_parts.specs.Causes.{Cause, NoHome, NoImport, NoModule, SeveralFiles}

@@ -14,8 +14,7 @@ use Rattle.just_names.specs.Modulepath.{Text}
 use Rattle.just_names.specs.Name.{names_of_path}
 use Rattle.just_names.specs.declared.name.Name.{Name}
 use Rattle.just_names.specs.declared.name.Namepath.{Namepath}
-use Rattle.just_parts.specs.declared.layers.ast.Ast.{Ast}
-use Rattle.just_parts.specs.declared.layers.ast.Item.{Item}
+use Rattle.just_parts.specs.Items.{Ast, Item}
 use Rattle.just_parts.specs.declared.layers.error.Error.{Error}
 use Rattle.just_parts.specs.declared.source.Source.{Source}
 use Rattle.just_loader.specs.Keys.{AreFirstFiles, FileKey, FileNode, FileStep, IsKey, IsLeastFileDepth, NamesInFiles, ast_key}
@@ -63,7 +62,7 @@ path_of_link (Fault cause) = None
 abbrev pub with_path : World → Text → Item → Item
 with_path w folder i = with_absolute (path_of_link (link w folder i)) i
 
--- What a node's text says, as it came in, with the absolute paths of what it leads to.
+-- What a node's text says, as it came in, with the absolute paths of what it leads to; all else is as the text says.
 pub record IsAstOf (w : World) (n : FileNode) (ast : Ast) : Type 0 where
   pub source : Source
   pub came : CameIn w n source
@@ -71,8 +70,7 @@ pub record IsAstOf (w : World) (n : FileNode) (ast : Ast) : Type 0 where
   pub from : IsFrom source parsed
   pub said : ast_of w n.node ≡ Some (bare_ast parsed)
   pub items : ast.items ≡ map (with_path w (folder_of n.node)) parsed.items
-  pub module_path : ast.module_path ≡ parsed.module_path
-  pub working_directory : ast.working_directory ≡ parsed.working_directory
+  pub rest : ast ≡ record parsed { items = ast.items }
 
 -- Numbers tell all definitions apart: those of a text rise, and no number is in two texts.
 pub record AreToldApart (asts : AstKey → Option Ast) : Type 0 where

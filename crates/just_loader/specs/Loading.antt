@@ -1,16 +1,15 @@
 -- The steps of loading: how each node's file comes in, and what its text says.
 use Rattle.std.specs.Prelude.{◌≡◌, ℕ, ◌+◌, ◌<◌, ◌≤◌, ◌^◌, List, [], ◌∷◌, ◌++◌, map, take, length, slice_get, Option, Some, None}
-use Rattle.std.specs.List.{flat_map, sum_by}
+use Rattle.std.specs.List.{All, flat_map, sum_by}
 use Rattle.just_graph.specs.Unfolding.{Node, AreFirst, offsets_after, steps}
 use Rattle.just_graph.specs.Unfolded.{AreLeast, AllTold, IsUnfolded}
 use Rattle.just_graph.specs.declared.unfolding.Step.{Step}
 use Rattle.just_graph.specs.declared.unfolding.Unfolded.{Unfolded}
 use Rattle.just_parts.specs.Bare.{bare_ast}
 use Rattle.just_names.specs.Clean.{folder_of}
-use Rattle.just_parts.specs.Syntax.{SyntaxAnswers, AreRising, IsFrom, components_of, numbers}
+use Rattle.just_parts.specs.Syntax.{SyntaxAnswers, AreRising, IsFrom, PriorsAreDependencies, components_of, numbers}
 use Rattle.just_names.specs.Modulepath.{Text}
-use Rattle.just_parts.specs.declared.layers.ast.Ast.{Ast}
-use Rattle.just_parts.specs.declared.layers.ast.Item.{Item}
+use Rattle.just_parts.specs.Items.{Ast, Item}
 use Rattle.just_parts.specs.declared.layers.error.Error.{Error}
 use Rattle.just_parts.specs.declared.layers.error.Error.TheVariants as error
 use Rattle.just_parts.specs.declared.source.Source.{Source}
@@ -81,8 +80,11 @@ pub record IsSaid (w : World) (path : Text) (source : Source) (ast : Ast) : Type
   pub from : IsFrom source parsed
   pub said : ast_of w path ≡ Some (bare_ast parsed)
   pub items : ast.items ≡ map (with_path w (folder_of path)) parsed.items
-  pub module_path : ast.module_path ≡ parsed.module_path
-  pub working_directory : ast.working_directory ≡ parsed.working_directory
+  pub rest : ast ≡ record parsed { items = ast.items }
+
+-- no recipe of a text has more priors than dependencies
+abbrev pub KeepsPriors : Ast → Type 0
+KeepsPriors ast = All PriorsAreDependencies ast.items
 
 -- what the texts of the first nodes say
 abbrev pub AreParsedSoFar : World → Scan → List Node → List Ast → Type 0

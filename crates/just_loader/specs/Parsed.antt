@@ -1,7 +1,7 @@
 -- The table of what the texts of nodes say, and the paths of their files.
 use Rattle.std.specs.Prelude.{◌≡◌, ◌<◌, ℕ, List, [], Option, Some, map, length, get_or, slice_get}
 use Rattle.just_graph.specs.declared.unfolding.Unfolded.{Unfolded}
-use Rattle.just_parts.specs.declared.layers.ast.Ast.{Ast}
+use Rattle.just_parts.specs.Items.{Ast}
 use Rattle.just_parts.specs.Asts.{AstKey}
 use Rattle.just_loader.specs.Placed.{key_at}
 use Rattle.just_loader.specs.declared.scanned.Scan.{Scan}

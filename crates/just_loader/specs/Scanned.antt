@@ -6,13 +6,12 @@ use Rattle.std.specs.declared.alloc.Global.{Global}
 use Rattle.just_graph.specs.Unfolding.{LeadInside}
 use Rattle.just_graph.specs.declared.unfolding.Step.{Step}
 use Rattle.just_graph.specs.Unfolded.{AreApart}
-use Rattle.just_parts.specs.Bare.{bare_item}
 use Rattle.just_parts.specs.Causes.{Cause}
 use Rattle.just_names.specs.Clean.{IsClean, folder_of}
 use Rattle.just_parts.specs.Edge.{Edge, Imports, Declares, edge_of}
 use Rattle.just_names.specs.declared.name.Name.{Name}
 use Rattle.just_names.specs.Modulepath.{Text}
-use Rattle.just_parts.specs.declared.layers.ast.Item.{Item}
+use Rattle.just_parts.specs.Items.{Item}
 use Rattle.just_loader.specs.Links.{Link, Nowhere, To, Fault}
 use Rattle.just_loader.specs.Numbering.{IsNamed, paths_found}
 use Rattle.just_loader.specs.Reached.{World, Reached, items_of, link, relative_to_root}
@@ -71,7 +70,6 @@ pub record IsScanned (w : World) (paths : List Text) (names : List Name) (file :
   pub relative : file.relative ≡ relative_to_root w file.path
   pub items : List Item
   pub parsed : items_of w file.path ≡ Some items
-  pub said : items ≡ map bare_item file.items
   pub targets : ArePlacesOf paths (map (link w (folder_of file.path)) items) file.targets.items
   pub steps : AreSteps names items file.targets.items row
 

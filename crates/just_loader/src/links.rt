@@ -109,11 +109,11 @@ fn link_module<'src>(
 /// The path to which an item of a file in a folder leads, or none, or its fault.
 pub(crate) fn link<'src, S: Syntax>(
     alloc: Global,
+    item: &Item<'src>,
     config: &Config,
     syntax: &S,
     sources: &Sources<'src>,
     folder: &str,
-    item: &Item<'src>,
 ) -> Result<Option<Text>, Error<'src>>
     ensures path { IfOk result (λ path. link_by sources.now config.now (S.answers syntax.now) folder.now item.now ≡ linked path) }
     ensures error { IfErr result (Reports (λ c. link_by sources.now config.now (S.answers syntax.now) folder.now item.now ≡ Fault c)) }

@@ -8,15 +8,15 @@ ghost use Rattle.just_graph.specs.Unfolding.{Node};
 ghost use Rattle.just_graph.specs.declared.unfolding.Unfolded.{Unfolded};
 ghost use Rattle.just_names.specs.Clean.{IsClean};
 ghost use Rattle.just_parts.specs.Syntax.{AreRising, PriorsAreDependencies, numbers};
-ghost use Rattle.just_parts.specs.declared.layers.ast.Ast.{Ast};
 ghost use Rattle.just_parts.specs.Asts.{same_ast_key};
+ghost use Rattle.just_parts.specs.Edge.{with_absolute};
 ghost use Rattle.just_loader.specs.Keys.{SpendsAt};
 ghost use Rattle.just_loader.specs.Loaded.{Loads};
 ghost use Rattle.just_loader.specs.Placed.{at_first_places, file_at};
-ghost use Rattle.just_loader.specs.Loading.{AreNodes, AreNumberedBy, AreParsedBy, AreSources, AreUnfolded, CameInAt, CameInSoFar, ComesNext, HavePaths, InWorlds, IsSaid, IsScanBy, Stops, StopsInFile, spent_by};
+ghost use Rattle.just_loader.specs.Loading.{AreNodes, AreNumberedBy, AreParsedBy, AreSources, AreUnfolded, CameInAt, CameInSoFar, ComesNext, HavePaths, InWorlds, IsSaid, IsScanBy, KeepsPriors, Stops, StopsInFile, spent_by};
 ghost use Rattle.just_loader.specs.Parsed.{AreHeld, AreKeyed, relative_at};
 ghost use Rattle.just_loader.specs.Reached.{World, link, world_of};
-ghost use Rattle.just_loader.specs.Scanned.{ArePlacesOf, EntersName, IsPlaceOf, IsScan, paths_in};
+ghost use Rattle.just_loader.specs.Scanned.{ArePlacesOf, EntersName, IsScan, paths_in};
 
 use crate::circles::check_circles;
 use crate::loaded::Loaded;
@@ -112,31 +112,43 @@ fn target_path<'src>(
     Ok(Some(path))
 }
 
-// Items with the absolute paths of the files to which they lead.
-fn with_paths<'src>(
+// Gives an item the absolute path of the file at the place to which it leads.
+fn link_item<'src>(
     alloc: Global,
     scan: &Scan<'src>,
-    items: Sequence<Item<'src>>,
-    targets: &[Option<usize>],
-) -> Result<Sequence<Item<'src>>, AllocError>
-    requires { (w : World) × (folder : List ℕ) × ArePlacesOf (paths_in scan.now.files.items) (map (link w folder) items) targets.now }
-    ensures { IfOk result (HavePaths scan.now targets.now items.entry) }
+    target: Option<usize>,
+    item: &mut Item<'src>,
+) -> Result<(), AllocError>
+    requires { IfSome target (λ place. place < length scan.now.files.items) }
+    ensures { OnOk result (item.new ≡ with_absolute (option_map (file_at scan.now) target) item.old) }
 {
-    let count = items.len();
-    let mut linked = Vec::with_capacity(alloc, count)?;
-    for item in items.into_vec() {
-        let path = target_path(alloc, scan, targets[linked.len()])?;
-        linked.push(item.with_absolute(path))?;
+    let path = target_path(alloc, scan, target)?;
+    item.set_absolute(path);
+    Ok(())
+}
+
+// Gives each item the absolute path of the file to which it leads.
+fn link_items<'src>(
+    alloc: Global,
+    scan: &Scan<'src>,
+    items: &mut Vec<Item<'src>>,
+    targets: &[Option<usize>],
+) -> Result<(), AllocError>
+    requires { (w : World) × (folder : List ℕ) × ArePlacesOf (paths_in scan.now.files.items) (map (link w folder) items.old.items) targets.now }
+    ensures { OnOk result (HavePaths scan.now targets.now items.old.items items.new.items) }
+{
+    for place in 0..items.len() {
+        link_item(alloc, scan, targets[place], &mut items[place])?;
     }
-    Ok(Sequence::from_vec(linked))
+    Ok(())
 }
 
 // What the text of a scanned file says, where the file came in like that.
 fn parse_file<'src, S: Syntax>(
     alloc: Global,
+    scan: &Scan<'src>,
     syntax: &S,
     numerator: &mut Numerator,
-    scan: &Scan<'src>,
     place: usize,
     source: &Source<'src>,
 ) -> Result<Ast<'src>, Error<'src>>
@@ -155,6 +167,9 @@ fn parse_file<'src, S: Syntax>(
         items,
         module_path,
         working_directory,
+        unstable_features,
+        list_features,
+        warnings,
     } = syntax.parse_source(
         alloc,
         numerator,
@@ -162,25 +177,30 @@ fn parse_file<'src, S: Syntax>(
         source,
         file.text.as_str(),
     )?;
+    let mut items = items.into_vec();
+    link_items(alloc, scan, &mut items, file.targets.as_slice())?;
     Ok(Ast {
-        items: with_paths(alloc, scan, items, file.targets.as_slice())?,
+        items: Sequence::from_vec(items),
         module_path,
         working_directory,
+        unstable_features,
+        list_features,
+        warnings,
     })
 }
 
 // What the text of each node's file says.
 fn parse_all<'src, S: Syntax>(
     alloc: Global,
-    syntax: &S,
     scan: &Scan<'src>,
+    syntax: &S,
     nodes: &[Unfolded],
 ) -> Result<Vec<Ast<'src>>, Error<'src>>
     requires scan { (w : World) × IsScanBy w scan.now (S.answers syntax.now) }
     requires nodes { AreUnfolded scan.now nodes.now }
     ensures parsed { IfOk result (λ asts. AreParsedBy (S.answers syntax.now) scan.now nodes.now asts.items) }
     ensures numbers { IfOk result (λ asts. AreNumberedBy (S.answers syntax.now) scan.now nodes.now asts.items) }
-    ensures priors { IfOk result (λ asts. All (λ (ast : Ast). All PriorsAreDependencies ast.items) asts.items) }
+    ensures priors { IfOk result (λ asts. All KeepsPriors asts.items) }
     ensures fits { OnOk result (InWorlds scan.now (S.answers syntax.now) (λ w. spent_by w scan.now nodes.now ≤ 2 ^ 64)) }
     ensures stopped { IfErr result (λ e. InWorlds scan.now (S.answers syntax.now) (λ w. Stops w scan.now nodes.now e)) }
 {
@@ -190,7 +210,7 @@ fn parse_all<'src, S: Syntax>(
     for place in 0..nodes.len() {
         let node = nodes[place].node;
         let source = &sources[place];
-        asts.push(parse_file(alloc, syntax, &mut numerator, scan, node, source)?)?;
+        asts.push(parse_file(alloc, scan, syntax, &mut numerator, node, source)?)?;
     }
     Ok(asts)
 }
@@ -256,7 +276,7 @@ pub fn load<'src, S: Syntax>(
     let scan = scan(alloc, config, syntax, sources, root)?;
     check_circles(alloc, &scan)?;
     let nodes = unfold(alloc, scan.rows.as_slice(), 0)?;
-    let asts = parse_all(alloc, syntax, &scan, nodes.as_slice())?;
+    let asts = parse_all(alloc, &scan, syntax, nodes.as_slice())?;
     let asts = hold(alloc, &scan, nodes.as_slice(), asts)?;
     let loaded = loaded_paths(alloc, &scan, nodes.as_slice())?;
     Ok(Loaded { asts, loaded })

@@ -17,42 +17,39 @@ use crate::links::link;
 use crate::module_file::relative_path;
 use crate::scanned::{Scan, ScannedFile};
 use crate::sources::{SourceFile, Sources};
-use just_data::{BorrowedText, Sequence};
+use just_data::BorrowedText;
 use just_graph::unfolding::Step;
 use just_names::folder_of;
 use just_parts::Source;
-use just_parts::layers::{Config, Edge, Error, Item, Numerator, Syntax};
+use just_parts::layers::{Ast, Config, Edge, Error, Item, Numerator, Syntax};
 use std::alloc::{AllocError, Global};
 
-// The items of a text.
+// What a text says.
 fn parse<'src, S: Syntax>(
     alloc: Global,
     syntax: &S,
     path: &str,
     relative: &'src str,
     text: &'src str,
-) -> Result<Sequence<Item<'src>>, Error<'src>>
+) -> Result<Ast<'src>, Error<'src>>
     requires { IsClean path.now }
-    ensures items { IfOk result (λ items. items_said ((S.answers syntax.now).parsed relative.now text.now) ≡ Some (map bare_item items)) }
+    ensures items { IfOk result (λ ast. items_said ((S.answers syntax.now).parsed relative.now text.now) ≡ Some (map bare_item ast.items)) }
     ensures fits { OnOk result ((S.answers syntax.now).spends relative.now text.now ≤ 2 ^ 64) }
     ensures refused { IfErr result (Refuses (S.answers syntax.now) relative.now text.now 0) }
 {
     let source = Source::root(alloc, path)?;
     let mut numerator = Numerator::new();
-    match syntax.parse_source(alloc, &mut numerator, relative, &source, text) {
-        Ok(ast) => Ok(ast.items),
-        Err(error) => Err(error),
-    }
+    syntax.parse_source(alloc, &mut numerator, relative, &source, text)
 }
 
 // The place of the file to which an item leads. Where it is not found yet it is put last.
 fn target<'src, S: Syntax>(
     alloc: Global,
+    item: &Item<'src>,
     config: &Config,
     syntax: &S,
     sources: &Sources<'src>,
     folder: &str,
-    item: &Item<'src>,
     found: &mut Found<'src>,
 ) -> Result<Option<usize>, Error<'src>>
     requires { AreFound sources.now found.old }
@@ -61,7 +58,7 @@ fn target<'src, S: Syntax>(
     ensures found { OnOk result (AreFound sources.now found.new) }
     ensures error { IfErr result (Reports (λ c. link_by sources.now config.now (S.answers syntax.now) folder.now item.now ≡ Fault c)) }
 {
-    match link(alloc, config, syntax, sources, folder, item)? {
+    match link(alloc, item, config, syntax, sources, folder)? {
         Some(path) => Ok(Some(found.place(sources, path.as_str())?)),
         None => Ok(None),
     }
@@ -70,22 +67,23 @@ fn target<'src, S: Syntax>(
 // The places of the files to which items lead.
 fn targets<'src, S: Syntax>(
     alloc: Global,
+    ast: &Ast<'src>,
     config: &Config,
     syntax: &S,
     sources: &Sources<'src>,
     folder: &str,
-    items: &[Item<'src>],
     found: &mut Found<'src>,
 ) -> Result<Vec<Option<usize>>, Error<'src>>
     requires { AreFound sources.now found.old }
-    ensures places { IfOk result (λ it. ArePlacesIn found.new (links_by sources.now config.now (S.answers syntax.now) folder.now items.now) it.items) }
-    ensures grows { OnOk result (FindsAll (links_by sources.now config.now (S.answers syntax.now) folder.now items.now) found.old found.new) }
+    ensures places { IfOk result (λ it. ArePlacesIn found.new (links_by sources.now config.now (S.answers syntax.now) folder.now ast.now.items) it.items) }
+    ensures grows { OnOk result (FindsAll (links_by sources.now config.now (S.answers syntax.now) folder.now ast.now.items) found.old found.new) }
     ensures found { OnOk result (AreFound sources.now found.new) }
-    ensures error { IfErr result (Reports (HasFault (links_by sources.now config.now (S.answers syntax.now) folder.now items.now))) }
+    ensures error { IfErr result (Reports (HasFault (links_by sources.now config.now (S.answers syntax.now) folder.now ast.now.items))) }
 {
+    let items = ast.items.as_slice();
     let mut targets = Vec::new(alloc);
     for item in items {
-        targets.push(target(alloc, config, syntax, sources, folder, item, found)?)?;
+        targets.push(target(alloc, item, config, syntax, sources, folder, found)?)?;
     }
     Ok(targets)
 }
@@ -132,16 +130,17 @@ fn push_step<'src>(
 // The steps of items to their targets.
 fn row<'src>(
     alloc: Global,
-    items: &[Item<'src>],
+    ast: &Ast<'src>,
     targets: &[Option<usize>],
     names: &mut NameNumbers<'src>,
 ) -> Result<Vec<Step>, AllocError>
-    requires count { length targets.now ≡ length items.now }
+    requires count { length targets.now ≡ length ast.now.items }
     requires numbered { AreNumbered names.old }
-    ensures steps { IfOk result (λ row. AreSteps names.new.names.items items.now targets.now row.items) }
+    ensures steps { IfOk result (λ row. AreSteps names.new.names.items ast.now.items targets.now row.items) }
     ensures extends { OnOk result (Extends names.old.names.items names.new.names.items) }
     ensures numbered { OnOk result (AreNumbered names.new) }
 {
+    let items = ast.items.as_slice();
     let mut row = Vec::new(alloc);
     for place in 0..items.len() {
         push_step(&items[place], targets[place], names, &mut row)?;
@@ -152,9 +151,9 @@ fn row<'src>(
 // Scans a file: what it leads to is found, and the names that it enters have numbers.
 fn scan_file<'src, S: Syntax>(
     alloc: Global,
+    sources: &Sources<'src>,
     config: &Config,
     syntax: &S,
-    sources: &Sources<'src>,
     root: &str,
     file: &SourceFile<'src>,
     found: &mut Found<'src>,
@@ -176,23 +175,14 @@ fn scan_file<'src, S: Syntax>(
     let path = file.path.as_str();
     let text = file.text.as_str();
     let relative = relative_path(alloc, folder_of(root), path)?;
-    let items = parse(alloc, syntax, path, relative, text)?;
+    let ast = parse(alloc, syntax, path, relative, text)?;
     let folder = folder_of(path);
-    let targets = targets(
-        alloc,
-        config,
-        syntax,
-        sources,
-        folder,
-        items.as_slice(),
-        found,
-    )?;
-    let row = row(alloc, items.as_slice(), targets.as_slice(), names)?;
+    let targets = targets(alloc, &ast, config, syntax, sources, folder, found)?;
+    let row = row(alloc, &ast, targets.as_slice(), names)?;
     let scanned = ScannedFile {
         path: file.path.copied(),
         text: file.text.copied(),
         relative: BorrowedText::new(relative),
-        items,
         targets,
     };
     Ok((scanned, row))
@@ -220,7 +210,7 @@ pub fn scan<'src, S: Syntax>(
     while files.len() < found.files.len() {
         let file = found.files[files.len()].copied();
         let (scanned, row) = scan_file(
-            alloc, config, syntax, sources, root, &file, &mut found, &mut names,
+            alloc, sources, config, syntax, root, &file, &mut found, &mut names,
         )?;
         files.push(scanned)?;
         rows.push(row)?;

@@ -9,8 +9,7 @@ use Rattle.just_graph.proofs.Mapped.{every_level, levels_mapped}
 use Rattle.just_graph.proofs.Members.{In, contained, from_flat, from_map, in_map, is_in}
 use Rattle.just_parts.specs.Asts.{AstKey, same_ast_key}
 use Rattle.just_parts.specs.Causes.{Cause, Keeps}
-use Rattle.just_parts.specs.declared.layers.ast.Ast.{Ast}
-use Rattle.just_parts.specs.declared.layers.ast.Item.{Item}
+use Rattle.just_parts.specs.Items.{Ast, Item}
 use Rattle.just_parts.specs.Bare.{bare_item}
 use Rattle.just_modules.specs.Analyzable.{AreAnalyzable}
 use Rattle.just_modules.specs.Files.{all_led, led, led_by}

@@ -16,8 +16,7 @@ use Rattle.just_parts.specs.Causes.{Cause}
 use Rattle.just_names.specs.Modulepath.{Text}
 use Rattle.just_names.specs.Name.{text_of_name}
 use Rattle.just_parts.specs.declared.dependency.Dependency.{Dependency}
-use Rattle.just_parts.specs.declared.layers.ast.Ast.{Ast}
-use Rattle.just_parts.specs.declared.layers.ast.Item.{Item}
+use Rattle.just_parts.specs.Items.{Ast, Item}
 use Rattle.just_names.specs.declared.modulepath.Modulepath.{Modulepath}
 use Rattle.just_parts.specs.declared.recipe.Recipe.{Recipe}
 use Rattle.just_running.specs.Recipes.{IsResolved}

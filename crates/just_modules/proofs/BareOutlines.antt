@@ -6,9 +6,9 @@ use Rattle.std.proofs.lemmas.List.{length-map}
 use Rattle.just_parts.specs.Bare.{bare_parameter, bare_recipe}
 use Rattle.just_parts.specs.Located.{located_recipe}
 use Rattle.just_names.specs.Name.{text_of_name}
-use Rattle.just_parts.specs.Parameter.{is_required, is_variadic, least_arguments, most_arguments}
+use Rattle.just_records.specs.Parameter.{is_required, is_variadic, least_arguments, most_arguments}
 use Rattle.just_parts.specs.declared.layers.ast.UnresolvedDependency.{UnresolvedDependency}
-use Rattle.just_parts.specs.declared.layers.parameter.Parameter.{Parameter}
+use Rattle.just_records.specs.declared.parameter.Parameter.{Parameter}
 use Rattle.just_parts.specs.declared.recipe.Recipe.{Recipe}
 use Rattle.just_modules.specs.Recipes.{dependency_paths}
 use Rattle.just_modules.proofs.Alike.{outline_of}

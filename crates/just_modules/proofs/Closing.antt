@@ -12,8 +12,7 @@ use Rattle.just_parts.specs.Asts.{AstKey}
 use Rattle.just_table.specs.Entries.{find, put}
 use Rattle.just_names.specs.Modulepath.{Text}
 use Rattle.just_parts.specs.declared.dependency.Dependency.{Dependency}
-use Rattle.just_parts.specs.declared.layers.ast.Ast.{Ast}
-use Rattle.just_parts.specs.declared.layers.ast.Item.{Item}
+use Rattle.just_parts.specs.Items.{Ast, Item}
 use Rattle.just_parts.specs.declared.layers.ast.UnresolvedDependency.{UnresolvedDependency}
 use Rattle.just_names.specs.declared.number.Number.{Number}
 use Rattle.just_parts.specs.declared.recipe.Recipe.{Recipe}

@@ -9,8 +9,7 @@ use Rattle.just_graph.specs.Graph.{HasEdge, targets}
 use Rattle.just_graph.specs.Steps.{IsOrder, Reached, from_member, from_start, in_take}
 use Rattle.just_graph.proofs.Members.{In, is_in}
 use Rattle.just_parts.specs.Asts.{AstKey, same_ast_key}
-use Rattle.just_parts.specs.declared.layers.ast.Ast.{Ast}
-use Rattle.just_parts.specs.declared.layers.ast.Item.{Item}
+use Rattle.just_parts.specs.Items.{Ast, Item}
 use Rattle.just_modules.specs.Analyzable.{AreAnalyzable}
 use Rattle.just_modules.specs.Contents.{texts_of_names}
 use Rattle.just_modules.specs.Files.{ArePlaced, AreRows}

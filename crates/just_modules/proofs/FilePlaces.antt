@@ -16,8 +16,7 @@ use Rattle.just_graph.proofs.Index.{map_get, none_some, some_same}
 use Rattle.just_parts.specs.Asts.{AstKey, same_ast_key}
 use Rattle.just_parts.specs.Bare.{bare_item}
 use Rattle.just_parts.specs.Located.{located_item}
-use Rattle.just_parts.specs.declared.layers.ast.Ast.{Ast}
-use Rattle.just_parts.specs.declared.layers.ast.Item.{Item}
+use Rattle.just_parts.specs.Items.{Ast, Item}
 use Rattle.just_parts.specs.declared.layers.ast.Item.TheVariants as item
 use Rattle.just_names.specs.declared.modulepath.Modulepath.{Modulepath}
 use Rattle.just_parts.proofs.AstKeys.{key_same, keys_equivalent}
@@ -30,12 +29,12 @@ use Rattle.just_modules.specs.declared.files.Rows.{Rows}
 
 -- where a located item leads
 led_located : (inside : Bool) (path : Modulepath) (i : Item) → led inside path (located_item i) ≡ led inside path i
-led_located true path (item.Import relative absolute optional) = refl
-led_located true path (item.Module name relative absolute optional) = refl
-led_located true path (item.Recipe r) = refl
-led_located false path (item.Import relative absolute optional) = refl
-led_located false path (item.Module name relative absolute optional) = refl
-led_located false path (item.Recipe r) = refl
+led_located true path (item.Module name relative None attributes doc optional) = refl
+led_located true path (item.Module name relative (Some file) attributes doc optional) = refl
+led_located true path _ = refl
+led_located false path (item.Import relative None optional) = refl
+led_located false path (item.Import relative (Some file) optional) = refl
+led_located false path _ = refl
 
 module _ (inside : Bool) (enabled : Item → Bool) (path : Modulepath) where
   abbrev counted : List Item → List Item

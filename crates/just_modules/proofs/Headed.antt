@@ -6,8 +6,7 @@ use Rattle.just_graph.specs.Steps.{Reached, from_member, from_start}
 use Rattle.just_graph.proofs.Index.{got_in}
 use Rattle.just_graph.proofs.Members.{is_in}
 use Rattle.just_parts.specs.Asts.{AstKey, same_ast_key}
-use Rattle.just_parts.specs.declared.layers.ast.Ast.{Ast}
-use Rattle.just_parts.specs.declared.layers.ast.Item.{Item}
+use Rattle.just_parts.specs.Items.{Ast, Item}
 use Rattle.just_modules.specs.Files.{ArePlaced, AreRows}
 use Rattle.just_modules.specs.Joined.{IsJoined}
 use Rattle.just_modules.specs.Modules.{Heading, IsHeading, heading_of, of_module, of_root}

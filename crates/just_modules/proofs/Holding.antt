@@ -9,8 +9,7 @@ use Rattle.just_graph.proofs.Index.{get_map, map_get}
 use Rattle.just_graph.proofs.Members.{In, contained, from_flat}
 use Rattle.just_parts.specs.Asts.{AstKey, same_ast_key}
 use Rattle.just_parts.specs.Bare.{bare_item}
-use Rattle.just_parts.specs.declared.layers.ast.Ast.{Ast}
-use Rattle.just_parts.specs.declared.layers.ast.Item.{Item}
+use Rattle.just_parts.specs.Items.{Ast, Item}
 use Rattle.just_parts.proofs.AstKeys.{key_same, keys_equivalent}
 use Rattle.just_modules.specs.Analyzable.{AreAnalyzable}
 use Rattle.just_modules.specs.Files.{ArePlaced, HoldsAll, all_led, asts_in, led, led_by, led_from, led_in}

@@ -7,7 +7,7 @@ use Rattle.just_parts.specs.declared.dependency.Dependency.{Dependency}
 use Rattle.just_parts.specs.declared.layers.ast.UnresolvedDependency.{UnresolvedDependency}
 use Rattle.just_names.specs.declared.modulepath.Modulepath.{Modulepath}
 use Rattle.just_parts.specs.declared.recipe.Recipe.{Recipe}
-use Rattle.just_parts.specs.declared.layers.ast.Ast.{Ast}
+use Rattle.just_parts.specs.Items.{Ast}
 use Rattle.just_names.specs.declared.number.Number.{Number}
 use Rattle.just_running.specs.Recipes.{numbers}
 use Rattle.just_invoke.specs.declared.justfile.Justfile.{Justfile, out-Justfile}
@@ -27,14 +27,9 @@ made_numbers rs path (place ∷ order) (r ∷ made) all n (inl e) =
     subst (λ m. In m (unresolved_numbers rs)) (sym (e ∙ ap (λ x. x.0) (all.0).resolves.number)) (in_map (λ (q : Recipe UnresolvedDependency). q.number.0) (all.0).source rs i)
 made_numbers rs path (place ∷ order) (r ∷ made) all n (inr h) = made_numbers rs path order made all.1 n h
 
-module _ (rs qs : List (Recipe UnresolvedDependency)) (path : Modulepath) (order : List ℕ) (made : List (Recipe Dependency)) (is_order : IsOrderOf qs order) (so : Resolving rs path order (length order) made) (same : rs ≡ qs) where
-  -- all are resolved
-  pub resolved_as : AreResolved qs path made
-  resolved_as = all_resolved qs path order made is_order (subst (λ (xs : List (Recipe UnresolvedDependency)). Resolving xs path order (length order) made) same so)
-
-  -- their numbers were there
-  pub numbers_as : (n : ℕ) → Contains (numbers made) n → Contains (unresolved_numbers qs) n
-  numbers_as n c = contained n (unresolved_numbers qs) (made_numbers qs path resolved_as.order made resolved_as.made_of n (is_in n (numbers made) c))
+-- their numbers were there
+pub resolved_numbers : (rs : List (Recipe UnresolvedDependency)) (path : Modulepath) (made : List (Recipe Dependency)) → AreResolved rs path made → (n : ℕ) → Contains (numbers made) n → Contains (unresolved_numbers rs) n
+resolved_numbers rs path made so n c = contained n (unresolved_numbers rs) (made_numbers rs path so.order made so.made_of n (is_in n (numbers made) c))
 
 -- a justfile of recipes, by its parts
 pub is_of : (rs own : List (Recipe UnresolvedDependency)) (ast : Ast) (loaded : List (List ℕ)) (source : List ℕ) (j : Justfile) (count : ℕ) (keys : List (List ℕ × RecipeKey)) (default : Option Number)

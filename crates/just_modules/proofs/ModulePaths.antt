@@ -14,8 +14,7 @@ use Rattle.just_graph.proofs.Members.{In, contained, from_flat, from_map, in_map
 use Rattle.just_parts.specs.Asts.{AstKey, same_ast_key}
 use Rattle.just_names.specs.Modulepath.{Text}
 use Rattle.just_names.specs.Name.{text_of_name}
-use Rattle.just_parts.specs.declared.layers.ast.Ast.{Ast}
-use Rattle.just_parts.specs.declared.layers.ast.Item.{Item}
+use Rattle.just_parts.specs.Items.{Ast, Item}
 use Rattle.just_parts.specs.declared.layers.ast.Item.TheVariants as item
 use Rattle.just_names.specs.declared.modulepath.Modulepath.{Modulepath}
 use Rattle.just_modules.specs.Contents.{texts_of_names}
@@ -36,16 +35,14 @@ import_path : (path : Modulepath) (k : AstKey) (i : Item) → In k (imported pat
 import_path path k (item.Import relative None optional) h = absurd h
 import_path path k (item.Import relative (Some file) optional) (inl e) = ap (λ (x : AstKey). x.0) e
 import_path path k (item.Import relative (Some file) optional) (inr h) = absurd h
-import_path path k (item.Module name relative absolute optional) h = absurd h
-import_path path k (item.Recipe r) h = absurd h
+import_path path k _ h = absurd h
 
 -- a module is one name further
 module_path : (path : Modulepath) (s : Submodule) (i : Item) → In s (declared path i) → s.key.0 ≡ path_to path (text_of_name s.name)
-module_path path s (item.Import relative absolute optional) h = absurd h
-module_path path s (item.Module name relative None optional) h = absurd h
-module_path path s (item.Module name relative (Some file) optional) (inl e) = ap (λ (x : Submodule). x.key.0) e ∙ ap (λ (x : Submodule). path_to path (text_of_name x.name)) (sym e)
-module_path path s (item.Module name relative (Some file) optional) (inr h) = absurd h
-module_path path s (item.Recipe r) h = absurd h
+module_path path s (item.Module name relative None attributes doc optional) h = absurd h
+module_path path s (item.Module name relative (Some file) attributes doc optional) (inl e) = ap (λ (x : Submodule). x.key.0) e ∙ ap (λ (x : Submodule). path_to path (text_of_name x.name)) (sym e)
+module_path path s (item.Module name relative (Some file) attributes doc optional) (inr h) = absurd h
+module_path path s _ h = absurd h
 
 pub ends_same : (xs ys : List Text) (x y : Text) → xs ++ x ∷ [] ≡ ys ++ y ∷ [] → (xs ≡ ys) × (x ≡ y)
 ends_same [] [] x y e = (refl, cc)

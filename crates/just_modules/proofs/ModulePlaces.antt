@@ -13,8 +13,7 @@ use Rattle.just_graph.proofs.Mapped.{every_level, levels_mapped}
 use Rattle.just_graph.proofs.Members.{In, contained}
 use Rattle.just_parts.specs.Asts.{AstKey, same_ast_key}
 use Rattle.just_parts.specs.Bare.{ast_of_items}
-use Rattle.just_parts.specs.declared.layers.ast.Ast.{Ast}
-use Rattle.just_parts.specs.declared.layers.ast.Item.{Item}
+use Rattle.just_parts.specs.Items.{Ast, Item}
 use Rattle.just_parts.proofs.AstKeys.{key_same}
 use Rattle.just_modules.specs.Files.{ArePlaced, AreRows}
 use Rattle.just_modules.specs.Joined.{IsJoined}

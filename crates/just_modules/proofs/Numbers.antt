@@ -11,8 +11,7 @@ use Rattle.just_graph.proofs.Least.{before_level, one_level}
 use Rattle.just_graph.proofs.Leveling.{Once, once_append, once_at_last, is_once}
 use Rattle.just_graph.proofs.Members.{In, contained, in_cases, is_in}
 use Rattle.just_parts.specs.Asts.{AstKey, same_ast_key}
-use Rattle.just_parts.specs.declared.layers.ast.Ast.{Ast}
-use Rattle.just_parts.specs.declared.layers.ast.Item.{Item}
+use Rattle.just_parts.specs.Items.{Ast, Item}
 use Rattle.just_parts.specs.declared.layers.ast.UnresolvedDependency.{UnresolvedDependency}
 use Rattle.just_parts.specs.declared.recipe.Recipe.{Recipe}
 use Rattle.just_modules.specs.Analyzable.{AreAnalyzable}

@@ -10,7 +10,7 @@ use Rattle.just_graph.proofs.Members.{In, contained, from_flat, from_map, in_map
 use Rattle.just_names.specs.Modulepath.{Text}
 use Rattle.just_parts.specs.declared.dependency.Dependency.{Dependency}
 use Rattle.just_parts.specs.Causes.{Reports}
-use Rattle.just_parts.specs.declared.layers.ast.Item.{Item}
+use Rattle.just_parts.specs.Items.{Item}
 use Rattle.just_parts.specs.declared.layers.error.Error.{Error}
 use Rattle.just_parts.proofs.Lifts.{reports_by}
 use Rattle.just_parts.specs.declared.recipe.Recipe.{Recipe}

@@ -13,8 +13,7 @@ use Rattle.just_graph.proofs.Members.{In, contained, from_flat, is_in}
 use Rattle.just_parts.specs.Asts.{AstKey, same_ast_key}
 use Rattle.just_parts.specs.Bare.{bare_item}
 use Rattle.just_parts.specs.Located.{located_item}
-use Rattle.just_parts.specs.declared.layers.ast.Ast.{Ast}
-use Rattle.just_parts.specs.declared.layers.ast.Item.{Item}
+use Rattle.just_parts.specs.Items.{Ast, Item}
 use Rattle.just_parts.specs.declared.layers.ast.Item.TheVariants as item
 use Rattle.just_parts.specs.declared.layers.ast.UnresolvedDependency.{UnresolvedDependency}
 use Rattle.just_names.specs.declared.name.Name.{Name}
@@ -38,10 +37,9 @@ name_of s = s.name
 
 -- the name of the module that a located item declares
 name_located : (path : Modulepath) (i : Item) → map name_of (declared path (located_item i)) ≡ name_by i
-name_located path (item.Import relative absolute optional) = refl
-name_located path (item.Module name relative None optional) = refl
-name_located path (item.Module name relative (Some file) optional) = refl
-name_located path (item.Recipe r) = refl
+name_located path (item.Module name relative None attributes doc optional) = refl
+name_located path (item.Module name relative (Some file) attributes doc optional) = refl
+name_located path _ = refl
 
 module _ (enabled : Item → Bool) (path : Modulepath) where
   one_name : (b : Bool) (i : Item) (items : List Item)
@@ -61,24 +59,19 @@ module _ (enabled : Item → Bool) where
   one_recipe false r items e = e
 
   no_recipe : (b : Bool) (i : Item) (items : List Item) → recipes_said (map located_item (i ∷ [])) ≡ [] → recipes_said (map located_item (cond b (i ∷ enabled_items enabled items) (enabled_items enabled items))) ≡ recipes_said (map located_item (enabled_items enabled items))
-  no_recipe true (item.Import relative absolute optional) items e = refl
-  no_recipe true (item.Module name relative absolute optional) items e = refl
   no_recipe true (item.Recipe r) items e = cc
+  no_recipe true _ items e = refl
   no_recipe false i items e = refl
 
   recipes_counted : (items : List Item) → AreAlike (recipes_of enabled items) (recipes_said (map located_item (enabled_items enabled items)))
   recipes_counted [] = refl
   recipes_counted (item.Recipe r ∷ items) = one_recipe (enabled (bare_item (item.Recipe r))) r items (recipes_counted items)
-  recipes_counted (item.Import relative absolute optional ∷ items) =
-      recipes_counted items ∙ ap outlines_of (sym (no_recipe (enabled (bare_item (item.Import relative absolute optional))) (item.Import relative absolute optional) items refl))
-  recipes_counted (item.Module name relative absolute optional ∷ items) =
-      recipes_counted items ∙ ap outlines_of (sym (no_recipe (enabled (bare_item (item.Module name relative absolute optional))) (item.Module name relative absolute optional) items refl))
+  recipes_counted (i ∷ items) = recipes_counted items ∙ ap outlines_of (sym (no_recipe (enabled (bare_item i)) i items refl))
 
   said_append : (xs ys : List Item) → recipes_said (xs ++ ys) ≡ recipes_said xs ++ recipes_said ys
   said_append [] ys = refl
   said_append (item.Recipe r ∷ xs) ys = ap (λ (rs : List (Recipe UnresolvedDependency)). r ∷ rs) (said_append xs ys)
-  said_append (item.Import relative absolute optional ∷ xs) ys = said_append xs ys
-  said_append (item.Module name relative absolute optional ∷ xs) ys = said_append xs ys
+  said_append (_ ∷ xs) ys = said_append xs ys
 
 module _ (enabled : Item → Bool) (entries : List (AstKey × Ast)) (d : AstKey) (files : Files) (placed : ArePlaced entries files) (rows : Rows) (are : AreRows enabled files rows)
     (paths : (k : AstKey) (a : Ast) → lookup (same_ast_key k) entries ≡ Some a → a.module_path ≡ k.0) (joined : Joined) where

@@ -7,7 +7,7 @@ use Rattle.std.specs.Ordering.{nat_cmp}
 use Rattle.std.specs.declared.cmp.Ordering.TheVariants.{Less}
 use Rattle.just_table.specs.Entries.{find}
 use Rattle.just_names.specs.Name.{text_of_name}
-use Rattle.just_parts.specs.declared.layers.ast.Ast.{Ast}
+use Rattle.just_parts.specs.Items.{Ast}
 use Rattle.just_names.specs.declared.number.Number.{Number}
 use Rattle.just_invoke.specs.declared.justfile.Justfile.{Justfile, out-Justfile}
 use Rattle.just_parts.specs.declared.layers.ast.UnresolvedDependency.{UnresolvedDependency}

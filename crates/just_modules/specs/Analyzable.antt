@@ -5,8 +5,7 @@ use Rattle.just_graph.specs.Steps.{IsOnce}
 use Rattle.just_parts.specs.Asts.{AstKey}
 use Rattle.just_names.specs.Modulepath.{Text}
 use Rattle.just_parts.specs.Bare.{bare_item}
-use Rattle.just_parts.specs.declared.layers.ast.Ast.{Ast}
-use Rattle.just_parts.specs.declared.layers.ast.Item.{Item}
+use Rattle.just_parts.specs.Items.{Ast, Item}
 use Rattle.just_modules.specs.Files.{led}
 use Rattle.just_modules.specs.Recipes.{recipes_of}
 use Rattle.just_modules.specs.Resolved.{HasPriors, unresolved_numbers}

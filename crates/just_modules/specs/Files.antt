@@ -9,8 +9,7 @@ use Rattle.std.specs.declared.vec.Vec.{Vec}
 use Rattle.just_graph.specs.Building.{EachRow}
 use Rattle.just_parts.specs.Asts.{AstKey, same_ast_key}
 use Rattle.just_parts.specs.Bare.{bare_item}
-use Rattle.just_parts.specs.declared.layers.ast.Ast.{Ast}
-use Rattle.just_parts.specs.declared.layers.ast.Item.{Item}
+use Rattle.just_parts.specs.Items.{Ast, Item}
 use Rattle.just_names.specs.declared.modulepath.Modulepath.{Modulepath}
 use Rattle.just_modules.specs.Reading.{Submodule, declared, imported}
 use Rattle.just_modules.specs.declared.files.Files.{Files}

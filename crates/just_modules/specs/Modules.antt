@@ -4,8 +4,8 @@ use Rattle.std.specs.List.{Contains}
 use Rattle.just_graph.specs.Levels.{AreLevels}
 use Rattle.just_parts.specs.Asts.{AstKey, same_ast_key}
 use Rattle.just_names.specs.Modulepath.{Text}
-use Rattle.just_parts.specs.declared.layers.ast.Ast.{Ast}
-use Rattle.just_parts.specs.declared.layers.ast.StringLiteral.{StringLiteral}
+use Rattle.just_parts.specs.Items.{Ast}
+use Rattle.just_records.specs.declared.string_literal.StringLiteral.{StringLiteral}
 use Rattle.just_names.specs.declared.name.Name.{Name}
 use Rattle.just_modules.specs.Contents.{Contents}
 use Rattle.just_modules.specs.Recipes.{recipes_said}

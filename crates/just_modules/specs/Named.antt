@@ -3,8 +3,7 @@ use Rattle.std.specs.Prelude.{◌≡◌, ◌++◌, ℕ, Bool, List, [], ◌∷�
 use Rattle.just_parts.specs.Bare.{bare_item}
 use Rattle.just_parts.specs.Causes.{Cause, Keeps}
 use Rattle.just_parts.specs.declared.dependency.Dependency.{Dependency}
-use Rattle.just_parts.specs.declared.layers.ast.Ast.{Ast}
-use Rattle.just_parts.specs.declared.layers.ast.Item.{Item}
+use Rattle.just_parts.specs.Items.{Ast, Item}
 use Rattle.just_parts.specs.declared.layers.ast.Item.TheVariants as item
 use Rattle.just_parts.specs.declared.layers.ast.UnresolvedDependency.{UnresolvedDependency}
 use Rattle.just_names.specs.declared.name.Name.{Name}
@@ -21,7 +20,7 @@ use Rattle.just_modules.specs.declared.files.Files.{Files}
 
 -- the name of the module that an item declares
 abbrev pub name_by : Item → List Name
-name_by (item.Module name relative (Some file) optional) = name ∷ []
+name_by (item.Module name relative (Some file) attributes doc optional) = name ∷ []
 name_by _ = []
 
 -- the names of the modules that items declare

@@ -5,8 +5,7 @@ use Rattle.just_parts.specs.Asts.{AstKey}
 use Rattle.just_parts.specs.Bare.{ast_of_items, bare_item}
 use Rattle.just_parts.specs.Located.{located_item}
 use Rattle.just_names.specs.Name.{text_of_name}
-use Rattle.just_parts.specs.declared.layers.ast.Ast.{Ast}
-use Rattle.just_parts.specs.declared.layers.ast.Item.{Item}
+use Rattle.just_parts.specs.Items.{Ast, Item}
 use Rattle.just_parts.specs.declared.layers.ast.Item.TheVariants as item
 use Rattle.just_names.specs.declared.name.Name.{Name}
 use Rattle.just_names.specs.declared.modulepath.Modulepath.{Modulepath}
@@ -43,7 +42,7 @@ imported path _ = []
 
 -- the module that an item of a module's file declares
 abbrev pub declared : Modulepath → Item → List Submodule
-declared path (item.Module name relative (Some file) optional) = record { name = name; key = (path_to path (text_of_name name), file) } ∷ []
+declared path (item.Module name relative (Some file) attributes doc optional) = record { name = name; key = (path_to path (text_of_name name), file) } ∷ []
 declared path _ = []
 
 -- what a file imports, and which modules it declares, in order

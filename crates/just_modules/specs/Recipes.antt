@@ -3,12 +3,12 @@ use Rattle.std.specs.Prelude.{◌≡◌, ℕ, ◌<◌, Bool, false, List, [], �
 use Rattle.std.specs.List.{Contains}
 use Rattle.std.specs.Borrow.{Bor}
 use Rattle.just_names.specs.Name.{text_of_name, texts_of_path}
-use Rattle.just_parts.specs.Parameter.{least_arguments, most_arguments}
+use Rattle.just_records.specs.Parameter.{least_arguments, most_arguments}
 use Rattle.just_parts.specs.Bare.{bare_item, no_number}
 use Rattle.just_names.specs.Token.{Place}
 use Rattle.just_parts.specs.declared.layers.ast.UnresolvedDependency.{UnresolvedDependency}
 use Rattle.just_parts.specs.declared.recipe.Recipe.{Recipe}
-use Rattle.just_parts.specs.declared.layers.ast.Item.{Item}
+use Rattle.just_parts.specs.Items.{Item}
 use Rattle.just_parts.specs.declared.layers.ast.Item.TheVariants as item
 
 -- the token of a recipe's name, its text, and its line
@@ -55,7 +55,10 @@ lent = map (λ r. r.now)
 -- what is read where there is no recipe
 abbrev pub no_recipe : Recipe UnresolvedDependency
 no_recipe = record {
+  attributes = [];
+  body = [];
   dependencies = [];
+  doc = None;
   file_depth = 0;
   import_offsets = [];
   name = record { token = record { line = 0; column = 0; offset = 0; length = 0; path = []; src = [] } };
@@ -63,8 +66,11 @@ no_recipe = record {
   parameters = [];
   priors = 0;
   private = false;
+  quiet = false;
+  shebang = false;
   module_path = None;
   recipe_path = None;
+  variable_references = [];
 }
 
 -- the recipe at a place

@@ -43,6 +43,12 @@ pub record Resolves (recipes : List (Recipe UnresolvedDependency)) (path : Modul
   pub parameters : made.parameters ≡ source.parameters
   pub priors : made.priors ≡ source.priors
   pub private : made.private ≡ source.private
+  pub attributes : made.attributes ≡ source.attributes
+  pub body : made.body ≡ source.body
+  pub doc : made.doc ≡ source.doc
+  pub quiet : made.quiet ≡ source.quiet
+  pub shebang : made.shebang ≡ source.shebang
+  pub variable_references : made.variable_references ≡ []
   pub file_depth : made.file_depth ≡ source.file_depth
   pub import_offsets : made.import_offsets ≡ source.import_offsets
   pub module_path : made.module_path ≡ Some path

@@ -6,7 +6,6 @@ ghost use Rattle.std.specs.List.{All, Contains};
 ghost use Rattle.just_graph.specs.Steps.{IsOnce};
 ghost use Rattle.just_parts.specs.Asts.{same_ast_key};
 ghost use Rattle.just_parts.specs.Causes.{Reports};
-ghost use Rattle.just_parts.specs.declared.layers.ast.Ast.{Ast};
 ghost use Rattle.just_running.specs.Recipes.{numbers};
 ghost use Rattle.just_invoke.specs.declared.justfile.Justfile.{Justfile, out-Justfile};
 ghost use Rattle.just_modules.specs.Analyzable.{AreAnalyzable};
@@ -14,7 +13,9 @@ ghost use Rattle.just_modules.specs.Analyzed.{Analyzes, NamesAnalyzed};
 ghost use Rattle.just_modules.specs.Definitions.{recipes_in};
 ghost use Rattle.just_modules.specs.Files.{asts_in};
 ghost use Rattle.just_modules.specs.Named.{AreAddedAt, BreaksRecipes, IsOfFiles, KeepsRecipes, recipes_from};
-ghost use Rattle.just_modules.specs.Resolved.{AreNew, HasPriors, unresolved_numbers};
+ghost use Rattle.just_modules.specs.Index.{AreDifferent};
+ghost use Rattle.just_modules.specs.Recipes.{names_of};
+ghost use Rattle.just_modules.specs.Resolved.{AreNew, AreResolved, HasPriors, unresolved_numbers};
 
 use crate::compiling::compile_in_order;
 use crate::definitions::Definitions;
@@ -35,26 +36,47 @@ use std::collections::HashMap;
 // The recipes that the files at places say, file after file.
 fn definitions_at<'b, 'a, 'src, S: Syntax>(
     alloc: Global,
+    files: &'b Files<'src, 'a>,
     syntax: &S,
-    files: &'b Files<'a, 'src>,
     places: &[usize],
-) -> Result<Definitions<'b, 'src>, AllocError>
+) -> Result<Definitions<'src, 'b>, AllocError>
     requires { All (λ p. p < length files.now.asts.items) places.now }
     ensures { IfOk result (λ definitions. recipes_in definitions ≡ recipes_from (S.answers syntax.now).enabled (asts_in files.now) places.now) }
 {
     let mut definitions = Definitions::new(alloc);
     for place in places {
-        definitions.add(syntax, ast_at(files, *place).items.as_slice())?;
+        definitions.add(ast_at(files, *place).items.as_slice(), syntax)?;
     }
     Ok(definitions)
+}
+
+// The recipes of the module at a path, resolved, each after those that it depends on. An error names a rule on recipes
+// that is broken.
+fn resolve_recipes<'src, 'a>(
+    alloc: Global,
+    definitions: &Definitions<'src, 'a>,
+    path: &Modulepath,
+) -> Result<Recipes<'src>, Error<'src>>
+    requires once { IsOnce (unresolved_numbers (recipes_in definitions.now)) }
+    requires priors { All HasPriors (recipes_in definitions.now) }
+    ensures kept { IfOk result (λ _. KeepsRecipes (recipes_in definitions.now)) }
+    ensures different { IfOk result (λ _. AreDifferent (names_of (recipes_in definitions.now))) }
+    ensures resolved { IfOk result (AreResolved (recipes_in definitions.now) path.now) }
+    ensures named { IfErr result (Reports (BreaksRecipes (recipes_in definitions.now))) }
+{
+    check_parameters(alloc, definitions)?;
+    let index = index_recipes(alloc, definitions)?;
+    let (rows, order) = order_recipes(alloc, definitions, &index)?;
+    let made = resolve_in_order(alloc, definitions, rows.as_slice(), order.as_slice(), path)?;
+    Ok(made)
 }
 
 /// Analyzes the module of these files, whose own stands at `own`: checks its recipes, resolves them, and adds them to the
 /// others. An error names a rule on recipes that is broken.
 pub fn analyze_module<'a, 'src, S: Syntax>(
     alloc: Global,
+    files: &Files<'src, 'a>,
     syntax: &S,
-    files: &Files<'a, 'src>,
     places: &[usize],
     own: usize,
     surroundings: Surroundings<'src>,
@@ -71,15 +93,11 @@ pub fn analyze_module<'a, 'src, S: Syntax>(
     ensures modules { IfOk result (λ j. (out-Justfile j).modules ≡ surroundings.entry.modules) }
     ensures named { IfErr result (Reports (BreaksRecipes (recipes_from (S.answers syntax.now).enabled (asts_in files.now) places.now))) }
 {
-    let definitions = definitions_at(alloc, syntax, files, places)?;
-    check_parameters(alloc, &definitions)?;
-    let index = index_recipes(alloc, &definitions)?;
-    let (rows, order) = order_recipes(alloc, &definitions, &index)?;
+    let definitions = definitions_at(alloc, files, syntax, places)?;
     let ast = ast_at(files, own);
-    let path = &ast.module_path;
-    let mut made = resolve_in_order(alloc, &definitions, rows.as_slice(), order.as_slice(), path)?;
+    let mut made = resolve_recipes(alloc, &definitions, &ast.module_path)?;
     let mut own_definitions = Definitions::new(alloc);
-    own_definitions.add(syntax, ast.items.as_slice())?;
+    own_definitions.add(ast.items.as_slice(), syntax)?;
     recipes.append(&mut made)?;
     let justfile = make_justfile(alloc, &definitions, &own_definitions, ast, surroundings)?;
     Ok(justfile)
@@ -102,8 +120,8 @@ fn literals<'src>(
 // The justfile of the module of a key, under a label, and the recipes of it and of the modules in it.
 fn analyze_modules<'src, S: Syntax>(
     alloc: Global,
-    syntax: &S,
     asts: &HashMap<(Modulepath, Text), Ast<'src>>,
+    syntax: &S,
     loaded: &Shared<Sequence<Text>>,
     module_path: &Modulepath,
     root: &str,
@@ -115,14 +133,14 @@ fn analyze_modules<'src, S: Syntax>(
     ensures named { IfErr result (NamesAnalyzed (S.answers syntax.now) asts.now module_path.now root.now label.entry) }
 {
     let files = place_files(alloc, asts)?;
-    let rows = file_rows(alloc, syntax, &files)?;
+    let rows = file_rows(alloc, &files, syntax)?;
     let place = place_of(alloc, &files, module_path, root)?;
     let (joined, order) = arrange(alloc, &rows, place)?;
-    check_module_names(alloc, syntax, &files, &joined, order.as_slice())?;
+    check_module_names(alloc, &files, syntax, &joined, order.as_slice())?;
     let (mut slots, recipes) = compile_in_order(
         alloc,
-        syntax,
         &files,
+        syntax,
         &joined,
         loaded,
         order.as_slice(),
@@ -179,6 +197,6 @@ impl Analyzer {
             groups,
             private,
         };
-        analyze_modules(alloc, syntax, asts, loaded, module_path, root, label)
+        analyze_modules(alloc, asts, syntax, loaded, module_path, root, label)
     }
 }

@@ -23,8 +23,8 @@ use std::alloc::{AllocError, Global};
 // Compiles the module whose own file stands at a place, from those in it.
 fn compile_place<'a, 'src, S: Syntax>(
     alloc: Global,
+    files: &Files<'src, 'a>,
     syntax: &S,
-    files: &Files<'a, 'src>,
     joined: &Joined,
     loaded: &Shared<Sequence<Text>>,
     place: usize,
@@ -42,7 +42,7 @@ fn compile_place<'a, 'src, S: Syntax>(
     ensures named { IfErr result (Reports (BreaksRecipes (recipes_of_place (S.answers syntax.now).enabled files.now joined.now place))) }
 {
     let row = joined.files[place].as_slice();
-    let names = module_names(alloc, syntax, files, row)?;
+    let names = module_names(alloc, files, syntax, row)?;
     let modules = take_inner(
         alloc,
         slots,
@@ -54,7 +54,7 @@ fn compile_place<'a, 'src, S: Syntax>(
         modules,
         source: Text::from_str(alloc, files.keys[place].1.as_str())?,
     };
-    let justfile = analyze_module(alloc, syntax, files, row, place, surroundings, recipes)?;
+    let justfile = analyze_module(alloc, files, syntax, row, place, surroundings, recipes)?;
     slots[place] = Some(justfile);
     Ok(())
 }
@@ -74,8 +74,8 @@ fn no_slots<'src>(alloc: Global, count: usize) -> Result<Vec<Option<Justfile<'sr
 /// without a name, and the recipes of all, one module after another.
 pub fn compile_in_order<'a, 'src, S: Syntax>(
     alloc: Global,
+    files: &Files<'src, 'a>,
     syntax: &S,
-    files: &Files<'a, 'src>,
     joined: &Joined,
     loaded: &Shared<Sequence<Text>>,
     order: &[usize],
@@ -89,8 +89,8 @@ pub fn compile_in_order<'a, 'src, S: Syntax>(
     for place in order {
         compile_place(
             alloc,
-            syntax,
             files,
+            syntax,
             joined,
             loaded,
             *place,

@@ -2,23 +2,24 @@ ghost use Rattle.std.specs.Prelude.{◌≡◌, ◌<◌, IfOk, Some, length, slic
 ghost use Rattle.just_modules.specs.Recipes.{recipes_of, recipe_at};
 ghost use Rattle.just_modules.specs.Definitions.{recipes_in};
 
+use crate::enabled::is_enabled;
 use just_parts::UnresolvedRecipe;
 use just_parts::layers::{Item, Syntax};
 use std::alloc::{AllocError, Global};
 
 /// The recipes of a module, before they are resolved.
 #[derive(Drop)]
-pub struct Definitions<'a, 'src> {
+pub struct Definitions<'src, 'a> {
     /// The recipes, file after file.
     pub recipes: Vec<&'a UnresolvedRecipe<'src>>,
 }
 
-impl<'a, 'src> Definitions<'a, 'src> {
+impl<'a, 'src> Definitions<'src, 'a> {
     ghost use Rattle.std.specs.Prelude.{◌++◌, [], OnOk};
     ghost use Rattle.just_modules.specs.Definitions.{recipes_in};
 
     /// No recipes.
-    pub fn new(alloc: Global) -> Definitions<'a, 'src>
+    pub fn new(alloc: Global) -> Definitions<'src, 'a>
         ensures { recipes_in result ≡ [] }
     {
         Definitions {
@@ -27,11 +28,11 @@ impl<'a, 'src> Definitions<'a, 'src> {
     }
 
     /// Adds the recipes of the enabled items, in the order of the text. Other items are not looked at.
-    pub fn add<S: Syntax>(&mut self, syntax: &S, items: &'a [Item<'src>]) -> Result<(), AllocError>
+    pub fn add<S: Syntax>(&mut self, items: &'a [Item<'src>], syntax: &S) -> Result<(), AllocError>
         ensures { OnOk result (recipes_in self.new ≡ recipes_in self.old ++ recipes_of (S.answers syntax.now).enabled items.now) }
     {
         for item in items {
-            if !syntax.is_enabled(item) {
+            if !is_enabled(item, syntax) {
                 continue;
             }
             match item {
@@ -45,7 +46,7 @@ impl<'a, 'src> Definitions<'a, 'src> {
 
 // The recipe that is lent at a place.
 fn lent_at<'b, 'a, 'src>(
-    definitions: &'b Definitions<'a, 'src>,
+    definitions: &'b Definitions<'src, 'a>,
     place: usize,
 ) -> &'b UnresolvedRecipe<'src>
     requires { place < length definitions.now.recipes.items }
@@ -56,7 +57,7 @@ fn lent_at<'b, 'a, 'src>(
 
 /// The recipe at a place.
 pub fn recipe_at<'b, 'a, 'src>(
-    definitions: &'b Definitions<'a, 'src>,
+    definitions: &'b Definitions<'src, 'a>,
     place: usize,
 ) -> &'b UnresolvedRecipe<'src>
     requires { place < length definitions.now.recipes.items }

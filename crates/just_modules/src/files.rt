@@ -7,6 +7,7 @@ ghost use Rattle.just_graph.specs.Building.{EachRow};
 ghost use Rattle.just_parts.specs.Asts.{same_ast_key};
 ghost use Rattle.just_modules.specs.Files.{ArePlaced, ArePlacesOf, AreRows, AreRowsOf, HoldsAll, HoldsEach, asts_in, led, led_from, led_of};
 
+use crate::enabled::is_enabled;
 use just_data::Text;
 use just_names::Modulepath;
 use just_parts::layers::{Ast, Item, Syntax};
@@ -15,7 +16,7 @@ use std::collections::HashMap;
 
 /// The files of a compilation, each at a place, what they say, and the places of their keys.
 #[derive(Drop)]
-pub struct Files<'a, 'src> {
+pub struct Files<'src, 'a> {
     /// The path of the module and that of the file, of each file.
     pub keys: Vec<&'a (Modulepath, Text)>,
     /// What each file says.
@@ -37,7 +38,7 @@ pub struct Rows {
 pub fn place_files<'a, 'src>(
     alloc: Global,
     asts: &'a HashMap<(Modulepath, Text), Ast<'src>>,
-) -> Result<Files<'a, 'src>, AllocError>
+) -> Result<Files<'src, 'a>, AllocError>
     ensures { IfOk result (ArePlaced asts.now.entries) }
 {
     let mut keys = Vec::with_capacity(alloc, asts.len())?;
@@ -59,9 +60,9 @@ pub fn place_files<'a, 'src>(
 // The key to which an item of a module's file leads: that of a module where `inside` is set, else that of an import.
 fn key_of_item<'src>(
     alloc: Global,
+    item: &Item<'src>,
     inside: bool,
     path: &Modulepath,
-    item: &Item<'src>,
 ) -> Result<Option<(Modulepath, Text)>, AllocError>
     ensures { IfOk result (λ key. option_to_list key ≡ led inside path.now item.now) }
 {
@@ -88,20 +89,20 @@ fn key_of_item<'src>(
 // The places of the files to which the enabled items of a module's file lead.
 fn row<'src, S: Syntax>(
     alloc: Global,
+    ast: &Ast<'src>,
     syntax: &S,
     places: &HashMap<(Modulepath, Text), usize>,
     inside: bool,
-    ast: &Ast<'src>,
 ) -> Result<Vec<usize>, AllocError>
     requires { HoldsAll (get same_ast_key places.now) (led_of inside (S.answers syntax.now).enabled ast.now) }
     ensures { IfOk result (λ row. ArePlacesOf (get same_ast_key places.now) (led_of inside (S.answers syntax.now).enabled ast.now) row.items) }
 {
     let mut row = Vec::new(alloc);
     for item in ast.items.as_slice() {
-        if !syntax.is_enabled(item) {
+        if !is_enabled(item, syntax) {
             continue;
         }
-        let Some(key) = key_of_item(alloc, inside, &ast.module_path, item)? else {
+        let Some(key) = key_of_item(alloc, item, inside, &ast.module_path)? else {
             continue;
         };
         let Some(place) = places.get(&key) else {
@@ -113,7 +114,7 @@ fn row<'src, S: Syntax>(
 }
 
 /// What the file at a place says.
-pub fn ast_at<'b, 'a, 'src>(files: &'b Files<'a, 'src>, place: usize) -> &'b Ast<'src>
+pub fn ast_at<'b, 'a, 'src>(files: &'b Files<'src, 'a>, place: usize) -> &'b Ast<'src>
     requires { place < length files.now.asts.items }
     ensures { slice_get (asts_in files.now) place ≡ Some result.now }
 {
@@ -123,8 +124,8 @@ pub fn ast_at<'b, 'a, 'src>(files: &'b Files<'a, 'src>, place: usize) -> &'b Ast
 // The rows of all files.
 fn rows_of<'a, 'src, S: Syntax>(
     alloc: Global,
+    files: &Files<'src, 'a>,
     syntax: &S,
-    files: &Files<'a, 'src>,
     inside: bool,
 ) -> Result<Vec<Vec<usize>>, AllocError>
     requires { (p : ℕ) → HoldsAll (get same_ast_key files.now.places) (led_from inside (S.answers syntax.now).enabled (asts_in files.now) p) }
@@ -133,7 +134,7 @@ fn rows_of<'a, 'src, S: Syntax>(
     let mut rows = Vec::new(alloc);
     for place in 0..files.asts.len() {
         let ast = ast_at(files, place);
-        rows.push(row(alloc, syntax, &files.places, inside, ast)?)?;
+        rows.push(row(alloc, ast, syntax, &files.places, inside)?)?;
     }
     Ok(rows)
 }
@@ -141,22 +142,22 @@ fn rows_of<'a, 'src, S: Syntax>(
 /// What each file imports and which modules it declares, by places.
 pub fn file_rows<'a, 'src, S: Syntax>(
     alloc: Global,
+    files: &Files<'src, 'a>,
     syntax: &S,
-    files: &Files<'a, 'src>,
 ) -> Result<Rows, AllocError>
     requires { HoldsEach (S.answers syntax.now).enabled files.now }
     ensures { IfOk result (AreRows (S.answers syntax.now).enabled files.now) }
 {
     Ok(Rows {
-        imports: rows_of(alloc, syntax, files, false)?,
-        modules: rows_of(alloc, syntax, files, true)?,
+        imports: rows_of(alloc, files, syntax, false)?,
+        modules: rows_of(alloc, files, syntax, true)?,
     })
 }
 
 /// The place of the file of a key that is held.
 pub fn place_of<'a, 'src>(
     alloc: Global,
-    files: &Files<'a, 'src>,
+    files: &Files<'src, 'a>,
     module_path: &Modulepath,
     file: &str,
 ) -> Result<usize, AllocError>

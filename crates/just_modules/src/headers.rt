@@ -2,7 +2,7 @@ ghost use Rattle.std.specs.Prelude.{◌≡◌, ◌<◌, ℕ, length, min, IfOk, 
 ghost use Rattle.std.specs.Str.{bytes_eq};
 ghost use Rattle.std.specs.HashMap.{get};
 ghost use Rattle.just_names.specs.Name.{text_of_name};
-ghost use Rattle.just_parts.specs.declared.layers.parameter.Parameter.{Parameter};
+ghost use Rattle.just_records.specs.declared.parameter.Parameter.{Parameter};
 ghost use Rattle.just_parts.specs.declared.layers.error.CompileErrorKind.TheVariants as kind;
 ghost use Rattle.just_parts.specs.declared.layers.error.Definition.TheVariants as definition;
 ghost use Rattle.just_modules.specs.Index.{AreDifferent, IsIndex};
@@ -23,7 +23,7 @@ use std::collections::HashMap;
 
 fn recipe_names<'a, 'src>(
     alloc: Global,
-    definitions: &Definitions<'a, 'src>,
+    definitions: &Definitions<'src, 'a>,
 ) -> Result<Vec<BorrowedText<'src>>, AllocError>
     ensures { IfOk result (λ names. names.items ≡ names_of (recipes_in definitions.now)) }
 {
@@ -50,7 +50,7 @@ fn parameter_names<'src>(
 // Refuses a recipe that has two parameters of one name.
 fn check_parameters_at<'a, 'src>(
     alloc: Global,
-    definitions: &Definitions<'a, 'src>,
+    definitions: &Definitions<'src, 'a>,
     place: usize,
 ) -> Result<(), Error<'src>>
     requires { place < length definitions.now.recipes.items }
@@ -75,7 +75,7 @@ fn check_parameters_at<'a, 'src>(
 /// Refuses the first recipe that has two parameters of one name.
 pub fn check_parameters<'a, 'src>(
     alloc: Global,
-    definitions: &Definitions<'a, 'src>,
+    definitions: &Definitions<'src, 'a>,
 ) -> Result<(), Error<'src>>
     ensures kept { OnOk result (Keeps (Parameters (recipes_in definitions.now))) }
     ensures named { IfErr result (Reports (Parameters (recipes_in definitions.now))) }
@@ -113,7 +113,7 @@ fn redefinition<'src>(
 /// The place of each recipe's name. Two recipes of one name are refused.
 pub fn index_recipes<'a, 'src>(
     alloc: Global,
-    definitions: &Definitions<'a, 'src>,
+    definitions: &Definitions<'src, 'a>,
 ) -> Result<HashMap<BorrowedText<'src>, usize>, Error<'src>>
     ensures kept { IfOk result (λ _. Keeps (Bodies (recipes_in definitions.now))) }
     ensures different { IfOk result (λ _. AreDifferent (names_of (recipes_in definitions.now))) }

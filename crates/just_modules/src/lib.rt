@@ -4,6 +4,7 @@
 mod analyzer;
 mod compiling;
 mod definitions;
+mod enabled;
 mod files;
 mod headers;
 mod inner;

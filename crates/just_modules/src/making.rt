@@ -18,7 +18,7 @@ use std::alloc::{AllocError, Global};
 // The keys of the recipes, under their names.
 fn recipe_keys<'a, 'src>(
     alloc: Global,
-    definitions: &Definitions<'a, 'src>,
+    definitions: &Definitions<'src, 'a>,
 ) -> Result<Table<'src, RecipeKey<'src>>, AllocError>
     requires { AreDifferent (names_of (recipes_in definitions.now)) }
     ensures keys { IfOk result (AreKeysOf (recipes_in definitions.now) (length definitions.now.recipes.items)) }
@@ -48,7 +48,7 @@ fn comes_before<'src>(recipe: &UnresolvedRecipe<'src>, other: &UnresolvedRecipe<
 }
 
 // The place of the recipe on the least line, and of those there of the greatest name.
-fn default_place<'a, 'src>(definitions: &Definitions<'a, 'src>) -> Option<usize>
+fn default_place<'a, 'src>(definitions: &Definitions<'src, 'a>) -> Option<usize>
     ensures found { IfSome result (IsDefault (recipes_in definitions.now)) }
     ensures missing { IfNone result (recipes_in definitions.now ≡ []) }
 {
@@ -79,8 +79,8 @@ pub struct Surroundings<'src> {
 /// The justfile of a module with these recipes, of which its own file says `own`. It has no label.
 pub fn make_justfile<'a, 'src>(
     alloc: Global,
-    definitions: &Definitions<'a, 'src>,
-    own: &Definitions<'a, 'src>,
+    definitions: &Definitions<'src, 'a>,
+    own: &Definitions<'src, 'a>,
     ast: &Ast<'src>,
     surroundings: Surroundings<'src>,
 ) -> Result<Justfile<'src>, AllocError>

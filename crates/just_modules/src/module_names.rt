@@ -8,6 +8,7 @@ ghost use Rattle.just_modules.specs.Files.{asts_in};
 ghost use Rattle.just_modules.specs.Named.{name_by, names_from, names_said};
 ghost use Rattle.just_modules.specs.Steps.{HaveFiles, HaveNames, RepeatsNames};
 
+use crate::enabled::is_enabled;
 use crate::files::{Files, ast_at};
 use crate::headers::check_modules;
 use crate::joined::Joined;
@@ -30,14 +31,14 @@ fn declared_name<'a, 'src>(item: &'a Item<'src>) -> Option<&'a Name<'src>>
 
 // Pushes the names of the modules that enabled items declare.
 fn push_names<'src, S: Syntax>(
-    syntax: &S,
     items: &[Item<'src>],
+    syntax: &S,
     names: &mut Vec<Name<'src>>,
 ) -> Result<(), AllocError>
     ensures { OnOk result (names.new.items ≡ names.old.items ++ names_said (S.answers syntax.now).enabled items.now) }
 {
     for item in items {
-        if !syntax.is_enabled(item) {
+        if !is_enabled(item, syntax) {
             continue;
         }
         let Some(name) = declared_name(item) else {
@@ -51,8 +52,8 @@ fn push_names<'src, S: Syntax>(
 /// The names of the modules that the files at places declare, file after file.
 pub fn module_names<'a, 'src, S: Syntax>(
     alloc: Global,
+    files: &Files<'src, 'a>,
     syntax: &S,
-    files: &Files<'a, 'src>,
     places: &[usize],
 ) -> Result<Vec<Name<'src>>, AllocError>
     requires { All (λ p. p < length files.now.asts.items) places.now }
@@ -60,7 +61,7 @@ pub fn module_names<'a, 'src, S: Syntax>(
 {
     let mut names = Vec::new(alloc);
     for place in places {
-        push_names(syntax, ast_at(files, *place).items.as_slice(), &mut names)?;
+        push_names(ast_at(files, *place).items.as_slice(), syntax, &mut names)?;
     }
     Ok(names)
 }
@@ -68,8 +69,8 @@ pub fn module_names<'a, 'src, S: Syntax>(
 /// Refuses the first module of an order in which two modules have one name.
 pub fn check_module_names<'a, 'src, S: Syntax>(
     alloc: Global,
+    files: &Files<'src, 'a>,
     syntax: &S,
-    files: &Files<'a, 'src>,
     joined: &Joined,
     order: &[usize],
 ) -> Result<(), Error<'src>>
@@ -80,7 +81,7 @@ pub fn check_module_names<'a, 'src, S: Syntax>(
 {
     for place in order {
         let row = joined.files[*place].as_slice();
-        let names = module_names(alloc, syntax, files, row)?;
+        let names = module_names(alloc, files, syntax, row)?;
         check_modules(alloc, names.as_slice())?;
     }
     Ok(())

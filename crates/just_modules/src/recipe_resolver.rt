@@ -38,7 +38,7 @@ fn place_of_path<'src>(
 
 // The place of the recipe that a dependency names, which takes as many arguments as it gives: none.
 fn target<'a, 'src>(
-    definitions: &Definitions<'a, 'src>,
+    definitions: &Definitions<'src, 'a>,
     index: &HashMap<BorrowedText<'src>, usize>,
     place: usize,
     at: usize,
@@ -79,7 +79,7 @@ fn target<'a, 'src>(
 // The places of the recipes that a recipe depends on, in the order of its dependencies.
 fn row<'a, 'src>(
     alloc: Global,
-    definitions: &Definitions<'a, 'src>,
+    definitions: &Definitions<'src, 'a>,
     index: &HashMap<BorrowedText<'src>, usize>,
     place: usize,
 ) -> Result<Vec<usize>, Error<'src>>
@@ -98,7 +98,7 @@ fn row<'a, 'src>(
 // The row of each recipe.
 fn rows<'a, 'src>(
     alloc: Global,
-    definitions: &Definitions<'a, 'src>,
+    definitions: &Definitions<'src, 'a>,
     index: &HashMap<BorrowedText<'src>, usize>,
 ) -> Result<Vec<Vec<usize>>, Error<'src>>
     requires index { IsIndex (names_of (recipes_in definitions.now)) (get bytes_eq index.now) }
@@ -127,7 +127,7 @@ fn places_below(alloc: Global, count: usize) -> Result<Vec<usize>, AllocError>
 // The names of the recipes at places.
 fn names_at<'a, 'src>(
     alloc: Global,
-    definitions: &Definitions<'a, 'src>,
+    definitions: &Definitions<'src, 'a>,
     places: &[usize],
 ) -> Result<Sequence<BorrowedText<'src>>, AllocError>
     requires { All (λ place. place < length definitions.now.recipes.items) places.now }
@@ -142,7 +142,7 @@ fn names_at<'a, 'src>(
 
 // The token of a recipe's first dependency that is the recipe at a place, or of its name where there is none.
 fn dependency_token<'a, 'src>(
-    definitions: &Definitions<'a, 'src>,
+    definitions: &Definitions<'src, 'a>,
     rows: &[Vec<usize>],
     dependent: usize,
     place: usize,
@@ -164,7 +164,7 @@ fn dependency_token<'a, 'src>(
 // Lists the places of all recipes, each after those that it depends on.
 fn ordered<'a, 'src>(
     alloc: Global,
-    definitions: &Definitions<'a, 'src>,
+    definitions: &Definitions<'src, 'a>,
     rows: &[Vec<usize>],
 ) -> Result<Vec<usize>, Error<'src>>
     requires different { AreDifferent (names_of (recipes_in definitions.now)) }
@@ -203,7 +203,7 @@ fn row_at(rows: &[Vec<usize>], place: usize) -> &[usize]
 /// The recipes of the module at `module_path` in an order, each resolved.
 pub fn resolve_in_order<'a, 'src>(
     alloc: Global,
-    definitions: &Definitions<'a, 'src>,
+    definitions: &Definitions<'src, 'a>,
     rows: &[Vec<usize>],
     order: &[usize],
     module_path: &Modulepath,
@@ -229,7 +229,7 @@ pub fn resolve_in_order<'a, 'src>(
 /// that is no recipe or lacks arguments, or recipes that depend on themselves.
 pub fn order_recipes<'a, 'src>(
     alloc: Global,
-    definitions: &Definitions<'a, 'src>,
+    definitions: &Definitions<'src, 'a>,
     index: &HashMap<BorrowedText<'src>, usize>,
 ) -> Result<(Vec<Vec<usize>>, Vec<usize>), Error<'src>>
     requires different { AreDifferent (names_of (recipes_in definitions.now)) }

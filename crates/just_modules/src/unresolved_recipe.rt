@@ -14,7 +14,7 @@ use std::alloc::{AllocError, Global};
 // The dependencies, each with the number of the recipe at the place beside it.
 fn link<'a, 'src>(
     alloc: Global,
-    definitions: &Definitions<'a, 'src>,
+    definitions: &Definitions<'src, 'a>,
     dependencies: &[UnresolvedDependency<'src>],
     places: &[usize],
 ) -> Result<Sequence<Dependency<'src>>, AllocError>
@@ -35,7 +35,7 @@ fn link<'a, 'src>(
 /// The resolved form of a recipe of the module at `module_path`, whose dependencies lead to the recipes at `places`.
 pub fn resolve<'a, 'src>(
     alloc: Global,
-    definitions: &Definitions<'a, 'src>,
+    definitions: &Definitions<'src, 'a>,
     recipe: &UnresolvedRecipe<'src>,
     places: &[usize],
     module_path: &Modulepath,
@@ -44,16 +44,7 @@ pub fn resolve<'a, 'src>(
     requires places { All (λ place. place < length definitions.now.recipes.items) places.now }
     ensures { IfOk result (Resolves (recipes_in definitions.now) module_path.now recipe.now places.now) }
 {
-    Ok(Recipe {
-        dependencies: link(alloc, definitions, recipe.dependencies.as_slice(), places)?,
-        file_depth: recipe.file_depth,
-        import_offsets: recipe.import_offsets.clone()?,
-        name: recipe.name.copied(),
-        number: recipe.number,
-        parameters: recipe.parameters.clone()?,
-        priors: recipe.priors,
-        private: recipe.private,
-        module_path: Some(module_path.clone()?),
-        recipe_path: Some(module_path.join(recipe.name.lexeme())?),
-    })
+    let dependencies = link(alloc, definitions, recipe.dependencies.as_slice(), places)?;
+    let recipe_path = module_path.join(recipe.name.lexeme())?;
+    recipe.resolved(alloc, dependencies, module_path.clone()?, recipe_path)
 }

@@ -1,8 +1,8 @@
 -- How an item leads to a file.
 use Rattle.std.specs.Prelude.{ℕ, Bool, List, Option, None, Some}
 use Rattle.just_names.specs.declared.name.Name.{Name}
-use Rattle.just_parts.specs.declared.layers.ast.StringLiteral.{StringLiteral}
-use Rattle.just_parts.specs.declared.layers.ast.Item.{Item}
+use Rattle.just_records.specs.declared.string_literal.StringLiteral.{StringLiteral}
+use Rattle.just_parts.specs.Items.{Item}
 use Rattle.just_parts.specs.declared.layers.ast.Item.TheVariants as item
 use Rattle.just_parts.specs.declared.layers.edge.Edge.{Edge as LentEdge}
 use Rattle.just_parts.specs.declared.layers.edge.Edge.TheVariants as lent
@@ -14,7 +14,7 @@ pub data Edge : Type 0 where
 
 abbrev pub edge_of : Item → Option Edge
 edge_of (item.Import relative absolute optional) = Some (Imports relative optional)
-edge_of (item.Module name relative absolute optional) = Some (Declares name relative optional)
+edge_of (item.Module name relative absolute attributes doc optional) = Some (Declares name relative optional)
 edge_of _ = None
 
 -- the same where it borrows from the item
@@ -25,11 +25,11 @@ lent_edge (lent.Module name relative optional) = Declares name.now relative.now 
 -- the absolute path of the file to which an item leads, as far as it stands in the item
 abbrev pub absolute_of : Item → Option (List ℕ)
 absolute_of (item.Import relative absolute optional) = absolute
-absolute_of (item.Module name relative absolute optional) = absolute
+absolute_of (item.Module name relative absolute attributes doc optional) = absolute
 absolute_of _ = None
 
 -- an item with the absolute path of the file to which it leads, where it leads to files
 abbrev pub with_absolute : Option (List ℕ) → Item → Item
 with_absolute path (item.Import relative absolute optional) = item.Import relative path optional
-with_absolute path (item.Module name relative absolute optional) = item.Module name relative path optional
+with_absolute path (item.Module name relative absolute attributes doc optional) = item.Module name relative path attributes doc optional
 with_absolute path i = i

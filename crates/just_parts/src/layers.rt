@@ -8,11 +8,10 @@ pub mod evaluation;
 pub mod halt;
 pub mod host;
 pub mod output;
-pub mod parameter;
 pub mod syntax;
 mod wording;
 
-pub use ast::{Ast, Item, StringLiteral, UnresolvedDependency};
+pub use ast::{Ast, Item, UnresolvedDependency};
 pub use config::Config;
 pub use edge::Edge;
 pub use error::{
@@ -22,6 +21,12 @@ pub use evaluation::Evaluation;
 pub use halt::Halt;
 pub use host::{Entry, Groups, Host};
 pub use just_names::{Exhausted, Name, Namepath, Number, Numerator, Token};
+pub use just_records::{
+    ArgumentAttribute, ArgumentProperty, Assignment, Attribute, CacheAttribute,
+    ConditionalOperator, EnvironmentAttribute, Expression, Fragment, FunctionDefinition,
+    FunctionParameter, Interpreter, Keyword, Line, ListFeature, ListUse, NamedAttribute, Parameter,
+    ParameterKind, Pattern, Set, Setting, Settings, Shape, Sigil, Signal, StringLiteral,
+    UnstableFeature, Warning,
+};
 pub use output::{Output, WriteFailed};
-pub use parameter::{Parameter, ParameterKind};
 pub use syntax::Syntax;

@@ -1,22 +1,29 @@
 //! Recipes, as a text says them and resolved.
 ghost use Rattle.std.specs.Prelude.{◌≡◌, ◌≤◌, length, take, drop, count_by, IsSome, Some};
 ghost use Rattle.std.specs.List.{list_any};
-ghost use Rattle.just_parts.specs.declared.layers.parameter.Parameter.{Parameter};
-ghost use Rattle.just_parts.specs.Parameter.{is_required, is_variadic, least_arguments, most_arguments};
+ghost use Rattle.just_records.specs.declared.parameter.Parameter.{Parameter};
+ghost use Rattle.just_parts.specs.Script.{is_shell};
+ghost use Rattle.just_records.specs.Parameter.{is_required, is_variadic, least_arguments, most_arguments};
 
 use crate::dependency::Dependency;
 use crate::layers::ast::UnresolvedDependency;
-use crate::layers::parameter::Parameter;
-use just_data::{Chain, Exact, Sequence};
+use just_data::{Chain, Exact, Sequence, Text};
 use just_names::{Modulepath, Name, Number};
-use std::alloc::AllocError;
+use just_records::{Attribute, Line, NamedAttribute, Parameter, Settings};
+use std::alloc::{AllocError, Global};
 
-/// A recipe. Its first `priors` dependencies run before it, the others after it. The last two fields are there once
+/// A recipe. Its first `priors` dependencies run before it, the others after it. The last three fields are there once
 /// it is resolved.
 #[derive(Debug, PartialEq, Eq, Drop)]
 pub struct Recipe<'src, D = Dependency<'src>> {
+    /// What stands in brackets before it, in order.
+    pub attributes: Sequence<NamedAttribute<'src>>,
+    /// Its lines.
+    pub body: Sequence<Line<'src>>,
     /// What it depends on: those that run before it, then those that run after it.
     pub dependencies: Sequence<D>,
+    /// What a listing says of it.
+    pub doc: Option<Text>,
     /// How many imports and modules lead from the root to its file, at least.
     pub file_depth: u64,
     /// How many bytes stand before the path of each import that leads to its file within its module, the outermost first.
@@ -31,10 +38,16 @@ pub struct Recipe<'src, D = Dependency<'src>> {
     pub priors: usize,
     /// Whether it is left out of listings.
     pub private: bool,
+    /// Whether its lines are not shown, where they do not say otherwise.
+    pub quiet: bool,
+    /// Whether the text says that it is a script.
+    pub shebang: bool,
     /// The path of its module, once it is resolved.
     pub module_path: Option<Modulepath>,
     /// Its own path, which ends with its name, once it is resolved.
     pub recipe_path: Option<Modulepath>,
+    /// The numbers of the variables that it needs, each once.
+    pub variable_references: Sequence<Number>,
 }
 
 /// A recipe as the source text says it.
@@ -105,22 +118,123 @@ impl<'src> Recipe<'src> {
     }
 }
 
-impl<'src, D: Exact> Clone for Recipe<'src, D> {
-    ghost is_clone = { λ recipe copy. copy ≡ recipe };
+impl<'src, D> Recipe<'src, D> {
+    ghost use Rattle.just_parts.specs.Script.{is_script};
 
-    fn clone(&self) -> Result<Recipe<'src, D>, AllocError> {
+    /// Whether its body is a script, and not lines for a shell, under these settings.
+    pub fn is_script(&self, settings: &Settings) -> bool
+        ensures { result ≡ is_script self.now settings.now }
+    {
+        if is_shell(self.attributes.as_slice()) {
+            return false;
+        }
+        self.shebang || settings.default_script
+    }
+}
+
+// Whether an attribute says that it is no script.
+fn is_shell(attributes: &[NamedAttribute]) -> bool
+    ensures { result ≡ list_any is_shell attributes.now }
+{
+    attributes
+        .iter()
+        .any(|named| matches!(named.attribute, Attribute::Shell))
+}
+
+// What the text says of a recipe, its dependencies aside.
+#[derive(Drop)]
+struct Said<'src> {
+    attributes: Sequence<NamedAttribute<'src>>,
+    body: Sequence<Line<'src>>,
+    doc: Option<Text>,
+    parameters: Sequence<Parameter<'src>>,
+}
+
+impl<'src, D> Recipe<'src, D> {
+    ghost use Rattle.std.specs.Prelude.{◌≡◌, IfOk};
+
+    fn clone_said(&self) -> Result<Said<'src>, AllocError>
+        ensures attributes { IfOk result (λ s. (s.attributes ≡ self.now.attributes) × (s.body ≡ self.now.body)) }
+        ensures parameters { IfOk result (λ s. (s.doc ≡ self.now.doc) × (s.parameters ≡ self.now.parameters)) }
+    {
+        let attributes = self.attributes.clone()?;
+        let body = self.body.clone()?;
+        let doc = self.doc.clone()?;
+        let parameters = self.parameters.clone()?;
+        Ok(Said {
+            attributes,
+            body,
+            doc,
+            parameters,
+        })
+    }
+}
+
+impl<'src, D> Recipe<'src, D> {
+    ghost use Rattle.std.specs.Prelude.{◌≡◌, IfOk};
+    ghost use Rattle.just_parts.specs.Resolved.{resolved, unresolved};
+
+    // The recipe with these dependencies, before it is resolved.
+    fn unresolved<E: Drop>(
+        &self,
+        alloc: Global,
+        dependencies: Sequence<E>,
+    ) -> Result<Recipe<'src, E>, AllocError>
+        ensures { IfOk result (λ made. made ≡ unresolved self.now dependencies) }
+    {
+        let Said {
+            attributes,
+            body,
+            doc,
+            parameters,
+        } = self.clone_said()?;
         Ok(Recipe {
-            dependencies: self.dependencies.clone()?,
+            attributes,
+            body,
+            dependencies,
+            doc,
             file_depth: self.file_depth,
             import_offsets: self.import_offsets.clone()?,
             name: self.name.copied(),
             number: self.number,
-            parameters: self.parameters.clone()?,
+            parameters,
             priors: self.priors,
             private: self.private,
-            module_path: self.module_path.clone()?,
-            recipe_path: self.recipe_path.clone()?,
+            quiet: self.quiet,
+            shebang: self.shebang,
+            module_path: None,
+            recipe_path: None,
+            variable_references: Sequence::new(alloc),
         })
+    }
+
+    /// The recipe with these dependencies, resolved to these paths. No variables are told yet that it needs.
+    pub fn resolved<E: Drop>(
+        &self,
+        alloc: Global,
+        dependencies: Sequence<E>,
+        module_path: Modulepath,
+        recipe_path: Modulepath,
+    ) -> Result<Recipe<'src, E>, AllocError>
+        ensures { IfOk result (λ made. made ≡ resolved self.now dependencies module_path recipe_path) }
+    {
+        let mut made = self.unresolved(alloc, dependencies)?;
+        made.module_path = Some(module_path);
+        made.recipe_path = Some(recipe_path);
+        Ok(made)
+    }
+}
+
+impl<'src, D: Exact> Clone for Recipe<'src, D> {
+    ghost is_clone = { λ recipe copy. copy ≡ recipe };
+
+    fn clone(&self) -> Result<Recipe<'src, D>, AllocError> {
+        let alloc = self.variable_references.alloc();
+        let mut copy = self.unresolved(alloc, self.dependencies.clone()?)?;
+        copy.module_path = self.module_path.clone()?;
+        copy.recipe_path = self.recipe_path.clone()?;
+        copy.variable_references = self.variable_references.clone()?;
+        Ok(copy)
     }
 }
 

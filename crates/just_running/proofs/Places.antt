@@ -8,7 +8,7 @@ use Rattle.std.proofs.lemmas.List.{append-nil, length_push, get_or_default, map-
 use Rattle.std.proofs.lemmas.Option.{slice_get-get_or}
 use Rattle.std.proofs.lemmas.Map.Made.{Contains-tail}
 use Rattle.just_parts.specs.declared.dependency.Dependency.{Dependency}
-use Rattle.just_parts.specs.declared.layers.parameter.Parameter.{Parameter}
+use Rattle.just_records.specs.declared.parameter.Parameter.{Parameter}
 use Rattle.just_parts.specs.declared.recipe.Recipe.{Recipe}
 use Rattle.just_running.specs.declared.pair.Pair.{Pair}
 use Rattle.just_running.specs.declared.task.Task.{Task}

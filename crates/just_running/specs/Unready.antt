@@ -2,10 +2,10 @@
 use Rattle.std.specs.Prelude.{◌≡◌, ◌<◌, ℕ, Bool, true, false, List, [], length, map, Some}
 use Rattle.std.specs.List.{All, list_any, slice_get, Contains}
 use Rattle.just_graph.specs.Steps.{Reached}
-use Rattle.just_parts.specs.Parameter.{is_variadic}
+use Rattle.just_records.specs.Parameter.{is_variadic}
 use Rattle.just_names.specs.Token.{lexeme}
 use Rattle.just_parts.specs.declared.dependency.Dependency.{Dependency}
-use Rattle.just_parts.specs.declared.layers.parameter.Parameter.{Parameter}
+use Rattle.just_records.specs.declared.parameter.Parameter.{Parameter}
 use Rattle.just_parts.specs.declared.recipe.Recipe.{Recipe}
 use Rattle.just_running.specs.declared.task.Task.{Task}
 use Rattle.just_running.specs.Pairs.{place_of, needed}

@@ -1,7 +1,7 @@
 ghost use Rattle.std.specs.Prelude.{◌≡◌, [], map, IfOk};
 ghost use Rattle.std.specs.List.{All, Contains};
 ghost use Rattle.just_parts.specs.declared.dependency.Dependency.{Dependency};
-ghost use Rattle.just_parts.specs.declared.layers.parameter.Parameter.{Parameter};
+ghost use Rattle.just_records.specs.declared.parameter.Parameter.{Parameter};
 ghost use Rattle.just_running.specs.Pairs.{task_of};
 ghost use Rattle.just_running.specs.Recipes.{numbers};
 

@@ -23,13 +23,19 @@ pub struct Recipes<'src> {
 }
 
 impl<'src> Model for Recipes<'src> {
-    ghost use Rattle.std.specs.Prelude.{List, nat_eq};
+    ghost use Rattle.std.specs.Prelude.{List, [], nat_eq};
     ghost use Rattle.std.specs.HashMap.{get};
+    ghost use mir.Syntax.{erased};
+    ghost use Rattle.std.specs.Coded.{codes};
     ghost use Rattle.just_parts.specs.declared.dependency.Dependency.{Dependency};
     ghost use Rattle.just_parts.specs.declared.recipe.Recipe.{Recipe};
+    ghost use Rattle.just_records.specs.contracts.expression.Shape as shape;
+    ghost use Rattle.just_records.specs.contracts.expression.Expression as expression;
     ghost use Rattle.just_running.specs.Recipes.{IsOrdered, IsIndex};
 
     ghost Value = { List (Recipe Dependency) };
+
+    ghost coded = { Prim.hlevel (codes, (shape.the_row (record { mir = erased; lft = [] })).coded, (expression.the_row (record { mir = erased; lft = [] })).coded) };
 
     ghost view = { λ r. r.recipes.items };
 
@@ -168,16 +174,16 @@ impl<'src> Recipes<'src> {
             return Ok(());
         }
         let start = self.recipes.len();
-        index_all(&mut self.places, other.recipes.as_slice(), start)?;
+        index_all(other.recipes.as_slice(), start, &mut self.places)?;
         self.recipes.append(&mut other.recipes)
     }
 }
 
 // Puts the places of recipes, which begin at `start`, under their numbers. No other number has another place then.
 fn index_all(
-    places: &mut HashMap<u64, usize>,
     recipes: &[Recipe],
     start: usize,
+    places: &mut HashMap<u64, usize>,
 ) -> Result<(), AllocError>
     requires once { (i j : ℕ) → i < j → j < length recipes.now → slice_index (numbers recipes.now) i ≢ slice_index (numbers recipes.now) j }
     requires fits { start + length recipes.now < 2 ^ 64 }

@@ -37,7 +37,7 @@ fn what_was_read_is_copied(rt: HostRuntime) -> Result<(), Fail> {
         "a x y: b && c\nb:\nc:\nimport 'a'\nmod? m 'b'\nmod n\n",
     )?;
     assert_eq!(rt; ast.items.len(), 6);
-    assert!(rt; is_copied(&ast)?);
+    assert!(rt; is_copied(&ast.items)?);
     Ok(())
 }
 

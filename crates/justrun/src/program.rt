@@ -47,8 +47,8 @@ fn write_entries<W: Write>(output: &mut W, entries: &[Entry]) -> io::Result<()> 
 // Compiles the root of a bundle.
 fn compile<'src>(
     alloc: Global,
-    config: &Config,
     sources: &Sources<'src>,
+    config: &Config,
     root: &str,
 ) -> Result<Compilation<'src>, Error<'src>>
     requires { IsClean root.now }
@@ -60,8 +60,8 @@ fn compile<'src>(
 // Runs the words. The host records what began, before a fault too.
 fn run_words<'src>(
     alloc: Global,
-    config: &Config,
     compilation: &Compilation<'src>,
+    config: &Config,
     host: &mut Recorder,
     words: &[&str],
 ) -> Result<(), Error<'src>>
@@ -85,15 +85,15 @@ fn run_words<'src>(
 // Runs the words, and writes which recipes began.
 fn run_compilation<'src, W: Write>(
     alloc: Global,
-    config: &Config,
     compilation: &Compilation<'src>,
+    config: &Config,
     words: &[&str],
     output: &mut W,
 ) -> Result<(), Fault<'src>>
     requires { IsClosed compilation.now.justfile compilation.now.recipes }
 {
     let mut host = Recorder::new(alloc);
-    let ran = run_words(alloc, config, compilation, &mut host, words);
+    let ran = run_words(alloc, compilation, config, &mut host, words);
     let is_written = write_entries(output, host.entries()).is_ok();
     match ran {
         Err(error) => Err(Fault::Analyzer(error)),
@@ -113,8 +113,8 @@ fn run_sources<'src, W: Write>(
     requires { IsClean root.now }
 {
     let config = Config::default();
-    match compile(alloc, &config, sources, root) {
-        Ok(compilation) => run_compilation(alloc, &config, &compilation, words, output),
+    match compile(alloc, sources, &config, root) {
+        Ok(compilation) => run_compilation(alloc, &compilation, &config, words, output),
         Err(error) => Err(Fault::Analyzer(error)),
     }
 }

@@ -2,9 +2,10 @@
 ghost use Rattle.std.specs.Prelude.{◌≡◌, option_map};
 ghost use Rattle.just_parts.specs.Edge.{edge_of, lent_edge, with_absolute};
 
-use crate::layers::ast::{Item, StringLiteral};
+use crate::layers::ast::Item;
 use just_data::Text;
 use just_names::Name;
+use just_records::StringLiteral;
 
 /// How an item leads to a file. Where it is optional, the file may be missing.
 #[derive(Drop)]
@@ -50,32 +51,16 @@ impl<'src> Item<'src> {
         }
     }
 
-    /// The item with the absolute path of the file to which it leads, where it leads to files.
-    pub fn with_absolute(self, path: Option<Text>) -> Item<'src>
-        ensures { result ≡ with_absolute path self.entry }
+    /// Sets the absolute path of the file to which it leads. An item that leads to no file stays as it is.
+    pub fn set_absolute(&mut self, path: Option<Text>)
+        ensures { self.new ≡ with_absolute path self.old }
     {
-        match self {
-            Item::Import {
-                relative,
-                absolute: _absolute,
-                optional,
-            } => Item::Import {
-                relative,
-                absolute: path,
-                optional,
-            },
-            Item::Module {
-                name,
-                relative,
-                absolute: _absolute,
-                optional,
-            } => Item::Module {
-                name,
-                relative,
-                absolute: path,
-                optional,
-            },
-            item => item,
+        if let Item::Import { absolute, .. } = self {
+            *absolute = path;
+            return;
+        }
+        if let Item::Module { absolute, .. } = self {
+            *absolute = path;
         }
     }
 }

@@ -1,14 +1,16 @@
 //! The layer that reads source texts.
-ghost use Rattle.std.specs.Prelude.{◌≡◌, ◌+◌, ◌^◌, ◌≤◌, Some, IfOk, IfErr, OnOk};
+ghost use Rattle.std.specs.Prelude.{◌≡◌, ◌≢◌, [], ◌+◌, ◌^◌, ◌≤◌, Some, IfOk, IfErr, OnOk};
 ghost use Rattle.just_parts.specs.Bare.{bare_ast, bare_item};
-ghost use Rattle.just_parts.specs.Syntax.{SyntaxAnswers, IsFrom, numbers, AreRising, Refuses, PriorsAreDependencies};
+ghost use Rattle.just_parts.specs.Syntax.{SyntaxAnswers, IsFrom, numbers, AreRising, AttributesNameParameters, BeginsWithText, Refuses, PriorsAreDependencies};
 ghost use Rattle.std.specs.List.{All};
 
 use crate::layers::ast::{Ast, Item};
 use crate::layers::error::Error;
 use crate::source::Source;
+use just_data::Sequence;
 use just_names::Numerator;
-use std::alloc::Global;
+use just_records::{Keyword, Line, Setting, Settings, Sigil};
+use std::alloc::{AllocError, Global};
 
 /// The grammar of the source texts.
 pub trait Syntax {
@@ -31,6 +33,7 @@ pub trait Syntax {
         ensures source { IfOk result (IsFrom source.now) }
         ensures numbers { IfOk result (λ ast. AreRising numerator.old (numbers ast.items) numerator.new) }
         ensures priors { IfOk result (λ ast. All PriorsAreDependencies ast.items) }
+        ensures attributes { IfOk result (λ ast. All AttributesNameParameters ast.items) }
         ensures spent { OnOk result (numerator.new ≡ numerator.old + (answers self.now).spends relative.now text.now) }
         ensures fits { OnOk result (numerator.old ≤ 2 ^ 64 → numerator.old + (answers self.now).spends relative.now text.now ≤ 2 ^ 64) }
         ensures refused { IfErr result (Refuses (answers self.now) relative.now text.now numerator.old) }
@@ -39,4 +42,38 @@ pub trait Syntax {
     /// Whether the item counts here.
     fn is_enabled<'src>(&self, item: &Item<'src>) -> bool
         ensures { result ≡ (answers self.now).enabled (bare_item item.now) };
+
+    /// The keyword that a name is, where it is one.
+    fn keyword(&self, alloc: Global, name: &str) -> Result<Option<Keyword>, AllocError>
+        ensures { IfOk result (λ found. found ≡ (answers self.now).keyword name.now) };
+
+    /// The settings that may not be set beside this one.
+    fn conflicts<'src>(
+        &self,
+        alloc: Global,
+        setting: &Setting<'src>,
+    ) -> Result<Sequence<Keyword>, AllocError>
+        ensures { IfOk result (λ found. found ≡ (answers self.now).conflicts setting.now) };
+
+    /// What stands before a line and says how it runs, in the order of the text.
+    fn sigils<'src>(
+        &self,
+        alloc: Global,
+        line: &Line<'src>,
+        settings: &Settings,
+    ) -> Result<Sequence<Sigil>, AllocError>
+        ensures are { IfOk result (λ found. found ≡ (answers self.now).sigils line.now settings.now) }
+        ensures text { IfOk result (λ found. found ≢ [] → BeginsWithText line.now.fragments) };
+
+    /// Whether a line is a comment.
+    fn is_comment<'src>(&self, line: &Line<'src>) -> bool
+        ensures { result ≡ (answers self.now).is_comment line.now };
+
+    /// Whether the line after it goes on with it.
+    fn is_continuation<'src>(&self, line: &Line<'src>) -> bool
+        ensures { result ≡ (answers self.now).is_continuation line.now };
+
+    /// Whether it says which program runs the lines.
+    fn is_shebang<'src>(&self, line: &Line<'src>) -> bool
+        ensures { result ≡ (answers self.now).is_shebang line.now };
 }

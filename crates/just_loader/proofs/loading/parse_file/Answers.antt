@@ -10,7 +10,7 @@ use Rattle.just_loader.specs.Loading.{IsScanBy, StopsAt}
 use Rattle.just_loader.specs.Reached.{World, link}
 use Rattle.just_loader.specs.Scanned.{ArePlacesOf, paths_in}
 use Rattle.just_loader.proofs.ParsedFiles.{places, priors_kept, said, spent_at, stopped_err, stops_at}
-use Rattle.just_loader.proofs.WithPaths.{with_paths_numbers}
+use Rattle.just_loader.proofs.WithPaths.{all_linked, with_paths_numbers}
 use Rattle.just_loader.proofs.loading.parse_file.Goals as goal
 
 pub returns-in_err-items-clause-stopped : goal.returns-in_err-items-clause-stopped
@@ -19,12 +19,13 @@ returns-in_err-items-clause-stopped g c =
     (λ (e : Error). (w : World) → IsScanBy w c.args.scan.now (g.S.Syntax.answers c.args.syntax.now) → StopsAt c.args.numerator.now (spends_at w (file_at c.args.scan.now c.args.place)) e) (search rules)
     (λ e h w by. stops_at w c.args.scan.now (g.S.Syntax.answers c.args.syntax.now) by c.args.place c.index-file.result.now c.requires.place c.index-file.ensures c.as_str.result.now c.as_str-2.result.now c.as_str.ensures c.as_str-2.ensures c.args.numerator.now e h)
 
-pub with_paths-requires : goal.with_paths-requires
-with_paths-requires g c = (
+pub link_items-requires : goal.link_items-requires
+link_items-requires g c = (
   c.requires.scan.0,
   folder_of (file_at c.args.scan.now c.args.place),
-  subst (ArePlacesOf (paths_in c.args.scan.now.files.items) (map (link c.requires.scan.0 (folder_of (file_at c.args.scan.now c.args.place))) c.in_ok-items.field-0.items)) (sym c.as_slice.ensures.value)
-      (places c.requires.scan.0 c.args.scan.now (g.S.Syntax.answers c.args.syntax.now) c.requires.scan.1 c.args.place c.index-file.result.now c.requires.place c.index-file.ensures c.as_str.result.now c.as_str-2.result.now c.as_str.ensures c.as_str-2.ensures c.in_ok-items.field-0 c.in_ok-items.ensures.items),
+  subst (λ is. ArePlacesOf (paths_in c.args.scan.now.files.items) (map (link c.requires.scan.0 (folder_of (file_at c.args.scan.now c.args.place))) is) c.as_slice.result.now) (sym c.into_vec-items.ensures)
+      (subst (ArePlacesOf (paths_in c.args.scan.now.files.items) (map (link c.requires.scan.0 (folder_of (file_at c.args.scan.now c.args.place))) c.in_ok-items.field-0.items)) (sym c.as_slice.ensures.value)
+      (places c.requires.scan.0 c.args.scan.now (g.S.Syntax.answers c.args.syntax.now) c.requires.scan.1 c.args.place c.index-file.result.now c.requires.place c.index-file.ensures c.as_str.result.now c.as_str-2.result.now c.as_str.ensures c.as_str-2.ensures c.in_ok-items.field-0 c.in_ok-items.ensures.items)),
 )
 
 pub returns-clause-said : goal.returns-clause-said
@@ -33,17 +34,18 @@ returns-clause-said g c =
       parsed = c.in_ok-items.field-0;
       from = c.in_ok-items.ensures.source;
       said = said w c.args.scan.now (g.S.Syntax.answers c.args.syntax.now) by c.args.place c.index-file.result.now c.requires.place c.index-file.ensures c.as_str.result.now c.as_str-2.result.now c.as_str.ensures c.as_str-2.ensures c.in_ok-items.field-0 c.in_ok-items.ensures.items;
-      items = c.in_ok-with_paths.ensures w (folder_of (file_at c.args.scan.now c.args.place)) (subst (ArePlacesOf (paths_in c.args.scan.now.files.items) (map (link w (folder_of (file_at c.args.scan.now c.args.place))) c.in_ok-items.field-0.items)) (sym c.as_slice.ensures.value)
+      items = all_linked w c.args.scan.now (folder_of (file_at c.args.scan.now c.args.place)) c.as_slice.result.now c.in_ok-items.field-0.items c.into_vec-items.result.items c.link_items.new.items.items c.from_vec.result c.into_vec-items.ensures c.in_ok-link_items.ensures c.from_vec.ensures
+          (subst (ArePlacesOf (paths_in c.args.scan.now.files.items) (map (link w (folder_of (file_at c.args.scan.now c.args.place))) c.in_ok-items.field-0.items)) (sym c.as_slice.ensures.value)
           (places w c.args.scan.now (g.S.Syntax.answers c.args.syntax.now) by c.args.place c.index-file.result.now c.requires.place c.index-file.ensures c.as_str.result.now c.as_str-2.result.now c.as_str.ensures c.as_str-2.ensures c.in_ok-items.field-0 c.in_ok-items.ensures.items));
-      module_path = refl;
-      working_directory = refl;
+      rest = refl;
     }
 
 pub returns-clause-numbers : goal.returns-clause-numbers
 returns-clause-numbers g c =
     let w = c.requires.scan.0 in
     let folder = folder_of (file_at c.args.scan.now c.args.place) in
-    let made : c.in_ok-with_paths.field-0 ≡ map (with_path w folder) c.in_ok-items.field-0.items = c.in_ok-with_paths.ensures w folder (subst (ArePlacesOf (paths_in c.args.scan.now.files.items) (map (link c.requires.scan.0 (folder_of (file_at c.args.scan.now c.args.place))) c.in_ok-items.field-0.items)) (sym c.as_slice.ensures.value)
+    let made : c.from_vec.result ≡ map (with_path w folder) c.in_ok-items.field-0.items = all_linked w c.args.scan.now folder c.as_slice.result.now c.in_ok-items.field-0.items c.into_vec-items.result.items c.link_items.new.items.items c.from_vec.result c.into_vec-items.ensures c.in_ok-link_items.ensures c.from_vec.ensures
+    (subst (ArePlacesOf (paths_in c.args.scan.now.files.items) (map (link c.requires.scan.0 (folder_of (file_at c.args.scan.now c.args.place))) c.in_ok-items.field-0.items)) (sym c.as_slice.ensures.value)
     (places c.requires.scan.0 c.args.scan.now (g.S.Syntax.answers c.args.syntax.now) c.requires.scan.1 c.args.place c.index-file.result.now c.requires.place c.index-file.ensures c.as_str.result.now c.as_str-2.result.now c.as_str.ensures c.as_str-2.ensures c.in_ok-items.field-0 c.in_ok-items.ensures.items)) in
     subst (λ ns. AreRising c.args.numerator.now ns c.parse_source.new.numerator) (sym (ap numbers made ∙ with_paths_numbers w folder c.in_ok-items.field-0.items)) c.in_ok-items.ensures.numbers
 
@@ -51,7 +53,8 @@ pub returns-clause-priors : goal.returns-clause-priors
 returns-clause-priors g c =
     let w = c.requires.scan.0 in
     let folder = folder_of (file_at c.args.scan.now c.args.place) in
-    let made : c.in_ok-with_paths.field-0 ≡ map (with_path w folder) c.in_ok-items.field-0.items = c.in_ok-with_paths.ensures w folder (subst (ArePlacesOf (paths_in c.args.scan.now.files.items) (map (link c.requires.scan.0 (folder_of (file_at c.args.scan.now c.args.place))) c.in_ok-items.field-0.items)) (sym c.as_slice.ensures.value)
+    let made : c.from_vec.result ≡ map (with_path w folder) c.in_ok-items.field-0.items = all_linked w c.args.scan.now folder c.as_slice.result.now c.in_ok-items.field-0.items c.into_vec-items.result.items c.link_items.new.items.items c.from_vec.result c.into_vec-items.ensures c.in_ok-link_items.ensures c.from_vec.ensures
+    (subst (ArePlacesOf (paths_in c.args.scan.now.files.items) (map (link c.requires.scan.0 (folder_of (file_at c.args.scan.now c.args.place))) c.in_ok-items.field-0.items)) (sym c.as_slice.ensures.value)
     (places c.requires.scan.0 c.args.scan.now (g.S.Syntax.answers c.args.syntax.now) c.requires.scan.1 c.args.place c.index-file.result.now c.requires.place c.index-file.ensures c.as_str.result.now c.as_str-2.result.now c.as_str.ensures c.as_str-2.ensures c.in_ok-items.field-0 c.in_ok-items.ensures.items)) in
     subst (All PriorsAreDependencies) (sym made) (priors_kept w folder c.in_ok-items.field-0.items c.in_ok-items.ensures.priors)
 

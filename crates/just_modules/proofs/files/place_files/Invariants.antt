@@ -2,7 +2,7 @@ use Rattle.std.proofs.Common.{◌≡◌, ◌++◌, Bor, map}
 use Rattle.std.specs.HashMap.{get}
 use Rattle.std.specs.Map.{keys_of, values_of}
 use Rattle.just_parts.specs.Asts.{AstKey, same_ast_key}
-use Rattle.just_parts.specs.declared.layers.ast.Ast.{Ast}
+use Rattle.just_parts.specs.Items.{Ast}
 use Rattle.just_modules.specs.Files.{LeadsTo}
 use Rattle.just_modules.proofs.files.place_files.Given as goal
 

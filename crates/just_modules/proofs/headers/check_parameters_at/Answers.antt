@@ -1,7 +1,7 @@
 use Rattle.std.proofs.Common.{◌≡◌, ◌<◌, ◌∙◌, ap, length, map, get_or, [], arith, sym}
 use Rattle.std.proofs.lemmas.List.{get_or_default}
 use Rattle.just_names.specs.Name.{text_of_name}
-use Rattle.just_parts.specs.declared.layers.parameter.Parameter.{Parameter}
+use Rattle.just_records.specs.declared.parameter.Parameter.{Parameter}
 use Rattle.just_modules.specs.Index.{Repeats}
 use Rattle.just_modules.specs.Definitions.{recipes_in}
 use Rattle.just_modules.proofs.RecipePlaces.{length-lent, has_duplicate}

@@ -1,15 +1,19 @@
 -- What a parameter takes.
-use Rattle.std.specs.Prelude.{ℕ, Bool, true, false, List, length, count_by, if◌then◌else◌}
+use Rattle.std.specs.Prelude.{ℕ, Bool, true, false, ◌||◌, ◌&&◌, not, is_some, List, length, count_by, if◌then◌else◌}
 use Rattle.std.specs.List.{list_any}
-use Rattle.just_parts.specs.declared.layers.parameter.ParameterKind.{ParameterKind}
-use Rattle.just_parts.specs.declared.layers.parameter.ParameterKind.TheVariants.{Singular, Plus, Star}
-use Rattle.just_parts.specs.declared.layers.parameter.Parameter.{Parameter}
+use Rattle.just_records.specs.declared.parameter.ParameterKind.{ParameterKind}
+use Rattle.just_records.specs.declared.parameter.ParameterKind.TheVariants.{Singular, Plus, Star}
+use Rattle.just_records.specs.declared.parameter.Parameter.{Parameter}
 
 -- it takes all words from its place on
 abbrev pub is_variadic : ParameterKind → Bool
 is_variadic Singular = false
 is_variadic Plus = true
 is_variadic Star = true
+
+-- its words are given by an option
+abbrev pub is_option : Parameter → Bool
+is_option parameter = is_some parameter.long || is_some parameter.short
 
 abbrev needs_word : ParameterKind → Bool
 needs_word Singular = true
@@ -18,7 +22,7 @@ needs_word Star = false
 
 -- its group may not be empty
 abbrev pub is_required : Parameter → Bool
-is_required parameter = needs_word parameter.kind
+is_required parameter = not (is_some parameter.default) && needs_word parameter.kind
 
 -- a word for each required parameter
 abbrev pub least_arguments : List Parameter → ℕ

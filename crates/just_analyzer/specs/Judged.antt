@@ -1,0 +1,47 @@
+-- What compiling can judge in this stage. A text with anything else is refused as one that does not follow the grammar.
+use Rattle.std.specs.Prelude.{Bool, true, false, ◌&&◌, not, is_some, if◌then◌else◌, List, [], ◌∷◌, Option, Some, None}
+use Rattle.std.specs.List.{list_all}
+use Rattle.just_parts.specs.Syntax.{SyntaxAnswers}
+use Rattle.just_parts.specs.Items.{Ast, Item}
+use Rattle.just_parts.specs.declared.layers.ast.Item.TheVariants as item
+use Rattle.just_parts.specs.declared.layers.ast.UnresolvedDependency.{UnresolvedDependency}
+use Rattle.just_parts.specs.declared.recipe.Recipe.{Recipe}
+use Rattle.just_records.specs.declared.parameter.Parameter.{Parameter}
+use Rattle.just_records.specs.declared.parameter.ParameterKind.{ParameterKind}
+use Rattle.just_records.specs.declared.parameter.ParameterKind.TheVariants as kind
+use Rattle.just_records.specs.Parameter.{is_option}
+
+-- no elements
+abbrev pub is_empty : {A : Type 0} → List A → Bool
+is_empty [] = true
+is_empty (x ∷ xs) = false
+
+abbrev pub is_singular : ParameterKind → Bool
+is_singular kind.Singular = true
+is_singular _ = false
+
+-- a name alone, without a mark, a default and an option
+abbrev pub is_name : Parameter → Bool
+is_name p = (is_singular p.kind && not (is_some p.default)) && not (is_option p)
+
+-- a heading alone, without attributes and lines, whose parameters are names
+abbrev pub is_heading : Recipe UnresolvedDependency → Bool
+is_heading r = (is_empty r.attributes && is_empty r.body) && list_all is_name r.parameters
+
+-- the rules of the item are built
+abbrev pub is_judged : Item → Bool
+is_judged (item.Recipe r) = is_heading r
+is_judged (item.Module name relative absolute attributes doc optional) = is_empty attributes
+is_judged (item.Import relative absolute optional) = true
+is_judged (item.Comment token) = true
+is_judged item.Newline = true
+is_judged _ = false
+
+-- what a text says, if compiling can judge all of it
+abbrev pub judged_ast : Option Ast → Option Ast
+judged_ast None = None
+judged_ast (Some ast) = if list_all is_judged ast.items then Some ast else None
+
+-- the syntax layer's answers, as far as compiling can judge them
+abbrev pub judged : SyntaxAnswers → SyntaxAnswers
+judged answers = record answers { parsed = λ relative text. judged_ast (answers.parsed relative text) }

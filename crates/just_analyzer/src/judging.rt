@@ -1,0 +1,152 @@
+//! What compiling can judge in this stage.
+ghost use Rattle.std.specs.Prelude.{◌≡◌, is_none};
+ghost use Rattle.std.specs.List.{list_all};
+ghost use Rattle.just_analyzer.specs.Judged.{is_heading, is_judged, is_name};
+
+use just_data::Sequence;
+use just_names::{Numerator, Token};
+use just_parts::layers::{
+    Ast, CompileError, CompileErrorKind, Error, Item, Keyword, Line, Parameter, ParameterKind,
+    Setting, Settings, Sigil, Syntax,
+};
+use just_parts::{Source, UnresolvedRecipe};
+use std::alloc::{AllocError, Global};
+
+/// A syntax layer that refuses what compiling cannot judge yet, as a text that does not follow the grammar.
+#[derive(Drop)]
+pub(crate) struct Judging<'a, S> {
+    pub syntax: &'a S,
+}
+
+// Whether a parameter is a name alone.
+fn is_name(parameter: &Parameter) -> bool
+    ensures { result ≡ is_name parameter.now }
+{
+    if !matches!(parameter.kind, ParameterKind::Singular) || parameter.default.is_some() {
+        return false;
+    }
+    !parameter.is_option()
+}
+
+// Whether all of them are.
+fn are_names(parameters: &[Parameter]) -> bool
+    ensures { result ≡ list_all is_name parameters.now }
+{
+    parameters.iter().all(|parameter| is_name(parameter))
+}
+
+// Whether a recipe is a heading alone.
+fn is_heading(recipe: &UnresolvedRecipe) -> bool
+    ensures { result ≡ is_heading recipe.now }
+{
+    if !recipe.attributes.is_empty() || !recipe.body.is_empty() {
+        return false;
+    }
+    are_names(recipe.parameters.as_slice())
+}
+
+// Where an item is told whose rules are not built.
+fn fault_of<'src>(item: &Item<'src>) -> Option<Token<'src>>
+    ensures { is_none result ≡ is_judged item.now }
+{
+    match item {
+        Item::Import { .. } | Item::Comment(_) | Item::Newline => None,
+        Item::Module {
+            name,
+            attributes,
+            ..
+        } => {
+            if attributes.is_empty() {
+                None
+            } else {
+                Some(name.token.copied())
+            }
+        }
+        Item::Recipe(recipe) => {
+            if is_heading(recipe) {
+                None
+            } else {
+                Some(recipe.name.token.copied())
+            }
+        }
+        Item::Assignment(assignment) => Some(assignment.name.token.copied()),
+        Item::Function(function) => Some(function.name.token.copied()),
+        Item::Setting(set) => Some(set.name.token.copied()),
+        Item::Unexport { name } => Some(name.token.copied()),
+    }
+}
+
+// The first of them in a text.
+fn first_fault<'src>(ast: &Ast<'src>) -> Option<Token<'src>>
+    ensures { is_none result ≡ list_all is_judged ast.now.items }
+{
+    for item in ast.items.as_slice() {
+        if let Some(token) = fault_of(item) {
+            return Some(token);
+        }
+    }
+    None
+}
+
+impl<'a, S: Syntax> Syntax for Judging<'a, S> {
+    ghost use Rattle.just_analyzer.specs.Judged.{judged};
+
+    ghost answers = { λ judging. judged (S.answers judging.syntax.now) };
+
+    fn parse_source<'src>(
+        &self,
+        alloc: Global,
+        numerator: &mut Numerator,
+        relative: &'src str,
+        source: &Source<'src>,
+        text: &'src str,
+    ) -> Result<Ast<'src>, Error<'src>> {
+        let ast = self
+            .syntax
+            .parse_source(alloc, numerator, relative, source, text)?;
+        match first_fault(&ast) {
+            Some(token) => Err(Error::Compile(CompileError {
+                token,
+                kind: CompileErrorKind::Syntax,
+            })),
+            None => Ok(ast),
+        }
+    }
+
+    fn is_enabled<'src>(&self, item: &Item<'src>) -> bool {
+        self.syntax.is_enabled(item)
+    }
+
+    fn keyword(&self, alloc: Global, name: &str) -> Result<Option<Keyword>, AllocError> {
+        self.syntax.keyword(alloc, name)
+    }
+
+    fn conflicts<'src>(
+        &self,
+        alloc: Global,
+        setting: &Setting<'src>,
+    ) -> Result<Sequence<Keyword>, AllocError> {
+        self.syntax.conflicts(alloc, setting)
+    }
+
+    fn sigils<'src>(
+        &self,
+        alloc: Global,
+        line: &Line<'src>,
+        settings: &Settings,
+    ) -> Result<Sequence<Sigil>, AllocError> {
+        self.syntax.sigils(alloc, line, settings)
+    }
+
+    fn is_comment<'src>(&self, line: &Line<'src>) -> bool {
+        self.syntax.is_comment(line)
+    }
+
+    fn is_continuation<'src>(&self, line: &Line<'src>) -> bool {
+        self.syntax.is_continuation(line)
+    }
+
+    fn is_shebang<'src>(&self, line: &Line<'src>) -> bool {
+        self.syntax.is_shebang(line)
+    }
+}

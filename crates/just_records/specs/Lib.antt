@@ -1,0 +1,2 @@
+pub mod ListFeature
+pub mod Parameter

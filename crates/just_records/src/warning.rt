@@ -1,0 +1,14 @@
+use just_data::{Exact, Text};
+
+/// What a front is told of a text that is no fault.
+#[derive(Clone, Debug, PartialEq, Eq, Drop)]
+pub struct Warning {
+    /// What is told.
+    pub message: Text,
+}
+
+impl Exact for Warning {
+    ghost use Rattle.std.proofs.Common.{rules};
+
+    ghost exact = { Prim.search rules };
+}
