@@ -3,8 +3,8 @@
 
     python3 benches/edits.py [CRATE..]
 
-They are edits as those in the folders must-fail, which the gate tries. These take about as long again, so they are
-tried by hand, after a change of what they edit. They are tried in a copy of the work tree.
+They are edits as those in the folders must-fail, which the gate tries. These take as long as the whole gate, so they
+are tried by hand, after a change of what they edit. They are tried in a copy of the work tree.
 """
 import shutil
 import subprocess

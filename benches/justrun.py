@@ -99,6 +99,26 @@ def words(count):
     return bundle("p x:"), [part for n in range(count) for part in ("p", str(n))]
 
 
+def parentheses(count):
+    """A variable whose value stands in so many parentheses."""
+    return bundle("x := " + "(" * count + "'a'" + ")" * count), ["a"]
+
+
+def elements(count):
+    """A variable that is a list of so many elements."""
+    return bundle("x := [" + ", ".join(["'a'"] * count) + "]"), ["a"]
+
+
+def parts(count):
+    """A variable that is a sum of so many parts."""
+    return bundle("x := " + " + ".join(["'a'"] * count)), ["a"]
+
+
+def body(count):
+    """A recipe with a body of so many lines."""
+    return bundle("a:", *("    echo {{ 'a' }}" for _ in range(count))), ["a"]
+
+
 INPUTS = {
     "chain of 1,000 recipes": chain(1_000),
     "chain of 10,000 recipes": chain(10_000),
@@ -118,6 +138,11 @@ INPUTS = {
     "200 modules inside each other": module_chain(200),
     "2,000 modules inside each other": module_chain(2_000),
     "10,000 invocations": words(10_000),
+    "parentheses 10,000 deep": parentheses(10_000),
+    "list of 100,000 elements": elements(100_000),
+    "sum of 10,000 parts": parts(10_000),
+    "sum of 100,000 parts": parts(100_000),
+    "body of 100,000 lines": body(100_000),
 }
 
 

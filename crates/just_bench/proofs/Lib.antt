@@ -1,6 +1,4 @@
-pub mod Apart
-pub mod Cuts
-pub mod Lexing
-pub mod Parsing
-pub mod Quoting
+pub mod Distinct
+pub mod Kept
+pub mod Numbers
 pub mod Parts

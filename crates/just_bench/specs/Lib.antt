@@ -1,8 +1,8 @@
+pub mod Answers
 pub mod Bundle
-pub mod Grammar
-pub mod Items
-pub mod Lexemes
-pub mod Lines
+pub mod Conflicts
+pub mod Numbering
 pub mod Promises
 pub mod Refusal
+pub mod Sigils
 pub mod StopWriter

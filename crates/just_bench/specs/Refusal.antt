@@ -1,34 +1,25 @@
--- What a refusal of the small grammar says.
+-- What a refusal of the plain grammar says.
 use Rattle.std.specs.Prelude.{◌≡◌, ◌<◌, ℕ, ◌^◌, List, Some, Err}
 use Rattle.std.specs.List.{slice_get}
 use Rattle.just_parts.specs.declared.layers.error.CompileError.{CompileError}
 use Rattle.just_parts.specs.declared.layers.error.CompileErrorKind.TheVariants.{Syntax}
 use Rattle.just_parts.specs.declared.layers.error.Error.{Error}
 use Rattle.just_parts.specs.declared.layers.error.Error.TheVariants as error
-use Rattle.just_bench.specs.declared.lines.Line.{Line}
-use Rattle.just_bench.specs.Lines.{lines_of, line_place}
-use Rattle.just_bench.specs.Items.{items_of}
+use Rattle.just_plain.specs.declared.lines.TextLine.{TextLine}
+use Rattle.just_plain.specs.Lines.{lines_of, line_place}
+use Rattle.just_grammar.specs.Items.{items_of}
 
--- the token is the whole of the first line that does not follow the grammar
-pub record IsFirstBadLine (path text : List ℕ) (e : CompileError) : Type 0 where
+-- the token is the whole of the line that is told not to follow the grammar
+pub record IsBadLine (path text : List ℕ) (e : CompileError) : Type 0 where
   pub kind : e.kind ≡ Syntax
-  pub first : items_of path text ≡ Err e.token.line
-  pub line : Line
+  pub told : items_of path text ≡ Err e.token.line
+  pub line : TextLine
   pub stands : slice_get (lines_of text) e.token.line ≡ Some line
   pub whole : e.token ≡ line_place path text line
 
--- why an item could not be made, where so many numbers are wanted, those that were given before among them
-abbrev pub Spent : Error → ℕ → Type 0
-Spent error.Exhausted wanted = 2 ^ 64 < wanted
-Spent error.Memory wanted = Unit {0}
-Spent (error.Compile e) wanted = ⊥
-Spent (error.Load e) wanted = ⊥
-Spent (error.Invocation e) wanted = ⊥
-Spent (error.Run e) wanted = ⊥
-
--- why the items of a text could not be made
+-- why the items of a text could not be made, where so many numbers are wanted, those that were given before among them
 abbrev pub RefusesLine : List ℕ → List ℕ → Error → ℕ → Type 0
-RefusesLine path text (error.Compile e) wanted = IsFirstBadLine path text e
+RefusesLine path text (error.Compile e) wanted = IsBadLine path text e
 RefusesLine path text error.Exhausted wanted = 2 ^ 64 < wanted
 RefusesLine path text error.Memory wanted = Unit {0}
 RefusesLine path text (error.Load e) wanted = ⊥

@@ -1,14 +1,14 @@
-//! A small grammar, a recorder and a writer for trying the analyzer without a host of its own.
+//! The plain grammar, a recorder and a writer for trying the analyzer without a host of its own.
 #![tactic(auto)]
 
 pub mod bundle;
-mod grammar;
+mod conflicts;
 pub mod laws;
-mod lexer;
-mod lines;
+mod numbering;
 pub mod plain_evaluation;
 pub mod plain_syntax;
 pub mod recorder;
+mod sigils;
 pub mod stop_writer;
 
 pub use plain_evaluation::PlainEvaluation;

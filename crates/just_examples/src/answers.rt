@@ -5,7 +5,7 @@ ghost use Rattle.just_invoke.specs.Closed.{IsClosed};
 
 use crate::asked::{Asked, read_asked};
 use crate::faults::add_fault;
-use crate::items::answer_parse;
+use crate::items::{answer_conflicts, answer_parse, answer_read};
 use crate::lists::{add_group, add_list, before};
 use crate::modules::add_compilation;
 use crate::written::unmarked;
@@ -27,7 +27,14 @@ fn compile<'src>(
     requires { IsClean root.now }
     ensures { IfOk result (λ c. IsClosed c.justfile c.recipes) }
 {
-    Compiler::compile(alloc, config, &PlainSyntax, &PlainEvaluation, sources, root)
+    Compiler::compile(
+        alloc,
+        config,
+        &PlainSyntax::new(),
+        &PlainEvaluation,
+        sources,
+        root,
+    )
 }
 
 // Runs words over a compilation.
@@ -45,7 +52,7 @@ fn run<'src>(
         alloc,
         config,
         &compilation.recipes,
-        &PlainSyntax,
+        &PlainSyntax::new(),
         &mut PlainEvaluation,
         host,
         &mut writer,
@@ -205,6 +212,8 @@ pub fn answer(alloc: Global, bundle: &str, question: &str) -> Result<Option<Stri
     let answer = match kind {
         "just" => answer_just(alloc, bundle, rest)?,
         "parse" => answer_parse(alloc, unmarked(alloc, rest)?.as_str())?,
+        "read" => answer_read(alloc, unmarked(alloc, rest)?.as_str())?,
+        "conflicts" => answer_conflicts(alloc, unmarked(alloc, rest)?.as_str())?,
         "path" => {
             let words: Vec<&str> = rest.split_whitespace().collect(alloc)?;
             answer_path(alloc, Modulepath::try_from(alloc, words.as_slice())?)?

@@ -1,7 +1,10 @@
 //! What a text says, item by item.
 use crate::faults::add_fault;
 use crate::lists::before;
-use just_analyzer::layers::{Ast, Error, Item, LoadError, Numerator, StringLiteral, Syntax};
+use crate::readings::add_readings;
+use just_analyzer::layers::{
+    Ast, Error, Item, Keyword, LoadError, Numerator, StringLiteral, Syntax,
+};
 use just_analyzer::{Source, is_clean};
 use just_bench::PlainSyntax;
 use just_data::Text;
@@ -62,7 +65,11 @@ fn add_items(text: &mut String, items: &[Item]) -> Result<(), AllocError> {
 }
 
 // What the grammar reads in a text.
-fn parse<'src>(alloc: Global, text: &'src str) -> Result<Ast<'src>, Error<'src>> {
+fn parse<'src>(
+    alloc: Global,
+    syntax: &PlainSyntax,
+    text: &'src str,
+) -> Result<Ast<'src>, Error<'src>> {
     let path = "/justfile";
     if !is_clean(path) {
         return Err(Error::Load(LoadError::Load {
@@ -70,14 +77,75 @@ fn parse<'src>(alloc: Global, text: &'src str) -> Result<Ast<'src>, Error<'src>>
         }));
     }
     let source = Source::root(alloc, path)?;
-    PlainSyntax.parse_source(alloc, &mut Numerator::new(), "justfile", &source, text)
+    syntax.parse_source(alloc, &mut Numerator::new(), "justfile", &source, text)
+}
+
+/// Answers what a text says, item by item with all that was read of each, or its fault.
+pub fn answer_read(alloc: Global, text: &str) -> Result<String, AllocError> {
+    let mut answer = String::new(alloc);
+    match parse(alloc, &PlainSyntax::new(), text) {
+        Ok(ast) => add_readings(&ast, &mut answer)?,
+        Err(error) => add_fault(&mut answer, &error)?,
+    }
+    Ok(answer)
 }
 
 /// Answers what a text says, or its fault.
 pub fn answer_parse(alloc: Global, text: &str) -> Result<String, AllocError> {
     let mut answer = String::new(alloc);
-    match parse(alloc, text) {
+    match parse(alloc, &PlainSyntax::new(), text) {
         Ok(ast) => add_items(&mut answer, ast.items.as_slice())?,
+        Err(error) => add_fault(&mut answer, &error)?,
+    }
+    Ok(answer)
+}
+
+// The keyword of a name.
+fn keyword(alloc: Global, name: &str) -> Result<Keyword, AllocError> {
+    Ok(Keyword {
+        lexeme: Text::from_str(alloc, name)?,
+    })
+}
+
+// Pairs of settings, each written with a comma between the two.
+fn read_pairs(alloc: Global, text: &str) -> Result<Vec<(Keyword, Keyword)>, AllocError> {
+    let mut pairs = Vec::new(alloc);
+    for pair in text.split_whitespace() {
+        let (first, second) = pair.split_once(',').unwrap_or((pair, ""));
+        pairs.push((keyword(alloc, first)?, keyword(alloc, second)?))?;
+    }
+    Ok(pairs)
+}
+
+// Adds a line for each setting, with those that may not stand beside it.
+fn add_conflicts(
+    alloc: Global,
+    syntax: &PlainSyntax,
+    items: &[Item],
+    text: &mut String,
+) -> Result<(), AllocError> {
+    for item in items {
+        let Item::Setting(set) = item else {
+            continue;
+        };
+        write!(text, "{} not beside", set.name)?;
+        for keyword in syntax.conflicts(alloc, &set.value)?.as_slice() {
+            write!(text, " {}", keyword.lexeme)?;
+        }
+        text.push('\n')?;
+    }
+    Ok(())
+}
+
+/// Answers which settings may not stand beside those of a text, where of each pair before the ` | ` the second may not
+/// stand beside the first.
+pub fn answer_conflicts(alloc: Global, rest: &str) -> Result<String, AllocError> {
+    let mut answer = String::new(alloc);
+    let (written, text) = rest.split_once(" | ").unwrap_or((rest, ""));
+    let pairs = read_pairs(alloc, written)?;
+    let syntax = PlainSyntax::with_conflicts(pairs.as_slice());
+    match parse(alloc, &syntax, text) {
+        Ok(ast) => add_conflicts(alloc, &syntax, ast.items.as_slice(), &mut answer)?,
         Err(error) => add_fault(&mut answer, &error)?,
     }
     Ok(answer)

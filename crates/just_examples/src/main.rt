@@ -8,6 +8,7 @@ mod faults;
 mod items;
 mod lists;
 mod modules;
+mod readings;
 mod written;
 
 use crate::cases::{differences, name_of};

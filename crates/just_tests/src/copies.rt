@@ -27,7 +27,7 @@ fn parse<'src>(alloc: Global, text: &'src str) -> Result<Ast<'src>, Error<'src>>
         return Err(no_root(alloc, path));
     }
     let source = Source::root(alloc, path)?;
-    PlainSyntax.parse_source(alloc, &mut Numerator::new(), "justfile", &source, text)
+    PlainSyntax::new().parse_source(alloc, &mut Numerator::new(), "justfile", &source, text)
 }
 
 #[test]

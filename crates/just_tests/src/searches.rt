@@ -15,7 +15,13 @@ fn first_name<'src>(alloc: Global, text: &'src str) -> Result<Option<Name<'src>>
         return Ok(None);
     }
     let source = Source::root(alloc, path)?;
-    let ast = PlainSyntax.parse_source(alloc, &mut Numerator::new(), "justfile", &source, text)?;
+    let ast = PlainSyntax::new().parse_source(
+        alloc,
+        &mut Numerator::new(),
+        "justfile",
+        &source,
+        text,
+    )?;
     Ok(first_in(&ast))
 }
 

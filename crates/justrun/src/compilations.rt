@@ -46,7 +46,7 @@ fn compile<'src>(
     Compiler::compile(
         alloc,
         &config,
-        &PlainSyntax,
+        &PlainSyntax::new(),
         &PlainEvaluation,
         sources,
         root,
@@ -66,7 +66,7 @@ fn run<'src>(
         alloc,
         &Config::default(),
         &compilation.recipes,
-        &PlainSyntax,
+        &PlainSyntax::new(),
         &mut PlainEvaluation,
         host,
         &mut writer,

@@ -54,7 +54,14 @@ fn compile<'src>(
     requires { IsClean root.now }
     ensures { IfOk result (λ c. IsClosed c.justfile c.recipes) }
 {
-    Compiler::compile(alloc, config, &PlainSyntax, &PlainEvaluation, sources, root)
+    Compiler::compile(
+        alloc,
+        config,
+        &PlainSyntax::new(),
+        &PlainEvaluation,
+        sources,
+        root,
+    )
 }
 
 // Runs the words. The host records what began, before a fault too.
@@ -72,7 +79,7 @@ fn run_words<'src>(
         alloc,
         config,
         &compilation.recipes,
-        &PlainSyntax,
+        &PlainSyntax::new(),
         &mut PlainEvaluation,
         host,
         &mut writer,

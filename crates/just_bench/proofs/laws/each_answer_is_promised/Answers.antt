@@ -1,7 +1,7 @@
-use Rattle.std.proofs.Common.{List, [], ◌∷◌, Option, Some, refl}
+use Rattle.std.proofs.Common.{List, [], ◌∷◌, Some, refl}
 use Rattle.just_parts.specs.Evaluation.{Inquiry}
 use Rattle.just_parts.specs.declared.layers.host.Entry.{Entry}
-use Rattle.just_parts.specs.Host.{Answer, Done}
+use Rattle.just_parts.specs.Host.{Done}
 use Rattle.just_parts.specs.Steps.{Question, ToHost, ToEvaluator, IsSteady, both}
 use Rattle.just_bench.proofs.laws.each_answer_is_promised.Goals as goal
 
