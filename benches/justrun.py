@@ -8,6 +8,7 @@ Nothing is asserted. A line has the input's name, its size in bytes, the status,
 time, the peak resident memory in MiB and the first line of the error output.
 """
 import os
+import resource
 import sys
 import tempfile
 import time
@@ -141,12 +142,12 @@ INPUTS = {
     "parentheses 10,000 deep": parentheses(10_000),
     "list of 100,000 elements": elements(100_000),
     "sum of 10,000 parts": parts(10_000),
-    "sum of 100,000 parts": parts(100_000),
+    "sum of 100,000 parts, with a stack of 64 MiB": parts(100_000),
     "body of 100,000 lines": body(100_000),
 }
 
 
-def measure(program, text, arguments):
+def measure(program, text, arguments, stack=None):
     """The status, the lines printed, the seconds, the peak memory in MiB and the first line of errors."""
     with tempfile.TemporaryFile() as given, tempfile.TemporaryFile() as output, tempfile.TemporaryFile() as errors:
         given.write(text.encode())
@@ -154,6 +155,8 @@ def measure(program, text, arguments):
         began = time.monotonic()
         child = os.fork()
         if child == 0:
+            if stack:
+                resource.setrlimit(resource.RLIMIT_STACK, (stack, resource.getrlimit(resource.RLIMIT_STACK)[1]))
             for stream, number in ((given, 0), (output, 1), (errors, 2)):
                 os.dup2(stream.fileno(), number)
             os.execv(program, [program, *arguments])
@@ -171,7 +174,8 @@ def main():
     if not os.path.exists(program):
         sys.exit(f"{program} is not there: build it first (see the head of this file)")
     for name, (text, arguments) in INPUTS.items():
-        status, printed, seconds, peak, told = measure(program, text, ["/justfile", *arguments])
+        stack = 1 << 26 if "stack of 64 MiB" in name else None
+        status, printed, seconds, peak, told = measure(program, text, ["/justfile", *arguments], stack)
         print(f"{name}: {len(text)} bytes, status {status}, {printed} lines, {seconds:.2f} s, {peak:.0f} MiB {told}", flush=True)
 
 

@@ -3,18 +3,20 @@ ghost use Rattle.std.specs.Prelude.{IfOk};
 ghost use Rattle.just_names.specs.Clean.{IsClean};
 ghost use Rattle.just_invoke.specs.Closed.{IsClosed};
 
-use crate::asked::{Asked, read_asked};
-use crate::faults::add_fault;
-use crate::items::{answer_conflicts, answer_parse, answer_read};
-use crate::lists::{add_group, add_list, before};
 use crate::modules::add_compilation;
-use crate::written::unmarked;
 use just_analyzer::layers::{Config, Entry, Error, Groups};
 use just_analyzer::{
     Compilation, Compiler, Invocation, InvocationParser, Modulepath, Report, Sources, is_clean,
 };
 use just_bench::bundle::read_sources;
 use just_bench::{PlainEvaluation, PlainSyntax, Recorder, StopWriter};
+use just_lines::asked::{Asked, read_asked};
+use just_lines::bundles::{answer_file, answer_find, answer_table};
+use just_lines::copies::answer_copy;
+use just_lines::faults::add_fault;
+use just_lines::items::{answer_conflicts, answer_parse, answer_read};
+use just_lines::lists::{add_group, add_list, before};
+use just_lines::written::unmarked;
 use std::alloc::{AllocError, Global};
 
 // Compiles the file at a path.
@@ -213,6 +215,10 @@ pub fn answer(alloc: Global, bundle: &str, question: &str) -> Result<Option<Stri
         "just" => answer_just(alloc, bundle, rest)?,
         "parse" => answer_parse(alloc, unmarked(alloc, rest)?.as_str())?,
         "read" => answer_read(alloc, unmarked(alloc, rest)?.as_str())?,
+        "copy" => answer_copy(alloc, unmarked(alloc, rest)?.as_str())?,
+        "file" => answer_file(alloc, unmarked(alloc, rest)?.as_str())?,
+        "find" => answer_find(alloc, bundle, rest)?,
+        "table" => answer_table(alloc, rest)?,
         "conflicts" => answer_conflicts(alloc, unmarked(alloc, rest)?.as_str())?,
         "path" => {
             let words: Vec<&str> = rest.split_whitespace().collect(alloc)?;

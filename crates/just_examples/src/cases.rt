@@ -3,7 +3,7 @@
 //! A case is a name in a line of its own, a bundle of files, and questions. A question is a line that begins with `$ `, and
 //! each line below it is a line that is wanted of its answer.
 use crate::answers::answer;
-use crate::written::{meant, repeated};
+use just_lines::written::{meant, repeated};
 use std::alloc::{AllocError, Global};
 
 /// The name of a case, its first line.

@@ -2,14 +2,8 @@
 #![tactic(auto)]
 
 mod answers;
-mod asked;
 mod cases;
-mod faults;
-mod items;
-mod lists;
 mod modules;
-mod readings;
-mod written;
 
 use crate::cases::{differences, name_of};
 use anyhow::{Context, Result, ensure};

@@ -1,7 +1,7 @@
 //! The lines that tell what a compilation has.
-use crate::lists::{add_list, next};
 use just_analyzer::layers::Number;
 use just_analyzer::{Compilation, Justfile, Recipe};
+use just_lines::lists::{add_list, next};
 use std::alloc::{AllocError, Global};
 use std::collections::HashSet;
 

@@ -1,7 +1,7 @@
 //! What a line `$ just` asks.
 use crate::written::unmarked;
-use just_analyzer::layers::Config;
 use just_data::Text;
+use just_parts::layers::Config;
 use std::alloc::{AllocError, Global};
 
 // What a part of the line is to be.

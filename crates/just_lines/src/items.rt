@@ -2,12 +2,11 @@
 use crate::faults::add_fault;
 use crate::lists::before;
 use crate::readings::add_readings;
-use just_analyzer::layers::{
-    Ast, Error, Item, Keyword, LoadError, Numerator, StringLiteral, Syntax,
-};
-use just_analyzer::{Source, is_clean};
 use just_bench::PlainSyntax;
 use just_data::Text;
+use just_names::is_clean;
+use just_parts::Source;
+use just_parts::layers::{Ast, Error, Item, Keyword, LoadError, Numerator, StringLiteral, Syntax};
 use std::alloc::{AllocError, Global};
 
 // Adds the text of a path in brackets, its token, and how many bytes stand before it.
@@ -64,19 +63,24 @@ fn add_items(text: &mut String, items: &[Item]) -> Result<(), AllocError> {
     text.push('\n')
 }
 
-// What the grammar reads in a text.
-fn parse<'src>(
-    alloc: Global,
-    syntax: &PlainSyntax,
-    text: &'src str,
-) -> Result<Ast<'src>, Error<'src>> {
+/// The source of the root `/justfile`.
+pub fn root_source<'src>(alloc: Global) -> Result<Source<'src>, Error<'src>> {
     let path = "/justfile";
     if !is_clean(path) {
         return Err(Error::Load(LoadError::Load {
             path: Text::from_str(alloc, path)?,
         }));
     }
-    let source = Source::root(alloc, path)?;
+    Ok(Source::root(alloc, path)?)
+}
+
+/// What a grammar reads in a text, the root.
+pub fn parse<'src>(
+    alloc: Global,
+    syntax: &PlainSyntax,
+    text: &'src str,
+) -> Result<Ast<'src>, Error<'src>> {
+    let source = root_source(alloc)?;
     syntax.parse_source(alloc, &mut Numerator::new(), "justfile", &source, text)
 }
 

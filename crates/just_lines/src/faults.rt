@@ -1,5 +1,5 @@
 //! The lines that tell a fault.
-use just_analyzer::layers::{CompileErrorKind, Error, InvocationError, LoadError, RunError, Token};
+use just_parts::layers::{CompileErrorKind, Error, InvocationError, LoadError, RunError, Token};
 use std::alloc::AllocError;
 
 // Adds the fields of a fault of loading.

@@ -1,6 +1,6 @@
 //! What a text says, with all that was read of each item.
-use just_analyzer::UnresolvedRecipe;
-use just_analyzer::layers::{
+use just_parts::UnresolvedRecipe;
+use just_parts::layers::{
     Ast, Attribute, Fragment, FunctionDefinition, Item, Line, NamedAttribute, Number, Parameter,
     Set, Setting,
 };
