@@ -1,2 +1,3 @@
 pub mod boxed
 pub mod sequence
+pub mod shared

@@ -7,7 +7,7 @@ ghost use Rattle.just_plain.specs.Expressions as spec;
 use crate::lexer::{Kind, Lexeme};
 use crate::spelling::{Spelling, is_plus};
 use crate::stack::Stack;
-use just_data::{Boxed, Sequence, Text};
+use just_data::{Sequence, Shared, Text};
 use just_names::Name;
 use just_records::{Expression, Shape};
 use std::alloc::{AllocError, Global};
@@ -140,6 +140,7 @@ fn spelled<'src>(
     ensures { IfOk result (λ made. made ≡ spec.spelled spelling.now start end shape.entry) }
 {
     let text = spelling.excerpt(start, end)?;
+    let shape = Shared::new(spelling.alloc(), shape)?;
     Ok(Expression { shape, text })
 }
 
@@ -157,9 +158,10 @@ fn added<'src>(
     let Some(sum) = sum else {
         return Ok(part);
     };
-    let lhs = Boxed::new(spelling.alloc(), sum)?;
-    let rhs = Boxed::new(spelling.alloc(), part)?;
-    let shape = Shape::Concatenation { lhs, rhs };
+    let shape = Shape::Concatenation {
+        lhs: sum,
+        rhs: part,
+    };
     spelled(spelling, start, end, shape)
 }
 
@@ -305,7 +307,6 @@ fn and_sum<'src>(
 
 // The form of a bracket and what stands in it.
 fn shape_of<'src>(
-    alloc: Global,
     bracket: Bracket<'src>,
     elements: Sequence<Expression<'src>>,
     sum: Option<Expression<'src>>,
@@ -317,8 +318,7 @@ fn shape_of<'src>(
             let Some(sum) = sum else {
                 return Ok(None);
             };
-            let contents = Boxed::new(alloc, sum)?;
-            Ok(Some(Shape::Group { contents }))
+            Ok(Some(Shape::Group { contents: sum }))
         }
         Bracket::List => {
             let elements = and_sum(elements, sum)?;
@@ -354,7 +354,7 @@ fn close<'src>(
     let elements = replace(&mut state.elements, elements);
     let sum = replace(&mut state.sum, sum);
     state.start = start;
-    let Some(shape) = shape_of(spelling.alloc(), bracket, elements, sum)? else {
+    let Some(shape) = shape_of(bracket, elements, sum)? else {
         return Ok(false);
     };
     add_shape(spelling, at, end, state, shape)?;

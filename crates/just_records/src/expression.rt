@@ -1,6 +1,6 @@
-ghost use Rattle.std.specs.Prelude.{◌≡◌, IfOk};
+ghost use Rattle.std.specs.Prelude.{◌≡◌};
 
-use just_data::{Boxed, Exact, Excerpt, Sequence, Text};
+use just_data::{Exact, Excerpt, Sequence, Shared, Text};
 use just_names::{Name, Number};
 use std::alloc::AllocError;
 
@@ -17,12 +17,12 @@ pub enum ConditionalOperator {
     RegexMismatch,
 }
 
-/// What a value is evaluated from.
+/// What a value is evaluated from. A clone shares its parts.
 #[cycle(expression)]
 #[derive(Debug, PartialEq, Eq, Drop)]
 pub struct Expression<'src> {
     /// Its form, with its parts.
-    pub shape: Shape<'src>,
+    pub shape: Shared<Shape<'src>>,
     /// How it is spelled.
     pub text: Excerpt,
 }
@@ -33,13 +33,13 @@ pub struct Expression<'src> {
 pub enum Shape<'src> {
     /// `lhs && rhs`.
     And {
-        lhs: Boxed<Expression<'src>>,
-        rhs: Boxed<Expression<'src>>,
+        lhs: Expression<'src>,
+        rhs: Expression<'src>,
     },
     /// `assert(condition, message)`.
     Assert {
-        condition: Boxed<Expression<'src>>,
-        message: Option<Boxed<Expression<'src>>>,
+        condition: Expression<'src>,
+        message: Option<Expression<'src>>,
     },
     /// The output of a command.
     Backtick {
@@ -53,19 +53,19 @@ pub enum Shape<'src> {
     /// A comparison of two values.
     Comparison {
         operator: ConditionalOperator,
-        lhs: Boxed<Expression<'src>>,
-        rhs: Boxed<Expression<'src>>,
+        lhs: Expression<'src>,
+        rhs: Expression<'src>,
     },
     /// `lhs + rhs`.
     Concatenation {
-        lhs: Boxed<Expression<'src>>,
-        rhs: Boxed<Expression<'src>>,
+        lhs: Expression<'src>,
+        rhs: Expression<'src>,
     },
     /// `if condition { then } else { otherwise }`.
     Conditional {
-        condition: Boxed<Expression<'src>>,
-        then: Boxed<Expression<'src>>,
-        otherwise: Option<Boxed<Expression<'src>>>,
+        condition: Expression<'src>,
+        then: Expression<'src>,
+        otherwise: Option<Expression<'src>>,
     },
     /// Texts with expressions between them: a text stands before each expression, and one after the last.
     FormatString {
@@ -74,12 +74,12 @@ pub enum Shape<'src> {
     },
     /// `(contents)`.
     Group {
-        contents: Boxed<Expression<'src>>,
+        contents: Expression<'src>,
     },
     /// `lhs / rhs`.
     Join {
-        lhs: Option<Boxed<Expression<'src>>>,
-        rhs: Boxed<Expression<'src>>,
+        lhs: Option<Expression<'src>>,
+        rhs: Expression<'src>,
     },
     /// `[elements]`.
     List {
@@ -87,17 +87,17 @@ pub enum Shape<'src> {
     },
     /// Two lists, one after the other.
     ListConcatenation {
-        lhs: Boxed<Expression<'src>>,
-        rhs: Boxed<Expression<'src>>,
+        lhs: Expression<'src>,
+        rhs: Expression<'src>,
     },
     /// `!operand`.
     Not {
-        operand: Boxed<Expression<'src>>,
+        operand: Expression<'src>,
     },
     /// `lhs || rhs`.
     Or {
-        lhs: Boxed<Expression<'src>>,
-        rhs: Boxed<Expression<'src>>,
+        lhs: Expression<'src>,
+        rhs: Expression<'src>,
     },
     /// A quoted text, as it stands between the quotes.
     StringLiteral {
@@ -114,121 +114,13 @@ impl<'src> Clone for Expression<'src> {
     ghost is_clone = { λ expression copy. copy ≡ expression };
 
     fn clone(&self) -> Result<Expression<'src>, AllocError> {
-        copy(self)
+        Ok(Expression {
+            shape: self.shape.clone()?,
+            text: self.text.clone()?,
+        })
     }
 }
 
 impl<'src> Exact for Expression<'src> {
     ghost exact = { λ x y h. h };
-}
-
-#[cycle(copy)]
-fn copy<'src>(expression: &Expression<'src>) -> Result<Expression<'src>, AllocError>
-    ensures { IfOk result (λ copy. copy ≡ expression.now) }
-{
-    let shape = copy_shape(&expression.shape)?;
-    let text = expression.text.clone()?;
-    Ok(Expression { shape, text })
-}
-
-#[cycle(copy)]
-fn copy_shape<'src>(shape: &Shape<'src>) -> Result<Shape<'src>, AllocError>
-    ensures { IfOk result (λ copy. copy ≡ shape.now) }
-{
-    match shape {
-        Shape::And { lhs, rhs } => Ok(Shape::And {
-            lhs: copy_boxed(lhs)?,
-            rhs: copy_boxed(rhs)?,
-        }),
-        Shape::Assert { condition, message } => Ok(Shape::Assert {
-            condition: copy_boxed(condition)?,
-            message: match message {
-                Some(part) => Some(copy_boxed(part)?),
-                None => None,
-            },
-        }),
-        Shape::Backtick { contents } => Ok(Shape::Backtick {
-            contents: contents.clone()?,
-        }),
-        Shape::Call { name, arguments } => Ok(Shape::Call {
-            name: name.copied(),
-            arguments: copy_all(arguments)?,
-        }),
-        Shape::Comparison { operator, lhs, rhs } => Ok(Shape::Comparison {
-            operator: *operator,
-            lhs: copy_boxed(lhs)?,
-            rhs: copy_boxed(rhs)?,
-        }),
-        Shape::Concatenation { lhs, rhs } => Ok(Shape::Concatenation {
-            lhs: copy_boxed(lhs)?,
-            rhs: copy_boxed(rhs)?,
-        }),
-        Shape::Conditional {
-            condition,
-            then,
-            otherwise,
-        } => Ok(Shape::Conditional {
-            condition: copy_boxed(condition)?,
-            then: copy_boxed(then)?,
-            otherwise: match otherwise {
-                Some(part) => Some(copy_boxed(part)?),
-                None => None,
-            },
-        }),
-        Shape::FormatString { texts, expressions } => Ok(Shape::FormatString {
-            texts: texts.clone()?,
-            expressions: copy_all(expressions)?,
-        }),
-        Shape::Group { contents } => Ok(Shape::Group {
-            contents: copy_boxed(contents)?,
-        }),
-        Shape::Join { lhs, rhs } => Ok(Shape::Join {
-            lhs: match lhs {
-                Some(part) => Some(copy_boxed(part)?),
-                None => None,
-            },
-            rhs: copy_boxed(rhs)?,
-        }),
-        Shape::List { elements } => Ok(Shape::List {
-            elements: copy_all(elements)?,
-        }),
-        Shape::ListConcatenation { lhs, rhs } => Ok(Shape::ListConcatenation {
-            lhs: copy_boxed(lhs)?,
-            rhs: copy_boxed(rhs)?,
-        }),
-        Shape::Not { operand } => Ok(Shape::Not {
-            operand: copy_boxed(operand)?,
-        }),
-        Shape::Or { lhs, rhs } => Ok(Shape::Or {
-            lhs: copy_boxed(lhs)?,
-            rhs: copy_boxed(rhs)?,
-        }),
-        Shape::StringLiteral { cooked } => Ok(Shape::StringLiteral {
-            cooked: cooked.clone()?,
-        }),
-        Shape::Variable { name, number } => Ok(Shape::Variable {
-            name: name.copied(),
-            number: *number,
-        }),
-    }
-}
-
-#[cycle(copy)]
-fn copy_boxed<'src>(boxed: &Boxed<Expression<'src>>) -> Result<Boxed<Expression<'src>>, AllocError>
-    ensures { IfOk result (λ copy. copy ≡ boxed.now) }
-{
-    Boxed::new(boxed.alloc(), copy(boxed.get())?)
-}
-
-#[cycle(copy)]
-fn copy_all<'src>(
-    all: &Sequence<Expression<'src>>,
-) -> Result<Sequence<Expression<'src>>, AllocError>
-    ensures { IfOk result (λ copies. copies ≡ all.now) }
-{
-    let mut copies = Sequence::new(all.alloc());
-    for expression in all.as_slice() {
-        copies.push(copy(expression)?)?;
-    }
-    Ok(copies)
 }
