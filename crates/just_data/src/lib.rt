@@ -1,7 +1,6 @@
-//! Wrappers that contracts see as plain data: texts, sequences, boxes and shared values are equal where their contents are.
+//! Wrappers that contracts see as plain data: texts, sequences and shared values are equal where their contents are.
 #![tactic(auto)]
 
-mod boxed;
 mod chain;
 mod exact;
 mod excerpt;
@@ -9,7 +8,6 @@ mod sequence;
 mod shared;
 mod text;
 
-pub use boxed::Boxed;
 pub use chain::{Chain, ChainIter};
 pub use exact::Exact;
 pub use excerpt::Excerpt;

@@ -2,7 +2,7 @@
 use crate::faults::add_fault;
 use crate::items::{parse, root_source};
 use just_bench::{PlainSyntax, Recorder};
-use just_data::{Boxed, Exact, Sequence, Text};
+use just_data::{Exact, Sequence, Text};
 use just_names::Modulepath;
 use just_parts::layers::{Config, Error, Groups, Host};
 use std::alloc::{AllocError, Global};
@@ -53,7 +53,7 @@ fn add_call(alloc: Global, text: &mut String) -> Result<(), AllocError> {
     Ok(())
 }
 
-// Adds what becomes of a configuration, and of numbers in a box.
+// Adds what becomes of a configuration, and of numbers.
 fn add_data(alloc: Global, text: &mut String) -> Result<(), AllocError> {
     let home = Some(Text::from_str(alloc, "/h")?);
     let config = Config { home, one: true };
@@ -65,7 +65,7 @@ fn add_data(alloc: Global, text: &mut String) -> Result<(), AllocError> {
     })?;
     let mut numbers = Sequence::from_slice(alloc, &[1u64, 2, 3])?;
     numbers.append(Sequence::from_slice(alloc, &[4])?)?;
-    add_copy(&Boxed::new(alloc, numbers)?, "numbers", text)
+    add_copy(&numbers, "numbers", text)
 }
 
 /// Answers whether copies of the items of a text, of their source, of a call, of a configuration and of numbers are equal
