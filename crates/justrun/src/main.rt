@@ -3,14 +3,10 @@
 
 #[cfg(test)]
 mod compilations;
-mod fault;
-mod one_line;
-mod program;
 #[cfg(test)]
 mod tests;
 
-use crate::fault::Fault;
-use crate::program::{program, tell};
+use just_program::{Fault, program, tell};
 use std::alloc::AllocError;
 use std::env;
 use std::env::Args;
