@@ -11,8 +11,8 @@ use Rattle.just_parts.specs.Items.{Item}
 use Rattle.just_parts.specs.declared.layers.ast.Item.TheVariants as item
 use Rattle.just_parts.specs.declared.layers.ast.UnresolvedDependency.{UnresolvedDependency}
 use Rattle.just_parts.specs.declared.recipe.Recipe.{Recipe}
-use Rattle.just_modules.specs.Recipes.{recipes_of}
-use Rattle.just_modules.specs.Resolved.{HasPriors, unresolved_numbers}
+use Rattle.just_joining.specs.Recipes.{recipes_of}
+use Rattle.just_joining.specs.Resolved.{HasPriors, unresolved_numbers}
 
 from_if : (b : Bool) (q r : Recipe UnresolvedDependency) (rs : List (Recipe UnresolvedDependency)) → In r (if b then q ∷ rs else rs) → (r ≡ q) ⊎ In r rs
 from_if true q r rs h = h

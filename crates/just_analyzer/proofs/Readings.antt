@@ -23,11 +23,11 @@ use Rattle.just_loader.specs.Keys.{FileKey, IsLeastFileDepth, ast_key, items_at,
 use Rattle.just_loader.specs.Loaded.{IsLoaded, with_path}
 use Rattle.just_loader.specs.Reached.{World}
 use Rattle.just_loader.proofs.HeldKeys.{closed, held_key, held_path, key_held, path_led, said}
-use Rattle.just_modules.specs.Analyzable.{AreAnalyzable}
-use Rattle.just_modules.specs.Files.{led}
-use Rattle.just_modules.specs.Recipes.{recipes_of}
-use Rattle.just_modules.specs.Reading.{Reading, enabled_items, located_ast, reading_of}
-use Rattle.just_modules.specs.Resolved.{unresolved_numbers}
+use Rattle.just_joining.specs.Analyzable.{AreAnalyzable}
+use Rattle.just_joining.specs.Files.{led}
+use Rattle.just_joining.specs.Recipes.{recipes_of}
+use Rattle.just_joining.specs.Reading.{Reading, enabled_items, located_ast, reading_of}
+use Rattle.just_joining.specs.Resolved.{unresolved_numbers}
 use Rattle.just_modules.proofs.Agreeing.{Holds}
 use Rattle.just_analyzer.specs.Readings.{IsReadingOf, items_read}
 use Rattle.just_analyzer.proofs.Numbers.{once_recipes, recipe_number_in, recipe_priors}

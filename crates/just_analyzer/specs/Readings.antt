@@ -9,7 +9,7 @@ use Rattle.just_loader.specs.Keys.{FileKey, IsLeastFileDepth, ast_key, items_at}
 use Rattle.just_loader.specs.Loaded.{with_path}
 use Rattle.just_loader.specs.Reached.{World}
 use Rattle.just_modules.specs.Modules.{Heading, heading, label}
-use Rattle.just_modules.specs.Reading.{Reading, enabled_items}
+use Rattle.just_joining.specs.Reading.{Reading, enabled_items}
 
 -- the items of a file that count, at a depth, with the paths of the files to which they lead
 abbrev pub items_read : World → FileKey → ℕ → List Item

@@ -5,7 +5,7 @@ use Rattle.just_loader.specs.Keys.{NamesInFiles}
 use Rattle.just_loader.specs.Reached.{World}
 use Rattle.just_modules.specs.Groups.{KeepsModules, NamesModules}
 use Rattle.just_modules.specs.Modules.{AreModules, Forest}
-use Rattle.just_modules.specs.Reading.{Reading}
+use Rattle.just_joining.specs.Reading.{Reading}
 use Rattle.just_analyzer.specs.Readings.{IsReadingOf, root_heading}
 
 -- What a compilation breaks: a rule of files; or where these are kept, one of a module that is reached from the root's.

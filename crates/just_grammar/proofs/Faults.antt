@@ -9,14 +9,14 @@ use Rattle.just_records.specs.declared.list_feature.ListUse.{ListUse}
 use Rattle.just_plain.specs.declared.lines.TextLine.{TextLine}
 use Rattle.just_plain.specs.Lines.{is_newline, lines_from, lines_of}
 use Rattle.just_plain.proofs.Cuts.{number_at}
-use Rattle.just_grammar.specs.declared.body.BodyLine.{BodyLine}
+use Rattle.just_phrases.specs.declared.body.BodyLine.{BodyLine}
 use Rattle.just_grammar.specs.declared.items.Items.{Items}
 use Rattle.just_grammar.specs.declared.items.Reading.{Reading}
-use Rattle.just_grammar.specs.declared.meaning.Meaning.{Meaning}
-use Rattle.just_grammar.specs.declared.meaning.Meaning.TheVariants as meaning
-use Rattle.just_grammar.specs.Body.{body_line, indent}
+use Rattle.just_phrases.specs.declared.meaning.Meaning.{Meaning}
+use Rattle.just_phrases.specs.declared.meaning.Meaning.TheVariants as meaning
+use Rattle.just_phrases.specs.Body.{body_line, indent}
 use Rattle.just_grammar.specs.Items as items
-use Rattle.just_grammar.specs.Meaning as said
+use Rattle.just_phrases.specs.Meaning as said
 use Rattle.just_grammar.specs.Recipe.{recipe}
 use Rattle.just_grammar.proofs.Proper.{either}
 

@@ -1,15 +1,6 @@
-pub mod Apart
-pub mod Bounds
-pub mod Chars
-pub mod Closing
+pub mod Dropped
 pub mod Faults
-pub mod Fronts
-pub mod Heads
 pub mod InPlace
-pub mod Joined
-pub mod Listed
 pub mod Marks
-pub mod Names
 pub mod Proper
-pub mod Props
 pub mod Steady

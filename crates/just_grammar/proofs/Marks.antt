@@ -12,11 +12,11 @@ use Rattle.just_records.specs.declared.string_literal.StringLiteral.{StringLiter
 use Rattle.just_plain.specs.declared.expressions.Found.{Found}
 use Rattle.just_plain.specs.declared.lexer.Lexeme.{Lexeme}
 use Rattle.just_plain.specs.Expressions.{expression}
-use Rattle.just_grammar.specs.declared.attributes.Mark.{Mark}
-use Rattle.just_grammar.specs.declared.attributes.Properties.{Properties}
-use Rattle.just_grammar.specs.Attributes as marks
-use Rattle.just_grammar.specs.Definitions.{after_part}
-use Rattle.just_grammar.specs.Places.{literal_at, name_at, stands, is_bracket_open, is_paren_open}
+use Rattle.just_phrases.specs.declared.attributes.Mark.{Mark}
+use Rattle.just_phrases.specs.declared.attributes.Properties.{Properties}
+use Rattle.just_phrases.specs.Attributes as marks
+use Rattle.just_phrases.specs.Definitions.{after_part}
+use Rattle.just_phrases.specs.Places.{literal_at, name_at, stands, is_bracket_open, is_paren_open}
 use Rattle.just_grammar.proofs.Proper.{IsSaid, either}
 
 -- what a mark says of a parameter is there

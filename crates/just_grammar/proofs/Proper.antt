@@ -25,11 +25,11 @@ use Rattle.just_records.specs.declared.parameter.ParameterKind.TheVariants as pa
 use Rattle.just_plain.specs.declared.expressions.Found.{Found}
 use Rattle.just_plain.specs.declared.lexer.Lexeme.{Lexeme}
 use Rattle.just_plain.specs.Expressions.{expression}
-use Rattle.just_grammar.specs.declared.attributes.Options.{Options}
-use Rattle.just_grammar.specs.declared.heading.Heading.{Heading}
-use Rattle.just_grammar.specs.Heading as heading
+use Rattle.just_phrases.specs.declared.attributes.Options.{Options}
+use Rattle.just_phrases.specs.declared.heading.Heading.{Heading}
+use Rattle.just_phrases.specs.Heading as heading
 use Rattle.just_grammar.specs.Proper.{IsProper}
-use Rattle.just_grammar.specs.Places.{name_at, stands, is_at_sign, is_colon, is_equals, is_plus, is_star}
+use Rattle.just_phrases.specs.Places.{name_at, stands, is_at_sign, is_colon, is_equals, is_plus, is_star}
 use Rattle.just_grammar.specs.Recipe as recipe
 
 -- one of two

@@ -25,25 +25,25 @@ use Rattle.just_plain.specs.declared.lexer.Lexeme.{Lexeme}
 use Rattle.just_plain.specs.declared.lines.TextLine.{TextLine}
 use Rattle.just_plain.specs.Lexemes.{is_blank, lexemes}
 use Rattle.just_plain.specs.Lines.{lines_of}
-use Rattle.just_grammar.specs.declared.attributes.Mark.{Mark}
-use Rattle.just_grammar.specs.declared.attributes.Options.{Options}
-use Rattle.just_grammar.specs.declared.body.BodyLine.{BodyLine}
-use Rattle.just_grammar.specs.declared.heading.Heading.{Heading}
+use Rattle.just_phrases.specs.declared.attributes.Mark.{Mark}
+use Rattle.just_phrases.specs.declared.attributes.Options.{Options}
+use Rattle.just_phrases.specs.declared.body.BodyLine.{BodyLine}
+use Rattle.just_phrases.specs.declared.heading.Heading.{Heading}
 use Rattle.just_grammar.specs.declared.items.Items.{Items}
 use Rattle.just_grammar.specs.declared.items.Reading.{Reading}
-use Rattle.just_grammar.specs.declared.meaning.Declaration.{Declaration}
-use Rattle.just_grammar.specs.declared.meaning.Meaning.{Meaning}
-use Rattle.just_grammar.specs.declared.meaning.Meaning.TheVariants as meaning
-use Rattle.just_grammar.specs.declared.meaning.Said.{Said}
-use Rattle.just_grammar.specs.declared.meaning.Statement.{Statement}
-use Rattle.just_grammar.specs.declared.meaning.Statement.TheVariants as statements
-use Rattle.just_grammar.specs.Attributes.{attribute as attribute_line}
-use Rattle.just_grammar.specs.Body.{body_line, indent}
-use Rattle.just_grammar.specs.Definitions as definitions
-use Rattle.just_grammar.specs.Heading.{heading}
+use Rattle.just_phrases.specs.declared.meaning.Declaration.{Declaration}
+use Rattle.just_phrases.specs.declared.meaning.Meaning.{Meaning}
+use Rattle.just_phrases.specs.declared.meaning.Meaning.TheVariants as meaning
+use Rattle.just_phrases.specs.declared.meaning.Said.{Said}
+use Rattle.just_phrases.specs.declared.meaning.Statement.{Statement}
+use Rattle.just_phrases.specs.declared.meaning.Statement.TheVariants as statements
+use Rattle.just_phrases.specs.Attributes.{attribute as attribute_line}
+use Rattle.just_phrases.specs.Body.{body_line, indent}
+use Rattle.just_phrases.specs.Definitions as definitions
+use Rattle.just_phrases.specs.Heading.{heading}
 use Rattle.just_grammar.specs.Items as items
-use Rattle.just_grammar.specs.Meaning as said
-use Rattle.just_grammar.specs.Places.{literal_at, name_at, stands, word_at, is_assign, is_comma, is_name, is_paren_close, is_paren_open}
+use Rattle.just_phrases.specs.Meaning as said
+use Rattle.just_phrases.specs.Places.{literal_at, name_at, stands, word_at, is_assign, is_comma, is_name, is_paren_close, is_paren_open}
 use Rattle.just_grammar.specs.Proper.{IsProper}
 use Rattle.just_grammar.specs.Recipe.{recipe}
 use Rattle.just_grammar.proofs.Marks.{MarkSaid, mark_said}

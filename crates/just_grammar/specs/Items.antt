@@ -12,22 +12,22 @@ use Rattle.just_records.specs.declared.line.Line.{Line}
 use Rattle.just_records.specs.declared.list_feature.ListUse.{ListUse}
 use Rattle.just_plain.specs.declared.lines.TextLine.{TextLine}
 use Rattle.just_plain.specs.Lines.{lines_of}
-use Rattle.just_grammar.specs.declared.attributes.Mark.{Mark}
-use Rattle.just_grammar.specs.declared.attributes.Options.{Options}
-use Rattle.just_grammar.specs.declared.body.BodyLine.{BodyLine}
-use Rattle.just_grammar.specs.declared.heading.Heading.{Heading}
+use Rattle.just_phrases.specs.declared.attributes.Mark.{Mark}
+use Rattle.just_phrases.specs.declared.attributes.Options.{Options}
+use Rattle.just_phrases.specs.declared.body.BodyLine.{BodyLine}
+use Rattle.just_phrases.specs.declared.heading.Heading.{Heading}
 use Rattle.just_grammar.specs.declared.items.Body.{Body}
 use Rattle.just_grammar.specs.declared.items.Body.TheVariants as body
 use Rattle.just_grammar.specs.declared.items.Items.{Items}
 use Rattle.just_grammar.specs.declared.items.Reading.{Reading}
-use Rattle.just_grammar.specs.declared.meaning.Declaration.{Declaration}
-use Rattle.just_grammar.specs.declared.meaning.Meaning.{Meaning}
-use Rattle.just_grammar.specs.declared.meaning.Meaning.TheVariants as meaning
-use Rattle.just_grammar.specs.declared.meaning.Said.{Said}
-use Rattle.just_grammar.specs.declared.meaning.Statement.{Statement}
-use Rattle.just_grammar.specs.declared.meaning.Statement.TheVariants as statements
-use Rattle.just_grammar.specs.Body.{body_line, indent}
-use Rattle.just_grammar.specs.Meaning.{said}
+use Rattle.just_phrases.specs.declared.meaning.Declaration.{Declaration}
+use Rattle.just_phrases.specs.declared.meaning.Meaning.{Meaning}
+use Rattle.just_phrases.specs.declared.meaning.Meaning.TheVariants as meaning
+use Rattle.just_phrases.specs.declared.meaning.Said.{Said}
+use Rattle.just_phrases.specs.declared.meaning.Statement.{Statement}
+use Rattle.just_phrases.specs.declared.meaning.Statement.TheVariants as statements
+use Rattle.just_phrases.specs.Body.{body_line, indent}
+use Rattle.just_phrases.specs.Meaning.{said}
 use Rattle.just_grammar.specs.Recipe.{recipe}
 
 abbrev pub is_nil : {A : Type 0} → List A → Bool

@@ -1,9 +1,3 @@
-pub mod Attributes
-pub mod Body
-pub mod Definitions
-pub mod Heading
 pub mod Items
-pub mod Meaning
-pub mod Places
 pub mod Proper
 pub mod Recipe

@@ -4,7 +4,7 @@ use Rattle.std.specs.List.{find, list_any}
 use Rattle.std.specs.Str.{bytes_eq}
 use Rattle.just_names.specs.Token.{lexeme}
 use Rattle.just_names.specs.declared.name.Name.{Name}
-use Rattle.just_parts.specs.Bare.{no_number}
+use Rattle.just_names.specs.Number.{no_number}
 use Rattle.just_parts.specs.declared.layers.ast.UnresolvedDependency.{UnresolvedDependency}
 use Rattle.just_parts.specs.declared.recipe.Recipe.{Recipe}
 use Rattle.just_records.specs.declared.attribute.Attribute.{Attribute}
@@ -12,9 +12,9 @@ use Rattle.just_records.specs.declared.attribute.Attribute.TheVariants as attrib
 use Rattle.just_records.specs.declared.attribute.NamedAttribute.{NamedAttribute}
 use Rattle.just_records.specs.declared.expression.Expression.{Expression}
 use Rattle.just_records.specs.declared.parameter.Parameter.{Parameter}
-use Rattle.just_grammar.specs.declared.attributes.Options.{Options}
-use Rattle.just_grammar.specs.declared.heading.Heading.{Heading}
-use Rattle.just_grammar.specs.Definitions.{is_private}
+use Rattle.just_phrases.specs.declared.attributes.Options.{Options}
+use Rattle.just_phrases.specs.declared.heading.Heading.{Heading}
+use Rattle.just_phrases.specs.Definitions.{is_private}
 
 -- what attributes say of the parameter of a name
 abbrev pub options_of : List Options → List ℕ → Option Options

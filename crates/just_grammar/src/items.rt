@@ -2,18 +2,18 @@
 ghost use Rattle.std.specs.Prelude.{◌≡◌, ◌≤◌, ◌<◌, length, IfOk, IfErr, IfSome, OnOk, Ok, Err};
 ghost use Rattle.just_plain.specs.Lines.{IsLineOf, lines_of};
 ghost use Rattle.std.specs.List.{All};
-ghost use Rattle.just_grammar.specs.Body.{indent};
-ghost use Rattle.just_grammar.specs.Meaning.{said};
+ghost use Rattle.just_phrases.specs.Body.{indent};
+ghost use Rattle.just_phrases.specs.Meaning.{said};
 ghost use Rattle.just_grammar.specs.Proper.{IsProper};
 ghost use Rattle.just_grammar.specs.Items as spec;
 
-use crate::attributes::{Mark, Options};
-use crate::body::{BodyLine, indent, read_body};
-use crate::heading::Heading;
-use crate::meaning::{Declaration, Meaning, Said, Statement, read_line};
 use crate::recipe::make_recipe;
 use just_data::{BorrowedText, Sequence};
 use just_parts::layers::Item;
+use just_phrases::attributes::{Mark, Options};
+use just_phrases::body::{BodyLine, indent, read_body};
+use just_phrases::heading::Heading;
+use just_phrases::meaning::{Declaration, Meaning, Said, Statement, read_line};
 use just_plain::lines::TextLine;
 use just_records::{Fragment, Line, ListUse, NamedAttribute};
 use std::alloc::{AllocError, Global};
@@ -206,7 +206,7 @@ fn push_body<'src>(
 }
 
 // How many blanks and tabs are dropped from a line of a body that begins with so many, if it may stand there.
-#[tactic(auto, using(crate::proofs::Bounds::prefix_fits))]
+#[tactic(auto, using(just_phrases::proofs::Bounds::prefix_fits))]
 fn dropped<'src>(body: &Body<'src>, line: &TextLine<'src>, blanks: usize) -> Option<usize>
     requires { blanks ≡ indent line.now }
     ensures is { result ≡ spec.dropped body.now line.now blanks }
@@ -241,7 +241,7 @@ fn begin_body<'src>(line: &TextLine<'src>, blanks: usize, body: &mut Body<'src>)
 }
 
 // Adds a line of a body.
-#[tactic(auto, using(crate::proofs::Bounds::line_cut))]
+#[tactic(auto, using(just_phrases::proofs::Bounds::line_cut))]
 fn add_body<'src>(
     alloc: Global,
     path: &'src str,

@@ -1,12 +1,5 @@
-//! What the lines of a text say, in the plain grammar, and the items that they make.
+//! The items that the lines of a text make, in the plain grammar.
 #![tactic(auto)]
 
-pub mod attributes;
-pub mod body;
-pub mod definitions;
-pub mod heading;
 pub mod items;
-pub mod laws;
-pub mod meaning;
-pub mod places;
-pub mod recipe;
+mod recipe;

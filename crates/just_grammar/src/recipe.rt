@@ -4,13 +4,13 @@ ghost use Rattle.std.specs.List.{list_all, list_any};
 ghost use Rattle.std.specs.Option.{option_copied};
 ghost use Rattle.just_grammar.specs.Recipe as spec;
 
-use crate::attributes::Options;
-use crate::definitions::is_private;
-use crate::heading::Heading;
 use just_data::{Chain, Sequence};
 use just_names::{Name, Namepath, Number};
 use just_parts::layers::UnresolvedDependency;
 use just_parts::{Recipe, UnresolvedRecipe};
+use just_phrases::attributes::Options;
+use just_phrases::definitions::is_private;
+use just_phrases::heading::Heading;
 use just_records::{Attribute, NamedAttribute, Parameter};
 use std::alloc::{AllocError, Global};
 

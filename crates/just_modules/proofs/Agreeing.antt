@@ -11,13 +11,13 @@ use Rattle.just_parts.specs.Asts.{AstKey, same_ast_key}
 use Rattle.just_parts.specs.Causes.{Cause, Keeps}
 use Rattle.just_parts.specs.Items.{Ast, Item}
 use Rattle.just_parts.specs.Bare.{bare_item}
-use Rattle.just_modules.specs.Analyzable.{AreAnalyzable}
-use Rattle.just_modules.specs.Files.{all_led, led, led_by}
+use Rattle.just_joining.specs.Analyzable.{AreAnalyzable}
+use Rattle.just_joining.specs.Files.{all_led, led, led_by}
 use Rattle.just_modules.specs.Groups.{Breaks, Group, KeepsGroups, KeepsModules, NamesModules, in_module}
 use Rattle.just_modules.specs.Modules.{AreModules, Empty, Forest, HasModule, Heading, IsHeading, IsModule, Module, Tree, a_module, after_it, first, heading_of, headings_in, in_it, no_module, of_module, of_root}
-use Rattle.just_modules.specs.Reading.{Reading, Submodule, declared, imported, imports_of, items_in, located_ast, reading_of, submodules_of}
-use Rattle.just_modules.proofs.FilePlaces.{keys_flat, led_counted}
-use Rattle.just_modules.proofs.Holding.{led_counts, some_value}
+use Rattle.just_joining.specs.Reading.{Reading, Submodule, declared, imported, imports_of, items_in, located_ast, reading_of, submodules_of}
+use Rattle.just_joining.proofs.FilePlaces.{keys_flat, led_counted}
+use Rattle.just_joining.proofs.Holding.{led_counts, some_value}
 
 -- lists of values are one where they are found alike
 all_same : {A : Type 0} (xs ys : List A) → map Some xs ≡ map Some ys → xs ≡ ys

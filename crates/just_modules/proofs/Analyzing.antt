@@ -21,23 +21,24 @@ use Rattle.just_names.specs.declared.modulepath.Modulepath.{Modulepath}
 use Rattle.just_parts.specs.declared.recipe.Recipe.{Recipe}
 use Rattle.just_running.specs.Recipes.{IsResolved}
 use Rattle.just_invoke.specs.declared.justfile.Justfile.{Justfile}
-use Rattle.just_modules.specs.Analyzable.{AreAnalyzable}
+use Rattle.just_joining.specs.Analyzable.{AreAnalyzable}
 use Rattle.just_modules.specs.Analyzed.{ComeAfter, IsAnalyzed}
-use Rattle.just_modules.specs.Contents.{texts_of_names}
-use Rattle.just_modules.specs.Files.{ArePlaced, AreRows}
+use Rattle.just_joining.specs.Contents.{texts_of_names}
+use Rattle.just_joining.specs.Files.{ArePlaced, AreRows}
 use Rattle.just_modules.specs.Groups.{KeepsGroups, NamesModules}
-use Rattle.just_modules.specs.Index.{AreDifferent}
-use Rattle.just_modules.specs.Joined.{AreArranged, AreJoined, GoDeeper, IsJoined}
+use Rattle.just_joining.specs.Index.{AreDifferent}
+use Rattle.just_joining.specs.Joined.{AreArranged, AreJoined, GoDeeper, IsJoined}
 use Rattle.just_modules.specs.Justfiles.{AreCompiled, Built, labelled_as, slot}
 use Rattle.just_modules.specs.Modules.{AreModules, Empty, Forest, HasModule, Heading, IsHeading, Module, Tree, a_module, after_it, first, in_it, no_module}
-use Rattle.just_modules.specs.Reading.{Reading, reading_of}
-use Rattle.just_modules.specs.Steps.{BreaksInOrder, CanCompileAll, HaveCompiled, RepeatsNames, names_of_place}
-use Rattle.just_modules.specs.declared.files.Files.{Files}
-use Rattle.just_modules.specs.declared.files.Rows.{Rows}
-use Rattle.just_modules.specs.declared.joined.Joined.{Joined}
+use Rattle.just_joining.specs.Reading.{Reading, reading_of}
+use Rattle.just_joining.specs.OfPlaces.{RepeatsNames, names_of_place}
+use Rattle.just_modules.specs.Steps.{BreaksInOrder, CanCompileAll, HaveCompiled}
+use Rattle.just_joining.specs.declared.files.Files.{Files}
+use Rattle.just_joining.specs.declared.files.Rows.{Rows}
+use Rattle.just_joining.specs.declared.joined.Joined.{Joined}
 use Rattle.just_modules.proofs.Closing.{forest_closed}
 use Rattle.just_modules.proofs.Compilable.{can_compile_all, listed, one_at, stands, subs_differ}
-use Rattle.just_modules.proofs.FilePlaces.{count, one_place}
+use Rattle.just_joining.proofs.FilePlaces.{count, one_place}
 use Rattle.just_modules.proofs.Forests.{forest_at, tree_compiled}
 use Rattle.just_modules.proofs.Headed.{heading_at}
 use Rattle.just_modules.proofs.Keeping.{keeps_groups, keeps_listed, names_next, names_repeated}

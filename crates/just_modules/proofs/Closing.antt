@@ -25,9 +25,9 @@ use Rattle.just_invoke.specs.declared.justfile.RecipeKey.{RecipeKey}
 use Rattle.just_modules.specs.Analysis.{IsDefaultOf, IsKeyOf}
 use Rattle.just_modules.specs.Justfiles.{AreCompiled, Built, IsCompiled, by_name, held_by_name, none, one, recipes_in}
 use Rattle.just_modules.specs.Modules.{Forest, Module}
-use Rattle.just_modules.specs.Recipes.{recipes_of}
-use Rattle.just_modules.specs.Reading.{items_in}
-use Rattle.just_modules.specs.Resolved.{number_at, unresolved_numbers}
+use Rattle.just_joining.specs.Recipes.{recipes_of}
+use Rattle.just_joining.specs.Reading.{items_in}
+use Rattle.just_joining.specs.Resolved.{number_at, unresolved_numbers}
 use Rattle.just_modules.proofs.Keys.{each_found}
 use Rattle.just_modules.proofs.TableValues.{put_cases}
 

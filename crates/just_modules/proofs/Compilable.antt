@@ -10,20 +10,21 @@ use Rattle.just_graph.specs.Steps.{IsOrder, Reached, from_member, from_start, in
 use Rattle.just_graph.proofs.Members.{In, is_in}
 use Rattle.just_parts.specs.Asts.{AstKey, same_ast_key}
 use Rattle.just_parts.specs.Items.{Ast, Item}
-use Rattle.just_modules.specs.Analyzable.{AreAnalyzable}
-use Rattle.just_modules.specs.Contents.{texts_of_names}
-use Rattle.just_modules.specs.Files.{ArePlaced, AreRows}
-use Rattle.just_modules.specs.Index.{AreDifferent}
-use Rattle.just_modules.specs.Joined.{AreJoined, IsJoined}
-use Rattle.just_modules.specs.Reading.{Submodule}
-use Rattle.just_modules.specs.Steps.{CanCompile, CanCompileAll, names_of_place}
-use Rattle.just_modules.specs.declared.files.Files.{Files}
-use Rattle.just_modules.specs.declared.files.Rows.{Rows}
-use Rattle.just_modules.specs.declared.joined.Joined.{Joined}
-use Rattle.just_modules.proofs.FilePlaces.{count, key_count}
+use Rattle.just_joining.specs.Analyzable.{AreAnalyzable}
+use Rattle.just_joining.specs.Contents.{texts_of_names}
+use Rattle.just_joining.specs.Files.{ArePlaced, AreRows}
+use Rattle.just_joining.specs.Index.{AreDifferent}
+use Rattle.just_joining.specs.Joined.{AreJoined, IsJoined}
+use Rattle.just_joining.specs.Reading.{Submodule}
+use Rattle.just_joining.specs.OfPlaces.{names_of_place}
+use Rattle.just_modules.specs.Steps.{CanCompile, CanCompileAll}
+use Rattle.just_joining.specs.declared.files.Files.{Files}
+use Rattle.just_joining.specs.declared.files.Rows.{Rows}
+use Rattle.just_joining.specs.declared.joined.Joined.{Joined}
+use Rattle.just_joining.proofs.FilePlaces.{count, key_count}
 use Rattle.just_modules.proofs.ModulePaths.{file_path, one_outer, one_path, row_once, subs_at}
 use Rattle.just_modules.proofs.ModulePlaces.{file_inside, inner_keys}
-use Rattle.just_modules.proofs.Numbers.{have_priors, levels_once, numbers_apart, numbers_once}
+use Rattle.just_joining.proofs.Numbers.{have_priors, levels_once, numbers_apart, numbers_once}
 use Rattle.just_modules.proofs.Ready.{edge_joined, names_are, reached_joined}
 
 module _ (enabled : Item → Bool) (entries : List (AstKey × Ast)) (d : AstKey) (files : Files) (placed : ArePlaced entries files) (rows : Rows) (are : AreRows enabled files rows)

@@ -9,7 +9,7 @@ use Rattle.std.proofs.lemmas.Cmp.{nat_list_cmp_total, tied_itself}
 use Rattle.just_parts.specs.declared.layers.ast.UnresolvedDependency.{UnresolvedDependency}
 use Rattle.just_parts.specs.declared.recipe.Recipe.{Recipe}
 use Rattle.just_modules.specs.Analysis.{IsBefore}
-use Rattle.just_modules.specs.Recipes.{name_of, line_of, recipe_at}
+use Rattle.just_joining.specs.Recipes.{name_of, line_of, recipe_at}
 
 abbrev cmp : List ℕ → List ℕ → Ordering
 cmp = slice_cmp nat_cmp

@@ -18,22 +18,23 @@ use Rattle.just_names.specs.declared.name.Name.{Name}
 use Rattle.just_parts.specs.declared.recipe.Recipe.{Recipe}
 use Rattle.just_invoke.specs.declared.justfile.Justfile.{Justfile, out-Justfile, out-roll-Justfile}
 use Rattle.just_modules.specs.Analysis.{AreKeysOf, HasKeysOf, IsDefaultOf, IsOf}
-use Rattle.just_modules.specs.Files.{ArePlaced, AreRows, asts_in}
-use Rattle.just_modules.specs.Joined.{IsJoined}
+use Rattle.just_joining.specs.Files.{ArePlaced, AreRows, asts_in}
+use Rattle.just_joining.specs.Joined.{IsJoined}
 use Rattle.just_modules.specs.Justfiles.{AreCompiled, Built, IsCompiled, by_name, labelled_as, none, one, recipes_in, with_name, with_names}
 use Rattle.just_modules.specs.Modules.{Empty, Forest, Heading, Module, Tree, heading_of, headings_in}
-use Rattle.just_modules.specs.Named.{recipes_by, recipes_from}
-use Rattle.just_modules.specs.Recipes.{recipes_of}
-use Rattle.just_modules.specs.Reading.{Submodule, items_in}
-use Rattle.just_modules.specs.Resolved.{AreResolved}
-use Rattle.just_modules.specs.Steps.{IsCompiledAt, names_of_place, recipes_of_place}
-use Rattle.just_modules.specs.declared.files.Files.{Files}
+use Rattle.just_joining.specs.Named.{recipes_by, recipes_from}
+use Rattle.just_joining.specs.Recipes.{recipes_of}
+use Rattle.just_joining.specs.Reading.{Submodule, items_in}
+use Rattle.just_joining.specs.Resolved.{AreResolved}
+use Rattle.just_joining.specs.OfPlaces.{names_of_place, recipes_of_place}
+use Rattle.just_modules.specs.Steps.{IsCompiledAt}
+use Rattle.just_joining.specs.declared.files.Files.{Files}
 use Rattle.just_modules.specs.declared.inner.Label.{Label}
-use Rattle.just_modules.specs.declared.files.Rows.{Rows}
-use Rattle.just_modules.specs.declared.joined.Joined.{Joined}
+use Rattle.just_joining.specs.declared.files.Rows.{Rows}
+use Rattle.just_joining.specs.declared.joined.Joined.{Joined}
 use Rattle.just_parts.proofs.AstKeys.{keys_equivalent}
 use Rattle.just_modules.proofs.Closing.{own_joined}
-use Rattle.just_modules.proofs.FilePlaces.{says}
+use Rattle.just_joining.proofs.FilePlaces.{says}
 use Rattle.just_modules.proofs.ModulePlaces.{TreeAt, file_inside, join_at, module_of, tree_at}
 use Rattle.just_modules.proofs.Ready.{names_are}
 

@@ -7,13 +7,13 @@ use Rattle.just_graph.proofs.Index.{got_in}
 use Rattle.just_graph.proofs.Members.{is_in}
 use Rattle.just_parts.specs.Asts.{AstKey, same_ast_key}
 use Rattle.just_parts.specs.Items.{Ast, Item}
-use Rattle.just_modules.specs.Files.{ArePlaced, AreRows}
-use Rattle.just_modules.specs.Joined.{IsJoined}
+use Rattle.just_joining.specs.Files.{ArePlaced, AreRows}
+use Rattle.just_joining.specs.Joined.{IsJoined}
 use Rattle.just_modules.specs.Modules.{Heading, IsHeading, heading_of, of_module, of_root}
-use Rattle.just_modules.specs.Reading.{Reading, reading_of}
-use Rattle.just_modules.specs.declared.files.Files.{Files}
-use Rattle.just_modules.specs.declared.files.Rows.{Rows}
-use Rattle.just_modules.specs.declared.joined.Joined.{Joined}
+use Rattle.just_joining.specs.Reading.{Reading, reading_of}
+use Rattle.just_joining.specs.declared.files.Files.{Files}
+use Rattle.just_joining.specs.declared.files.Rows.{Rows}
+use Rattle.just_joining.specs.declared.joined.Joined.{Joined}
 use Rattle.just_modules.proofs.ModulePaths.{entered, subs_at}
 use Rattle.just_modules.proofs.ModulePlaces.{is_module}
 

@@ -13,11 +13,11 @@ use Rattle.just_table.specs.Entries.{find, put}
 use Rattle.just_parts.specs.declared.layers.ast.UnresolvedDependency.{UnresolvedDependency}
 use Rattle.just_parts.specs.declared.recipe.Recipe.{Recipe}
 use Rattle.just_invoke.specs.declared.justfile.RecipeKey.{RecipeKey}
-use Rattle.just_modules.specs.Index.{AreDifferent}
-use Rattle.just_modules.specs.Recipes.{name_of, recipe_at, names_of}
-use Rattle.just_modules.specs.Resolved.{number_at}
+use Rattle.just_joining.specs.Index.{AreDifferent}
+use Rattle.just_joining.specs.Recipes.{name_of, recipe_at, names_of}
+use Rattle.just_joining.specs.Resolved.{number_at}
 use Rattle.just_modules.specs.Analysis.{HasKeysOf}
-use Rattle.just_modules.proofs.RecipePlaces.{one_place}
+use Rattle.just_joining.proofs.RecipePlaces.{one_place}
 
 swap : {X : Type 0} (a b : Bool) (x y z : X) → (a ≡ true → b ≡ true → ⊥) → cond a x (cond b y z) ≡ cond b y (cond a x z)
 swap true true x y z apart = absurd (apart refl refl)

@@ -6,21 +6,21 @@ use Rattle.just_graph.specs.Steps.{ListsStepsFirst}
 use Rattle.just_parts.specs.Asts.{AstKey, same_ast_key}
 use Rattle.just_parts.specs.Causes.{Cause, Keeps}
 use Rattle.just_parts.specs.Items.{Ast, Item}
-use Rattle.just_modules.specs.Contents.{Contents, of_names, texts_of_names}
-use Rattle.just_modules.specs.Files.{ArePlaced, AreRows}
+use Rattle.just_joining.specs.Contents.{Contents, of_names, texts_of_names}
+use Rattle.just_joining.specs.Files.{ArePlaced, AreRows}
 use Rattle.just_modules.specs.Groups.{Breaks, Group, KeepsGroups, KeepsModules, NamesModules, OfBodies, OfDependencies, OfHeaders, in_module, rank}
-use Rattle.just_modules.specs.Index.{AreDifferent}
-use Rattle.just_modules.specs.Joined.{IsJoined}
+use Rattle.just_joining.specs.Index.{AreDifferent}
+use Rattle.just_joining.specs.Joined.{IsJoined}
 use Rattle.just_modules.specs.Modules.{Heading, IsHeading, Module, a_module, contents_of, no_module}
-use Rattle.just_modules.specs.Named.{BreaksRecipes, KeepsRecipes, in_bodies, in_dependencies, in_parameters}
-use Rattle.just_modules.specs.Reading.{Reading, reading_of}
-use Rattle.just_modules.specs.Rules.{Bodies, Headers, Parameters, duplicate_parameter, module_redefinition, of_parameters}
-use Rattle.just_modules.specs.Steps.{names_of_place, recipes_of_place}
-use Rattle.just_modules.specs.declared.files.Files.{Files}
-use Rattle.just_modules.specs.declared.files.Rows.{Rows}
-use Rattle.just_modules.specs.declared.joined.Joined.{Joined}
-use Rattle.just_modules.proofs.Alike.{AreAlike, bodies_alike, bodies_kept_alike, dependencies_alike, dependencies_kept_alike, parameters_alike, parameters_kept_alike}
-use Rattle.just_modules.proofs.ModuleNames.{headers_kept}
+use Rattle.just_joining.specs.Named.{BreaksRecipes, KeepsRecipes, in_bodies, in_dependencies, in_parameters}
+use Rattle.just_joining.specs.Reading.{Reading, reading_of}
+use Rattle.just_joining.specs.Rules.{Bodies, Headers, Parameters, duplicate_parameter, module_redefinition, of_parameters}
+use Rattle.just_joining.specs.OfPlaces.{names_of_place, recipes_of_place}
+use Rattle.just_joining.specs.declared.files.Files.{Files}
+use Rattle.just_joining.specs.declared.files.Rows.{Rows}
+use Rattle.just_joining.specs.declared.joined.Joined.{Joined}
+use Rattle.just_joining.proofs.Alike.{AreAlike, bodies_alike, bodies_kept_alike, dependencies_alike, dependencies_kept_alike, parameters_alike, parameters_kept_alike}
+use Rattle.just_joining.proofs.ModuleNames.{headers_kept}
 use Rattle.just_modules.proofs.ModulePlaces.{IsListed, TreeAt, file_inside, module_of, tree_at}
 use Rattle.just_modules.proofs.Ready.{names_are, recipes_are}
 

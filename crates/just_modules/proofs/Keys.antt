@@ -11,9 +11,9 @@ use Rattle.just_parts.specs.declared.layers.ast.UnresolvedDependency.{Unresolved
 use Rattle.just_parts.specs.declared.recipe.Recipe.{Recipe}
 use Rattle.just_invoke.specs.declared.justfile.RecipeKey.{RecipeKey}
 use Rattle.just_modules.specs.Analysis.{IsKeyOf, AreKeysOf}
-use Rattle.just_modules.specs.Recipes.{name_of, recipe_at}
+use Rattle.just_joining.specs.Recipes.{name_of, recipe_at}
 use Rattle.just_names.specs.Name.{text_of_name}
-use Rattle.just_modules.proofs.Resolving.{number_read}
+use Rattle.just_joining.proofs.Resolving.{number_read}
 
 module _ (Q : RecipeKey → Type 0) where
   abbrev Each : List (List ℕ × RecipeKey) → Type 0

@@ -17,17 +17,17 @@ use Rattle.just_names.specs.Name.{text_of_name}
 use Rattle.just_parts.specs.Items.{Ast, Item}
 use Rattle.just_parts.specs.declared.layers.ast.Item.TheVariants as item
 use Rattle.just_names.specs.declared.modulepath.Modulepath.{Modulepath}
-use Rattle.just_modules.specs.Contents.{texts_of_names}
-use Rattle.just_modules.specs.Files.{ArePlaced, AreRows}
-use Rattle.just_modules.specs.Index.{AreDifferent, name_at}
-use Rattle.just_modules.specs.Joined.{IsJoined}
-use Rattle.just_modules.specs.Reading.{Reading, Submodule, declared, imported, imports_of, items_in, reading_of, submodules_of}
-use Rattle.just_modules.specs.Resolved.{path_to}
-use Rattle.just_modules.specs.declared.files.Files.{Files}
-use Rattle.just_modules.specs.declared.files.Rows.{Rows}
-use Rattle.just_modules.specs.declared.joined.Joined.{Joined}
-use Rattle.just_modules.proofs.FilePlaces.{import_inside, imports_here}
-use Rattle.just_modules.proofs.Joining.{in_row}
+use Rattle.just_joining.specs.Contents.{texts_of_names}
+use Rattle.just_joining.specs.Files.{ArePlaced, AreRows}
+use Rattle.just_joining.specs.Index.{AreDifferent, name_at}
+use Rattle.just_joining.specs.Joined.{IsJoined}
+use Rattle.just_joining.specs.Reading.{Reading, Submodule, declared, imported, imports_of, items_in, reading_of, submodules_of}
+use Rattle.just_joining.specs.Resolved.{path_to}
+use Rattle.just_joining.specs.declared.files.Files.{Files}
+use Rattle.just_joining.specs.declared.files.Rows.{Rows}
+use Rattle.just_joining.specs.declared.joined.Joined.{Joined}
+use Rattle.just_joining.proofs.FilePlaces.{import_inside, imports_here}
+use Rattle.just_joining.proofs.Joining.{in_row}
 use Rattle.just_modules.proofs.ModulePlaces.{agree, along, inner_keys}
 
 -- an import stays in its module

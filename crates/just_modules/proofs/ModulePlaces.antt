@@ -15,15 +15,15 @@ use Rattle.just_parts.specs.Asts.{AstKey, same_ast_key}
 use Rattle.just_parts.specs.Bare.{ast_of_items}
 use Rattle.just_parts.specs.Items.{Ast, Item}
 use Rattle.just_parts.proofs.AstKeys.{key_same}
-use Rattle.just_modules.specs.Files.{ArePlaced, AreRows}
-use Rattle.just_modules.specs.Joined.{IsJoined}
+use Rattle.just_joining.specs.Files.{ArePlaced, AreRows}
+use Rattle.just_joining.specs.Joined.{IsJoined}
 use Rattle.just_modules.specs.Modules.{AreModules, Forest, Empty, Tree, HasModule, Heading, IsModule, Module, a_module, after_it, first, heading_of, headings_in, in_it, no_module}
-use Rattle.just_modules.specs.Reading.{Reading, Submodule, imports_of, located_ast, reading_of, submodules_of}
-use Rattle.just_modules.specs.declared.files.Files.{Files}
-use Rattle.just_modules.specs.declared.files.Rows.{Rows}
-use Rattle.just_modules.specs.declared.joined.Joined.{Joined}
-use Rattle.just_modules.proofs.FilePlaces.{import_inside, imports_here, modules_here, one_place, says}
-use Rattle.just_modules.proofs.Joining.{in_row}
+use Rattle.just_joining.specs.Reading.{Reading, Submodule, imports_of, located_ast, reading_of, submodules_of}
+use Rattle.just_joining.specs.declared.files.Files.{Files}
+use Rattle.just_joining.specs.declared.files.Rows.{Rows}
+use Rattle.just_joining.specs.declared.joined.Joined.{Joined}
+use Rattle.just_joining.proofs.FilePlaces.{import_inside, imports_here, modules_here, one_place, says}
+use Rattle.just_joining.proofs.Joining.{in_row}
 
 same_bools : (a b : Bool) → (a ≡ true → b ≡ true) → (b ≡ true → a ≡ true) → a ≡ b
 same_bools true b f g = sym (f refl)

@@ -17,11 +17,12 @@ use Rattle.just_parts.specs.declared.recipe.Recipe.{Recipe}
 use Rattle.just_running.specs.Recipes.{numbers}
 use Rattle.just_invoke.specs.declared.justfile.Justfile.{Justfile, roll-Justfile}
 use Rattle.just_modules.specs.Justfiles.{slot}
-use Rattle.just_modules.specs.Named.{BreaksRecipes}
-use Rattle.just_modules.specs.Resolved.{unresolved_numbers}
-use Rattle.just_modules.specs.Steps.{BreaksInOrder, CanCompileAll, CompilesPlace, HaveCompiled, IsCompiledAt, recipes_of_place}
-use Rattle.just_modules.specs.declared.files.Files.{Files}
-use Rattle.just_modules.specs.declared.joined.Joined.{Joined}
+use Rattle.just_joining.specs.Named.{BreaksRecipes}
+use Rattle.just_joining.specs.Resolved.{unresolved_numbers}
+use Rattle.just_joining.specs.OfPlaces.{recipes_of_place}
+use Rattle.just_modules.specs.Steps.{BreaksInOrder, CanCompileAll, CompilesPlace, HaveCompiled, IsCompiledAt}
+use Rattle.just_joining.specs.declared.files.Files.{Files}
+use Rattle.just_joining.specs.declared.joined.Joined.{Joined}
 use Rattle.just_modules.proofs.Makings.{made_numbers}
 
 -- a function that is changed at a place

@@ -19,17 +19,17 @@ use Rattle.just_parts.specs.declared.layers.ast.UnresolvedDependency.{Unresolved
 use Rattle.just_names.specs.declared.name.Name.{Name}
 use Rattle.just_names.specs.declared.modulepath.Modulepath.{Modulepath}
 use Rattle.just_parts.specs.declared.recipe.Recipe.{Recipe}
-use Rattle.just_modules.specs.Files.{ArePlaced, AreRows, asts_in}
-use Rattle.just_modules.specs.Joined.{AreJoined, IsJoined}
-use Rattle.just_modules.specs.Named.{name_by, names_from, names_in, names_said, recipes_by, recipes_from}
-use Rattle.just_modules.specs.Recipes.{recipes_of, recipes_said}
-use Rattle.just_modules.specs.Reading.{Reading, Submodule, declared, enabled_items, items_in, located_ast, reading_of, submodules_of}
-use Rattle.just_modules.specs.declared.files.Files.{Files}
-use Rattle.just_modules.specs.declared.files.Rows.{Rows}
-use Rattle.just_modules.specs.declared.joined.Joined.{Joined}
-use Rattle.just_modules.proofs.Alike.{AreAlike, outline_of, outlines_of}
-use Rattle.just_modules.proofs.BareOutlines.{outline_located}
-use Rattle.just_modules.proofs.FilePlaces.{are_graphs, says}
+use Rattle.just_joining.specs.Files.{ArePlaced, AreRows, asts_in}
+use Rattle.just_joining.specs.Joined.{AreJoined, IsJoined}
+use Rattle.just_joining.specs.Named.{name_by, names_from, names_in, names_said, recipes_by, recipes_from}
+use Rattle.just_joining.specs.Recipes.{recipes_of, recipes_said}
+use Rattle.just_joining.specs.Reading.{Reading, Submodule, declared, enabled_items, items_in, located_ast, reading_of, submodules_of}
+use Rattle.just_joining.specs.declared.files.Files.{Files}
+use Rattle.just_joining.specs.declared.files.Rows.{Rows}
+use Rattle.just_joining.specs.declared.joined.Joined.{Joined}
+use Rattle.just_joining.proofs.Alike.{AreAlike, outline_of, outlines_of}
+use Rattle.just_joining.proofs.BareOutlines.{outline_located}
+use Rattle.just_joining.proofs.FilePlaces.{are_graphs, says}
 use Rattle.just_modules.proofs.ModulePlaces.{no_ast}
 
 abbrev name_of : Submodule → Name

@@ -1,5 +1,5 @@
 -- What a module's recipes are compiled to.
-use Rattle.std.specs.Prelude.{◌≡◌, ◌≢◌, ℕ, ◌<◌, ◌≤◌, List, [], length, Option, Some, None}
+use Rattle.std.specs.Prelude.{◌≡◌, ◌≢◌, ℕ, ◌<◌, ◌≤◌, Bool, List, [], length, slice_get, Option, Some, None}
 use Rattle.std.specs.Cmp.Lexicographic.{slice_cmp}
 use Rattle.std.specs.List.{AllByRecursion}
 use Rattle.std.specs.Option.{option_map}
@@ -7,14 +7,18 @@ use Rattle.std.specs.Ordering.{nat_cmp}
 use Rattle.std.specs.declared.cmp.Ordering.TheVariants.{Less}
 use Rattle.just_table.specs.Entries.{find}
 use Rattle.just_names.specs.Name.{text_of_name}
-use Rattle.just_parts.specs.Items.{Ast}
+use Rattle.just_names.specs.Modulepath.{Text}
+use Rattle.just_parts.specs.Items.{Ast, Item}
 use Rattle.just_names.specs.declared.number.Number.{Number}
 use Rattle.just_invoke.specs.declared.justfile.Justfile.{Justfile, out-Justfile}
 use Rattle.just_parts.specs.declared.layers.ast.UnresolvedDependency.{UnresolvedDependency}
 use Rattle.just_parts.specs.declared.recipe.Recipe.{Recipe}
 use Rattle.just_invoke.specs.declared.justfile.RecipeKey.{RecipeKey}
-use Rattle.just_modules.specs.Recipes.{name_of, line_of, recipe_at}
-use Rattle.just_modules.specs.Resolved.{number_at}
+use Rattle.just_joining.specs.Files.{asts_in}
+use Rattle.just_joining.specs.Named.{recipes_by, recipes_from}
+use Rattle.just_joining.specs.declared.files.Files.{Files}
+use Rattle.just_joining.specs.Recipes.{name_of, line_of, recipe_at}
+use Rattle.just_joining.specs.Resolved.{number_at}
 
 -- a key has the number and the name of one of the first n recipes
 abbrev pub IsKeyOf : List (Recipe UnresolvedDependency) → ℕ → RecipeKey → Type 0
@@ -52,3 +56,8 @@ pub record IsOf (recipes own : List (Recipe UnresolvedDependency)) (ast : Ast) (
   pub source_is : (out-Justfile justfile).source ≡ source
   pub module_path : (out-Justfile justfile).module_path ≡ ast.module_path
   pub working_directory : (out-Justfile justfile).working_directory ≡ ast.working_directory
+
+-- a module has what these files say, of which one is its own
+abbrev pub IsOfFiles : (Item → Bool) → Files → ℕ → List ℕ → List Text → Text → Justfile → Type 0
+IsOfFiles enabled files own places loaded source j = (ast : Ast) → slice_get (asts_in files) own ≡ Some ast
+    → IsOf (recipes_from enabled (asts_in files) places) (recipes_by enabled (Some ast)) ast loaded source j

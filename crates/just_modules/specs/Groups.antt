@@ -2,8 +2,8 @@
 use Rattle.std.specs.Prelude.{◌≢◌, ◌<◌, ℕ, [], ◌∷◌}
 use Rattle.just_parts.specs.Causes.{Cause, Keeps}
 use Rattle.just_modules.specs.Modules.{Module, Heading, Forest, Empty, Tree, AreModules, HasModule, IsHeading, contents_of}
-use Rattle.just_modules.specs.Reading.{Reading}
-use Rattle.just_modules.specs.Rules.{Headers, Bodies, Dependencies}
+use Rattle.just_joining.specs.Reading.{Reading}
+use Rattle.just_joining.specs.Rules.{Headers, Bodies, Dependencies}
 
 -- The groups of rules, in the order in which they are read.
 pub data Group : Type 0 where

@@ -15,9 +15,9 @@ use Rattle.just_invoke.specs.declared.justfile.Justfile.{Justfile, out-Justfile,
 use Rattle.just_modules.specs.Analysis.{IsOf}
 use Rattle.just_modules.specs.Modules.{Module, Forest, Empty, Tree, label_of}
 use Rattle.just_modules.specs.declared.inner.Label.{Label}
-use Rattle.just_modules.specs.Recipes.{recipes_of}
-use Rattle.just_modules.specs.Reading.{items_in}
-use Rattle.just_modules.specs.Resolved.{AreResolved}
+use Rattle.just_joining.specs.Recipes.{recipes_of}
+use Rattle.just_joining.specs.Reading.{items_in}
+use Rattle.just_joining.specs.Resolved.{AreResolved}
 
 -- the recipes that files say, file after file
 abbrev pub recipes_in : (Item → Bool) → (AstKey → Option Ast) → List AstKey → List (Recipe UnresolvedDependency)

@@ -7,9 +7,9 @@ use Rattle.just_names.specs.Modulepath.{Text}
 use Rattle.just_parts.specs.Items.{Ast}
 use Rattle.just_records.specs.declared.string_literal.StringLiteral.{StringLiteral}
 use Rattle.just_names.specs.declared.name.Name.{Name}
-use Rattle.just_modules.specs.Contents.{Contents}
-use Rattle.just_modules.specs.Recipes.{recipes_said}
-use Rattle.just_modules.specs.Reading.{Reading, Submodule, imports_of, submodules_of}
+use Rattle.just_joining.specs.Contents.{Contents}
+use Rattle.just_joining.specs.Recipes.{recipes_said}
+use Rattle.just_joining.specs.Reading.{Reading, Submodule, imports_of, submodules_of}
 use Rattle.just_modules.specs.declared.inner.Label.{Label}
 
 -- the label of a module that is declared by its name alone

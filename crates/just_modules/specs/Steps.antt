@@ -16,22 +16,15 @@ use Rattle.just_names.specs.declared.name.Name.{Name}
 use Rattle.just_parts.specs.declared.recipe.Recipe.{Recipe}
 use Rattle.just_invoke.specs.declared.justfile.Justfile.{Justfile, out-Justfile}
 use Rattle.just_modules.specs.Analysis.{IsOf}
-use Rattle.just_modules.specs.Files.{asts_in, keys_in}
+use Rattle.just_joining.specs.Files.{asts_in, keys_in}
 use Rattle.just_modules.specs.Justfiles.{by_name, slot, with_names}
-use Rattle.just_modules.specs.Named.{BreaksRecipes, KeepsRecipes, names_from, recipes_by, recipes_from}
-use Rattle.just_modules.specs.Resolved.{AreResolved, HasPriors, unresolved_numbers}
-use Rattle.just_modules.specs.Contents.{of_names, texts_of_names}
-use Rattle.just_modules.specs.Index.{AreDifferent}
-use Rattle.just_modules.specs.Rules.{Headers}
-use Rattle.just_modules.specs.declared.files.Files.{Files}
-use Rattle.just_modules.specs.declared.joined.Joined.{Joined}
-
--- the recipes of the module at a place, and the names of the modules in it
-abbrev pub recipes_of_place : (Item → Bool) → Files → Joined → ℕ → List (Recipe UnresolvedDependency)
-recipes_of_place enabled files joined p = recipes_from enabled (asts_in files) (targets joined.files.items p)
-
-abbrev pub names_of_place : (Item → Bool) → Files → Joined → ℕ → List Name
-names_of_place enabled files joined p = names_from enabled (asts_in files) (targets joined.files.items p)
+use Rattle.just_joining.specs.Named.{BreaksRecipes, KeepsRecipes, names_from, recipes_by, recipes_from}
+use Rattle.just_joining.specs.Resolved.{AreResolved, HasPriors, unresolved_numbers}
+use Rattle.just_joining.specs.Contents.{of_names, texts_of_names}
+use Rattle.just_joining.specs.Index.{AreDifferent}
+use Rattle.just_joining.specs.Rules.{Headers}
+use Rattle.just_joining.specs.declared.files.Files.{Files}
+use Rattle.just_joining.specs.declared.joined.Joined.{Joined}
 
 -- The module at a place can be compiled: its files have places, the numbers of its recipes are different, and the modules in it stand at different places, with a name for each.
 pub record CanCompile (enabled : Item → Bool) (files : Files) (joined : Joined) (p : ℕ) : Type 0 where
@@ -97,17 +90,3 @@ pub record BreaksInOrder (enabled : Item → Bool) (files : Files) (joined : Joi
   pub there : at < length order
   pub before : (k : ℕ) → k < at → KeepsRecipes (recipes_of_place enabled files joined (slice_index order k))
   pub broken : BreaksRecipes (recipes_of_place enabled files joined (slice_index order at)) c
-
--- Two modules have one name in the module at a place of an order.
-pub record RepeatsNames (enabled : Item → Bool) (files : Files) (joined : Joined) (order : List ℕ) (c : Cause) : Type 0 where
-  pub at : ℕ
-  pub there : at < length order
-  pub broken : Headers (of_names (names_of_place enabled files joined (slice_index order at))) c
-
--- the files of each module of an order have places
-abbrev pub HaveFiles : Files → Joined → List ℕ → Type 0
-HaveFiles files joined order = (k : ℕ) → k < length order → All (λ q. q < length files.asts.items) (targets joined.files.items (slice_index order k))
-
--- the modules in each module of an order have different names
-abbrev pub HaveNames : (Item → Bool) → Files → Joined → List ℕ → Type 0
-HaveNames enabled files joined order = (k : ℕ) → k < length order → AreDifferent (texts_of_names (names_of_place enabled files joined (slice_index order k)))

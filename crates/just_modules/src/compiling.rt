@@ -5,18 +5,19 @@ ghost use Rattle.just_graph.specs.Graph.{targets};
 ghost use Rattle.just_parts.specs.Causes.{Reports};
 ghost use Rattle.just_invoke.specs.declared.justfile.Justfile.{Justfile};
 ghost use Rattle.just_modules.specs.Justfiles.{slot};
-ghost use Rattle.just_modules.specs.Named.{BreaksRecipes, KeepsRecipes};
-ghost use Rattle.just_modules.specs.Resolved.{AreNew};
-ghost use Rattle.just_modules.specs.Steps.{BreaksInOrder, CanCompile, CanCompileAll, CompilesAt, HaveCompiledAll, recipes_of_place};
+ghost use Rattle.just_joining.specs.Named.{BreaksRecipes, KeepsRecipes};
+ghost use Rattle.just_joining.specs.Resolved.{AreNew};
+ghost use Rattle.just_joining.specs.OfPlaces.{recipes_of_place};
+ghost use Rattle.just_modules.specs.Steps.{BreaksInOrder, CanCompile, CanCompileAll, CompilesAt, HaveCompiledAll};
 
 use crate::analyzer::analyze_module;
-use crate::files::Files;
 use crate::inner::take_inner;
-use crate::joined::Joined;
 use crate::making::Surroundings;
-use crate::module_names::module_names;
 use just_data::{Sequence, Shared, Text};
 use just_invoke::{Justfile, Recipes};
+use just_joining::files::Files;
+use just_joining::joined::Joined;
+use just_joining::module_names::module_names;
 use just_parts::layers::{Error, Syntax};
 use std::alloc::{AllocError, Global};
 

@@ -3,13 +3,13 @@
 ghost use Rattle.std.specs.Prelude.{◌≡◌, ◌<◌, ℕ, [], false, IsTrue, IfOk, IfSome, IfNone, length};
 ghost use Rattle.just_invoke.specs.declared.justfile.Justfile.{out-Justfile};
 ghost use Rattle.just_modules.specs.Analysis.{AreKeysOf, HasKeysOf, IsBefore, IsDefault, IsOf};
-ghost use Rattle.just_modules.specs.Definitions.{recipes_in};
-ghost use Rattle.just_modules.specs.Index.{AreDifferent};
-ghost use Rattle.just_modules.specs.Recipes.{names_of};
+ghost use Rattle.just_joining.specs.Definitions.{recipes_in};
+ghost use Rattle.just_joining.specs.Index.{AreDifferent};
+ghost use Rattle.just_joining.specs.Recipes.{names_of};
 
-use crate::definitions::{Definitions, recipe_at};
 use just_data::{Sequence, Shared, Text};
 use just_invoke::{Justfile, RecipeKey};
+use just_joining::definitions::{Definitions, recipe_at};
 use just_parts::UnresolvedRecipe;
 use just_parts::layers::Ast;
 use just_table::Table;

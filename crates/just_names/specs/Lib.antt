@@ -4,3 +4,4 @@ pub mod Join
 pub mod Modulepath
 pub mod Name
 pub mod Token
+pub mod Number

@@ -1,6 +1,6 @@
 -- Records without their numbers, and without what the source of a text says.
 use Rattle.std.specs.Prelude.{false, List, [], map, None}
-use Rattle.just_names.specs.declared.number.Number.{Number}
+use Rattle.just_names.specs.Number.{no_number}
 use Rattle.just_records.specs.declared.assignment.Assignment.{Assignment}
 use Rattle.just_records.specs.declared.function_definition.FunctionDefinition.{FunctionDefinition}
 use Rattle.just_records.specs.declared.function_definition.FunctionParameter.{FunctionParameter}
@@ -9,9 +9,6 @@ use Rattle.just_parts.specs.declared.layers.ast.UnresolvedDependency.{Unresolved
 use Rattle.just_parts.specs.declared.recipe.Recipe.{Recipe}
 use Rattle.just_parts.specs.Items.{Ast, Item}
 use Rattle.just_parts.specs.declared.layers.ast.Item.TheVariants as item
-
-abbrev pub no_number : Number
-no_number = record { 0 = 0 }
 
 abbrev pub bare_parameter : Parameter → Parameter
 bare_parameter p = record p { number = no_number }

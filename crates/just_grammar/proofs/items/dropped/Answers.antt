@@ -4,7 +4,8 @@ use Rattle.std.specs.List.{prefix_len, starts_with}
 use Rattle.std.proofs.lemmas.Grind.{common_steps}
 use Rattle.std.proofs.lemmas.Str.Pattern.{starts_text}
 use Rattle.just_plain.specs.Lexemes.{is_blank}
-use Rattle.just_grammar.proofs.Bounds.{blanks_cut, dropped_by}
+use Rattle.just_phrases.proofs.Bounds.{blanks_cut}
+use Rattle.just_grammar.proofs.Dropped.{dropped_by}
 use Rattle.just_grammar.proofs.items.dropped.Goals as goal
 
 pub range-requires-clause-end_boundary : goal.range-requires-clause-end_boundary

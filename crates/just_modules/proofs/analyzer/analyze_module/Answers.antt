@@ -5,10 +5,10 @@ use Rattle.just_graph.specs.Steps.{IsOnce}
 use Rattle.just_graph.proofs.Index.{some_same}
 use Rattle.just_parts.specs.Causes.{Reports}
 use Rattle.just_parts.specs.Items.{Ast}
-use Rattle.just_modules.specs.Definitions.{recipes_in}
-use Rattle.just_modules.specs.Files.{asts_in}
-use Rattle.just_modules.specs.Named.{BreaksRecipes, KeepsRecipes, recipes_from}
-use Rattle.just_modules.specs.Resolved.{AreResolved, HasPriors, unresolved_numbers}
+use Rattle.just_joining.specs.Definitions.{recipes_in}
+use Rattle.just_joining.specs.Files.{asts_in}
+use Rattle.just_joining.specs.Named.{BreaksRecipes, KeepsRecipes, recipes_from}
+use Rattle.just_joining.specs.Resolved.{AreResolved, HasPriors, unresolved_numbers}
 use Rattle.just_modules.proofs.Makings.{resolved_numbers}
 use Rattle.just_modules.proofs.analyzer.analyze_module.Goals as goal
 

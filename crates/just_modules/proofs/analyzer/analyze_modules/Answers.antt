@@ -9,13 +9,14 @@ use Rattle.just_parts.specs.Asts.{AstKey, same_ast_key}
 use Rattle.just_parts.specs.Causes.{Reports}
 use Rattle.just_parts.proofs.Lifts.{reports_by}
 use Rattle.just_modules.specs.Analyzed.{IsAnalyzed}
-use Rattle.just_modules.specs.Joined.{AreArranged, AreGraphs}
+use Rattle.just_joining.specs.Joined.{AreArranged, AreGraphs}
 use Rattle.just_modules.specs.Justfiles.{labelled_as}
 use Rattle.just_modules.specs.Modules.{heading}
-use Rattle.just_modules.specs.Steps.{BreaksInOrder, CanCompileAll, HaveCompiled, RepeatsNames}
+use Rattle.just_joining.specs.OfPlaces.{RepeatsNames}
+use Rattle.just_modules.specs.Steps.{BreaksInOrder, CanCompileAll, HaveCompiled}
 use Rattle.just_modules.proofs.Analyzing.{all_can, broken_named, files_there, go_deeper, is_analyzed, repeats_named, root_held, rows_many}
-use Rattle.just_modules.proofs.FilePlaces.{are_graphs, place_back}
-use Rattle.just_modules.proofs.Holding.{holds_all, place_known}
+use Rattle.just_joining.proofs.FilePlaces.{are_graphs, place_back}
+use Rattle.just_joining.proofs.Holding.{holds_all, place_known}
 use Rattle.just_modules.proofs.analyzer.analyze_modules.Goals as goal
 
 pub file_rows-requires : goal.file_rows-requires

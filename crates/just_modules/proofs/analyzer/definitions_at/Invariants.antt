@@ -1,7 +1,7 @@
 use Rattle.std.proofs.Common.{◌≡◌, take}
-use Rattle.just_modules.specs.Definitions.{recipes_in}
-use Rattle.just_modules.specs.Files.{asts_in}
-use Rattle.just_modules.specs.Named.{recipes_from}
+use Rattle.just_joining.specs.Definitions.{recipes_in}
+use Rattle.just_joining.specs.Files.{asts_in}
+use Rattle.just_joining.specs.Named.{recipes_from}
 use Rattle.just_modules.proofs.analyzer.definitions_at.Given as goal
 
 abbrev pub invariant-loop-place : goal.invariant-loop-place

@@ -2,11 +2,11 @@ use Rattle.std.proofs.Common.{length, subst, rules}
 use Rattle.std.proofs.lemmas.Result.{IfErr-weaker}
 use Rattle.just_parts.specs.Causes.{Reports}
 use Rattle.just_parts.proofs.Lifts.{reports_by}
-use Rattle.just_modules.specs.Definitions.{recipes_in}
-use Rattle.just_modules.specs.Named.{BreaksRecipes, in_bodies, in_dependencies, in_parameters}
-use Rattle.just_modules.specs.Resolved.{Resolving}
-use Rattle.just_modules.specs.Rules.{Bodies, Dependencies, Parameters}
-use Rattle.just_modules.proofs.Resolving.{all_resolved}
+use Rattle.just_joining.specs.Definitions.{recipes_in}
+use Rattle.just_joining.specs.Named.{BreaksRecipes, in_bodies, in_dependencies, in_parameters}
+use Rattle.just_joining.specs.Resolved.{Resolving}
+use Rattle.just_joining.specs.Rules.{Bodies, Dependencies, Parameters}
+use Rattle.just_joining.proofs.Resolving.{all_resolved}
 use Rattle.just_modules.proofs.analyzer.resolve_recipes.Goals as goal
 
 pub returns-in_err-check_parameters-clause-named : goal.returns-in_err-check_parameters-clause-named

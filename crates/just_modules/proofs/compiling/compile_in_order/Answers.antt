@@ -3,8 +3,8 @@ use Rattle.std.proofs.lemmas.Grind.{common_steps}
 use Rattle.std.proofs.lemmas.Result.{IfErr-weaker}
 use Rattle.just_graph.specs.Graph.{targets}
 use Rattle.just_parts.specs.Causes.{Reports}
-use Rattle.just_modules.specs.Named.{BreaksRecipes}
-use Rattle.just_modules.specs.Steps.{recipes_of_place}
+use Rattle.just_joining.specs.Named.{BreaksRecipes}
+use Rattle.just_joining.specs.OfPlaces.{recipes_of_place}
 use Rattle.just_modules.proofs.Ordered.{breaks_next, compiled_more, compiled_none, inner_there, numbers_apart}
 use Rattle.just_modules.proofs.compiling.compile_in_order.Goals as goal
 

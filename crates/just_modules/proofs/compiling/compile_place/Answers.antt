@@ -8,12 +8,12 @@ use Rattle.just_graph.proofs.Index.{map_get}
 use Rattle.just_parts.specs.Asts.{AstKey}
 use Rattle.just_parts.specs.Causes.{Reports}
 use Rattle.just_parts.specs.Items.{Ast}
-use Rattle.just_modules.specs.Files.{asts_in, keys_in}
+use Rattle.just_joining.specs.Files.{asts_in, keys_in}
 use Rattle.just_modules.specs.Justfiles.{by_name, slot, with_names}
-use Rattle.just_modules.specs.Named.{AreAdded, BreaksRecipes, KeepsRecipes, names_from, recipes_by, recipes_from}
-use Rattle.just_modules.specs.Resolved.{HasPriors, unresolved_numbers}
+use Rattle.just_joining.specs.Named.{AreAdded, BreaksRecipes, KeepsRecipes, names_from, recipes_by, recipes_from}
+use Rattle.just_joining.specs.Resolved.{HasPriors, unresolved_numbers}
 use Rattle.just_modules.proofs.Makings.{is_of_same}
-use Rattle.just_modules.proofs.Joining.{row_lent, some_at}
+use Rattle.just_joining.proofs.Joining.{row_lent, some_at}
 use Rattle.just_modules.proofs.compiling.compile_place.Goals as goal
 
 pub module_names-requires : goal.module_names-requires

@@ -1,7 +1,7 @@
 use Rattle.std.proofs.Common.{ℕ, ◌<◌, length}
 use Rattle.just_modules.specs.Analysis.{IsBefore}
-use Rattle.just_modules.specs.Definitions.{recipes_in}
-use Rattle.just_modules.specs.Recipes.{recipe_at}
+use Rattle.just_joining.specs.Definitions.{recipes_in}
+use Rattle.just_joining.specs.Recipes.{recipe_at}
 use Rattle.just_modules.proofs.making.default_place.Given as goal
 
 abbrev pub invariant-loop-place : goal.invariant-loop-place

@@ -1,10 +1,10 @@
 use Rattle.std.proofs.Common.{◌≡◌, length, rules, sym, subst}
 use Rattle.just_invoke.specs.declared.justfile.Justfile.TheViews.{the_lemmas}
 use Rattle.just_modules.specs.Analysis.{IsDefaultOf}
-use Rattle.just_modules.specs.Definitions.{recipes_in}
+use Rattle.just_joining.specs.Definitions.{recipes_in}
 use Rattle.just_modules.proofs.Makings.{is_of}
-use Rattle.just_modules.proofs.RecipePlaces.{length-lent}
-use Rattle.just_modules.proofs.Resolving.{number_read}
+use Rattle.just_joining.proofs.RecipePlaces.{length-lent}
+use Rattle.just_joining.proofs.Resolving.{number_read}
 use Rattle.just_modules.proofs.making.make_justfile.Goals.{in-Some, in-None}
 use Rattle.just_modules.proofs.making.make_justfile.Goals as goal
 

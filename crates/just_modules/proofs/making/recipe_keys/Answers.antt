@@ -1,10 +1,10 @@
 use Rattle.std.proofs.Common.{◌≡◌, ◌∙◌, refl, sym, ap, length, arith}
 use Rattle.just_names.specs.Name.{text_of_name}
 use Rattle.just_names.specs.Token.{lexeme}
-use Rattle.just_modules.specs.Definitions.{recipes_in}
-use Rattle.just_modules.specs.Recipes.{name_of, recipe_at}
-use Rattle.just_modules.proofs.RecipePlaces.{length-lent}
-use Rattle.just_modules.proofs.Resolving.{number_read}
+use Rattle.just_joining.specs.Definitions.{recipes_in}
+use Rattle.just_joining.specs.Recipes.{name_of, recipe_at}
+use Rattle.just_joining.proofs.RecipePlaces.{length-lent}
+use Rattle.just_joining.proofs.Resolving.{number_read}
 use Rattle.just_modules.proofs.Keys.{keys_more}
 use Rattle.just_modules.proofs.Held.{keys_held_more}
 use Rattle.just_modules.proofs.making.recipe_keys.Goals as goal

@@ -11,7 +11,7 @@ use Rattle.just_loader.proofs.HeldKeys.{root_held}
 use Rattle.just_modules.specs.Analyzed.{IsAnalyzed}
 use Rattle.just_modules.specs.Groups.{NamesModules}
 use Rattle.just_modules.specs.Modules.{heading, label}
-use Rattle.just_modules.specs.Reading.{reading_of}
+use Rattle.just_joining.specs.Reading.{reading_of}
 use Rattle.just_analyzer.specs.Judged.{judged}
 use Rattle.just_analyzer.specs.Readings.{root_heading}
 use Rattle.just_analyzer.specs.Rules.{Names, in_files, in_modules}

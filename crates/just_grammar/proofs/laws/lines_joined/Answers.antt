@@ -1,5 +1,0 @@
-use Rattle.just_plain.proofs.Cuts.{joined}
-use Rattle.just_grammar.proofs.laws.lines_joined.Goals as goal
-
-pub returns : goal.returns
-returns c = joined c.args.text.now

@@ -1,0 +1,119 @@
+-- Recipes that are alike in what the rules read break the same rules.
+use Rattle.std.proofs.Common.{◌≡◌, ℕ, zero, suc, ◌+◌, ◌<◌, List, [], ◌∷◌, map, length, min, get_or, refl, sym, ◌∙◌, ap, subst}
+use Rattle.std.specs.List.{Contains}
+use Rattle.std.proofs.lemmas.List.{length-map}
+use Rattle.just_parts.specs.Causes.{Cause, Keeps}
+use Rattle.just_names.specs.Name.{texts_of_path}
+use Rattle.just_names.specs.Token.{Place, lexeme}
+use Rattle.just_parts.specs.declared.layers.ast.UnresolvedDependency.{UnresolvedDependency}
+use Rattle.just_parts.specs.declared.recipe.Recipe.{Recipe}
+use Rattle.just_joining.specs.Index.{Repeats}
+use Rattle.just_joining.specs.Recipes.{name_of, token_of, parameter_names, dependency_paths, least_of, most_of, no_recipe, recipe_at, names_of, Depends, DependsOn}
+use Rattle.just_joining.specs.Rules.{Bodies, Dependencies, IsCircleOf, IsLater, Parameters, argument_count, circular, duplicate_parameter, redefinition, unknown_dependency}
+
+-- What the rules read of a recipe.
+pub record Outline : Type 0 where
+  pub token : Place
+  pub parameters : List (List ℕ)
+  pub dependencies : List (List (List ℕ))
+  pub least : ℕ
+  pub most : ℕ
+
+abbrev pub outline_of : Recipe UnresolvedDependency → Outline
+outline_of recipe = record {
+  token = token_of recipe;
+  parameters = parameter_names recipe;
+  dependencies = dependency_paths recipe;
+  least = least_of recipe;
+  most = most_of recipe;
+}
+
+abbrev pub outlines_of : List (Recipe UnresolvedDependency) → List Outline
+outlines_of = map outline_of
+
+-- so many recipes, each with the same outline
+abbrev pub AreAlike : List (Recipe UnresolvedDependency) → List (Recipe UnresolvedDependency) → Type 0
+AreAlike rs qs = outlines_of rs ≡ outlines_of qs
+
+outline_read : (rs : List (Recipe UnresolvedDependency)) (i : ℕ) → outline_of (recipe_at rs i) ≡ get_or (outlines_of rs) i (outline_of no_recipe)
+outline_read [] i = refl
+outline_read (r ∷ rs) zero = refl
+outline_read (r ∷ rs) (suc i) = outline_read rs i
+
+names_read : (rs : List (Recipe UnresolvedDependency)) → names_of rs ≡ map (λ (o : Outline). lexeme o.token) (outlines_of rs)
+names_read [] = refl
+names_read (r ∷ rs) = ap (λ ns. name_of r ∷ ns) (names_read rs)
+
+module _ (rs qs : List (Recipe UnresolvedDependency)) (alike : AreAlike rs qs) where
+  many : length rs ≡ length qs
+  many = sym (length-map rs outline_of) ∙ ap length alike ∙ length-map qs outline_of
+
+  names : names_of rs ≡ names_of qs
+  names = names_read rs ∙ ap (map (λ (o : Outline). lexeme o.token)) alike ∙ sym (names_read qs)
+
+  at : (i : ℕ) → outline_of (recipe_at rs i) ≡ outline_of (recipe_at qs i)
+  at i = outline_read rs i ∙ ap (λ os. get_or os i (outline_of no_recipe)) alike ∙ sym (outline_read qs i)
+
+  tokens : (i : ℕ) → token_of (recipe_at rs i) ≡ token_of (recipe_at qs i)
+  tokens i = ap (λ (o : Outline). o.token) (at i)
+
+  name : (i : ℕ) → name_of (recipe_at rs i) ≡ name_of (recipe_at qs i)
+  name i = ap lexeme (tokens i)
+
+  paths : (i : ℕ) → dependency_paths (recipe_at rs i) ≡ dependency_paths (recipe_at qs i)
+  paths i = ap (λ (o : Outline). o.dependencies) (at i)
+
+  contains : (i : ℕ) (path : List (List ℕ)) → Contains (dependency_paths (recipe_at rs i)) path → Contains (dependency_paths (recipe_at qs i)) path
+  contains i path c = subst (λ ps. Contains ps path) (paths i) c
+
+  inside : (i : ℕ) → i < length rs → i < length qs
+  inside i h = subst (λ n. i < n) many h
+
+  pub parameters_alike : (c : Cause) → Parameters rs c → Parameters qs c
+  parameters_alike _ (duplicate_parameter i p q h e r x) =
+      let same : parameter_names (recipe_at rs i) ≡ parameter_names (recipe_at qs i) = ap (λ (o : Outline). o.parameters) (at i) in
+      duplicate_parameter i p q (inside i h) (sym (name i) ∙ e) (subst (λ ns. Repeats ns p q) same r) (ap (λ ns. get_or ns q []) (sym same) ∙ x)
+
+  pub bodies_alike : (c : Cause) → Bodies rs c → Bodies qs c
+  bodies_alike _ (redefinition {place} i j r e f l) =
+      redefinition i j (subst (λ ns. Repeats ns i j) names r) (sym (name j) ∙ e) ((λ n. min (sym (tokens i) n).line (sym (tokens j) n).line) ∙ f)
+      (subst (λ x. IsLater x (token_of (recipe_at qs j)) place) (tokens i) (subst (λ x. IsLater (token_of (recipe_at rs i)) x place) (tokens j) l))
+
+  depends_alike : (a b : ℕ) → Depends rs a b → Depends qs a b
+  depends_alike a b d = record {
+    dependent = inside a d.dependent;
+    there = inside b d.there;
+    names = subst (λ n. Contains (dependency_paths (recipe_at qs a)) (n ∷ [])) (name b) (contains a (name_of (recipe_at rs b) ∷ []) d.names);
+  }
+
+  depends_on_alike : (dependent named : List ℕ) → DependsOn rs dependent named → DependsOn qs dependent named
+  depends_on_alike dependent named d = record {
+    from = d.from;
+    to = d.to;
+    step = depends_alike d.from d.to d.step;
+    dependent_is = sym (name d.from) ∙ d.dependent_is;
+    name_is = sym (name d.to) ∙ d.name_is;
+  }
+
+  circle_alike : (recipe : List ℕ) (circle : List (List ℕ)) → IsCircleOf rs recipe circle → IsCircleOf qs recipe circle
+  circle_alike recipe circle c = record { steps = c.steps; closed = c.closed; walk = λ k h. depends_on_alike (get_or circle k []) (get_or circle (k + 1) []) (c.walk k h); closing = c.closing }
+
+  pub dependencies_alike : (c : Cause) → Dependencies rs c → Dependencies qs c
+  dependencies_alike _ (unknown_dependency {place} {recipe} {unknown} i h e c none) =
+      unknown_dependency i (inside i h) (sym (name i) ∙ e) (contains i (texts_of_path unknown) c)
+      (λ j l is. none j (subst (λ n. j < n) (sym many) l) (is ∙ ap (λ n. n ∷ []) (sym (name j))))
+  dependencies_alike _ (circular {place} {recipe} {circle} c) = circular (circle_alike recipe circle c)
+  dependencies_alike _ (argument_count {place} {dependency} i j h l c is none least most wrong) =
+      argument_count i j (inside i h) (inside j l) (contains i (texts_of_path dependency) c) (is ∙ ap (λ n. n ∷ []) (name j)) none
+      (ap (λ (o : Outline). o.least) (sym (at j)) ∙ least) (ap (λ (o : Outline). o.most) (sym (at j)) ∙ most) wrong
+
+-- recipes that are alike keep the same rules
+module _ (rs qs : List (Recipe UnresolvedDependency)) (alike : AreAlike rs qs) where
+  pub parameters_kept_alike : Keeps (Parameters rs) → Keeps (Parameters qs)
+  parameters_kept_alike kept c b = kept c (parameters_alike qs rs (sym alike) c b)
+
+  pub bodies_kept_alike : Keeps (Bodies rs) → Keeps (Bodies qs)
+  bodies_kept_alike kept c b = kept c (bodies_alike qs rs (sym alike) c b)
+
+  pub dependencies_kept_alike : Keeps (Dependencies rs) → Keeps (Dependencies qs)
+  dependencies_kept_alike kept c b = kept c (dependencies_alike qs rs (sym alike) c b)

@@ -1,0 +1,44 @@
+-- Recipes without their numbers have the same outlines.
+use Rattle.std.proofs.Common.{◌≡◌, ℕ, ◌+◌, cond, List, [], ◌∷◌, map, refl, ap}
+use Rattle.std.specs.Prelude.{if◌then◌else◌}
+use Rattle.std.specs.List.{list_any, fold}
+use Rattle.std.proofs.lemmas.List.{length-map}
+use Rattle.just_parts.specs.Bare.{bare_parameter, bare_recipe}
+use Rattle.just_parts.specs.Located.{located_recipe}
+use Rattle.just_names.specs.Name.{text_of_name}
+use Rattle.just_records.specs.Parameter.{is_required, is_variadic, least_arguments, most_arguments}
+use Rattle.just_parts.specs.declared.layers.ast.UnresolvedDependency.{UnresolvedDependency}
+use Rattle.just_records.specs.declared.parameter.Parameter.{Parameter}
+use Rattle.just_parts.specs.declared.recipe.Recipe.{Recipe}
+use Rattle.just_joining.specs.Recipes.{dependency_paths}
+use Rattle.just_joining.proofs.Alike.{outline_of}
+
+names_bare : (ps : List Parameter) → map (λ (p : Parameter). text_of_name p.name) (map bare_parameter ps) ≡ map (λ (p : Parameter). text_of_name p.name) ps
+names_bare [] = refl
+names_bare (p ∷ ps) = ap (λ qs. text_of_name p.name ∷ qs) (names_bare ps)
+
+variadic_bare : (ps : List Parameter) → list_any (λ (p : Parameter). is_variadic p.kind) (map bare_parameter ps) ≡ list_any (λ (p : Parameter). is_variadic p.kind) ps
+variadic_bare [] = refl
+variadic_bare (p ∷ ps) = simp (variadic_bare ps)
+
+most_bare : (ps : List Parameter) → most_arguments (map bare_parameter ps) ≡ most_arguments ps
+most_bare ps = λ i. if variadic_bare ps i then 18446744073709551614 else length-map ps bare_parameter i
+
+count_from : (n : ℕ) (ps : List Parameter) → fold (λ a x. a + cond (is_required x) 1 0) n (map bare_parameter ps) ≡ fold (λ a x. a + cond (is_required x) 1 0) n ps
+count_from n [] = refl
+count_from n (p ∷ ps) = count_from (n + cond (is_required p) 1 0) ps
+
+least_bare : (ps : List Parameter) → least_arguments (map bare_parameter ps) ≡ least_arguments ps
+least_bare ps = count_from 0 ps
+
+pub outline_bare : (r : Recipe UnresolvedDependency) → outline_of (bare_recipe r) ≡ outline_of r
+outline_bare r = λ i. record {
+  token = r.name.token;
+  parameters = names_bare r.parameters i;
+  dependencies = dependency_paths r;
+  least = least_bare r.parameters i;
+  most = most_bare r.parameters i;
+}
+
+pub outline_located : (r : Recipe UnresolvedDependency) → outline_of (located_recipe r) ≡ outline_of r
+outline_located r = outline_bare r

@@ -1,0 +1,15 @@
+pub mod Alike
+pub mod BareOutlines
+pub mod Edges
+pub mod FilePlaces
+pub mod Holding
+pub mod Indexing
+pub mod Joining
+pub mod ModuleNames
+pub mod Numbers
+pub mod Placing
+pub mod RecipeCircles
+pub mod RecipePlaces
+pub mod Refuted
+pub mod Resolving
+pub mod Targets

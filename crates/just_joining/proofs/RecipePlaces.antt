@@ -1,0 +1,67 @@
+-- Recipes, place by place.
+use Rattle.std.proofs.Common.{◌≡◌, ℕ, zero, suc, ◌+◌, ◌<◌, List, [], ◌∷◌, ◌++◌, length, take, Some, sym, ◌∙◌, ap, subst, arith, min, inl, inr}
+use Rattle.std.specs.List.{slice_get}
+use Rattle.std.proofs.lemmas.Bool.{cases_lt}
+use Rattle.std.proofs.lemmas.List.{length-map, take_more, map-append, get_or-map}
+use Rattle.std.specs.Borrow.{Bor}
+use Rattle.just_parts.specs.declared.layers.ast.UnresolvedDependency.{UnresolvedDependency}
+use Rattle.just_parts.specs.declared.recipe.Recipe.{Recipe}
+use Rattle.just_parts.specs.declared.layers.error.CompileErrorKind.{CompileErrorKind}
+use Rattle.just_parts.specs.declared.layers.error.CompileErrorKind.TheVariants as kind
+use Rattle.just_parts.specs.declared.layers.error.Definition.TheVariants as definition
+use Rattle.just_joining.specs.Recipes.{name_of, token_of, line_of, parameter_names, lent, no_recipe, recipe_at, names_of}
+use Rattle.just_joining.specs.Index.{name_at, Repeats, AreDifferent}
+use Rattle.just_parts.specs.Causes.{Cause, Broken}
+use Rattle.just_names.specs.Token.{Place}
+use Rattle.just_joining.specs.Rules.{Parameters, Bodies, IsLater, duplicate_parameter, redefinition}
+
+pub recipe_read : (rs : List (Recipe UnresolvedDependency)) (i : ℕ) (r : Recipe UnresolvedDependency) → slice_get rs i ≡ Some r → r ≡ recipe_at rs i
+recipe_read [] i r e = cc
+recipe_read (x ∷ rs) zero r e = let same : x ≡ r = cc in sym same
+recipe_read (x ∷ rs) (suc i) r e = recipe_read rs i r e
+
+-- the name at a place
+pub name_at_place : (rs : List (Recipe UnresolvedDependency)) (i : ℕ) → i < length rs → name_at (names_of rs) i ≡ name_of (recipe_at rs i)
+name_at_place rs i h = get_or-map name_of rs i no_recipe [] h
+
+-- one more name
+pub names_more : (rs : List (Recipe UnresolvedDependency)) (names more : List (List ℕ)) (i : ℕ) (x : List ℕ) (o : Recipe UnresolvedDependency) → names ≡ names_of (take i rs) → i < length rs → o ≡ recipe_at rs i → x ≡ name_of o → more ≡ names ++ x ∷ [] → more ≡ names_of (take (i + 1) rs)
+names_more rs names more i x o so h at is e =
+    e ∙ (ap (λ ns. ns ++ x ∷ []) so ∙ (ap (λ y. names_of (take i rs) ++ y ∷ []) (is ∙ ap name_of at)
+    ∙ (sym (map-append name_of (take i rs) (recipe_at rs i ∷ [])) ∙ ap names_of (sym (take_more rs i no_recipe h)))))
+
+-- a recipe with two parameters of one name
+pub has_duplicate : (rs : List (Recipe UnresolvedDependency)) (i p q : ℕ) (o : Recipe UnresolvedDependency) (ps : List (List ℕ)) (recipe parameter : List ℕ) → i < length rs → o ≡ recipe_at rs i → recipe ≡ name_of o → ps ≡ parameter_names o → Repeats ps p q → parameter ≡ name_at ps q → {place : Place} → Parameters rs (Broken place (kind.DuplicateParameter recipe parameter))
+has_duplicate rs i p q o ps recipe parameter h at name list repeats is =
+    let all : ps ≡ parameter_names (recipe_at rs i) = list ∙ ap parameter_names at in
+    duplicate_parameter i p q h (sym (name ∙ ap name_of at)) (subst (λ ns. Repeats ns p q) all repeats) (sym (is ∙ ap (λ ns. name_at ns q) all))
+
+-- two recipes of one name
+pub is_redefined : (rs : List (Recipe UnresolvedDependency)) (i j : ℕ) (first second : Recipe UnresolvedDependency) (place : Place) (k : CompileErrorKind) → Repeats (names_of rs) i j → first ≡ recipe_at rs i → second ≡ recipe_at rs j
+    → k ≡ kind.Redefinition definition.Recipe definition.Recipe (name_of second) (min (line_of first) (line_of second)) → IsLater (token_of first) (token_of second) place → Bodies rs (Broken place k)
+is_redefined rs i j first second place k repeats a b is later =
+    subst (λ x. Bodies rs (Broken place x)) (sym is)
+    (redefinition i j repeats (ap name_of (sym b)) (λ n. min (line_of (sym a n)) (line_of (sym b n))) (subst (λ x. IsLater (token_of x) (token_of (recipe_at rs j)) place) a (subst (λ x. IsLater (token_of first) (token_of x) place) b later)))
+
+-- no rule on parameters is broken, and none on names
+pub parameters_kept : (rs : List (Recipe UnresolvedDependency)) → ((k : ℕ) → k < length rs → AreDifferent (parameter_names (recipe_at rs k))) → {c : Cause} → Parameters rs c → ⊥
+parameters_kept rs ps (duplicate_parameter i p q h e r x) = ps i h p q r.apart r.within r.same
+
+pub bodies_kept : (rs : List (Recipe UnresolvedDependency)) → AreDifferent (names_of rs) → {c : Cause} → Bodies rs c → ⊥
+bodies_kept rs ns (redefinition i j r e f l) = ns i j r.apart r.within r.same
+
+-- a name has one place
+pub one_place : (rs : List (Recipe UnresolvedDependency)) → AreDifferent (names_of rs) → (i j : ℕ) → i < length rs → j < length rs → name_of (recipe_at rs i) ≡ name_of (recipe_at rs j) → i ≡ j
+one_place rs different i j in_i in_j e =
+    let count : length (names_of rs) ≡ length rs = length-map rs name_of in
+    let same : name_at (names_of rs) i ≡ name_at (names_of rs) j = name_at_place rs i in_i ∙ (e ∙ sym (name_at_place rs j in_j)) in
+    elim (cases_lt i j) [
+      | inl l ↦ absurd (different i j l (omega arith) same)
+      | inr l ↦ elim (cases_lt j i) [
+        | inl m ↦ absurd (different j i m (omega arith) (sym same))
+        | inr m ↦ omega arith
+      ]
+    ]
+
+pub length-lent : (lents : List (Bor (Recipe UnresolvedDependency))) → length (lent lents) ≡ length lents
+length-lent lents = length-map lents (λ (r : Bor (Recipe UnresolvedDependency)). r.now)

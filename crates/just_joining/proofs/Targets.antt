@@ -1,0 +1,83 @@
+-- What a dependency names.
+use Rattle.std.proofs.Common.{◌≡◌, ◌≢◌, ℕ, ◌<◌, List, [], ◌∷◌, length, map, get_or, Option, Some, None, sym, ◌∙◌, ap, subst, arith, inl, refl}
+use Rattle.std.specs.List.{Contains}
+use Rattle.std.proofs.lemmas.List.{get_or_default, get_or-map, length-map}
+use Rattle.just_names.specs.Name.{texts_of_path}
+use Rattle.just_names.specs.declared.name.Namepath.{Namepath}
+use Rattle.just_parts.specs.declared.layers.error.CompileErrorKind.TheVariants as kind
+use Rattle.just_parts.specs.declared.layers.ast.UnresolvedDependency.{UnresolvedDependency}
+use Rattle.just_parts.specs.declared.recipe.Recipe.{Recipe}
+use Rattle.just_joining.specs.Index.{name_at, IsLast, IsIndex, place_in}
+use Rattle.just_joining.specs.Recipes.{name_of, dependency_paths, least_of, most_of, recipe_at, names_of}
+use Rattle.just_parts.specs.Causes.{Broken}
+use Rattle.just_names.specs.Token.{Place}
+use Rattle.just_joining.specs.Rules.{Dependencies, unknown_dependency, argument_count}
+use Rattle.just_joining.proofs.RecipePlaces.{name_at_place}
+
+last_some : (names : List (List ℕ)) (n j : ℕ) (name : List ℕ) (o : Option ℕ) → IsLast names n name o → o ≡ Some j → (j < n) × (name_at names j ≡ name)
+last_some names n j name None s e = cc
+last_some names n j name (Some k) s e = let at : k ≡ j = cc in (subst (λ m. m < n) at s.0, subst (λ m. name_at names m ≡ name) at s.1)
+
+last_none : (names : List (List ℕ)) (n : ℕ) (name : List ℕ) (o : Option ℕ) → IsLast names n name o → o ≡ None → (k : ℕ) → k < n → name_at names k ≢ name
+last_none names n name None s e = s
+last_none names n name (Some k) s e = cc
+
+pub place_in-found : (names : List (List ℕ)) (found : List ℕ → Option ℕ) (path : List (List ℕ)) (j : ℕ) → IsIndex names found → place_in found path ≡ Some j → (j < length names) × (path ≡ name_at names j ∷ [])
+place_in-found names found [] j index e = cc
+place_in-found names found (name ∷ []) j index e =
+    let s = last_some names (length names) j name (found name) (index name) e in
+    (s.0, ap (λ x. x ∷ []) (sym s.1))
+place_in-found names found (name ∷ more ∷ rest) j index e = cc
+
+pub place_in-missing : (names : List (List ℕ)) (found : List ℕ → Option ℕ) (path : List (List ℕ)) → IsIndex names found → place_in found path ≡ None → (j : ℕ) → j < length names → path ≢ name_at names j ∷ []
+place_in-missing names found [] index e j h same = cc
+place_in-missing names found (name ∷ []) index e j h same =
+    let is : name ≡ name_at names j = cc in
+    last_none names (length names) name (found name) (index name) e j h (sym is)
+place_in-missing names found (name ∷ more ∷ rest) index e j h same = cc
+
+module _ (rs : List (Recipe UnresolvedDependency)) (found : List ℕ → Option ℕ) (index : IsIndex (names_of rs) found) where
+  count : length (names_of rs) ≡ length rs
+  count = length-map rs name_of
+
+  pub recipe_found : (path : List (List ℕ)) (j : ℕ) → place_in found path ≡ Some j → (j < length rs) × (path ≡ name_of (recipe_at rs j) ∷ [])
+  recipe_found path j e =
+      let s = place_in-found (names_of rs) found path j index e in
+      let h : j < length rs = omega (arith, s.0, count) in
+      (h, s.1 ∙ ap (λ x. x ∷ []) (name_at_place rs j h))
+
+  pub recipe_missing : (path : List (List ℕ)) → place_in found path ≡ None → (j : ℕ) → j < length rs → path ≢ name_of (recipe_at rs j) ∷ []
+  recipe_missing path e j h same =
+      place_in-missing (names_of rs) found path index e j (omega (arith, count)) (same ∙ ap (λ x. x ∷ []) (sym (name_at_place rs j h)))
+
+  module _ (i at : ℕ) (in_rs : i < length rs) (r : Recipe UnresolvedDependency) (is : r ≡ recipe_at rs i) (ds : List UnresolvedDependency) (d : UnresolvedDependency) (same : ds ≡ r.dependencies) (read : d ≡ get_or ds at d) (inside : at < length ds) where
+    -- the path of a dependency that is read
+    pub path_read : texts_of_path d.recipe ≡ get_or (dependency_paths (recipe_at rs i)) at []
+    path_read =
+        ap (λ (x : UnresolvedDependency). texts_of_path x.recipe) read
+        ∙ (sym (get_or-map (λ (x : UnresolvedDependency). texts_of_path x.recipe) ds at d [] inside)
+        ∙ (ap (λ (xs : List UnresolvedDependency). get_or (map (λ (x : UnresolvedDependency). texts_of_path x.recipe) xs) at []) same ∙ ap (λ (o : Recipe UnresolvedDependency). get_or (dependency_paths o) at []) is))
+
+    many : length ds ≡ length (dependency_paths (recipe_at rs i))
+    many = sym (length-map ds (λ (x : UnresolvedDependency). texts_of_path x.recipe))
+        ∙ (ap (λ (xs : List UnresolvedDependency). length (map (λ (x : UnresolvedDependency). texts_of_path x.recipe) xs)) same ∙ ap (λ (o : Recipe UnresolvedDependency). length (dependency_paths o)) is)
+
+    pub path_there : Contains (dependency_paths (recipe_at rs i)) (texts_of_path d.recipe)
+    path_there =
+        let h : at < length (dependency_paths (recipe_at rs i)) = omega (arith, inside, many) in
+        (at, h, get_or_default (dependency_paths (recipe_at rs i)) at (texts_of_path d.recipe) [] h ∙ sym path_read)
+
+    pub is_unknown : (name : List ℕ) (unknown : Namepath) → name ≡ name_of r → unknown ≡ d.recipe → place_in found (texts_of_path d.recipe) ≡ None → {place : Place} → Dependencies rs (Broken place (kind.UnknownDependency name unknown))
+    is_unknown name unknown named copied none =
+        unknown_dependency i in_rs (sym (named ∙ ap name_of is))
+        (subst (λ (p : Namepath). Contains (dependency_paths (recipe_at rs i)) (texts_of_path p)) (sym copied) path_there)
+        (λ j h e. recipe_missing (texts_of_path d.recipe) none j h (ap texts_of_path (sym copied) ∙ e))
+
+    pub is_mismatch : (j least most : ℕ) (t : Recipe UnresolvedDependency) (dependency : Namepath) → dependency ≡ d.recipe → place_in found (texts_of_path d.recipe) ≡ Some j → t ≡ recipe_at rs j → least ≡ least_of t → most ≡ most_of t → 0 < least
+        → {place : Place} → Dependencies rs (Broken place (kind.DependencyArgumentCountMismatch dependency 0 least most))
+    is_mismatch j least most t dependency copied e there is_least is_most some =
+        let s = recipe_found (texts_of_path d.recipe) j e in
+        argument_count i j in_rs s.0
+        (subst (λ (p : Namepath). Contains (dependency_paths (recipe_at rs i)) (texts_of_path p)) (sym copied) path_there)
+        (ap texts_of_path copied ∙ s.1) refl
+        (sym (is_least ∙ ap least_of there)) (sym (is_most ∙ ap most_of there)) (inl some)

@@ -1,0 +1,13 @@
+pub mod Analyzable
+pub mod Contents
+pub mod Definitions
+pub mod Files
+pub mod Index
+pub mod Joined
+pub mod Named
+pub mod OfPlaces
+pub mod Reading
+pub mod Recipes
+pub mod Resolved
+pub mod Rows
+pub mod Rules

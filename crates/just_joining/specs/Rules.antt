@@ -1,0 +1,63 @@
+-- The rules of a module: each relates what is compiled to the errors that report where it is broken.
+use Rattle.std.specs.Prelude.{◌≡◌, ◌≢◌, ℕ, ◌+◌, ◌-◌, ◌<◌, ◌≤◌, ◌⊎◌, min, List, [], ◌∷◌, length, get_or, Some}
+use Rattle.std.specs.List.{Contains, slice_get}
+use Rattle.just_parts.specs.Causes.{Cause, Broken, Keeps}
+use Rattle.just_names.specs.Name.{text_of_name, texts_of_path}
+use Rattle.just_names.specs.Token.{Place}
+use Rattle.just_names.specs.declared.name.Name.{Name}
+use Rattle.just_names.specs.declared.name.Namepath.{Namepath}
+use Rattle.just_parts.specs.declared.layers.error.Definition.TheVariants as definition
+use Rattle.just_parts.specs.declared.layers.error.CompileErrorKind.TheVariants as kind
+use Rattle.just_parts.specs.declared.layers.ast.UnresolvedDependency.{UnresolvedDependency}
+use Rattle.just_parts.specs.declared.recipe.Recipe.{Recipe}
+use Rattle.just_joining.specs.Contents.{Contents, texts_of_names}
+use Rattle.just_joining.specs.Index.{Repeats}
+use Rattle.just_joining.specs.Recipes.{name_of, token_of, line_of, parameter_names, dependency_paths, least_of, most_of, recipe_at, names_of, DependsOn}
+
+-- A recipe has a parameter's name twice: those two that follow each other under that name.
+pub data Parameters (recipes : List (Recipe UnresolvedDependency)) : Cause → Type 0 where
+  duplicate_parameter : {place : Place} {recipe parameter : List ℕ} (i p q : ℕ) → i < length recipes → name_of (recipe_at recipes i) ≡ recipe
+      → Repeats (parameter_names (recipe_at recipes i)) p q → get_or (parameter_names (recipe_at recipes i)) q [] ≡ parameter
+      → Parameters recipes (Broken place (kind.DuplicateParameter recipe parameter))
+
+-- The token of the later of two definitions: the one on the greater line, and of one line the second.
+pub record IsLater (first second later : Place) : Type 0 where
+  pub greater : second.line < first.line → later ≡ first
+  pub not_greater : first.line ≤ second.line → later ≡ second
+
+-- the smaller line of two names
+abbrev pub first_line : Name → Name → ℕ
+first_line first second = min first.token.line second.token.line
+
+-- What is broken in the headers of a module: those of its recipes, or two modules that it declares have one name.
+pub data Headers (m : Contents) : Cause → Type 0 where
+  of_parameters : {c : Cause} → Parameters m.recipes c → Headers m c
+  module_redefinition : {place : Place} {name : List ℕ} {line : ℕ} (i j : ℕ) (first second : Name) → Repeats (texts_of_names m.modules) i j
+      → slice_get m.modules i ≡ Some first → slice_get m.modules j ≡ Some second → text_of_name second ≡ name → min first.token.line second.token.line ≡ line → IsLater first.token second.token place
+      → Headers m (Broken place (kind.Redefinition definition.Module definition.Module name line))
+
+-- What is broken in the bodies of a module: two recipes have one name, those two that follow each other under that name.
+pub data Bodies (recipes : List (Recipe UnresolvedDependency)) : Cause → Type 0 where
+  redefinition : {place : Place} {name : List ℕ} {line : ℕ} (i j : ℕ) → Repeats (names_of recipes) i j → name_of (recipe_at recipes j) ≡ name
+      → min (line_of (recipe_at recipes i)) (line_of (recipe_at recipes j)) ≡ line → IsLater (token_of (recipe_at recipes i)) (token_of (recipe_at recipes j)) place
+      → Bodies recipes (Broken place (kind.Redefinition definition.Recipe definition.Recipe name line))
+
+-- A circle of names: it begins and ends with one name, each recipe depends on the next, and `recipe` is the last that does.
+pub record IsCircleOf (recipes : List (Recipe UnresolvedDependency)) (recipe : List ℕ) (circle : List (List ℕ)) : Type 0 where
+  pub steps : 1 < length circle
+  pub closed : get_or circle 0 [] ≡ get_or circle (length circle - 1) []
+  pub walk : (k : ℕ) → k + 1 < length circle → DependsOn recipes (get_or circle k []) (get_or circle (k + 1) [])
+  pub closing : get_or circle (length circle - 2) [] ≡ recipe
+
+-- A dependency is no recipe, a recipe depends on itself, or one is depended on with too few or too many arguments.
+pub data Dependencies (recipes : List (Recipe UnresolvedDependency)) : Cause → Type 0 where
+  unknown_dependency : {place : Place} {recipe : List ℕ} {unknown : Namepath} (i : ℕ) → i < length recipes → name_of (recipe_at recipes i) ≡ recipe
+      → Contains (dependency_paths (recipe_at recipes i)) (texts_of_path unknown)
+      → ((j : ℕ) → j < length recipes → texts_of_path unknown ≢ name_of (recipe_at recipes j) ∷ [])
+      → Dependencies recipes (Broken place (kind.UnknownDependency recipe unknown))
+  circular : {place : Place} {recipe : List ℕ} {circle : List (List ℕ)} → IsCircleOf recipes recipe circle
+      → Dependencies recipes (Broken place (kind.CircularRecipeDependency recipe circle))
+  argument_count : {place : Place} {dependency : Namepath} {found least most : ℕ} (i j : ℕ) → i < length recipes → j < length recipes
+      → Contains (dependency_paths (recipe_at recipes i)) (texts_of_path dependency) → texts_of_path dependency ≡ name_of (recipe_at recipes j) ∷ []
+      → found ≡ 0 → least_of (recipe_at recipes j) ≡ least → most_of (recipe_at recipes j) ≡ most → (found < least) ⊎ (most < found)
+      → Dependencies recipes (Broken place (kind.DependencyArgumentCountMismatch dependency found least most))

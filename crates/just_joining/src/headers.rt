@@ -1,0 +1,181 @@
+ghost use Rattle.std.specs.Prelude.{◌≡◌, ◌<◌, ℕ, length, min, IfOk, IfErr, OnOk, map};
+ghost use Rattle.std.specs.Str.{bytes_eq};
+ghost use Rattle.std.specs.HashMap.{get};
+ghost use Rattle.just_names.specs.Name.{text_of_name};
+ghost use Rattle.just_records.specs.declared.parameter.Parameter.{Parameter};
+ghost use Rattle.just_parts.specs.declared.layers.error.CompileErrorKind.TheVariants as kind;
+ghost use Rattle.just_parts.specs.declared.layers.error.Definition.TheVariants as definition;
+ghost use Rattle.just_joining.specs.Index.{AreDifferent, IsIndex};
+ghost use Rattle.just_joining.specs.Recipes.{line_of, name_of, names_of, parameter_names, recipe_at, token_of};
+ghost use Rattle.just_joining.specs.Definitions.{recipes_in};
+ghost use Rattle.just_parts.specs.Causes.{Keeps, Reports};
+ghost use Rattle.just_joining.specs.Contents.{of_names};
+ghost use Rattle.just_joining.specs.Rules.{Bodies, Headers, IsLater, Parameters, first_line};
+
+use crate::definitions::{Definitions, recipe_at};
+use crate::names::index_names;
+use just_data::BorrowedText;
+use just_parts::UnresolvedRecipe;
+use just_parts::layers::error::Definition;
+use just_parts::layers::{CompileError, CompileErrorKind, Error, Name, Parameter};
+use std::alloc::{AllocError, Global};
+use std::collections::HashMap;
+
+fn recipe_names<'a, 'src>(
+    alloc: Global,
+    definitions: &Definitions<'src, 'a>,
+) -> Result<Vec<BorrowedText<'src>>, AllocError>
+    ensures { IfOk result (λ names. names.items ≡ names_of (recipes_in definitions.now)) }
+{
+    let mut names = Vec::new(alloc);
+    for place in 0..definitions.recipes.len() {
+        names.push(BorrowedText::new(recipe_at(definitions, place).name.lexeme()))?;
+    }
+    Ok(names)
+}
+
+fn parameter_names<'src>(
+    alloc: Global,
+    parameters: &[Parameter<'src>],
+) -> Result<Vec<BorrowedText<'src>>, AllocError>
+    ensures { IfOk result (λ names. names.items ≡ map (λ (p : Parameter). text_of_name p.name) parameters.now) }
+{
+    let mut names = Vec::new(alloc);
+    for parameter in parameters {
+        names.push(BorrowedText::new(parameter.name.lexeme()))?;
+    }
+    Ok(names)
+}
+
+// Refuses a recipe that has two parameters of one name.
+fn check_parameters_at<'a, 'src>(
+    alloc: Global,
+    definitions: &Definitions<'src, 'a>,
+    place: usize,
+) -> Result<(), Error<'src>>
+    requires { place < length definitions.now.recipes.items }
+    ensures kept { OnOk result (AreDifferent (parameter_names (recipe_at (recipes_in definitions.now) place))) }
+    ensures named { IfErr result (Reports (Parameters (recipes_in definitions.now))) }
+{
+    let recipe = recipe_at(definitions, place);
+    let parameters = recipe.parameters.as_slice();
+    let names = parameter_names(alloc, parameters)?;
+    match index_names(alloc, names.as_slice())? {
+        Ok(_) => Ok(()),
+        Err((_, second)) => Err(Error::Compile(CompileError {
+            token: parameters[second].name.token.copied(),
+            kind: CompileErrorKind::DuplicateParameter {
+                recipe: BorrowedText::new(recipe.name.lexeme()),
+                parameter: names[second].copied(),
+            },
+        })),
+    }
+}
+
+/// Refuses the first recipe that has two parameters of one name.
+pub fn check_parameters<'a, 'src>(
+    alloc: Global,
+    definitions: &Definitions<'src, 'a>,
+) -> Result<(), Error<'src>>
+    ensures kept { OnOk result (Keeps (Parameters (recipes_in definitions.now))) }
+    ensures named { IfErr result (Reports (Parameters (recipes_in definitions.now))) }
+{
+    for place in 0..definitions.recipes.len() {
+        check_parameters_at(alloc, definitions, place)?;
+    }
+    Ok(())
+}
+
+// The error of two recipes of one name: the one on the smaller line is the first.
+fn redefinition<'src>(
+    first: &UnresolvedRecipe<'src>,
+    second: &UnresolvedRecipe<'src>,
+) -> CompileError<'src>
+    ensures token { IsLater (token_of first.now) (token_of second.now) result.token }
+    ensures kind { result.kind ≡ kind.Redefinition definition.Recipe definition.Recipe (name_of second.now) (min (line_of first.now) (line_of second.now)) }
+{
+    let later = if second.name.line() < first.name.line() {
+        first
+    } else {
+        second
+    };
+    CompileError {
+        token: later.name.token.copied(),
+        kind: CompileErrorKind::Redefinition {
+            first_type: Definition::Recipe,
+            second_type: Definition::Recipe,
+            name: BorrowedText::new(second.name.lexeme()),
+            first: first.name.line().min(second.name.line()),
+        },
+    }
+}
+
+/// The place of each recipe's name. Two recipes of one name are refused.
+pub fn index_recipes<'a, 'src>(
+    alloc: Global,
+    definitions: &Definitions<'src, 'a>,
+) -> Result<HashMap<BorrowedText<'src>, usize>, Error<'src>>
+    ensures kept { IfOk result (λ _. Keeps (Bodies (recipes_in definitions.now))) }
+    ensures different { IfOk result (λ _. AreDifferent (names_of (recipes_in definitions.now))) }
+    ensures index { IfOk result (λ index. IsIndex (names_of (recipes_in definitions.now)) (get bytes_eq index)) }
+    ensures named { IfErr result (Reports (Bodies (recipes_in definitions.now))) }
+{
+    let names = recipe_names(alloc, definitions)?;
+    match index_names(alloc, names.as_slice())? {
+        Ok(index) => Ok(index),
+        Err((first, second)) => Err(Error::Compile(redefinition(
+            recipe_at(definitions, first),
+            recipe_at(definitions, second),
+        ))),
+    }
+}
+
+// The texts of names.
+fn texts_of<'src>(
+    alloc: Global,
+    names: &[Name<'src>],
+) -> Result<Vec<BorrowedText<'src>>, AllocError>
+    ensures { IfOk result (λ texts. texts.items ≡ map text_of_name names.now) }
+{
+    let mut texts = Vec::new(alloc);
+    for name in names {
+        texts.push(BorrowedText::new(name.lexeme()))?;
+    }
+    Ok(texts)
+}
+
+// The error of two modules of one name: the one on the smaller line is the first.
+fn module_redefinition<'src>(first: &Name<'src>, second: &Name<'src>) -> CompileError<'src>
+    ensures token { IsLater first.now.token second.now.token result.token }
+    ensures kind { result.kind ≡ kind.Redefinition definition.Module definition.Module (text_of_name second.now) (first_line first.now second.now) }
+{
+    let later = if second.line() < first.line() {
+        first
+    } else {
+        second
+    };
+    CompileError {
+        token: later.token.copied(),
+        kind: CompileErrorKind::Redefinition {
+            first_type: Definition::Module,
+            second_type: Definition::Module,
+            name: BorrowedText::new(second.lexeme()),
+            first: first.line().min(second.line()),
+        },
+    }
+}
+
+/// Checks that the names of a module's modules are different.
+pub fn check_modules<'src>(alloc: Global, names: &[Name<'src>]) -> Result<(), Error<'src>>
+    ensures kept { OnOk result (AreDifferent (map text_of_name names.now)) }
+    ensures named { IfErr result (Reports (Headers (of_names names.now))) }
+{
+    let texts = texts_of(alloc, names)?;
+    match index_names(alloc, texts.as_slice())? {
+        Ok(_) => Ok(()),
+        Err((first, second)) => Err(Error::Compile(module_redefinition(
+            &names[first],
+            &names[second],
+        ))),
+    }
+}

@@ -1,0 +1,12 @@
+//! The files of modules, joined, the rules of their headers and recipes, and the recipes resolved.
+#![tactic(auto)]
+
+pub mod definitions;
+pub mod enabled;
+pub mod files;
+pub mod headers;
+pub mod joined;
+pub mod module_names;
+pub mod names;
+pub mod recipe_resolver;
+pub mod unresolved_recipe;

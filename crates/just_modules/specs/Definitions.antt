@@ -1,9 +1,0 @@
--- A module's recipes.
-use Rattle.std.specs.Prelude.{List}
-use Rattle.just_modules.specs.declared.definitions.Definitions.{Definitions}
-use Rattle.just_parts.specs.declared.layers.ast.UnresolvedDependency.{UnresolvedDependency}
-use Rattle.just_parts.specs.declared.recipe.Recipe.{Recipe}
-use Rattle.just_modules.specs.Recipes.{lent}
-
-abbrev pub recipes_in : Definitions → List (Recipe UnresolvedDependency)
-recipes_in m = lent m.recipes.items

@@ -1,0 +1,10 @@
+pub mod Apart
+pub mod Bounds
+pub mod Chars
+pub mod Closing
+pub mod Fronts
+pub mod Heads
+pub mod Joined
+pub mod Listed
+pub mod Names
+pub mod Props

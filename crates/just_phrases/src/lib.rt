@@ -1,0 +1,10 @@
+//! What each line of a text says, in the plain grammar.
+#![tactic(auto)]
+
+pub mod attributes;
+pub mod body;
+pub mod definitions;
+pub mod heading;
+pub mod laws;
+pub mod meaning;
+pub mod places;
