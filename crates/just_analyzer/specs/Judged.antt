@@ -1,5 +1,5 @@
 -- What compiling can judge in this stage. A text with anything else is refused as one that does not follow the grammar.
-use Rattle.std.specs.Prelude.{Bool, true, false, ◌&&◌, not, is_some, if◌then◌else◌, List, [], ◌∷◌, Option, Some, None}
+use Rattle.std.specs.Prelude.{Bool, true, false, ◌&&◌, not, if◌then◌else◌, List, [], ◌∷◌, Option, Some, None}
 use Rattle.std.specs.List.{list_all}
 use Rattle.just_parts.specs.Syntax.{SyntaxAnswers}
 use Rattle.just_parts.specs.Items.{Ast, Item}
@@ -7,8 +7,6 @@ use Rattle.just_parts.specs.declared.layers.ast.Item.TheVariants as item
 use Rattle.just_parts.specs.declared.layers.ast.UnresolvedDependency.{UnresolvedDependency}
 use Rattle.just_parts.specs.declared.recipe.Recipe.{Recipe}
 use Rattle.just_records.specs.declared.parameter.Parameter.{Parameter}
-use Rattle.just_records.specs.declared.parameter.ParameterKind.{ParameterKind}
-use Rattle.just_records.specs.declared.parameter.ParameterKind.TheVariants as kind
 use Rattle.just_records.specs.Parameter.{is_option}
 
 -- no elements
@@ -16,17 +14,13 @@ abbrev pub is_empty : {A : Type 0} → List A → Bool
 is_empty [] = true
 is_empty (x ∷ xs) = false
 
-abbrev pub is_singular : ParameterKind → Bool
-is_singular kind.Singular = true
-is_singular _ = false
+-- it is given by its place
+abbrev pub is_placed : Parameter → Bool
+is_placed p = not (is_option p)
 
--- a name alone, without a mark, a default and an option
-abbrev pub is_name : Parameter → Bool
-is_name p = (is_singular p.kind && not (is_some p.default)) && not (is_option p)
-
--- a heading alone, without attributes and lines, whose parameters are names
+-- a heading alone, without attributes and lines, whose parameters are given by their places
 abbrev pub is_heading : Recipe UnresolvedDependency → Bool
-is_heading r = (is_empty r.attributes && is_empty r.body) && list_all is_name r.parameters
+is_heading r = (is_empty r.attributes && is_empty r.body) && list_all is_placed r.parameters
 
 -- the rules of the item are built
 abbrev pub is_judged : Item → Bool

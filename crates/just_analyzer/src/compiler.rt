@@ -59,7 +59,7 @@ impl Compiler {
 
     /// Compiles the file at `root` and those that it reaches, or names a rule that is broken. Where it succeeds no rule
     /// is broken, and each recipe that the compilation names is held, after those that it depends on. A text with what
-    /// compiling cannot judge yet (settings, variables, functions, attributes, defaults and marks of parameters, bodies)
+    /// compiling cannot judge yet (settings, variables, functions, attributes, options, bodies)
     /// is refused as one that does not follow the grammar.
     ///
     /// The evaluation is asked nothing yet.

@@ -1,13 +1,13 @@
 //! What compiling can judge in this stage.
 ghost use Rattle.std.specs.Prelude.{◌≡◌, is_none};
 ghost use Rattle.std.specs.List.{list_all};
-ghost use Rattle.just_analyzer.specs.Judged.{is_heading, is_judged, is_name};
+ghost use Rattle.just_analyzer.specs.Judged.{is_heading, is_judged, is_placed};
 
 use just_data::Sequence;
 use just_names::{Numerator, Token};
 use just_parts::layers::{
-    Ast, CompileError, CompileErrorKind, Error, Item, Keyword, Line, Parameter, ParameterKind,
-    Setting, Settings, Sigil, Syntax,
+    Ast, CompileError, CompileErrorKind, Error, Item, Keyword, Line, Parameter, Setting, Settings,
+    Sigil, Syntax,
 };
 use just_parts::{Source, UnresolvedRecipe};
 use std::alloc::{AllocError, Global};
@@ -18,21 +18,11 @@ pub(crate) struct Judging<'a, S> {
     pub syntax: &'a S,
 }
 
-// Whether a parameter is a name alone.
-fn is_name(parameter: &Parameter) -> bool
-    ensures { result ≡ is_name parameter.now }
+// Whether all of them are given by their places.
+fn are_placed(parameters: &[Parameter]) -> bool
+    ensures { result ≡ list_all is_placed parameters.now }
 {
-    if !matches!(parameter.kind, ParameterKind::Singular) || parameter.default.is_some() {
-        return false;
-    }
-    !parameter.is_option()
-}
-
-// Whether all of them are.
-fn are_names(parameters: &[Parameter]) -> bool
-    ensures { result ≡ list_all is_name parameters.now }
-{
-    parameters.iter().all(|parameter| is_name(parameter))
+    parameters.iter().all(|parameter| !parameter.is_option())
 }
 
 // Whether a recipe is a heading alone.
@@ -42,7 +32,7 @@ fn is_heading(recipe: &UnresolvedRecipe) -> bool
     if !recipe.attributes.is_empty() || !recipe.body.is_empty() {
         return false;
     }
-    are_names(recipe.parameters.as_slice())
+    are_placed(recipe.parameters.as_slice())
 }
 
 // Where an item is told whose rules are not built.

@@ -1,5 +1,5 @@
 -- Recipes that are alike in what the rules read break the same rules.
-use Rattle.std.proofs.Common.{◌≡◌, ℕ, zero, suc, ◌+◌, ◌<◌, List, [], ◌∷◌, map, length, min, get_or, refl, sym, ◌∙◌, ap, subst}
+use Rattle.std.proofs.Common.{◌≡◌, ℕ, zero, suc, ◌+◌, ◌<◌, Bool, false, true, List, [], ◌∷◌, map, length, min, get_or, refl, sym, ◌∙◌, ap, subst}
 use Rattle.std.specs.List.{Contains}
 use Rattle.std.proofs.lemmas.List.{length-map}
 use Rattle.just_parts.specs.Causes.{Cause, Keeps}
@@ -8,13 +8,15 @@ use Rattle.just_names.specs.Token.{Place, lexeme}
 use Rattle.just_parts.specs.declared.layers.ast.UnresolvedDependency.{UnresolvedDependency}
 use Rattle.just_parts.specs.declared.recipe.Recipe.{Recipe}
 use Rattle.just_joining.specs.Index.{Repeats}
-use Rattle.just_joining.specs.Recipes.{name_of, token_of, parameter_names, dependency_paths, least_of, most_of, no_recipe, recipe_at, names_of, Depends, DependsOn}
-use Rattle.just_joining.specs.Rules.{Bodies, Dependencies, IsCircleOf, IsLater, Parameters, argument_count, circular, duplicate_parameter, redefinition, unknown_dependency}
+use Rattle.just_joining.specs.Recipes.{name_of, token_of, parameter_names, is_defaulted, is_needed, FollowsDefault, dependency_paths, least_of, most_of, no_recipe, recipe_at, names_of, Depends, DependsOn}
+use Rattle.just_joining.specs.Rules.{Bodies, Dependencies, IsCircleOf, IsLater, Parameters, argument_count, circular, duplicate_parameter, redefinition, required_after_default, unknown_dependency}
 
 -- What the rules read of a recipe.
 pub record Outline : Type 0 where
   pub token : Place
   pub parameters : List (List ℕ)
+  pub defaulted : List Bool
+  pub needed : List Bool
   pub dependencies : List (List (List ℕ))
   pub least : ℕ
   pub most : ℕ
@@ -23,6 +25,8 @@ abbrev pub outline_of : Recipe UnresolvedDependency → Outline
 outline_of recipe = record {
   token = token_of recipe;
   parameters = parameter_names recipe;
+  defaulted = map is_defaulted recipe.parameters;
+  needed = map is_needed recipe.parameters;
   dependencies = dependency_paths recipe;
   least = least_of recipe;
   most = most_of recipe;
@@ -69,10 +73,20 @@ module _ (rs qs : List (Recipe UnresolvedDependency)) (alike : AreAlike rs qs) w
   inside : (i : ℕ) → i < length rs → i < length qs
   inside i h = subst (λ n. i < n) many h
 
+  follows : (i q : ℕ) → FollowsDefault (recipe_at rs i).parameters q → FollowsDefault (recipe_at qs i).parameters q
+  follows i q f = record {
+    before = f.before;
+    earlier = f.earlier;
+    defaulted = ap (λ (o : Outline). get_or o.defaulted f.before false) (sym (at i)) ∙ f.defaulted;
+    needed = ap (λ (o : Outline). get_or o.needed q false) (sym (at i)) ∙ f.needed;
+  }
+
   pub parameters_alike : (c : Cause) → Parameters rs c → Parameters qs c
   parameters_alike _ (duplicate_parameter i p q h e r x) =
       let same : parameter_names (recipe_at rs i) ≡ parameter_names (recipe_at qs i) = ap (λ (o : Outline). o.parameters) (at i) in
       duplicate_parameter i p q (inside i h) (sym (name i) ∙ e) (subst (λ ns. Repeats ns p q) same r) (ap (λ ns. get_or ns q []) (sym same) ∙ x)
+  parameters_alike _ (required_after_default {place} {parameter} i q h f x) =
+      required_after_default i q (inside i h) (follows i q f) (ap (λ (o : Outline). get_or o.parameters q []) (sym (at i)) ∙ x)
 
   pub bodies_alike : (c : Cause) → Bodies rs c → Bodies qs c
   bodies_alike _ (redefinition {place} i j r e f l) =

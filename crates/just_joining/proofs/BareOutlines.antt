@@ -10,12 +10,20 @@ use Rattle.just_records.specs.Parameter.{is_required, is_variadic, least_argumen
 use Rattle.just_parts.specs.declared.layers.ast.UnresolvedDependency.{UnresolvedDependency}
 use Rattle.just_records.specs.declared.parameter.Parameter.{Parameter}
 use Rattle.just_parts.specs.declared.recipe.Recipe.{Recipe}
-use Rattle.just_joining.specs.Recipes.{dependency_paths}
+use Rattle.just_joining.specs.Recipes.{dependency_paths, is_defaulted, is_needed}
 use Rattle.just_joining.proofs.Alike.{outline_of}
 
 names_bare : (ps : List Parameter) → map (λ (p : Parameter). text_of_name p.name) (map bare_parameter ps) ≡ map (λ (p : Parameter). text_of_name p.name) ps
 names_bare [] = refl
 names_bare (p ∷ ps) = ap (λ qs. text_of_name p.name ∷ qs) (names_bare ps)
+
+defaulted_bare : (ps : List Parameter) → map is_defaulted (map bare_parameter ps) ≡ map is_defaulted ps
+defaulted_bare [] = refl
+defaulted_bare (p ∷ ps) = ap (λ qs. is_defaulted p ∷ qs) (defaulted_bare ps)
+
+needed_bare : (ps : List Parameter) → map is_needed (map bare_parameter ps) ≡ map is_needed ps
+needed_bare [] = refl
+needed_bare (p ∷ ps) = ap (λ qs. is_needed p ∷ qs) (needed_bare ps)
 
 variadic_bare : (ps : List Parameter) → list_any (λ (p : Parameter). is_variadic p.kind) (map bare_parameter ps) ≡ list_any (λ (p : Parameter). is_variadic p.kind) ps
 variadic_bare [] = refl
@@ -35,6 +43,8 @@ pub outline_bare : (r : Recipe UnresolvedDependency) → outline_of (bare_recipe
 outline_bare r = λ i. record {
   token = r.name.token;
   parameters = names_bare r.parameters i;
+  defaulted = defaulted_bare r.parameters i;
+  needed = needed_bare r.parameters i;
   dependencies = dependency_paths r;
   least = least_bare r.parameters i;
   most = most_bare r.parameters i;

@@ -1,5 +1,5 @@
 -- Recipes, place by place.
-use Rattle.std.proofs.Common.{◌≡◌, ℕ, zero, suc, ◌+◌, ◌<◌, List, [], ◌∷◌, ◌++◌, length, take, Some, sym, ◌∙◌, ap, subst, arith, min, inl, inr}
+use Rattle.std.proofs.Common.{◌≡◌, ℕ, zero, suc, ◌+◌, ◌<◌, List, [], ◌∷◌, ◌++◌, length, take, get_or, Some, sym, ◌∙◌, ap, subst, arith, min, inl, inr}
 use Rattle.std.specs.List.{slice_get}
 use Rattle.std.proofs.lemmas.Bool.{cases_lt}
 use Rattle.std.proofs.lemmas.List.{length-map, take_more, map-append, get_or-map}
@@ -9,11 +9,11 @@ use Rattle.just_parts.specs.declared.recipe.Recipe.{Recipe}
 use Rattle.just_parts.specs.declared.layers.error.CompileErrorKind.{CompileErrorKind}
 use Rattle.just_parts.specs.declared.layers.error.CompileErrorKind.TheVariants as kind
 use Rattle.just_parts.specs.declared.layers.error.Definition.TheVariants as definition
-use Rattle.just_joining.specs.Recipes.{name_of, token_of, line_of, parameter_names, lent, no_recipe, recipe_at, names_of}
+use Rattle.just_joining.specs.Recipes.{FollowsDefault, NoneFollows, name_of, token_of, line_of, parameter_names, lent, no_recipe, recipe_at, names_of}
 use Rattle.just_joining.specs.Index.{name_at, Repeats, AreDifferent}
 use Rattle.just_parts.specs.Causes.{Cause, Broken}
 use Rattle.just_names.specs.Token.{Place}
-use Rattle.just_joining.specs.Rules.{Parameters, Bodies, IsLater, duplicate_parameter, redefinition}
+use Rattle.just_joining.specs.Rules.{Parameters, Bodies, IsLater, duplicate_parameter, redefinition, required_after_default}
 
 pub recipe_read : (rs : List (Recipe UnresolvedDependency)) (i : ℕ) (r : Recipe UnresolvedDependency) → slice_get rs i ≡ Some r → r ≡ recipe_at rs i
 recipe_read [] i r e = cc
@@ -36,6 +36,12 @@ has_duplicate rs i p q o ps recipe parameter h at name list repeats is =
     let all : ps ≡ parameter_names (recipe_at rs i) = list ∙ ap parameter_names at in
     duplicate_parameter i p q h (sym (name ∙ ap name_of at)) (subst (λ ns. Repeats ns p q) all repeats) (sym (is ∙ ap (λ ns. name_at ns q) all))
 
+-- a recipe in which a parameter that needs a word follows one with a default
+pub has_needed : (rs : List (Recipe UnresolvedDependency)) (i q : ℕ) (o : Recipe UnresolvedDependency) (parameter : List ℕ) → i < length rs → o ≡ recipe_at rs i → FollowsDefault o.parameters q
+    → parameter ≡ get_or (parameter_names o) q [] → {place : Place} → Parameters rs (Broken place (kind.RequiredParameterFollowsDefaultParameter parameter))
+has_needed rs i q o parameter h at follows is =
+    required_after_default i q h (subst (λ (r : Recipe UnresolvedDependency). FollowsDefault r.parameters q) at follows) (sym (is ∙ ap (λ r. get_or (parameter_names r) q []) at))
+
 -- two recipes of one name
 pub is_redefined : (rs : List (Recipe UnresolvedDependency)) (i j : ℕ) (first second : Recipe UnresolvedDependency) (place : Place) (k : CompileErrorKind) → Repeats (names_of rs) i j → first ≡ recipe_at rs i → second ≡ recipe_at rs j
     → k ≡ kind.Redefinition definition.Recipe definition.Recipe (name_of second) (min (line_of first) (line_of second)) → IsLater (token_of first) (token_of second) place → Bodies rs (Broken place k)
@@ -44,8 +50,9 @@ is_redefined rs i j first second place k repeats a b is later =
     (redefinition i j repeats (ap name_of (sym b)) (λ n. min (line_of (sym a n)) (line_of (sym b n))) (subst (λ x. IsLater (token_of x) (token_of (recipe_at rs j)) place) a (subst (λ x. IsLater (token_of first) (token_of x) place) b later)))
 
 -- no rule on parameters is broken, and none on names
-pub parameters_kept : (rs : List (Recipe UnresolvedDependency)) → ((k : ℕ) → k < length rs → AreDifferent (parameter_names (recipe_at rs k))) → {c : Cause} → Parameters rs c → ⊥
-parameters_kept rs ps (duplicate_parameter i p q h e r x) = ps i h p q r.apart r.within r.same
+pub parameters_kept : (rs : List (Recipe UnresolvedDependency)) → ((k : ℕ) → k < length rs → AreDifferent (parameter_names (recipe_at rs k))) → ((k : ℕ) → k < length rs → NoneFollows (recipe_at rs k).parameters) → {c : Cause} → Parameters rs c → ⊥
+parameters_kept rs ps ds (duplicate_parameter i p q h e r x) = ps i h p q r.apart r.within r.same
+parameters_kept rs ps ds (required_after_default i q h f x) = ds i h q f
 
 pub bodies_kept : (rs : List (Recipe UnresolvedDependency)) → AreDifferent (names_of rs) → {c : Cause} → Bodies rs c → ⊥
 bodies_kept rs ns (redefinition i j r e f l) = ns i j r.apart r.within r.same

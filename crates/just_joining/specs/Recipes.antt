@@ -1,9 +1,10 @@
 -- What the rules read of a module's recipes.
-use Rattle.std.specs.Prelude.{◌≡◌, ℕ, ◌<◌, Bool, false, List, [], ◌∷◌, map, length, get_or, None, if◌then◌else◌}
+use Rattle.std.specs.Prelude.{◌≡◌, ℕ, ◌<◌, Bool, true, false, ◌&&◌, not, is_some, List, [], ◌∷◌, map, length, get_or, None, if◌then◌else◌}
 use Rattle.std.specs.List.{Contains}
 use Rattle.std.specs.Borrow.{Bor}
 use Rattle.just_names.specs.Name.{text_of_name, texts_of_path}
-use Rattle.just_records.specs.Parameter.{least_arguments, most_arguments}
+use Rattle.just_records.specs.Parameter.{is_option, is_required, least_arguments, most_arguments}
+use Rattle.just_records.specs.declared.parameter.Parameter.{Parameter}
 use Rattle.just_names.specs.Number.{no_number}
 use Rattle.just_parts.specs.Bare.{bare_item}
 use Rattle.just_names.specs.Token.{Place}
@@ -25,6 +26,25 @@ line_of recipe = recipe.name.token.line
 -- the names of its parameters
 abbrev pub parameter_names : Recipe UnresolvedDependency → List (List ℕ)
 parameter_names recipe = map (λ p. text_of_name p.name) recipe.parameters
+
+-- it is given by its place and has a default
+abbrev pub is_defaulted : Parameter → Bool
+is_defaulted p = not (is_option p) && is_some p.default
+
+-- it is given by its place, and its group may not be empty
+abbrev pub is_needed : Parameter → Bool
+is_needed p = not (is_option p) && is_required p
+
+-- The parameter at a place needs a word, and one before it has a default; both are given by their places.
+pub record FollowsDefault (parameters : List Parameter) (place : ℕ) : Type 0 where
+  pub before : ℕ
+  pub earlier : before < place
+  pub defaulted : get_or (map is_defaulted parameters) before false ≡ true
+  pub needed : get_or (map is_needed parameters) place false ≡ true
+
+-- no parameter that needs a word follows one with a default
+abbrev pub NoneFollows : List Parameter → Type 0
+NoneFollows parameters = (place : ℕ) → FollowsDefault parameters place → ⊥
 
 -- the paths of its dependencies
 abbrev pub dependency_paths : Recipe UnresolvedDependency → List (List (List ℕ))

@@ -12,13 +12,16 @@ use Rattle.just_parts.specs.declared.layers.ast.UnresolvedDependency.{Unresolved
 use Rattle.just_parts.specs.declared.recipe.Recipe.{Recipe}
 use Rattle.just_joining.specs.Contents.{Contents, texts_of_names}
 use Rattle.just_joining.specs.Index.{Repeats}
-use Rattle.just_joining.specs.Recipes.{name_of, token_of, line_of, parameter_names, dependency_paths, least_of, most_of, recipe_at, names_of, DependsOn}
+use Rattle.just_joining.specs.Recipes.{name_of, token_of, line_of, parameter_names, FollowsDefault, dependency_paths, least_of, most_of, recipe_at, names_of, DependsOn}
 
--- A recipe has a parameter's name twice: those two that follow each other under that name.
+-- A recipe has a parameter's name twice: those two that follow each other under that name; or a parameter whose group may not be empty follows one with a default, both given by their places.
 pub data Parameters (recipes : List (Recipe UnresolvedDependency)) : Cause → Type 0 where
   duplicate_parameter : {place : Place} {recipe parameter : List ℕ} (i p q : ℕ) → i < length recipes → name_of (recipe_at recipes i) ≡ recipe
       → Repeats (parameter_names (recipe_at recipes i)) p q → get_or (parameter_names (recipe_at recipes i)) q [] ≡ parameter
       → Parameters recipes (Broken place (kind.DuplicateParameter recipe parameter))
+  required_after_default : {place : Place} {parameter : List ℕ} (i q : ℕ) → i < length recipes → FollowsDefault (recipe_at recipes i).parameters q
+      → get_or (parameter_names (recipe_at recipes i)) q [] ≡ parameter
+      → Parameters recipes (Broken place (kind.RequiredParameterFollowsDefaultParameter parameter))
 
 -- The token of the later of two definitions: the one on the greater line, and of one line the second.
 pub record IsLater (first second later : Place) : Type 0 where

@@ -1,4 +1,4 @@
-ghost use Rattle.std.specs.Prelude.{◌≡◌, ◌<◌, ℕ, length, min, IfOk, IfErr, OnOk, map};
+ghost use Rattle.std.specs.Prelude.{◌≡◌, ◌<◌, ℕ, length, min, IfOk, IfErr, IfNone, IfSome, OnOk, map};
 ghost use Rattle.std.specs.Str.{bytes_eq};
 ghost use Rattle.std.specs.HashMap.{get};
 ghost use Rattle.just_names.specs.Name.{text_of_name};
@@ -6,7 +6,7 @@ ghost use Rattle.just_records.specs.declared.parameter.Parameter.{Parameter};
 ghost use Rattle.just_parts.specs.declared.layers.error.CompileErrorKind.TheVariants as kind;
 ghost use Rattle.just_parts.specs.declared.layers.error.Definition.TheVariants as definition;
 ghost use Rattle.just_joining.specs.Index.{AreDifferent, IsIndex};
-ghost use Rattle.just_joining.specs.Recipes.{line_of, name_of, names_of, parameter_names, recipe_at, token_of};
+ghost use Rattle.just_joining.specs.Recipes.{FollowsDefault, NoneFollows, is_defaulted, is_needed, line_of, name_of, names_of, parameter_names, recipe_at, token_of};
 ghost use Rattle.just_joining.specs.Definitions.{recipes_in};
 ghost use Rattle.just_parts.specs.Causes.{Keeps, Reports};
 ghost use Rattle.just_joining.specs.Contents.{of_names};
@@ -47,8 +47,65 @@ fn parameter_names<'src>(
     Ok(names)
 }
 
+// Whether a parameter is given by its place and has a default.
+fn is_defaulted(parameter: &Parameter) -> bool
+    ensures { result ≡ is_defaulted parameter.now }
+{
+    !parameter.is_option() && parameter.default.is_some()
+}
+
+// Whether a parameter is given by its place and its group may not be empty.
+fn is_needed(parameter: &Parameter) -> bool
+    ensures { result ≡ is_needed parameter.now }
+{
+    !parameter.is_option() && parameter.is_required()
+}
+
+// The place of the first parameter whose group may not be empty after one that has a default.
+fn needed_after_default(parameters: &[Parameter]) -> Option<usize>
+    ensures within { IfSome result (λ q. q < length parameters.now) }
+    ensures found { IfSome result (FollowsDefault parameters.now) }
+    ensures none { IfNone result (NoneFollows parameters.now) }
+{
+    let mut passed = false;
+    for place in 0..parameters.len() {
+        let parameter = &parameters[place];
+        if passed && is_needed(parameter) {
+            return Some(place);
+        }
+        if is_defaulted(parameter) {
+            passed = true;
+        }
+    }
+    None
+}
+
+// Refuses a recipe where a parameter that needs a word follows one with a default.
+fn check_defaults_at<'a, 'src>(
+    definitions: &Definitions<'src, 'a>,
+    place: usize,
+) -> Result<(), Error<'src>>
+    requires { place < length definitions.now.recipes.items }
+    ensures kept { OnOk result (NoneFollows (recipe_at (recipes_in definitions.now) place).parameters) }
+    ensures named { IfErr result (Reports (Parameters (recipes_in definitions.now))) }
+{
+    let parameters = recipe_at(definitions, place).parameters.as_slice();
+    match needed_after_default(parameters) {
+        None => Ok(()),
+        Some(at) => {
+            let name = &parameters[at].name;
+            Err(Error::Compile(CompileError {
+                token: name.token.copied(),
+                kind: CompileErrorKind::RequiredParameterFollowsDefaultParameter {
+                    parameter: BorrowedText::new(name.lexeme()),
+                },
+            }))
+        }
+    }
+}
+
 // Refuses a recipe that has two parameters of one name.
-fn check_parameters_at<'a, 'src>(
+fn check_names_at<'a, 'src>(
     alloc: Global,
     definitions: &Definitions<'src, 'a>,
     place: usize,
@@ -72,7 +129,7 @@ fn check_parameters_at<'a, 'src>(
     }
 }
 
-/// Refuses the first recipe that has two parameters of one name.
+/// Refuses the first recipe that has two parameters of one name, or one without a default after one that has one.
 pub fn check_parameters<'a, 'src>(
     alloc: Global,
     definitions: &Definitions<'src, 'a>,
@@ -81,7 +138,8 @@ pub fn check_parameters<'a, 'src>(
     ensures named { IfErr result (Reports (Parameters (recipes_in definitions.now))) }
 {
     for place in 0..definitions.recipes.len() {
-        check_parameters_at(alloc, definitions, place)?;
+        check_names_at(alloc, definitions, place)?;
+        check_defaults_at(definitions, place)?;
     }
     Ok(())
 }

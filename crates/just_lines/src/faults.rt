@@ -29,6 +29,9 @@ fn add_broken(text: &mut String, kind: &CompileErrorKind) -> Result<(), AllocErr
         CompileErrorKind::DuplicateParameter { recipe, parameter } => {
             write!(text, ": recipe {recipe}, parameter {parameter}")
         }
+        CompileErrorKind::RequiredParameterFollowsDefaultParameter { parameter } => {
+            write!(text, ": parameter {parameter}")
+        }
         CompileErrorKind::Redefinition {
             first_type,
             second_type,

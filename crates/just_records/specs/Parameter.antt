@@ -15,14 +15,22 @@ is_variadic Star = true
 abbrev pub is_option : Parameter → Bool
 is_option parameter = is_some parameter.long || is_some parameter.short
 
+abbrev pub is_singular : ParameterKind → Bool
+is_singular Singular = true
+is_singular _ = false
+
+-- a name alone, without a mark, a default and an option
+abbrev pub is_name : Parameter → Bool
+is_name parameter = (is_singular parameter.kind && not (is_some parameter.default)) && not (is_option parameter)
+
 abbrev needs_word : ParameterKind → Bool
 needs_word Singular = true
 needs_word Plus = true
 needs_word Star = false
 
--- its group may not be empty
+-- its group may not be empty: it has no default, takes a word, and is no flag
 abbrev pub is_required : Parameter → Bool
-is_required parameter = not (is_some parameter.default) && needs_word parameter.kind
+is_required parameter = not parameter.flag && (not (is_some parameter.default) && needs_word parameter.kind)
 
 -- a word for each required parameter
 abbrev pub least_arguments : List Parameter → ℕ

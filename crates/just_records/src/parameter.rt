@@ -1,6 +1,6 @@
 //! Parameters of recipes.
 ghost use Rattle.std.specs.Prelude.{◌≡◌, IfOk};
-ghost use Rattle.just_records.specs.Parameter.{is_option, is_required, is_variadic};
+ghost use Rattle.just_records.specs.Parameter.{is_name, is_option, is_required, is_variadic};
 
 use crate::expression::Expression;
 use crate::pattern::Pattern;
@@ -63,10 +63,23 @@ impl<'src> Parameter<'src> {
         self.long.is_some() || self.short.is_some()
     }
 
-    /// Whether its group may not be empty.
+    /// Whether it is a name alone: it takes one word by its place, and has no default.
+    pub fn is_name(&self) -> bool
+        ensures { result ≡ is_name self.now }
+    {
+        if !matches!(self.kind, ParameterKind::Singular) || self.default.is_some() {
+            return false;
+        }
+        !self.is_option()
+    }
+
+    /// Whether its group may not be empty: it has no default, takes at least one word, and is no flag.
     pub fn is_required(&self) -> bool
         ensures { result ≡ is_required self.now }
     {
+        if self.flag {
+            return false;
+        }
         self.default.is_none() && !matches!(self.kind, ParameterKind::Star)
     }
 }

@@ -1,11 +1,10 @@
 -- Which recipes a run leads to, and which of them cannot be run yet.
-use Rattle.std.specs.Prelude.{◌≡◌, ◌<◌, ℕ, Bool, true, false, List, [], length, map, Some}
+use Rattle.std.specs.Prelude.{◌≡◌, ◌<◌, ℕ, Bool, true, false, not, List, [], length, map, Some}
 use Rattle.std.specs.List.{All, list_any, slice_get, Contains}
 use Rattle.just_graph.specs.Steps.{Reached}
-use Rattle.just_records.specs.Parameter.{is_variadic}
+use Rattle.just_records.specs.Parameter.{is_name}
 use Rattle.just_names.specs.Token.{lexeme}
 use Rattle.just_parts.specs.declared.dependency.Dependency.{Dependency}
-use Rattle.just_records.specs.declared.parameter.Parameter.{Parameter}
 use Rattle.just_parts.specs.declared.recipe.Recipe.{Recipe}
 use Rattle.just_running.specs.declared.task.Task.{Task}
 use Rattle.just_running.specs.Pairs.{place_of, needed}
@@ -30,9 +29,9 @@ places ts = map (λ (t : Task). t.pair.recipe) ts
 abbrev pub LeadTo : List (Recipe Dependency) → List Task → ℕ → Type 0
 LeadTo recipes tops place = Reached (DependsOn recipes) (places tops) [] place
 
--- a parameter of it takes any number of words
+-- a parameter of it is more than a name
 abbrev pub is_unready : Recipe Dependency → Bool
-is_unready recipe = list_any (λ (p : Parameter). is_variadic p.kind) recipe.parameters
+is_unready recipe = list_any (λ p. not (is_name p)) recipe.parameters
 
 -- it is the name of a recipe that they lead to and that cannot be run yet
 abbrev pub IsUnready : List (Recipe Dependency) → List Task → List ℕ → Type 0

@@ -45,7 +45,7 @@ fn places_of(alloc: Global, tasks: &[Task]) -> Result<Vec<usize>, AllocError>
     Ok(places)
 }
 
-// Whether a parameter of it takes any number of words.
+// Whether a parameter of it is more than a name.
 fn is_unready(recipe: &Recipe) -> bool
     ensures { result ≡ is_unready recipe.now }
 {
@@ -53,7 +53,7 @@ fn is_unready(recipe: &Recipe) -> bool
         .parameters
         .as_slice()
         .iter()
-        .any(|parameter| parameter.kind.is_variadic())
+        .any(|parameter| !parameter.is_name())
 }
 
 /// The name of a recipe that tasks lead to and that cannot be run yet, if there is one. Each task is that of a recipe

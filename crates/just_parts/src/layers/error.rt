@@ -95,6 +95,10 @@ pub enum CompileErrorKind<'src> {
         recipe: BorrowedText<'src>,
         parameter: BorrowedText<'src>,
     },
+    /// A parameter without a default follows one that has one; both are given by their places.
+    RequiredParameterFollowsDefaultParameter {
+        parameter: BorrowedText<'src>,
+    },
     /// A name is defined twice. `first` is the line of the first definition, which counts from 0.
     Redefinition {
         first_type: Definition,
@@ -130,6 +134,9 @@ impl<'src> CompileErrorKind<'src> {
         match self {
             CompileErrorKind::Syntax => "Syntax",
             CompileErrorKind::DuplicateParameter { .. } => "DuplicateParameter",
+            CompileErrorKind::RequiredParameterFollowsDefaultParameter { .. } => {
+                "RequiredParameterFollowsDefaultParameter"
+            }
             CompileErrorKind::Redefinition { .. } => "Redefinition",
             CompileErrorKind::UnknownDependency { .. } => "UnknownDependency",
             CompileErrorKind::CircularRecipeDependency { .. } => "CircularRecipeDependency",
@@ -193,6 +200,12 @@ impl<'src> fmt::Display for CompileErrorKind<'src> {
             CompileErrorKind::Syntax => f.write_str("The line does not follow the grammar"),
             CompileErrorKind::DuplicateParameter { recipe, parameter } => {
                 write!(f, "Recipe `{recipe}` has duplicate parameter `{parameter}`")
+            }
+            CompileErrorKind::RequiredParameterFollowsDefaultParameter { parameter } => {
+                write!(
+                    f,
+                    "Non-default parameter `{parameter}` follows default parameter"
+                )
             }
             CompileErrorKind::Redefinition {
                 first_type,

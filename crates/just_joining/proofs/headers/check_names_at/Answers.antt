@@ -5,7 +5,7 @@ use Rattle.just_records.specs.declared.parameter.Parameter.{Parameter}
 use Rattle.just_joining.specs.Index.{Repeats}
 use Rattle.just_joining.specs.Definitions.{recipes_in}
 use Rattle.just_joining.proofs.RecipePlaces.{length-lent, has_duplicate}
-use Rattle.just_joining.proofs.headers.check_parameters_at.Goals as goal
+use Rattle.just_joining.proofs.headers.check_names_at.Goals as goal
 
 pub returns-clause-named : goal.returns-clause-named
 returns-clause-named c =
