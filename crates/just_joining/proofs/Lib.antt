@@ -13,3 +13,4 @@ pub mod RecipePlaces
 pub mod Refuted
 pub mod Resolving
 pub mod Targets
+pub mod Following
