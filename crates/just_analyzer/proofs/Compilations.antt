@@ -1,11 +1,11 @@
 -- A compilation, and a refusal.
 use Rattle.std.proofs.Common.{◌≡◌, List, [], ◌∷◌, Option, Result, Ok, Err, IfOk, IfErr, ap, subst, sym}
 use Rattle.just_parts.specs.Asts.{AstKey}
-use Rattle.just_parts.specs.Causes.{Keeps, Reports}
+use Rattle.just_errors.specs.Causes.{Keeps, Reports}
 use Rattle.just_names.specs.Modulepath.{Text}
 use Rattle.just_parts.specs.declared.dependency.Dependency.{Dependency}
 use Rattle.just_parts.specs.Items.{Ast}
-use Rattle.just_parts.specs.declared.layers.error.Error.{Error}
+use Rattle.just_errors.specs.declared.error.Error.{Error}
 use Rattle.just_parts.specs.declared.recipe.Recipe.{Recipe}
 use Rattle.just_invoke.specs.declared.justfile.Justfile.{Justfile}
 use Rattle.just_loader.specs.Keys.{NamesInFiles}

@@ -5,8 +5,8 @@ use Rattle.std.specs.List.{list_all}
 use Rattle.just_parts.specs.Bare.{bare_ast, bare_item, bare_parameter}
 use Rattle.just_parts.specs.Syntax.{SyntaxAnswers, Refuses}
 use Rattle.just_parts.specs.Items.{Ast, Item}
-use Rattle.just_parts.specs.declared.layers.error.Error.{Error}
-use Rattle.just_parts.specs.declared.layers.error.Error.TheVariants as error
+use Rattle.just_errors.specs.declared.error.Error.{Error}
+use Rattle.just_errors.specs.declared.error.Error.TheVariants as error
 use Rattle.just_parts.specs.declared.layers.ast.Item.TheVariants as item
 use Rattle.just_analyzer.specs.Judged.{is_empty, is_judged, is_placed, judged, judged_ast}
 

@@ -1,6 +1,6 @@
 -- The rules of compilation.
 use Rattle.std.specs.Prelude.{[], ◌∷◌}
-use Rattle.just_parts.specs.Causes.{Cause, Keeps}
+use Rattle.just_errors.specs.Causes.{Cause, Keeps}
 use Rattle.just_loader.specs.Keys.{NamesInFiles}
 use Rattle.just_loader.specs.Reached.{World}
 use Rattle.just_modules.specs.Groups.{KeepsModules, NamesModules}

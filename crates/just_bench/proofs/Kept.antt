@@ -17,9 +17,9 @@ use Rattle.just_records.specs.declared.parameter.Parameter.{Parameter}
 use Rattle.just_plain.specs.declared.lines.TextLine.{TextLine}
 use Rattle.just_plain.specs.Lines.{is_newline, line_place, lines_of}
 use Rattle.just_plain.proofs.Cuts.{line_at_number, number_at}
-use Rattle.just_parts.specs.declared.layers.error.CompileErrorKind.TheVariants.{Syntax}
-use Rattle.just_parts.specs.declared.layers.error.Error.{Error}
-use Rattle.just_parts.specs.declared.layers.error.Error.TheVariants as error
+use Rattle.just_errors.specs.declared.error.CompileErrorKind.TheVariants.{Syntax}
+use Rattle.just_errors.specs.declared.error.Error.{Error}
+use Rattle.just_errors.specs.declared.error.Error.TheVariants as error
 use Rattle.just_grammar.specs.declared.items.Items.{Items}
 use Rattle.just_grammar.specs.Items.{items_of}
 use Rattle.just_grammar.specs.Proper.{IsProper}

@@ -2,8 +2,8 @@
 use Rattle.std.specs.Prelude.{ℕ, ◌^◌, ◌<◌, ◌≤◌, List, length}
 use Rattle.just_parts.specs.Items.{Item}
 use Rattle.just_parts.specs.Syntax.{AreRising, numbers}
-use Rattle.just_parts.specs.declared.layers.error.Error.{Error}
-use Rattle.just_parts.specs.declared.layers.error.Error.TheVariants as error
+use Rattle.just_errors.specs.declared.error.Error.{Error}
+use Rattle.just_errors.specs.declared.error.Error.TheVariants as error
 
 -- numbers that were given one after another
 pub record AreNumbered (low : ℕ) (given : List ℕ) (high : ℕ) : Type 0 where

@@ -1,10 +1,10 @@
 -- What a refusal of the plain grammar says.
 use Rattle.std.specs.Prelude.{◌≡◌, ◌<◌, ℕ, ◌^◌, List, Some, Err}
 use Rattle.std.specs.List.{slice_get}
-use Rattle.just_parts.specs.declared.layers.error.CompileError.{CompileError}
-use Rattle.just_parts.specs.declared.layers.error.CompileErrorKind.TheVariants.{Syntax}
-use Rattle.just_parts.specs.declared.layers.error.Error.{Error}
-use Rattle.just_parts.specs.declared.layers.error.Error.TheVariants as error
+use Rattle.just_errors.specs.declared.error.CompileError.{CompileError}
+use Rattle.just_errors.specs.declared.error.CompileErrorKind.TheVariants.{Syntax}
+use Rattle.just_errors.specs.declared.error.Error.{Error}
+use Rattle.just_errors.specs.declared.error.Error.TheVariants as error
 use Rattle.just_plain.specs.declared.lines.TextLine.{TextLine}
 use Rattle.just_plain.specs.Lines.{lines_of, line_place}
 use Rattle.just_grammar.specs.Items.{items_of}

@@ -5,15 +5,15 @@ use Rattle.std.proofs.lemmas.Bool.{true≢false}
 use Rattle.std.proofs.lemmas.List.{append-nil}
 use Rattle.just_parts.specs.declared.dependency.Dependency.{Dependency}
 use Rattle.just_parts.specs.declared.layers.config.Config.{Config}
-use Rattle.just_parts.specs.declared.layers.error.Error.{Error}
-use Rattle.just_parts.specs.declared.layers.error.Error.TheVariants.{Load, Compile, Invocation, Run, Exhausted, Memory}
-use Rattle.just_parts.specs.declared.layers.error.RunError.TheVariants.{ExcessInvocations}
-use Rattle.just_parts.specs.declared.layers.halt.Halt.{Halt}
-use Rattle.just_parts.specs.declared.layers.halt.Halt.TheVariants as halt
+use Rattle.just_errors.specs.declared.error.Error.{Error}
+use Rattle.just_errors.specs.declared.error.Error.TheVariants.{Load, Compile, Invocation, Run, Exhausted, Memory}
+use Rattle.just_errors.specs.declared.error.RunError.TheVariants.{ExcessInvocations}
+use Rattle.just_errors.specs.declared.halt.Halt.{Halt}
+use Rattle.just_errors.specs.declared.halt.Halt.TheVariants as halt
 use Rattle.just_parts.specs.declared.layers.host.Entry.{Entry}
 use Rattle.just_parts.specs.declared.recipe.Recipe.{Recipe}
 use Rattle.just_parts.specs.Evaluation.{Inquiry}
-use Rattle.just_parts.specs.Halts.{come_to}
+use Rattle.just_errors.specs.Halts.{come_to}
 use Rattle.just_parts.specs.Host.{Answer}
 use Rattle.just_running.specs.declared.running.Report.{Report}
 use Rattle.just_running.specs.Reports.{IsAsExpected}

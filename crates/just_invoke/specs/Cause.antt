@@ -1,10 +1,10 @@
 -- What words are refused for.
 use Rattle.std.specs.Prelude.{ℕ, Option, Some, None}
 use Rattle.just_names.specs.Modulepath.{Text}
-use Rattle.just_parts.specs.declared.layers.error.InvocationError.{InvocationError}
-use Rattle.just_parts.specs.declared.layers.error.InvocationError.TheVariants as fault
-use Rattle.just_parts.specs.declared.layers.error.Error.{Error}
-use Rattle.just_parts.specs.declared.layers.error.Error.TheVariants as error
+use Rattle.just_errors.specs.declared.error.InvocationError.{InvocationError}
+use Rattle.just_errors.specs.declared.error.InvocationError.TheVariants as fault
+use Rattle.just_errors.specs.declared.error.Error.{Error}
+use Rattle.just_errors.specs.declared.error.Error.TheVariants as error
 
 -- why words are no invocations, with the fields of the error that says it
 pub data Cause : Type 0 where

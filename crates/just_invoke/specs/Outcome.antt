@@ -2,14 +2,14 @@
 use Rattle.std.specs.Prelude.{◌≡◌, ◌<◌, ◌≤◌, ℕ, Bool, true, false, List, map, length, Option, Result, Err}
 use Rattle.just_parts.specs.declared.dependency.Dependency.{Dependency}
 use Rattle.just_parts.specs.declared.layers.config.Config.{Config}
-use Rattle.just_parts.specs.declared.layers.error.Error.{Error}
-use Rattle.just_parts.specs.declared.layers.error.Error.TheVariants.{Invocation, Run, Memory}
-use Rattle.just_parts.specs.declared.layers.error.InvocationError.{InvocationError}
-use Rattle.just_parts.specs.declared.layers.error.RunError.TheVariants.{ExcessInvocations, NotYet}
-use Rattle.just_parts.specs.declared.layers.halt.Halt.{Halt}
+use Rattle.just_errors.specs.declared.error.Error.{Error}
+use Rattle.just_errors.specs.declared.error.Error.TheVariants.{Invocation, Run, Memory}
+use Rattle.just_errors.specs.declared.error.InvocationError.{InvocationError}
+use Rattle.just_errors.specs.declared.error.RunError.TheVariants.{ExcessInvocations, NotYet}
+use Rattle.just_errors.specs.declared.halt.Halt.{Halt}
 use Rattle.just_parts.specs.declared.layers.host.Entry.{Entry}
 use Rattle.just_parts.specs.declared.recipe.Recipe.{Recipe}
-use Rattle.just_parts.specs.Halts.{come_to}
+use Rattle.just_errors.specs.Halts.{come_to}
 use Rattle.just_parts.specs.Evaluation.{Inquiry}
 use Rattle.just_parts.specs.Host.{Answer}
 use Rattle.just_running.specs.declared.running.Report.{Report}

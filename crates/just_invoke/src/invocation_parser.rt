@@ -3,8 +3,8 @@ ghost use Rattle.std.specs.Prelude.{◌≡◌, ◌≤◌, ◌<◌, ◌++◌, ◌
 ghost use Rattle.std.specs.List.{All};
 ghost use Rattle.std.specs.Option.{option_copied};
 ghost use Rattle.just_names.specs.Modulepath.{texts};
-ghost use Rattle.just_parts.specs.declared.layers.error.Error.TheVariants as error;
-ghost use Rattle.just_parts.specs.declared.layers.error.InvocationError.TheVariants as fault;
+ghost use Rattle.just_errors.specs.declared.error.Error.TheVariants as error;
+ghost use Rattle.just_errors.specs.declared.error.InvocationError.TheVariants as fault;
 ghost use Rattle.just_invoke.specs.Cause.{cause_of, IsExpected};
 ghost use Rattle.just_invoke.specs.Closed.{recipe_named, default_recipe, IsHeld, IsClosed};
 ghost use Rattle.just_invoke.specs.declared.justfile.Justfile.{out-Justfile};

@@ -2,7 +2,7 @@
 use Rattle.std.proofs.Common.{◌≡◌, ℕ, zero, suc, ◌+◌, ◌<◌, Bool, false, true, List, [], ◌∷◌, map, length, min, get_or, refl, sym, ◌∙◌, ap, subst}
 use Rattle.std.specs.List.{Contains}
 use Rattle.std.proofs.lemmas.List.{length-map}
-use Rattle.just_parts.specs.Causes.{Cause, Keeps}
+use Rattle.just_errors.specs.Causes.{Cause, Keeps}
 use Rattle.just_names.specs.Name.{texts_of_path}
 use Rattle.just_names.specs.Token.{Place, lexeme}
 use Rattle.just_parts.specs.declared.layers.ast.UnresolvedDependency.{UnresolvedDependency}

@@ -3,10 +3,10 @@ use Rattle.std.proofs.Common.{◌≡◌, ℕ, min, sym, subst, refl, Some}
 use Rattle.std.specs.List.{slice_get}
 use Rattle.just_names.specs.Name.{text_of_name}
 use Rattle.just_names.specs.declared.name.Name.{Name}
-use Rattle.just_parts.specs.declared.layers.error.CompileErrorKind.{CompileErrorKind}
-use Rattle.just_parts.specs.declared.layers.error.CompileErrorKind.TheVariants as kind
-use Rattle.just_parts.specs.declared.layers.error.Definition.TheVariants as definition
-use Rattle.just_parts.specs.Causes.{Broken, Keeps}
+use Rattle.just_errors.specs.declared.error.CompileErrorKind.{CompileErrorKind}
+use Rattle.just_errors.specs.declared.error.CompileErrorKind.TheVariants as kind
+use Rattle.just_errors.specs.declared.error.Definition.TheVariants as definition
+use Rattle.just_errors.specs.Causes.{Broken, Keeps}
 use Rattle.just_names.specs.Token.{Place}
 use Rattle.just_joining.specs.Contents.{Contents, texts_of_names}
 use Rattle.just_joining.specs.Index.{AreDifferent, Repeats}

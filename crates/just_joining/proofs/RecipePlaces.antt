@@ -6,12 +6,12 @@ use Rattle.std.proofs.lemmas.List.{length-map, take_more, map-append, get_or-map
 use Rattle.std.specs.Borrow.{Bor}
 use Rattle.just_parts.specs.declared.layers.ast.UnresolvedDependency.{UnresolvedDependency}
 use Rattle.just_parts.specs.declared.recipe.Recipe.{Recipe}
-use Rattle.just_parts.specs.declared.layers.error.CompileErrorKind.{CompileErrorKind}
-use Rattle.just_parts.specs.declared.layers.error.CompileErrorKind.TheVariants as kind
-use Rattle.just_parts.specs.declared.layers.error.Definition.TheVariants as definition
+use Rattle.just_errors.specs.declared.error.CompileErrorKind.{CompileErrorKind}
+use Rattle.just_errors.specs.declared.error.CompileErrorKind.TheVariants as kind
+use Rattle.just_errors.specs.declared.error.Definition.TheVariants as definition
 use Rattle.just_joining.specs.Recipes.{FollowsDefault, NoneFollows, name_of, token_of, line_of, parameter_names, lent, no_recipe, recipe_at, names_of}
 use Rattle.just_joining.specs.Index.{name_at, Repeats, AreDifferent}
-use Rattle.just_parts.specs.Causes.{Cause, Broken}
+use Rattle.just_errors.specs.Causes.{Cause, Broken}
 use Rattle.just_names.specs.Token.{Place}
 use Rattle.just_joining.specs.Rules.{Parameters, Bodies, IsLater, duplicate_parameter, redefinition, required_after_default}
 

@@ -12,7 +12,7 @@ use Rattle.just_parts.specs.declared.recipe.Recipe.{Recipe}
 use Rattle.just_joining.specs.Index.{AreDifferent}
 use Rattle.just_joining.specs.Recipes.{name_of, least_of, recipe_at, names_of, Depends}
 use Rattle.just_joining.specs.Rows.{IsRow, IsOrderOf}
-use Rattle.just_parts.specs.Causes.{Cause}
+use Rattle.just_errors.specs.Causes.{Cause}
 use Rattle.just_joining.specs.Rules.{Dependencies, unknown_dependency, circular, argument_count}
 use Rattle.just_joining.proofs.RecipePlaces.{one_place}
 use Rattle.just_joining.proofs.Edges.{target_of, edges}

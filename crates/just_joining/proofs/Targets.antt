@@ -4,12 +4,12 @@ use Rattle.std.specs.List.{Contains}
 use Rattle.std.proofs.lemmas.List.{get_or_default, get_or-map, length-map}
 use Rattle.just_names.specs.Name.{texts_of_path}
 use Rattle.just_names.specs.declared.name.Namepath.{Namepath}
-use Rattle.just_parts.specs.declared.layers.error.CompileErrorKind.TheVariants as kind
+use Rattle.just_errors.specs.declared.error.CompileErrorKind.TheVariants as kind
 use Rattle.just_parts.specs.declared.layers.ast.UnresolvedDependency.{UnresolvedDependency}
 use Rattle.just_parts.specs.declared.recipe.Recipe.{Recipe}
 use Rattle.just_joining.specs.Index.{name_at, IsLast, IsIndex, place_in}
 use Rattle.just_joining.specs.Recipes.{name_of, dependency_paths, least_of, most_of, recipe_at, names_of}
-use Rattle.just_parts.specs.Causes.{Broken}
+use Rattle.just_errors.specs.Causes.{Broken}
 use Rattle.just_names.specs.Token.{Place}
 use Rattle.just_joining.specs.Rules.{Dependencies, unknown_dependency, argument_count}
 use Rattle.just_joining.proofs.RecipePlaces.{name_at_place}

@@ -1,7 +1,7 @@
 -- The modules and the recipes that files at places say.
 use Rattle.std.specs.Prelude.{◌≡◌, ◌++◌, ℕ, Bool, List, [], ◌∷◌, flat_map, slice_get, Option, None, Some, if◌then◌else◌}
 use Rattle.just_parts.specs.Bare.{bare_item}
-use Rattle.just_parts.specs.Causes.{Cause, Keeps}
+use Rattle.just_errors.specs.Causes.{Cause, Keeps}
 use Rattle.just_parts.specs.declared.dependency.Dependency.{Dependency}
 use Rattle.just_parts.specs.Items.{Ast, Item}
 use Rattle.just_parts.specs.declared.layers.ast.Item.TheVariants as item

@@ -2,7 +2,7 @@
 use Rattle.std.specs.Prelude.{◌<◌, ℕ, Bool, List, length, slice_index}
 use Rattle.std.specs.List.{All}
 use Rattle.just_graph.specs.Graph.{targets}
-use Rattle.just_parts.specs.Causes.{Cause}
+use Rattle.just_errors.specs.Causes.{Cause}
 use Rattle.just_parts.specs.Items.{Item}
 use Rattle.just_parts.specs.declared.layers.ast.UnresolvedDependency.{UnresolvedDependency}
 use Rattle.just_parts.specs.declared.recipe.Recipe.{Recipe}

@@ -1,13 +1,13 @@
 -- The rules of a module: each relates what is compiled to the errors that report where it is broken.
 use Rattle.std.specs.Prelude.{◌≡◌, ◌≢◌, ℕ, ◌+◌, ◌-◌, ◌<◌, ◌≤◌, ◌⊎◌, min, List, [], ◌∷◌, length, get_or, Some}
 use Rattle.std.specs.List.{Contains, slice_get}
-use Rattle.just_parts.specs.Causes.{Cause, Broken, Keeps}
+use Rattle.just_errors.specs.Causes.{Cause, Broken, Keeps}
 use Rattle.just_names.specs.Name.{text_of_name, texts_of_path}
 use Rattle.just_names.specs.Token.{Place}
 use Rattle.just_names.specs.declared.name.Name.{Name}
 use Rattle.just_names.specs.declared.name.Namepath.{Namepath}
-use Rattle.just_parts.specs.declared.layers.error.Definition.TheVariants as definition
-use Rattle.just_parts.specs.declared.layers.error.CompileErrorKind.TheVariants as kind
+use Rattle.just_errors.specs.declared.error.Definition.TheVariants as definition
+use Rattle.just_errors.specs.declared.error.CompileErrorKind.TheVariants as kind
 use Rattle.just_parts.specs.declared.layers.ast.UnresolvedDependency.{UnresolvedDependency}
 use Rattle.just_parts.specs.declared.recipe.Recipe.{Recipe}
 use Rattle.just_joining.specs.Contents.{Contents, texts_of_names}

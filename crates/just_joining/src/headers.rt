@@ -3,12 +3,12 @@ ghost use Rattle.std.specs.Str.{bytes_eq};
 ghost use Rattle.std.specs.HashMap.{get};
 ghost use Rattle.just_names.specs.Name.{text_of_name};
 ghost use Rattle.just_records.specs.declared.parameter.Parameter.{Parameter};
-ghost use Rattle.just_parts.specs.declared.layers.error.CompileErrorKind.TheVariants as kind;
-ghost use Rattle.just_parts.specs.declared.layers.error.Definition.TheVariants as definition;
+ghost use Rattle.just_errors.specs.declared.error.CompileErrorKind.TheVariants as kind;
+ghost use Rattle.just_errors.specs.declared.error.Definition.TheVariants as definition;
 ghost use Rattle.just_joining.specs.Index.{AreDifferent, IsIndex};
 ghost use Rattle.just_joining.specs.Recipes.{FollowsDefault, NoneFollows, is_defaulted, is_needed, line_of, name_of, names_of, parameter_names, recipe_at, token_of};
 ghost use Rattle.just_joining.specs.Definitions.{recipes_in};
-ghost use Rattle.just_parts.specs.Causes.{Keeps, Reports};
+ghost use Rattle.just_errors.specs.Causes.{Keeps, Reports};
 ghost use Rattle.just_joining.specs.Contents.{of_names};
 ghost use Rattle.just_joining.specs.Rules.{Bodies, Headers, IsLater, Parameters, first_line};
 

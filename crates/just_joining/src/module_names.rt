@@ -3,7 +3,7 @@
 ghost use Rattle.std.specs.Prelude.{◌≡◌, ◌<◌, ◌++◌, ℕ, IfOk, IfErr, OnOk, length};
 ghost use Rattle.std.specs.List.{All};
 ghost use Rattle.std.specs.Option.{option_copied, option_to_list};
-ghost use Rattle.just_parts.specs.Causes.{Reports};
+ghost use Rattle.just_errors.specs.Causes.{Reports};
 ghost use Rattle.just_joining.specs.Files.{asts_in};
 ghost use Rattle.just_joining.specs.Named.{name_by, names_from, names_said};
 ghost use Rattle.just_joining.specs.OfPlaces.{HaveFiles, HaveNames, RepeatsNames};

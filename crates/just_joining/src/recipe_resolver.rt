@@ -11,7 +11,7 @@ ghost use Rattle.just_joining.specs.Recipes.{name_of, dependency_paths, recipe_a
 ghost use Rattle.just_joining.specs.Definitions.{recipes_in};
 ghost use Rattle.just_joining.specs.Resolved.{unresolved_numbers, HasPriors, Resolving, AreResolved};
 ghost use Rattle.just_joining.specs.Rows.{IsTarget, IsRow, IsOrderOf};
-ghost use Rattle.just_parts.specs.Causes.{Keeps, Reports};
+ghost use Rattle.just_errors.specs.Causes.{Keeps, Reports};
 ghost use Rattle.just_joining.specs.Rules.{Dependencies};
 
 use crate::definitions::{Definitions, recipe_at};

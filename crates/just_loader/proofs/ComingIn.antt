@@ -18,7 +18,7 @@ use Rattle.just_graph.proofs.Walks.{child_of}
 use Rattle.just_names.specs.Clean.{IsClean, folder_of}
 use Rattle.just_names.specs.Name.{names_of_path, submodule_path, text_of_name}
 use Rattle.just_parts.specs.Syntax.{components_of}
-use Rattle.just_parts.specs.declared.layers.error.Error.{Error}
+use Rattle.just_errors.specs.declared.error.Error.{Error}
 use Rattle.just_names.specs.declared.name.Name.{Name}
 use Rattle.just_names.specs.declared.name.Namepath.{Namepath}
 use Rattle.just_parts.specs.declared.source.Source.{Source}

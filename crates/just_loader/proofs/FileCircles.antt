@@ -24,7 +24,7 @@ use Rattle.just_loader.specs.Keys.{FileStep, end_of, items_at, steps_by, steps_o
 use Rattle.just_loader.specs.Placed.{file_at, text_step}
 use Rattle.just_loader.specs.Links.{Link, Nowhere, To, Fault, edge_link}
 use Rattle.just_loader.specs.Reached.{World, Reached, from_root, from_file, items_of, link, LeadsTo}
-use Rattle.just_parts.specs.Causes.{LeadsBack}
+use Rattle.just_errors.specs.Causes.{LeadsBack}
 use Rattle.just_loader.specs.Scanned.{IsScan, paths_in}
 use Rattle.just_loader.specs.declared.scanned.Scan.{Scan}
 use Rattle.just_loader.specs.declared.scanned.ScannedFile.{ScannedFile}

@@ -6,7 +6,7 @@ use Rattle.just_graph.specs.Unfolding.{IsReachedKey, steps}
 use Rattle.just_graph.specs.Unfolded.{unfolded_key, AreApart, AreReached}
 use Rattle.just_graph.specs.declared.unfolding.Unfolded.{Unfolded}
 use Rattle.just_graph.proofs.Members.{In, contained, is_in, in_cases, in_map, without}
-use Rattle.just_parts.specs.Causes.{Cause, NoNumber, Keeps}
+use Rattle.just_errors.specs.Causes.{Cause, NoNumber, Keeps}
 use Rattle.just_loader.specs.FileCircles.{LeadsOn, by_edge, by_edges, ChainTo, at_root, and_next, NamesCircle, leads_back}
 use Rattle.just_loader.specs.Keys.{IsKey, FileKey, spends_at, NamesInFiles, no_root, at_fault, in_circle, too_many}
 use Rattle.just_loader.specs.Placed.{file_at}

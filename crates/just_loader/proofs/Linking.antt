@@ -1,12 +1,12 @@
 -- What items lead to.
 use Rattle.std.proofs.Common.{◌≡◌, ℕ, ◌<◌, Bool, List, [], ◌∷◌, length, map, ◌⊎◌, inl, inr, Result, Ok, Err, IfErr, refl, arith}
 use Rattle.just_names.specs.declared.name.Name.{Name}
-use Rattle.just_parts.specs.declared.layers.error.LoadError.TheVariants as load
-use Rattle.just_parts.specs.declared.layers.error.Error.{Error}
-use Rattle.just_parts.specs.declared.layers.error.Error.TheVariants as error
+use Rattle.just_errors.specs.declared.error.LoadError.TheVariants as load
+use Rattle.just_errors.specs.declared.error.Error.{Error}
+use Rattle.just_errors.specs.declared.error.Error.TheVariants as error
 use Rattle.just_loader.specs.ModuleFile.{relative}
 use Rattle.just_loader.specs.Links.{Fault, choice}
-use Rattle.just_parts.specs.Causes.{Reports, SeveralFiles}
+use Rattle.just_errors.specs.Causes.{Reports, SeveralFiles}
 
 several : (folder : List ℕ) (name : Name) (optional : Bool) (found : List (List ℕ)) → 1 < length found → choice folder name optional found ≡ Fault (SeveralFiles name (map (relative folder) found))
 several folder name optional [] h = absurd (omega arith)

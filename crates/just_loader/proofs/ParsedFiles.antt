@@ -11,8 +11,8 @@ use Rattle.just_parts.specs.Bare.{bare_ast, bare_item}
 use Rattle.just_names.specs.Clean.{folder_of}
 use Rattle.just_parts.specs.Syntax.{SyntaxAnswers, PriorsAreDependencies, Refuses}
 use Rattle.just_parts.specs.Items.{Ast, Item}
-use Rattle.just_parts.specs.declared.layers.error.Error.{Error}
-use Rattle.just_parts.specs.declared.layers.error.Error.TheVariants as error
+use Rattle.just_errors.specs.declared.error.Error.{Error}
+use Rattle.just_errors.specs.declared.error.Error.TheVariants as error
 use Rattle.just_parts.proofs.Edges.{same_priors}
 use Rattle.just_loader.specs.Keys.{spends_at}
 use Rattle.just_loader.specs.Loaded.{path_of_link, with_path}

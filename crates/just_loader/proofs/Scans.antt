@@ -10,11 +10,11 @@ use Rattle.just_names.specs.declared.name.Name.{Name}
 use Rattle.just_table.specs.Entries.{find}
 use Rattle.just_parts.specs.Syntax.{Refuses}
 use Rattle.just_parts.specs.Items.{Item}
-use Rattle.just_parts.specs.declared.layers.error.Error.{Error}
-use Rattle.just_parts.specs.declared.layers.error.Error.TheVariants as error
+use Rattle.just_errors.specs.declared.error.Error.{Error}
+use Rattle.just_errors.specs.declared.error.Error.TheVariants as error
 use Rattle.just_loader.specs.Links.{Link, Nowhere, To, Fault, edge_link, link_in}
 use Rattle.just_loader.specs.Reached.{World, relative_to_root, items_of, items_said, link, HasItem, LeadsTo, NamesAt, no_grammar, no_number, in_item}
-use Rattle.just_parts.specs.Causes.{Cause, Broken, Reports}
+use Rattle.just_errors.specs.Causes.{Cause, Broken, Reports}
 use Rattle.just_loader.specs.Scanned.{ArePlacesOf, IsStepTo, IsStepOf, AreSteps, IsScanned}
 use Rattle.just_loader.specs.Sources.{Files, text_at}
 use Rattle.just_loader.specs.declared.scanned.ScannedFile.{ScannedFile}

@@ -16,7 +16,7 @@ use Rattle.just_parts.specs.Items.{Item}
 use Rattle.just_parts.specs.Edge.{Edge, Imports, Declares, edge_of}
 use Rattle.just_loader.specs.Links.{Link, Nowhere, To, expanded, given, unless, import_link, choice, module_link, edge_link, link_in}
 use Rattle.just_loader.specs.ModuleFile.{candidates, file_at, files_in, is_module_file, or_else}
-use Rattle.just_parts.specs.Causes.{Cause, NoImport, NoModule}
+use Rattle.just_errors.specs.Causes.{Cause, NoImport, NoModule}
 use Rattle.just_loader.specs.Sources.{Files}
 
 module _ (files : Files) where

@@ -9,10 +9,10 @@ use Rattle.just_graph.specs.Unfolded.{AreApart, IsUnfolded, unfolded_key, AreRea
 use Rattle.just_graph.specs.declared.unfolding.Step.{Step}
 use Rattle.just_graph.specs.declared.unfolding.Unfolded.{Unfolded}
 use Rattle.just_parts.specs.Items.{Ast}
-use Rattle.just_parts.specs.declared.layers.error.Error.{Error}
-use Rattle.just_parts.specs.declared.layers.error.Error.TheVariants as error
+use Rattle.just_errors.specs.declared.error.Error.{Error}
+use Rattle.just_errors.specs.declared.error.Error.TheVariants as error
 use Rattle.just_parts.specs.Asts.{AstKey}
-use Rattle.just_parts.specs.Causes.{Keeps, Reports}
+use Rattle.just_errors.specs.Causes.{Keeps, Reports}
 use Rattle.just_loader.specs.FileCircles.{LeadsOn}
 use Rattle.just_loader.specs.Keys.{FileKey, NamesInFiles}
 use Rattle.just_loader.specs.Loaded.{Loads}

@@ -11,7 +11,7 @@ use Rattle.just_names.specs.Name.{text_of_name}
 use Rattle.just_names.specs.declared.name.Name.{Name}
 use Rattle.just_names.specs.Modulepath.{Text}
 use Rattle.just_parts.specs.Items.{Item}
-use Rattle.just_parts.specs.Causes.{Cause, NoFile, NoNumber}
+use Rattle.just_errors.specs.Causes.{Cause, NoFile, NoNumber}
 use Rattle.just_loader.specs.FileCircles.{NamesCircle}
 use Rattle.just_loader.specs.Links.{Link, Nowhere, To, Fault}
 use Rattle.just_loader.specs.Reached.{World, items_of, link, relative_to_root, NamesInScan}

@@ -14,7 +14,7 @@ use Rattle.just_parts.specs.Items.{Item}
 use Rattle.just_records.specs.declared.string_literal.StringLiteral.{StringLiteral}
 use Rattle.just_parts.specs.declared.layers.config.Config.{Config}
 use Rattle.just_loader.specs.ModuleFile.{after, candidates, relative}
-use Rattle.just_parts.specs.Causes.{Cause, NoHome, NoImport, NoModule, SeveralFiles}
+use Rattle.just_errors.specs.Causes.{Cause, NoHome, NoImport, NoModule, SeveralFiles}
 use Rattle.just_loader.specs.Sources.{Files}
 
 -- nowhere, to a path, or a fault

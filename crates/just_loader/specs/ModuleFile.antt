@@ -9,9 +9,9 @@ use Rattle.just_names.specs.Join.{clean_join}
 use Rattle.just_names.specs.Name.{text_of_name}
 use Rattle.just_names.specs.Modulepath.{Text}
 use Rattle.just_names.specs.declared.name.Name.{Name}
-use Rattle.just_parts.specs.declared.layers.error.Error.{Error}
-use Rattle.just_parts.specs.declared.layers.error.Error.TheVariants as error
-use Rattle.just_parts.specs.declared.layers.error.LoadError.TheVariants as load
+use Rattle.just_errors.specs.declared.error.Error.{Error}
+use Rattle.just_errors.specs.declared.error.Error.TheVariants as error
+use Rattle.just_errors.specs.declared.error.LoadError.TheVariants as load
 use Rattle.just_loader.specs.Sources.{Files}
 
 -- what a text has after a prefix

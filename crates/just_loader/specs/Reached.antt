@@ -8,10 +8,10 @@ use Rattle.just_names.specs.Modulepath.{Text}
 use Rattle.just_names.specs.Token.{Place}
 use Rattle.just_parts.specs.Items.{Ast, Item}
 use Rattle.just_parts.specs.declared.layers.config.Config.{Config}
-use Rattle.just_parts.specs.declared.layers.error.CompileErrorKind.TheVariants as kind
+use Rattle.just_errors.specs.declared.error.CompileErrorKind.TheVariants as kind
 use Rattle.just_loader.specs.Links.{Link, To, Fault, link_in}
 use Rattle.just_loader.specs.ModuleFile.{relative}
-use Rattle.just_parts.specs.Causes.{Cause, Broken, NoNumber}
+use Rattle.just_errors.specs.Causes.{Cause, Broken, NoNumber}
 use Rattle.just_loader.specs.Sources.{Files, text_at}
 
 -- What a compilation reads: the files, the home folder, where it is known, what the syntax layer answers, and the path of the root.

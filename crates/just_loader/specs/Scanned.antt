@@ -6,7 +6,7 @@ use Rattle.std.specs.declared.alloc.Global.{Global}
 use Rattle.just_graph.specs.Unfolding.{LeadInside}
 use Rattle.just_graph.specs.declared.unfolding.Step.{Step}
 use Rattle.just_graph.specs.Unfolded.{AreApart}
-use Rattle.just_parts.specs.Causes.{Cause}
+use Rattle.just_errors.specs.Causes.{Cause}
 use Rattle.just_names.specs.Clean.{IsClean, folder_of}
 use Rattle.just_parts.specs.Edge.{Edge, Imports, Declares, edge_of}
 use Rattle.just_names.specs.declared.name.Name.{Name}

@@ -4,7 +4,7 @@ ghost use Rattle.std.specs.Prelude.{◌≡◌, ◌<◌, ℕ, List, Some, length,
 ghost use Rattle.just_graph.specs.Unfolding.{IsOrdered};
 ghost use Rattle.just_loader.specs.FileCircles.{HasRows, LeadsOn, NamesCircle};
 ghost use Rattle.just_loader.specs.Reached.{World, Reached};
-ghost use Rattle.just_parts.specs.Causes.{Reports};
+ghost use Rattle.just_errors.specs.Causes.{Reports};
 ghost use Rattle.just_loader.specs.Scanned.{IsScan, paths_in};
 
 use crate::scanned::Scan;

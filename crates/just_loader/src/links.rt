@@ -5,7 +5,7 @@ ghost use Rattle.just_parts.specs.Edge.{Imports};
 ghost use Rattle.just_table.specs.Entries.{find};
 ghost use Rattle.just_names.specs.Join.{clean_join};
 ghost use Rattle.just_loader.specs.Links.{Nowhere, To, Fault, without_slashes, expanded, given, module_link, edge_link, link_by, linked};
-ghost use Rattle.just_parts.specs.Causes.{NoHome, Reports};
+ghost use Rattle.just_errors.specs.Causes.{NoHome, Reports};
 
 use crate::module_file::{after, find_module_file};
 use crate::sources::Sources;

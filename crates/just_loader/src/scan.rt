@@ -8,7 +8,7 @@ ghost use Rattle.just_parts.specs.Syntax.{Refuses};
 ghost use Rattle.just_loader.specs.Links.{To, Fault, link_by, links_by};
 ghost use Rattle.just_loader.specs.Numbering.{AreFound, AreNumbered, IsFile, paths_found};
 ghost use Rattle.just_loader.specs.Reached.{LeadsTo, NamesAt, NamesInScan, items_said, world_of};
-ghost use Rattle.just_parts.specs.Causes.{Keeps, Reports};
+ghost use Rattle.just_errors.specs.Causes.{Keeps, Reports};
 ghost use Rattle.just_loader.specs.Sources.{text_at};
 ghost use Rattle.just_loader.specs.Scanned.{ArePlacesIn, IsPlaceOf, AreSteps, IsScannedIn, IsScan, Finds, FindsAll, Extends, HasAlsoSteps, HasFault};
 

@@ -8,7 +8,7 @@ use Rattle.just_graph.proofs.Ended.{one_list}
 use Rattle.just_graph.proofs.Mapped.{every_level, levels_mapped}
 use Rattle.just_graph.proofs.Members.{In, contained, from_flat, from_map, in_map, is_in}
 use Rattle.just_parts.specs.Asts.{AstKey, same_ast_key}
-use Rattle.just_parts.specs.Causes.{Cause, Keeps}
+use Rattle.just_errors.specs.Causes.{Cause, Keeps}
 use Rattle.just_parts.specs.Items.{Ast, Item}
 use Rattle.just_parts.specs.Bare.{bare_item}
 use Rattle.just_joining.specs.Analyzable.{AreAnalyzable}

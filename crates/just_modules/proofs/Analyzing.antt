@@ -12,7 +12,7 @@ use Rattle.just_graph.specs.Unfolded.{AreApart}
 use Rattle.just_graph.proofs.Index.{get_map}
 use Rattle.just_graph.proofs.Members.{In, contained, from_flat, from_map, is_in}
 use Rattle.just_parts.specs.Asts.{AstKey, same_ast_key}
-use Rattle.just_parts.specs.Causes.{Cause}
+use Rattle.just_errors.specs.Causes.{Cause}
 use Rattle.just_names.specs.Modulepath.{Text}
 use Rattle.just_names.specs.Name.{text_of_name}
 use Rattle.just_parts.specs.declared.dependency.Dependency.{Dependency}

@@ -4,7 +4,7 @@ use Rattle.std.specs.Map.{keys_of, lookup}
 use Rattle.just_graph.specs.Graph.{HasEdge, targets}
 use Rattle.just_graph.specs.Steps.{ListsStepsFirst}
 use Rattle.just_parts.specs.Asts.{AstKey, same_ast_key}
-use Rattle.just_parts.specs.Causes.{Cause, Keeps}
+use Rattle.just_errors.specs.Causes.{Cause, Keeps}
 use Rattle.just_parts.specs.Items.{Ast, Item}
 use Rattle.just_joining.specs.Contents.{Contents, of_names, texts_of_names}
 use Rattle.just_joining.specs.Files.{ArePlaced, AreRows}

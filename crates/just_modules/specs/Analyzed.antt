@@ -4,12 +4,12 @@ use Rattle.std.specs.HashMap.{HashMap, get}
 use Rattle.std.specs.List.{Contains}
 use Rattle.just_graph.specs.Unfolded.{AreApart}
 use Rattle.just_parts.specs.Asts.{AstKey, same_ast_key}
-use Rattle.just_parts.specs.Causes.{Reports}
+use Rattle.just_errors.specs.Causes.{Reports}
 use Rattle.just_names.specs.Modulepath.{Text}
 use Rattle.just_parts.specs.declared.dependency.Dependency.{Dependency}
 use Rattle.just_parts.specs.Items.{Ast, Item}
 use Rattle.just_parts.specs.Syntax.{SyntaxAnswers}
-use Rattle.just_parts.specs.declared.layers.error.Error.{Error}
+use Rattle.just_errors.specs.declared.error.Error.{Error}
 use Rattle.just_names.specs.declared.modulepath.Modulepath.{Modulepath}
 use Rattle.just_parts.specs.declared.recipe.Recipe.{Recipe}
 use Rattle.just_invoke.specs.Closed.{AreClosed}

@@ -1,6 +1,6 @@
 -- The rules of all modules, group by group.
 use Rattle.std.specs.Prelude.{◌≢◌, ◌<◌, ℕ, [], ◌∷◌}
-use Rattle.just_parts.specs.Causes.{Cause, Keeps}
+use Rattle.just_errors.specs.Causes.{Cause, Keeps}
 use Rattle.just_modules.specs.Modules.{Module, Heading, Forest, Empty, Tree, AreModules, HasModule, IsHeading, contents_of}
 use Rattle.just_joining.specs.Reading.{Reading}
 use Rattle.just_joining.specs.Rules.{Headers, Bodies, Dependencies}

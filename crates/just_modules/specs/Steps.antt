@@ -6,7 +6,7 @@ use Rattle.std.specs.declared.vec.Vec.{Vec}
 use Rattle.just_graph.specs.Graph.{HasEdge, targets}
 use Rattle.just_graph.specs.Steps.{IsOnce, ListsStepsFirst}
 use Rattle.just_parts.specs.Asts.{AstKey}
-use Rattle.just_parts.specs.Causes.{Cause}
+use Rattle.just_errors.specs.Causes.{Cause}
 use Rattle.just_names.specs.Modulepath.{Text}
 use Rattle.just_parts.specs.Syntax.{SyntaxAnswers}
 use Rattle.just_parts.specs.declared.dependency.Dependency.{Dependency}

@@ -5,7 +5,7 @@ ghost use Rattle.std.specs.HashMap.{get};
 ghost use Rattle.std.specs.List.{All, Contains};
 ghost use Rattle.just_graph.specs.Steps.{IsOnce};
 ghost use Rattle.just_parts.specs.Asts.{same_ast_key};
-ghost use Rattle.just_parts.specs.Causes.{Reports};
+ghost use Rattle.just_errors.specs.Causes.{Reports};
 ghost use Rattle.just_running.specs.Recipes.{numbers};
 ghost use Rattle.just_invoke.specs.declared.justfile.Justfile.{Justfile, out-Justfile};
 ghost use Rattle.just_joining.specs.Analyzable.{AreAnalyzable};

@@ -2,7 +2,7 @@
 
 ghost use Rattle.std.specs.Prelude.{◌≡◌, ◌<◌, ℕ, List, IfOk, IfErr, None, OnOk, Some, length, map};
 ghost use Rattle.just_graph.specs.Graph.{targets};
-ghost use Rattle.just_parts.specs.Causes.{Reports};
+ghost use Rattle.just_errors.specs.Causes.{Reports};
 ghost use Rattle.just_invoke.specs.declared.justfile.Justfile.{Justfile};
 ghost use Rattle.just_modules.specs.Justfiles.{slot};
 ghost use Rattle.just_joining.specs.Named.{BreaksRecipes, KeepsRecipes};

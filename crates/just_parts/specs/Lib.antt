@@ -1,15 +1,11 @@
 pub mod Asts
 pub mod Bare
-pub mod Causes
 pub mod Edge
 pub mod Evaluation
-pub mod Halts
 pub mod Host
 pub mod Items
 pub mod Located
-pub mod Messages
 pub mod Resolved
 pub mod Script
 pub mod Steps
 pub mod Syntax
-pub mod Wording

@@ -1,7 +1,7 @@
 -- What a run asks step by step, where each answer decides what comes next.
 use Rattle.std.specs.Prelude.{◌≡◌, ◌⊎◌, List, [], ◌∷◌, ◌++◌, Option, Some, Result, Ok, Err}
-use Rattle.just_parts.specs.declared.layers.halt.Halt.{Halt}
-use Rattle.just_parts.specs.declared.layers.halt.Halt.TheVariants.{Memory, Exhausted}
+use Rattle.just_errors.specs.declared.halt.Halt.{Halt}
+use Rattle.just_errors.specs.declared.halt.Halt.TheVariants.{Memory, Exhausted}
 use Rattle.just_parts.specs.declared.layers.host.Entry.{Entry}
 use Rattle.just_parts.specs.Evaluation.{Inquiry}
 use Rattle.just_parts.specs.Host.{Answer}

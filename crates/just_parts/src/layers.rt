@@ -3,23 +3,20 @@
 pub mod ast;
 pub mod config;
 pub mod edge;
-pub mod error;
 pub mod evaluation;
-pub mod halt;
 pub mod host;
 pub mod output;
 pub mod syntax;
-mod wording;
 
 pub use ast::{Ast, Item, UnresolvedDependency};
 pub use config::Config;
 pub use edge::Edge;
-pub use error::{
-    CompileError, CompileErrorKind, Error, InvocationError, LoadError, RunError, SourceError,
-};
 pub use evaluation::Evaluation;
-pub use halt::Halt;
 pub use host::{Entry, Groups, Host};
+pub use just_errors::{
+    CompileError, CompileErrorKind, Error, Halt, InvocationError, LoadError, RunError, SourceError,
+    error,
+};
 pub use just_names::{Exhausted, Name, Namepath, Number, Numerator, Token};
 pub use just_records::{
     ArgumentAttribute, ArgumentProperty, Assignment, Attribute, CacheAttribute,

@@ -3,8 +3,8 @@ ghost use Rattle.std.specs.Prelude.{◌≡◌, ◌↔◌, ◌⊎◌, ◌+◌, []
 ghost use Rattle.just_names.specs.Clean.{IsClean, folder_of};
 ghost use Rattle.just_names.specs.Name.{submodule_path};
 
-use crate::layers::error::Error;
 use just_data::{Chain, Exact, Text};
+use just_errors::Error;
 use just_names::{Exhausted, Name, Namepath, folder_of};
 use std::alloc::{AllocError, Global};
 

@@ -6,8 +6,8 @@ use Rattle.std.proofs.lemmas.List.{append-nil}
 use Rattle.std.proofs.lemmas.List.Elements.{All-head, All-tail, All-nil, All-cons, All-weaker, All-map}
 use Rattle.just_names.specs.declared.modulepath.Modulepath.{Modulepath}
 use Rattle.just_parts.specs.declared.dependency.Dependency.{Dependency}
-use Rattle.just_parts.specs.declared.layers.halt.Halt.{Halt}
-use Rattle.just_parts.specs.declared.layers.halt.Halt.TheVariants.{Memory, Exhausted, Failed}
+use Rattle.just_errors.specs.declared.halt.Halt.{Halt}
+use Rattle.just_errors.specs.declared.halt.Halt.TheVariants.{Memory, Exhausted, Failed}
 use Rattle.just_parts.specs.declared.layers.host.Entry.{Entry}
 use Rattle.just_parts.specs.declared.layers.host.Entry.TheVariants.{Begin}
 use Rattle.just_parts.specs.declared.recipe.Recipe.{Recipe}

@@ -2,7 +2,7 @@
 use Rattle.std.proofs.Common.{◌≡◌, ◌≢◌, ℕ, zero, suc, ◌<◌, true, false, cond, List, [], ◌∷◌, ◌++◌, refl, sym, ◌∙◌, ap, arith}
 use Rattle.std.proofs.lemmas.Bool.{cond-true, cond-false}
 use Rattle.std.proofs.lemmas.List.Elements.{All-head, All-tail}
-use Rattle.just_parts.specs.declared.layers.halt.Halt.TheVariants.{Exhausted}
+use Rattle.just_errors.specs.declared.halt.Halt.TheVariants.{Exhausted}
 use Rattle.just_parts.specs.Steps.{Steps, Give, Fail, and_then}
 use Rattle.just_parts.proofs.StepLemmas.{then-assoc, then-give, then-each, then-same}
 use Rattle.just_running.specs.declared.frame.Frame.{Frame}

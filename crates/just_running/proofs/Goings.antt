@@ -2,8 +2,8 @@
 use Rattle.std.proofs.Common.{◌≡◌, ◌≢◌, ℕ, ◌+◌, ◌<◌, ◌^◌, true, false, List, [], ◌∷◌, ◌++◌, get_or, Option, refl, sym, ◌∙◌, ap, subst, arith, eq-eqb, inl, ◌==◌, Ok, Err}
 use Rattle.std.specs.Prelude.{Result, IsErrAnd}
 use Rattle.std.proofs.lemmas.Bool.{cond-true, cond-false, ne_eqb}
-use Rattle.just_parts.specs.declared.layers.halt.Halt.{Halt}
-use Rattle.just_parts.specs.declared.layers.halt.Halt.TheVariants.{Memory, Exhausted}
+use Rattle.just_errors.specs.declared.halt.Halt.{Halt}
+use Rattle.just_errors.specs.declared.halt.Halt.TheVariants.{Memory, Exhausted}
 use Rattle.just_parts.specs.declared.layers.host.Entry.{Entry}
 use Rattle.just_parts.specs.Host.{Answer, KeepsPromises}
 use Rattle.just_parts.specs.Steps.{Question, Steps, Give, Fail, and_then, Took}

@@ -2,10 +2,10 @@
 use Rattle.std.proofs.Common.{◌≡◌, List, [], length, Option, Ok, Err, refl, subst}
 use Rattle.std.specs.Prelude.{Result}
 use Rattle.just_parts.specs.declared.dependency.Dependency.{Dependency}
-use Rattle.just_parts.specs.declared.layers.halt.Halt.{Halt}
+use Rattle.just_errors.specs.declared.halt.Halt.{Halt}
 use Rattle.just_parts.specs.declared.layers.host.Entry.{Entry}
 use Rattle.just_parts.specs.declared.recipe.Recipe.{Recipe}
-use Rattle.just_parts.specs.Halts.{without}
+use Rattle.just_errors.specs.Halts.{without}
 use Rattle.just_parts.specs.Evaluation.{Inquiry}
 use Rattle.just_parts.specs.Host.{Answer}
 use Rattle.just_parts.specs.Steps.{both, path, outcome, Follows}

@@ -5,8 +5,8 @@ use Rattle.std.proofs.lemmas.Bool.{cases_Bool, cond-true, cond-false}
 use Rattle.std.proofs.lemmas.List.{append-nil}
 use Rattle.std.proofs.lemmas.List.Elements.{All-head, All-tail, All-nil, All-cons, All-weaker}
 use Rattle.just_parts.specs.declared.dependency.Dependency.{Dependency}
-use Rattle.just_parts.specs.declared.layers.halt.Halt.{Halt}
-use Rattle.just_parts.specs.declared.layers.halt.Halt.TheVariants.{Memory, Exhausted}
+use Rattle.just_errors.specs.declared.halt.Halt.{Halt}
+use Rattle.just_errors.specs.declared.halt.Halt.TheVariants.{Memory, Exhausted}
 use Rattle.just_parts.specs.declared.layers.host.Entry.{Entry}
 use Rattle.just_parts.specs.declared.recipe.Recipe.{Recipe}
 use Rattle.just_parts.specs.Host.{Answer, executed}

@@ -2,13 +2,13 @@
 use Rattle.std.proofs.Common.{◌≡◌, ◌⊎◌, ℕ, List, [], ◌∷◌, ◌++◌, Option, refl, sym, ◌∙◌, ap, subst, inl, inr, append_assoc, Ok, Err}
 use Rattle.std.specs.Prelude.{Result}
 use Rattle.std.proofs.lemmas.List.{append-nil}
-use Rattle.just_parts.specs.declared.layers.halt.Halt.{Halt}
-use Rattle.just_parts.specs.declared.layers.halt.Halt.TheVariants.{Memory, Exhausted}
+use Rattle.just_errors.specs.declared.halt.Halt.{Halt}
+use Rattle.just_errors.specs.declared.halt.Halt.TheVariants.{Memory, Exhausted}
 use Rattle.just_parts.specs.declared.layers.host.Entry.{Entry}
 use Rattle.just_parts.specs.Host.{Answer}
 use Rattle.just_parts.specs.Steps.{Question, Steps, Give, Fail, Asks, and_then, Gives, Took, path, outcome, IsSteady, calls, Follows}
 use Rattle.just_parts.proofs.StepLemmas.{then-assoc, took-steady}
-use Rattle.just_parts.specs.Halts.{without}
+use Rattle.just_errors.specs.Halts.{without}
 use Rattle.just_running.specs.Run.{in_turn}
 
 -- two values of a relation, or one halt

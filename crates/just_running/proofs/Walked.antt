@@ -4,7 +4,7 @@ use Rattle.std.specs.Prelude.{get_or}
 use Rattle.std.proofs.lemmas.Bool.{true≢false}
 use Rattle.std.proofs.lemmas.List.{append-nil, map-append}
 use Rattle.std.proofs.lemmas.List.Elements.{All-cons, All-head, All-nil, All-tail}
-use Rattle.just_parts.specs.declared.layers.halt.Halt.TheVariants.{Exhausted}
+use Rattle.just_errors.specs.declared.halt.Halt.TheVariants.{Exhausted}
 use Rattle.just_parts.specs.Host.{Answer}
 use Rattle.just_parts.specs.Steps.{Question, Steps, Give, Fail, and_then, Gives, path, outcome}
 use Rattle.just_parts.proofs.StepLemmas.{then-assoc, then-give}

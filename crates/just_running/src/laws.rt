@@ -1,7 +1,7 @@
 //! Laws: calls that do nothing, whose contracts say what definitions keep.
 ghost use Rattle.std.specs.Prelude.{◌≤◌, ℕ, List, Result, Err, length};
 ghost use Rattle.just_parts.specs.declared.dependency.Dependency.{Dependency};
-ghost use Rattle.just_parts.specs.declared.layers.halt.Halt.{Halt};
+ghost use Rattle.just_errors.specs.declared.halt.Halt.{Halt};
 ghost use Rattle.just_parts.specs.declared.layers.host.Entry.{Entry};
 ghost use Rattle.just_parts.specs.declared.recipe.Recipe.{Recipe};
 ghost use Rattle.just_parts.specs.Host.{Answer};

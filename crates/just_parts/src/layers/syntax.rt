@@ -5,9 +5,9 @@ ghost use Rattle.just_parts.specs.Syntax.{SyntaxAnswers, IsFrom, numbers, AreRis
 ghost use Rattle.std.specs.List.{All};
 
 use crate::layers::ast::{Ast, Item};
-use crate::layers::error::Error;
 use crate::source::Source;
 use just_data::Sequence;
+use just_errors::Error;
 use just_names::Numerator;
 use just_records::{Keyword, Line, Setting, Settings, Sigil};
 use std::alloc::{AllocError, Global};

@@ -14,9 +14,9 @@ loop-place-preserved c =
     ] in
     elim c.if-is_defaulted.branch [
       | then-is_defaulted w ↦ subst (Passed c.args.parameters.now (c.loop-place.place + 1)) (sym w.passed-is)
-        (passed_on c.args.parameters.now c.loop-place.place c.loop-place.passed c.index-parameters-place.result c.loop-place.invariant c.index-parameters-place.is inside fits (sym c.is_defaulted.ensures ∙ w.if-is_defaulted.true))
+          (passed_on c.args.parameters.now c.loop-place.place c.loop-place.passed c.index-parameters-place.result c.loop-place.invariant c.index-parameters-place.is inside fits (sym c.is_defaulted.ensures ∙ w.if-is_defaulted.true))
       | else-is_defaulted w ↦ subst (Passed c.args.parameters.now (c.loop-place.place + 1)) (sym w.passed-is)
-        (passed_by c.args.parameters.now c.loop-place.place c.loop-place.passed c.index-parameters-place.result c.loop-place.invariant c.index-parameters-place.is inside fits (sym c.is_defaulted.ensures ∙ w.if-is_defaulted.false))
+          (passed_by c.args.parameters.now c.loop-place.place c.loop-place.passed c.index-parameters-place.result c.loop-place.invariant c.index-parameters-place.is inside fits (sym c.is_defaulted.ensures ∙ w.if-is_defaulted.false))
     ]
 
 pub returns-clause-none : goal.returns-clause-none

@@ -2,10 +2,10 @@ use Rattle.std.proofs.Common.{rules, ◌≡◌, ◌<◌, ◌∙◌, ℕ, List, l
 use Rattle.std.specs.List.{All}
 use Rattle.std.proofs.lemmas.Bool.{cases_lt}
 use Rattle.std.proofs.lemmas.Result.{IfErr-weaker}
-use Rattle.just_parts.specs.Causes.{Reports}
+use Rattle.just_errors.specs.Causes.{Reports}
 use Rattle.just_names.specs.Name.{text_of_name}
 use Rattle.just_names.specs.declared.name.Name.{Name}
-use Rattle.just_parts.proofs.Lifts.{reports_by}
+use Rattle.just_errors.proofs.Lifts.{reports_by}
 use Rattle.just_joining.specs.Contents.{of_names, texts_of_names}
 use Rattle.just_joining.specs.Files.{asts_in}
 use Rattle.just_joining.specs.Index.{AreDifferent}

@@ -3,7 +3,7 @@ use Rattle.std.specs.Option.{option_map}
 use Rattle.just_names.specs.Token.{lexeme}
 use Rattle.just_loader.specs.ModuleFile.{candidates}
 use Rattle.just_loader.specs.Links.{Fault, given, module_link}
-use Rattle.just_parts.specs.Causes.{Reports}
+use Rattle.just_errors.specs.Causes.{Reports}
 use Rattle.just_loader.proofs.Linking.{several_named}
 use Rattle.just_loader.proofs.links.link_module.Goals as goal
 

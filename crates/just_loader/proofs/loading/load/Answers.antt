@@ -6,7 +6,7 @@ use Rattle.just_graph.specs.Unfolding.{IsOrdered, steps}
 use Rattle.just_parts.specs.Asts.{same_ast_key}
 use Rattle.just_loader.specs.Keys.{NamesInFiles, no_root, at_fault, in_circle}
 use Rattle.just_loader.specs.FileCircles.{NamesCircle}
-use Rattle.just_parts.specs.Causes.{Reports}
+use Rattle.just_errors.specs.Causes.{Reports}
 use Rattle.just_loader.specs.Placed.{at_first_places}
 use Rattle.just_loader.specs.Loading.{AreParsed, IsScanBy, spent_by}
 use Rattle.just_loader.specs.Parsed.{AreHeld, AreKeyed, relative_at}
@@ -14,7 +14,7 @@ use Rattle.just_loader.specs.Reached.{World, world_of, NamesInScan}
 use Rattle.just_loader.proofs.ComingIn.{are_unfolded}
 use Rattle.just_loader.proofs.InPaths.{is_loaded}
 use Rattle.just_loader.proofs.LoadedPaths.{places_of}
-use Rattle.just_parts.proofs.Lifts.{lifted}
+use Rattle.just_errors.proofs.Lifts.{lifted}
 use Rattle.just_loader.proofs.WholeLoads.{IsWhole, whole_lent, are_keyed, are_kept, nodes_inside, refused, stop_named}
 use Rattle.just_loader.proofs.loading.load.Goals as goal
 

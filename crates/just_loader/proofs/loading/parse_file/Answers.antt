@@ -2,7 +2,7 @@ use Rattle.std.proofs.Common.{◌≡◌, ◌∙◌, ◌+◌, map, ap, sym, subst
 use Rattle.std.specs.List.{All}
 use Rattle.just_names.specs.Clean.{folder_of}
 use Rattle.just_parts.specs.Syntax.{AreRising, PriorsAreDependencies, numbers}
-use Rattle.just_parts.specs.declared.layers.error.Error.{Error}
+use Rattle.just_errors.specs.declared.error.Error.{Error}
 use Rattle.just_loader.specs.Keys.{spends_at}
 use Rattle.just_loader.specs.Loaded.{with_path}
 use Rattle.just_loader.specs.Placed.{file_at}

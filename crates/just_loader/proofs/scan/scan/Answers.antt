@@ -9,7 +9,7 @@ use Rattle.just_table.specs.Entries.{find}
 use Rattle.just_loader.specs.Numbering.{paths_of}
 use Rattle.just_loader.specs.Reached.{World, world_of, NamesAt, NamesInScan}
 use Rattle.just_loader.specs.declared.sources.SourceFile.{SourceFile}
-use Rattle.just_parts.proofs.Lifts.{lifted}
+use Rattle.just_errors.proofs.Lifts.{lifted}
 use Rattle.just_loader.proofs.Numberings.{got, map_get, once}
 use Rattle.just_loader.proofs.WholeScans.{start, text_file, scan_one, found_clean, found_few, is_scan, none_in_scan}
 use Rattle.just_loader.proofs.scan.scan.Goals as goal

@@ -8,7 +8,7 @@ use Rattle.just_loader.specs.ModuleFile.{relative}
 use Rattle.just_loader.specs.Numbering.{paths_of}
 use Rattle.just_loader.specs.Reached.{World, world_of, LeadsTo, NamesAt, items_said, relative_to_root}
 use Rattle.just_loader.specs.Scanned.{ArePlacesOf, AreSteps}
-use Rattle.just_parts.proofs.Lifts.{lifted}
+use Rattle.just_errors.proofs.Lifts.{lifted}
 use Rattle.just_loader.proofs.Scanning.{places_count, grows_by}
 use Rattle.just_loader.proofs.Scans.{refused_err, fault_at, leads_to, none_at, is_scanned}
 use Rattle.just_loader.proofs.scan.scan_file.Goals as goal

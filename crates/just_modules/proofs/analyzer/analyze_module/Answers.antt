@@ -3,7 +3,7 @@ use Rattle.std.specs.List.{All}
 use Rattle.std.proofs.lemmas.Result.{IfErr-weaker}
 use Rattle.just_graph.specs.Steps.{IsOnce}
 use Rattle.just_graph.proofs.Index.{some_same}
-use Rattle.just_parts.specs.Causes.{Reports}
+use Rattle.just_errors.specs.Causes.{Reports}
 use Rattle.just_parts.specs.Items.{Ast}
 use Rattle.just_joining.specs.Definitions.{recipes_in}
 use Rattle.just_joining.specs.Files.{asts_in}

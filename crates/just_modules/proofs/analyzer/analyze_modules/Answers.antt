@@ -6,8 +6,8 @@ use Rattle.std.proofs.lemmas.Result.{IfErr-weaker}
 use Rattle.just_graph.proofs.Index.{some_same}
 use Rattle.just_invoke.specs.declared.justfile.Justfile.{Justfile}
 use Rattle.just_parts.specs.Asts.{AstKey, same_ast_key}
-use Rattle.just_parts.specs.Causes.{Reports}
-use Rattle.just_parts.proofs.Lifts.{reports_by}
+use Rattle.just_errors.specs.Causes.{Reports}
+use Rattle.just_errors.proofs.Lifts.{reports_by}
 use Rattle.just_modules.specs.Analyzed.{IsAnalyzed}
 use Rattle.just_joining.specs.Joined.{AreArranged, AreGraphs}
 use Rattle.just_modules.specs.Justfiles.{labelled_as}

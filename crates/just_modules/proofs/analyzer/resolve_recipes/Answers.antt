@@ -1,7 +1,7 @@
 use Rattle.std.proofs.Common.{length, subst, rules}
 use Rattle.std.proofs.lemmas.Result.{IfErr-weaker}
-use Rattle.just_parts.specs.Causes.{Reports}
-use Rattle.just_parts.proofs.Lifts.{reports_by}
+use Rattle.just_errors.specs.Causes.{Reports}
+use Rattle.just_errors.proofs.Lifts.{reports_by}
 use Rattle.just_joining.specs.Definitions.{recipes_in}
 use Rattle.just_joining.specs.Named.{BreaksRecipes, in_bodies, in_dependencies, in_parameters}
 use Rattle.just_joining.specs.Resolved.{Resolving}

@@ -2,7 +2,7 @@ use Rattle.std.proofs.Common.{rules, slice_index, map, arith}
 use Rattle.std.proofs.lemmas.Grind.{common_steps}
 use Rattle.std.proofs.lemmas.Result.{IfErr-weaker}
 use Rattle.just_graph.specs.Graph.{targets}
-use Rattle.just_parts.specs.Causes.{Reports}
+use Rattle.just_errors.specs.Causes.{Reports}
 use Rattle.just_joining.specs.Named.{BreaksRecipes}
 use Rattle.just_joining.specs.OfPlaces.{recipes_of_place}
 use Rattle.just_modules.proofs.Ordered.{breaks_next, compiled_more, compiled_none, inner_there, numbers_apart}

@@ -1,6 +1,6 @@
 use Rattle.std.proofs.Common.{◌∙◌, List, sym, inl, inr}
 use Rattle.std.specs.Prelude.{Result}
-use Rattle.just_parts.specs.declared.layers.halt.Halt.{Halt}
+use Rattle.just_errors.specs.declared.halt.Halt.{Halt}
 use Rattle.just_parts.specs.declared.layers.host.Entry.{Entry}
 use Rattle.just_parts.specs.Steps.{Question, Follows}
 use Rattle.just_running.specs.Reports.{IsOne}

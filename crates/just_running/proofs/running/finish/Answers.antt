@@ -1,6 +1,6 @@
 use Rattle.std.proofs.Common.{◌≡◌, List, [], Option, Err, sym, subst, rules}
 use Rattle.std.specs.Prelude.{Result}
-use Rattle.just_parts.specs.declared.layers.halt.Halt.{Halt}
+use Rattle.just_errors.specs.declared.halt.Halt.{Halt}
 use Rattle.just_parts.specs.declared.layers.host.Entry.{Entry}
 use Rattle.just_parts.specs.Host.{Answer}
 use Rattle.just_parts.specs.Steps.{Question, Took, both}

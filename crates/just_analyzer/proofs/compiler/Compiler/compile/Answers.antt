@@ -2,9 +2,9 @@ use Rattle.std.proofs.Common.{◌≡◌, ◌∙◌, false, [], None, IsSome, ref
 use Rattle.std.specs.HashMap.{get}
 use Rattle.just_invoke.specs.Closed.{is_closed}
 use Rattle.just_parts.specs.Asts.{AstKey, root_ast_key, same_ast_key}
-use Rattle.just_parts.specs.Causes.{Reports}
+use Rattle.just_errors.specs.Causes.{Reports}
 use Rattle.just_names.specs.declared.modulepath.Modulepath.{Modulepath}
-use Rattle.just_parts.proofs.Lifts.{lifted}
+use Rattle.just_errors.proofs.Lifts.{lifted}
 use Rattle.just_loader.specs.Keys.{NamesInFiles}
 use Rattle.just_loader.specs.Reached.{World, world_of}
 use Rattle.just_loader.proofs.HeldKeys.{root_held}

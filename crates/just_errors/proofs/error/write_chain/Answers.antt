@@ -1,8 +1,8 @@
 use Rattle.std.proofs.Common.{ℕ, List, ◌≡◌, ◌∙◌, ap, refl, ◌++◌, append_assoc, codes}
 use Rattle.std.proofs.lemmas.Grind.{put_three}
 use Rattle.just_names.specs.Modulepath.{joined}
-use Rattle.just_parts.specs.Messages.{chain_text}
-use Rattle.just_parts.proofs.layers.error.write_chain.Goals as goal
+use Rattle.just_errors.specs.Messages.{chain_text}
+use Rattle.just_errors.proofs.error.write_chain.Goals as goal
 
 three_parts : (a r b c d : List ℕ) → (a ++ (r ++ b)) ++ (c ++ d) ≡ a ++ (r ++ (b ++ (c ++ d)))
 three_parts a r b c d = append_assoc a (r ++ b) (c ++ d) ∙ ap (λ t. a ++ t) (append_assoc r b (c ++ d))

@@ -1,4 +1,4 @@
-use Rattle.just_parts.proofs.layers.error.CompileErrorKindDisplay.fmt.Goals as goal
+use Rattle.just_errors.proofs.error.CompileErrorKindDisplay.fmt.Goals as goal
 
 pub returns-in-Redefinition-clause-writes : goal.returns-in-Redefinition-clause-writes
 returns-in-Redefinition-clause-writes g c = λ plain ok. rw (c.in-Redefinition.is, ← c.saturating_add-line.ensures) (c.write-in-Redefinition.ensures.writes plain ok)

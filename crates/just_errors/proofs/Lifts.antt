@@ -1,9 +1,9 @@
 -- A group's errors as those of a larger group.
 use Rattle.std.proofs.Common.{Result, Ok, Err, IfErr}
-use Rattle.just_parts.specs.declared.layers.error.LoadError.TheVariants as load
-use Rattle.just_parts.specs.declared.layers.error.Error.{Error}
-use Rattle.just_parts.specs.declared.layers.error.Error.TheVariants as error
-use Rattle.just_parts.specs.Causes.{Cause, NoFile, NoHome, NoImport, NoModule, SeveralFiles, LeadsBack, Broken, NoNumber, Reports}
+use Rattle.just_errors.specs.declared.error.LoadError.TheVariants as load
+use Rattle.just_errors.specs.declared.error.Error.{Error}
+use Rattle.just_errors.specs.declared.error.Error.TheVariants as error
+use Rattle.just_errors.specs.Causes.{Cause, NoFile, NoHome, NoImport, NoModule, SeveralFiles, LeadsBack, Broken, NoNumber, Reports}
 
 pub reports_by : (G H : Cause → Type 0) → ((c : Cause) → G c → H c) → (e : Error) → Reports G e → Reports H e
 reports_by G H f (error.Load (load.Load path)) g = f (NoFile path) g

@@ -2,21 +2,21 @@
 use Rattle.std.specs.Prelude.{ℕ, ◌==◌, false, List, length, ◌++◌, codes, decimal, if◌then◌else◌}
 use Rattle.just_names.specs.Modulepath.{joined, text_of}
 use Rattle.just_names.specs.Name.{texts_of_path}
-use Rattle.just_parts.specs.Wording.{arguments_text, takes_text, place_text, at_text}
+use Rattle.just_errors.specs.Wording.{arguments_text, takes_text, place_text, at_text}
 use Rattle.just_names.specs.declared.name.Namepath.{Namepath}
-use Rattle.just_parts.specs.declared.layers.error.LoadError.{LoadError}
-use Rattle.just_parts.specs.declared.layers.error.LoadError.TheVariants as load
-use Rattle.just_parts.specs.declared.layers.error.Definition.{Definition}
-use Rattle.just_parts.specs.declared.layers.error.Definition.TheVariants as definition
-use Rattle.just_parts.specs.declared.layers.error.CompileErrorKind.{CompileErrorKind}
-use Rattle.just_parts.specs.declared.layers.error.CompileErrorKind.TheVariants as kind
-use Rattle.just_parts.specs.declared.layers.error.CompileError.{CompileError}
-use Rattle.just_parts.specs.declared.layers.error.InvocationError.{InvocationError}
-use Rattle.just_parts.specs.declared.layers.error.InvocationError.TheVariants as invocation
-use Rattle.just_parts.specs.declared.layers.error.RunError.{RunError}
-use Rattle.just_parts.specs.declared.layers.error.RunError.TheVariants as run
-use Rattle.just_parts.specs.declared.layers.error.Error.{Error}
-use Rattle.just_parts.specs.declared.layers.error.Error.TheVariants as error
+use Rattle.just_errors.specs.declared.error.LoadError.{LoadError}
+use Rattle.just_errors.specs.declared.error.LoadError.TheVariants as load
+use Rattle.just_errors.specs.declared.error.Definition.{Definition}
+use Rattle.just_errors.specs.declared.error.Definition.TheVariants as definition
+use Rattle.just_errors.specs.declared.error.CompileErrorKind.{CompileErrorKind}
+use Rattle.just_errors.specs.declared.error.CompileErrorKind.TheVariants as kind
+use Rattle.just_errors.specs.declared.error.CompileError.{CompileError}
+use Rattle.just_errors.specs.declared.error.InvocationError.{InvocationError}
+use Rattle.just_errors.specs.declared.error.InvocationError.TheVariants as invocation
+use Rattle.just_errors.specs.declared.error.RunError.{RunError}
+use Rattle.just_errors.specs.declared.error.RunError.TheVariants as run
+use Rattle.just_errors.specs.declared.error.Error.{Error}
+use Rattle.just_errors.specs.declared.error.Error.TheVariants as error
 
 -- the names of the variants
 abbrev pub load_name : LoadError → List ℕ

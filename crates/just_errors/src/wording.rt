@@ -1,6 +1,6 @@
 //! Parts of messages: a place in a file, a count of arguments, and a list of paths.
 ghost use Rattle.std.specs.Prelude.{◌≡◌};
-ghost use Rattle.just_parts.specs.Wording.{noun_text};
+ghost use Rattle.just_errors.specs.Wording.{noun_text};
 
 use just_data::Text;
 use just_names::Token;
@@ -22,7 +22,7 @@ pub(crate) struct Arguments(pub usize);
 
 impl fmt::Display for Arguments {
     ghost use Rattle.std.specs.Prelude.{Some};
-    ghost use Rattle.just_parts.specs.Wording.{arguments_text};
+    ghost use Rattle.just_errors.specs.Wording.{arguments_text};
 
     ghost output = { λ a. Some (arguments_text a.0) };
 
@@ -41,7 +41,7 @@ pub(crate) struct Takes {
 
 impl fmt::Display for Takes {
     ghost use Rattle.std.specs.Prelude.{Some};
-    ghost use Rattle.just_parts.specs.Wording.{takes_text};
+    ghost use Rattle.just_errors.specs.Wording.{takes_text};
 
     ghost output = { λ t. Some (takes_text t.least t.most) };
 
@@ -64,7 +64,7 @@ pub(crate) struct At<'a, 'src>(pub &'a Token<'src>);
 
 impl<'a, 'src> fmt::Display for At<'a, 'src> {
     ghost use Rattle.std.specs.Prelude.{Some};
-    ghost use Rattle.just_parts.specs.Wording.{at_text};
+    ghost use Rattle.just_errors.specs.Wording.{at_text};
 
     ghost output = { λ at. Some (at_text at.0.now) };
 
@@ -82,7 +82,7 @@ pub(crate) struct Listed<'a>(pub &'a [Text]);
 
 impl<'a> fmt::Display for Listed<'a> {
     ghost use Rattle.std.specs.Prelude.{Some};
-    ghost use Rattle.just_parts.specs.Wording.{listed_text};
+    ghost use Rattle.just_errors.specs.Wording.{listed_text};
 
     ghost output = { λ listed. Some (listed_text listed.0.now) };
 

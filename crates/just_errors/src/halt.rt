@@ -1,5 +1,5 @@
 //! How a run ends early.
-use crate::layers::error::{Error, RunError};
+use crate::error::{Error, RunError};
 use std::alloc::{AllocError, AllocFailed};
 
 /// Why a run ended before its end.
@@ -15,7 +15,7 @@ pub enum Halt<'src> {
 
 impl<'src> From<AllocError> for Halt<'src> {
     ghost use Rattle.std.specs.Prelude.{◌≡◌};
-    ghost use Rattle.just_parts.specs.declared.layers.halt.Halt.TheVariants.{Memory};
+    ghost use Rattle.just_errors.specs.declared.halt.Halt.TheVariants.{Memory};
 
     ghost from_gives = { λ _ halt. halt ≡ Memory };
 
@@ -26,7 +26,7 @@ impl<'src> From<AllocError> for Halt<'src> {
 
 impl<'src, T: Drop> From<AllocFailed<T>> for Halt<'src> {
     ghost use Rattle.std.specs.Prelude.{◌≡◌};
-    ghost use Rattle.just_parts.specs.declared.layers.halt.Halt.TheVariants.{Memory};
+    ghost use Rattle.just_errors.specs.declared.halt.Halt.TheVariants.{Memory};
 
     ghost from_gives = { λ _ halt. halt ≡ Memory };
 
@@ -37,7 +37,7 @@ impl<'src, T: Drop> From<AllocFailed<T>> for Halt<'src> {
 
 impl<'src> From<Halt<'src>> for Error<'src> {
     ghost use Rattle.std.specs.Prelude.{◌≡◌};
-    ghost use Rattle.just_parts.specs.Halts.{error_of};
+    ghost use Rattle.just_errors.specs.Halts.{error_of};
 
     ghost from_gives = { λ halt error. error ≡ error_of halt };
 

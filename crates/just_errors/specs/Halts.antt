@@ -1,9 +1,9 @@
 -- The error that tells why a run ended.
 use Rattle.std.specs.Prelude.{Result, Ok, Err}
-use Rattle.just_parts.specs.declared.layers.error.Error.{Error}
-use Rattle.just_parts.specs.declared.layers.error.Error.TheVariants as error
-use Rattle.just_parts.specs.declared.layers.halt.Halt.{Halt}
-use Rattle.just_parts.specs.declared.layers.halt.Halt.TheVariants as halt
+use Rattle.just_errors.specs.declared.error.Error.{Error}
+use Rattle.just_errors.specs.declared.error.Error.TheVariants as error
+use Rattle.just_errors.specs.declared.halt.Halt.{Halt}
+use Rattle.just_errors.specs.declared.halt.Halt.TheVariants as halt
 
 abbrev pub error_of : Halt → Error
 error_of halt.Memory = error.Memory

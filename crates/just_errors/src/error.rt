@@ -2,9 +2,9 @@
 ghost use Rattle.std.specs.Prelude.{◌≡◌, OnOk, codes};
 ghost use Rattle.std.specs.Fmt.{HasWritten, IsPlainFormatter, WritesOnOk};
 ghost use Rattle.just_names.specs.Modulepath.{joined};
-ghost use Rattle.just_parts.specs.Messages.{load_name, kind_name, invocation_name, run_name, error_name, chain_text, circle_text};
+ghost use Rattle.just_errors.specs.Messages.{load_name, kind_name, invocation_name, run_name, error_name, chain_text, circle_text};
 
-use crate::layers::wording::{Arguments, At, Listed, Takes, noun};
+use crate::wording::{Arguments, At, Listed, Takes, noun};
 use just_data::{BorrowedText, Sequence, Text};
 use just_names::{Exhausted, Name, Namepath, Token};
 use std::alloc::{AllocError, AllocFailed};
@@ -73,7 +73,7 @@ pub enum Definition {
 
 impl fmt::Display for Definition {
     ghost use Rattle.std.specs.Prelude.{Some};
-    ghost use Rattle.just_parts.specs.Messages.{definition_text};
+    ghost use Rattle.just_errors.specs.Messages.{definition_text};
 
     ghost output = { λ e. Some (definition_text e) };
 
@@ -191,7 +191,7 @@ fn write_circle<W: fmt::Write>(
 
 impl<'src> fmt::Display for CompileErrorKind<'src> {
     ghost use Rattle.std.specs.Prelude.{Some};
-    ghost use Rattle.just_parts.specs.Messages.{kind_text};
+    ghost use Rattle.just_errors.specs.Messages.{kind_text};
 
     ghost output = { λ e. Some (kind_text e) };
 
@@ -253,7 +253,7 @@ pub struct CompileError<'src> {
 
 impl<'src> fmt::Display for CompileError<'src> {
     ghost use Rattle.std.specs.Prelude.{Some};
-    ghost use Rattle.just_parts.specs.Messages.{compile_text};
+    ghost use Rattle.just_errors.specs.Messages.{compile_text};
 
     ghost output = { λ e. Some (compile_text e) };
 
@@ -352,7 +352,7 @@ impl<'src> RunError<'src> {
 
 impl<'src> fmt::Display for RunError<'src> {
     ghost use Rattle.std.specs.Prelude.{Some};
-    ghost use Rattle.just_parts.specs.Messages.{run_text};
+    ghost use Rattle.just_errors.specs.Messages.{run_text};
 
     ghost output = { λ e. Some (run_text e) };
 
@@ -425,7 +425,7 @@ impl<'src> Error<'src> {
 
 impl<'src> From<LoadError<'src>> for Error<'src> {
     ghost use Rattle.std.specs.Prelude.{◌≡◌};
-    ghost use Rattle.just_parts.specs.declared.layers.error.Error.TheVariants as variant;
+    ghost use Rattle.just_errors.specs.declared.error.Error.TheVariants as variant;
 
     ghost from_gives = { λ load error. error ≡ variant.Load load };
 
@@ -436,7 +436,7 @@ impl<'src> From<LoadError<'src>> for Error<'src> {
 
 impl<'src> From<CompileError<'src>> for Error<'src> {
     ghost use Rattle.std.specs.Prelude.{◌≡◌};
-    ghost use Rattle.just_parts.specs.declared.layers.error.Error.TheVariants as variant;
+    ghost use Rattle.just_errors.specs.declared.error.Error.TheVariants as variant;
 
     ghost from_gives = { λ compile error. error ≡ variant.Compile compile };
 
@@ -447,7 +447,7 @@ impl<'src> From<CompileError<'src>> for Error<'src> {
 
 impl<'src> From<InvocationError<'src>> for Error<'src> {
     ghost use Rattle.std.specs.Prelude.{◌≡◌};
-    ghost use Rattle.just_parts.specs.declared.layers.error.Error.TheVariants as variant;
+    ghost use Rattle.just_errors.specs.declared.error.Error.TheVariants as variant;
 
     ghost from_gives = { λ invocation error. error ≡ variant.Invocation invocation };
 
@@ -458,7 +458,7 @@ impl<'src> From<InvocationError<'src>> for Error<'src> {
 
 impl<'src> From<RunError<'src>> for Error<'src> {
     ghost use Rattle.std.specs.Prelude.{◌≡◌};
-    ghost use Rattle.just_parts.specs.declared.layers.error.Error.TheVariants as variant;
+    ghost use Rattle.just_errors.specs.declared.error.Error.TheVariants as variant;
 
     ghost from_gives = { λ run error. error ≡ variant.Run run };
 
@@ -469,7 +469,7 @@ impl<'src> From<RunError<'src>> for Error<'src> {
 
 impl<'src> From<AllocError> for Error<'src> {
     ghost use Rattle.std.specs.Prelude.{◌≡◌};
-    ghost use Rattle.just_parts.specs.declared.layers.error.Error.TheVariants.{Memory};
+    ghost use Rattle.just_errors.specs.declared.error.Error.TheVariants.{Memory};
 
     ghost from_gives = { λ _ error. error ≡ Memory };
 
@@ -480,7 +480,7 @@ impl<'src> From<AllocError> for Error<'src> {
 
 impl<'src, T: Drop> From<AllocFailed<T>> for Error<'src> {
     ghost use Rattle.std.specs.Prelude.{◌≡◌};
-    ghost use Rattle.just_parts.specs.declared.layers.error.Error.TheVariants.{Memory};
+    ghost use Rattle.just_errors.specs.declared.error.Error.TheVariants.{Memory};
 
     ghost from_gives = { λ _ error. error ≡ Memory };
 
@@ -491,7 +491,7 @@ impl<'src, T: Drop> From<AllocFailed<T>> for Error<'src> {
 
 impl<'src> From<Exhausted> for Error<'src> {
     ghost use Rattle.std.specs.Prelude.{◌≡◌};
-    ghost use Rattle.just_parts.specs.declared.layers.error.Error.TheVariants as variant;
+    ghost use Rattle.just_errors.specs.declared.error.Error.TheVariants as variant;
 
     ghost from_gives = { λ _ error. error ≡ variant.Exhausted };
 

@@ -2,10 +2,10 @@
 use Rattle.std.specs.Prelude.{ℕ, List}
 use Rattle.just_names.specs.Token.{Place}
 use Rattle.just_names.specs.declared.name.Name.{Name}
-use Rattle.just_parts.specs.declared.layers.error.LoadError.TheVariants as load
-use Rattle.just_parts.specs.declared.layers.error.CompileErrorKind.{CompileErrorKind}
-use Rattle.just_parts.specs.declared.layers.error.Error.{Error}
-use Rattle.just_parts.specs.declared.layers.error.Error.TheVariants as error
+use Rattle.just_errors.specs.declared.error.LoadError.TheVariants as load
+use Rattle.just_errors.specs.declared.error.CompileErrorKind.{CompileErrorKind}
+use Rattle.just_errors.specs.declared.error.Error.{Error}
+use Rattle.just_errors.specs.declared.error.Error.TheVariants as error
 
 -- What reports a broken rule: an error; of a rule of compilation, where it is told, and its kind. That there are not as many numbers as wanted counts as one.
 pub data Cause : Type 0 where

@@ -1,0 +1,4 @@
+pub mod Causes
+pub mod Halts
+pub mod Messages
+pub mod Wording

@@ -1,0 +1,11 @@
+//! Errors, their names and what they say.
+#![tactic(auto)]
+
+pub mod error;
+pub mod halt;
+mod wording;
+
+pub use error::{
+    CompileError, CompileErrorKind, Error, InvocationError, LoadError, RunError, SourceError,
+};
+pub use halt::Halt;
