@@ -14,9 +14,9 @@ use Rattle.just_records.specs.declared.attribute.Attribute.TheVariants as attrib
 use Rattle.just_records.specs.declared.expression.Expression.{Expression}
 use Rattle.just_records.specs.declared.keyword.Keyword.{Keyword}
 use Rattle.just_records.specs.declared.parameter.Parameter.{Parameter}
-use Rattle.just_plain.specs.declared.lines.TextLine.{TextLine}
-use Rattle.just_plain.specs.Lines.{is_newline, line_place, lines_of}
-use Rattle.just_plain.proofs.Cuts.{line_at_number, number_at}
+use Rattle.just_lexer.specs.declared.lines.TextLine.{TextLine}
+use Rattle.just_lexer.specs.Lines.{is_newline, line_place, lines_of}
+use Rattle.just_lexer.proofs.Cuts.{line_at_number, number_at}
 use Rattle.just_errors.specs.declared.error.CompileErrorKind.TheVariants.{Syntax}
 use Rattle.just_errors.specs.declared.error.Error.{Error}
 use Rattle.just_errors.specs.declared.error.Error.TheVariants as error

@@ -5,8 +5,8 @@ use Rattle.just_errors.specs.declared.error.CompileError.{CompileError}
 use Rattle.just_errors.specs.declared.error.CompileErrorKind.TheVariants.{Syntax}
 use Rattle.just_errors.specs.declared.error.Error.{Error}
 use Rattle.just_errors.specs.declared.error.Error.TheVariants as error
-use Rattle.just_plain.specs.declared.lines.TextLine.{TextLine}
-use Rattle.just_plain.specs.Lines.{lines_of, line_place}
+use Rattle.just_lexer.specs.declared.lines.TextLine.{TextLine}
+use Rattle.just_lexer.specs.Lines.{lines_of, line_place}
 use Rattle.just_grammar.specs.Items.{items_of}
 
 -- the token is the whole of the line that is told not to follow the grammar

@@ -3,7 +3,7 @@ ghost use Rattle.std.specs.Prelude.{◌≡◌, ◌≤◌, ◌<◌, ◌+◌, ◌^
 ghost use Rattle.std.specs.List.{All};
 ghost use Rattle.just_parts.specs.Bare.{bare_ast};
 ghost use Rattle.just_parts.specs.Syntax.{IsFrom, AttributesNameParameters, PriorsAreDependencies, components_of, numbers, AreRising, Refuses};
-ghost use Rattle.just_plain.specs.Lines.{IsLineOf, lines_of};
+ghost use Rattle.just_lexer.specs.Lines.{IsLineOf, lines_of};
 ghost use Rattle.just_grammar.specs.Items.{items_of};
 ghost use Rattle.just_bench.specs.Refusal.{RefusesLine};
 ghost use Rattle.just_bench.specs.Answers as spec;
@@ -13,13 +13,13 @@ use crate::numbering::number_items;
 use crate::sigils;
 use just_data::Sequence;
 use just_grammar::items::{Items, read_items};
+use just_lexer::lines::{TextLine, line_token, lines};
 use just_names::Modulepath;
 use just_parts::Source;
 use just_parts::layers::{
     Ast, CompileError, CompileErrorKind, Error, Item, Keyword, Line, Namepath, Numerator, Setting,
     Settings, Sigil, Syntax,
 };
-use just_plain::lines::{TextLine, line_token, lines};
 use std::alloc::{AllocError, Global};
 
 /// A grammar, line by line, with most of what the analyzer judges; it is not the grammar of `just`.

@@ -2,7 +2,7 @@
 use Rattle.std.proofs.Common.{◌≡◌, ℕ, ◌∙◌, ap, List, length, take, Bool, Some, None}
 use Rattle.std.specs.Prelude.{if◌then◌else◌, nat_eq, ◌==◌}
 use Rattle.std.specs.List.{starts_with}
-use Rattle.just_plain.specs.declared.lines.TextLine.{TextLine}
+use Rattle.just_lexer.specs.declared.lines.TextLine.{TextLine}
 use Rattle.just_grammar.specs.declared.items.Body.{Body}
 use Rattle.just_grammar.specs.declared.items.Body.TheVariants as body
 use Rattle.just_grammar.specs.Items.{dropped}

@@ -6,9 +6,9 @@ use Rattle.std.proofs.lemmas.List.Splits.{length-slice_split}
 use Rattle.just_parts.specs.declared.layers.ast.UnresolvedDependency.{UnresolvedDependency}
 use Rattle.just_parts.specs.declared.recipe.Recipe.{Recipe}
 use Rattle.just_records.specs.declared.list_feature.ListUse.{ListUse}
-use Rattle.just_plain.specs.declared.lines.TextLine.{TextLine}
-use Rattle.just_plain.specs.Lines.{is_newline, lines_from, lines_of}
-use Rattle.just_plain.proofs.Cuts.{number_at}
+use Rattle.just_lexer.specs.declared.lines.TextLine.{TextLine}
+use Rattle.just_lexer.specs.Lines.{is_newline, lines_from, lines_of}
+use Rattle.just_lexer.proofs.Cuts.{number_at}
 use Rattle.just_phrases.specs.declared.body.BodyLine.{BodyLine}
 use Rattle.just_grammar.specs.declared.items.Items.{Items}
 use Rattle.just_grammar.specs.declared.items.Reading.{Reading}

@@ -21,10 +21,10 @@ use Rattle.just_records.specs.declared.line.Line.{Line}
 use Rattle.just_records.specs.declared.list_feature.ListUse.{ListUse}
 use Rattle.just_records.specs.declared.setting.Set.{Set}
 use Rattle.just_records.specs.declared.string_literal.StringLiteral.{StringLiteral}
-use Rattle.just_plain.specs.declared.lexer.Lexeme.{Lexeme}
-use Rattle.just_plain.specs.declared.lines.TextLine.{TextLine}
-use Rattle.just_plain.specs.Lexemes.{is_blank, lexemes}
-use Rattle.just_plain.specs.Lines.{lines_of}
+use Rattle.just_lexer.specs.declared.lexer.Lexeme.{Lexeme}
+use Rattle.just_lexer.specs.declared.lines.TextLine.{TextLine}
+use Rattle.just_lexer.specs.Lexemes.{is_blank, lexemes}
+use Rattle.just_lexer.specs.Lines.{lines_of}
 use Rattle.just_phrases.specs.declared.attributes.Mark.{Mark}
 use Rattle.just_phrases.specs.declared.attributes.Options.{Options}
 use Rattle.just_phrases.specs.declared.body.BodyLine.{BodyLine}

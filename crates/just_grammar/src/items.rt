@@ -1,6 +1,6 @@
 //! The items of a text, line by line, without numbers.
 ghost use Rattle.std.specs.Prelude.{◌≡◌, ◌≤◌, ◌<◌, length, IfOk, IfErr, IfSome, OnOk, Ok, Err};
-ghost use Rattle.just_plain.specs.Lines.{IsLineOf, lines_of};
+ghost use Rattle.just_lexer.specs.Lines.{IsLineOf, lines_of};
 ghost use Rattle.std.specs.List.{All};
 ghost use Rattle.just_phrases.specs.Body.{indent};
 ghost use Rattle.just_phrases.specs.Meaning.{said};
@@ -9,12 +9,12 @@ ghost use Rattle.just_grammar.specs.Items as spec;
 
 use crate::recipe::make_recipe;
 use just_data::{BorrowedText, Sequence};
+use just_lexer::lines::TextLine;
 use just_parts::layers::Item;
 use just_phrases::attributes::{Mark, Options};
 use just_phrases::body::{BodyLine, indent, read_body};
 use just_phrases::heading::Heading;
 use just_phrases::meaning::{Declaration, Meaning, Said, Statement, read_line};
-use just_plain::lines::TextLine;
 use just_records::{Fragment, Line, ListUse, NamedAttribute};
 use std::alloc::{AllocError, Global};
 use std::mem::replace;

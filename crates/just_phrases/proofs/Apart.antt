@@ -17,9 +17,9 @@ use Rattle.just_records.specs.declared.parameter.Parameter.{Parameter}
 use Rattle.just_records.specs.declared.parameter.ParameterKind.TheVariants as parameter_kind
 use Rattle.just_records.specs.declared.setting.Set.{Set}
 use Rattle.just_records.specs.declared.string_literal.StringLiteral.{StringLiteral}
-use Rattle.just_plain.specs.declared.lexer.Kind.{Kind}
-use Rattle.just_plain.specs.declared.lexer.Kind.TheVariants as kind
-use Rattle.just_plain.specs.declared.lexer.Lexeme.{Lexeme}
+use Rattle.just_lexer.specs.declared.lexer.Kind.{Kind}
+use Rattle.just_lexer.specs.declared.lexer.Kind.TheVariants as kind
+use Rattle.just_lexer.specs.declared.lexer.Lexeme.{Lexeme}
 use Rattle.just_phrases.specs.declared.attributes.Mark.{Mark}
 use Rattle.just_phrases.specs.declared.heading.Heading.{Heading}
 use Rattle.just_phrases.specs.declared.meaning.Declaration.{Declaration}

@@ -9,10 +9,10 @@ use Rattle.std.proofs.lemmas.Bool.{cases_lt, false≢true}
 use Rattle.std.proofs.lemmas.List.{get_or-drop, take_all}
 use Rattle.std.proofs.lemmas.List.Sums.{prefix_len-le-length, prefix_len_passes}
 use Rattle.std.proofs.lemmas.Str.{IsCharBoundary-after_ascii, IsCharBoundary-before_ascii, IsCharBoundary-start}
-use Rattle.just_plain.specs.declared.lines.TextLine.{TextLine}
-use Rattle.just_plain.specs.Lexemes.{is_blank}
-use Rattle.just_plain.specs.Lines.{IsLineOf}
-use Rattle.just_plain.proofs.Lexing.{boundary_after, byte_of_line}
+use Rattle.just_lexer.specs.declared.lines.TextLine.{TextLine}
+use Rattle.just_lexer.specs.Lexemes.{is_blank}
+use Rattle.just_lexer.specs.Lines.{IsLineOf}
+use Rattle.just_lexer.proofs.Lexing.{boundary_after, byte_of_line}
 use Rattle.just_phrases.specs.declared.body.Part.{Part}
 use Rattle.just_phrases.specs.Body.{EndsAt, close_at, close_from, closes, closes_twice, in_quotes, twice_at}
 

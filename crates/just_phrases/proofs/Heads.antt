@@ -4,7 +4,7 @@ use Rattle.std.specs.Option.{option_map}
 use Rattle.std.specs.Prelude.{if◌then◌else◌}
 use Rattle.std.proofs.lemmas.List.{append-nil, drop_all, drop-drop}
 use Rattle.just_records.specs.declared.parameter.Parameter.{Parameter}
-use Rattle.just_plain.specs.declared.lexer.Lexeme.{Lexeme}
+use Rattle.just_lexer.specs.declared.lexer.Lexeme.{Lexeme}
 use Rattle.just_phrases.specs.Heading.{parameter, before_others, parameters_from, parameters}
 use Rattle.just_phrases.specs.Places.{GoesOn, is_colon, stands}
 use Rattle.just_phrases.proofs.Fronts.{Front, front, stands_front}

@@ -4,7 +4,7 @@ use Rattle.std.specs.Option.{option_map}
 use Rattle.std.proofs.lemmas.List.{append-nil, drop_all, drop-drop}
 use Rattle.just_records.specs.declared.line.Fragment.{Fragment}
 use Rattle.just_records.specs.declared.list_feature.ListUse.{ListUse}
-use Rattle.just_plain.specs.declared.lines.TextLine.{TextLine}
+use Rattle.just_lexer.specs.declared.lines.TextLine.{TextLine}
 use Rattle.just_phrases.specs.declared.body.BodyLine.{BodyLine}
 use Rattle.just_phrases.specs.declared.body.Part.{Part}
 use Rattle.just_phrases.specs.Body.{EndsAt, before_others, body_line, line_of, part, parts_from}

@@ -8,9 +8,9 @@ use Rattle.std.proofs.lemmas.Option.{none-some, same_Some, slice_get_cases}
 use Rattle.just_names.specs.declared.name.Name.{Name}
 use Rattle.just_names.specs.Number.{no_number}
 use Rattle.just_records.specs.declared.function_definition.FunctionParameter.{FunctionParameter}
-use Rattle.just_plain.specs.declared.lexer.Kind.{Kind}
-use Rattle.just_plain.specs.declared.lexer.Kind.TheVariants as kind
-use Rattle.just_plain.specs.declared.lexer.Lexeme.{Lexeme}
+use Rattle.just_lexer.specs.declared.lexer.Kind.{Kind}
+use Rattle.just_lexer.specs.declared.lexer.Kind.TheVariants as kind
+use Rattle.just_lexer.specs.declared.lexer.Lexeme.{Lexeme}
 use Rattle.just_phrases.specs.Definitions.{after_part, and_parameter, function_parameter, parameters, parameters_from}
 use Rattle.just_phrases.specs.Places.{is_comma, is_name, is_paren_close, name_at, name_there, stands, stands_there}
 use Rattle.just_phrases.proofs.Fronts.{front, stands_front}

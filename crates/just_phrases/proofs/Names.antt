@@ -4,7 +4,7 @@ use Rattle.std.specs.Prelude.{if◌then◌else◌}
 use Rattle.std.proofs.lemmas.List.{append-nil, drop_all}
 use Rattle.std.proofs.lemmas.Option.{none-some, same_Some, slice_get_cases}
 use Rattle.just_names.specs.declared.name.Name.{Name}
-use Rattle.just_plain.specs.declared.lexer.Lexeme.{Lexeme}
+use Rattle.just_lexer.specs.declared.lexer.Lexeme.{Lexeme}
 use Rattle.just_phrases.specs.Heading.{after_names, names, names_of}
 use Rattle.just_phrases.specs.Places.{is_name, name_at, name_there}
 use Rattle.just_phrases.proofs.Fronts.{front}

@@ -3,7 +3,7 @@ use Rattle.std.proofs.Common.{suc, zero, inl, inr, ◌≡◌, ℕ, ◌+◌, ◌-
 use Rattle.std.specs.Prelude.{if◌then◌else◌}
 use Rattle.std.proofs.lemmas.Bool.{cases_lt}
 use Rattle.std.proofs.lemmas.List.{drop_all, drop-drop}
-use Rattle.just_plain.specs.declared.lexer.Lexeme.{Lexeme}
+use Rattle.just_lexer.specs.declared.lexer.Lexeme.{Lexeme}
 use Rattle.just_phrases.specs.declared.attributes.Properties.{Properties}
 use Rattle.just_phrases.specs.Attributes.{after_property, before_others, properties_from, with_properties, with_property}
 use Rattle.just_phrases.specs.Definitions.{after_part}

@@ -8,7 +8,7 @@ use Rattle.just_records.specs.declared.attribute.Attribute.TheVariants as attrib
 use Rattle.just_records.specs.declared.expression.Expression.{Expression}
 use Rattle.just_records.specs.declared.string_literal.StringLiteral.{StringLiteral}
 use Rattle.just_plain.specs.declared.expressions.Found.{Found}
-use Rattle.just_plain.specs.declared.lexer.Lexeme.{Lexeme}
+use Rattle.just_lexer.specs.declared.lexer.Lexeme.{Lexeme}
 use Rattle.just_plain.specs.Expressions.{expression}
 use Rattle.just_phrases.specs.declared.attributes.Mark.{Mark}
 use Rattle.just_phrases.specs.declared.attributes.Properties.{Properties}

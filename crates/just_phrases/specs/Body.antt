@@ -6,10 +6,10 @@ use Rattle.std.specs.Str.{IsCharBoundary}
 use Rattle.just_records.specs.declared.expression.Expression.{Expression}
 use Rattle.just_records.specs.declared.line.Fragment.{Fragment}
 use Rattle.just_records.specs.declared.line.Fragment.TheVariants as fragment
-use Rattle.just_plain.specs.declared.lexer.Lexeme.{Lexeme}
-use Rattle.just_plain.specs.declared.lines.TextLine.{TextLine}
+use Rattle.just_lexer.specs.declared.lexer.Lexeme.{Lexeme}
+use Rattle.just_lexer.specs.declared.lines.TextLine.{TextLine}
 use Rattle.just_plain.specs.Features.{list_features}
-use Rattle.just_plain.specs.Lexemes.{is_blank, lexemes, place}
+use Rattle.just_lexer.specs.Lexemes.{is_blank, lexemes, place}
 use Rattle.just_phrases.specs.declared.body.BodyLine.{BodyLine}
 use Rattle.just_phrases.specs.declared.body.Part.{Part}
 use Rattle.just_phrases.specs.Definitions.{whole_expression}

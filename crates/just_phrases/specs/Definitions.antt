@@ -13,7 +13,7 @@ use Rattle.just_records.specs.declared.setting.Set.{Set}
 use Rattle.just_records.specs.declared.setting.Setting.{Setting}
 use Rattle.just_records.specs.declared.setting.Setting.TheVariants as settings
 use Rattle.just_plain.specs.declared.expressions.Found.{Found}
-use Rattle.just_plain.specs.declared.lexer.Lexeme.{Lexeme}
+use Rattle.just_lexer.specs.declared.lexer.Lexeme.{Lexeme}
 use Rattle.just_plain.specs.Expressions.{expression}
 use Rattle.just_phrases.specs.Places.{name_at, stands, word_at, is_assign, is_comma, is_name, is_paren_close, is_paren_open}
 

@@ -9,7 +9,7 @@ use Rattle.just_records.specs.declared.parameter.Parameter.{Parameter}
 use Rattle.just_records.specs.declared.parameter.ParameterKind.{ParameterKind}
 use Rattle.just_records.specs.declared.parameter.ParameterKind.TheVariants as parameter_kind
 use Rattle.just_plain.specs.declared.expressions.Found.{Found}
-use Rattle.just_plain.specs.declared.lexer.Lexeme.{Lexeme}
+use Rattle.just_lexer.specs.declared.lexer.Lexeme.{Lexeme}
 use Rattle.just_plain.specs.Expressions.{expression}
 use Rattle.just_phrases.specs.declared.heading.Heading.{Heading}
 use Rattle.just_phrases.specs.Places.{name_at, stands, is_and, is_at_sign, is_colon, is_equals, is_name, is_plus, is_star}

@@ -4,10 +4,10 @@ use Rattle.std.specs.Option.{option_map}
 use Rattle.just_names.specs.declared.name.Name.{Name}
 use Rattle.just_records.specs.declared.list_feature.ListUse.{ListUse}
 use Rattle.just_records.specs.declared.string_literal.StringLiteral.{StringLiteral}
-use Rattle.just_plain.specs.declared.lexer.Lexeme.{Lexeme}
-use Rattle.just_plain.specs.declared.lines.TextLine.{TextLine}
+use Rattle.just_lexer.specs.declared.lexer.Lexeme.{Lexeme}
+use Rattle.just_lexer.specs.declared.lines.TextLine.{TextLine}
 use Rattle.just_plain.specs.Features.{list_features}
-use Rattle.just_plain.specs.Lexemes.{is_blank, lexemes}
+use Rattle.just_lexer.specs.Lexemes.{is_blank, lexemes}
 use Rattle.just_phrases.specs.declared.meaning.Declaration.{Declaration}
 use Rattle.just_phrases.specs.declared.meaning.Meaning.{Meaning}
 use Rattle.just_phrases.specs.declared.meaning.Meaning.TheVariants as meaning

@@ -5,10 +5,10 @@ use Rattle.std.specs.Option.{option_map}
 use Rattle.std.specs.Str.{bytes_eq}
 use Rattle.just_names.specs.Token.{Place, lexeme}
 use Rattle.just_names.specs.declared.name.Name.{Name}
-use Rattle.just_plain.specs.declared.lexer.Kind.{Kind}
-use Rattle.just_plain.specs.declared.lexer.Kind.TheVariants as kind
-use Rattle.just_plain.specs.declared.lexer.Lexeme.{Lexeme}
-use Rattle.just_plain.specs.Lexemes.{between_quotes}
+use Rattle.just_lexer.specs.declared.lexer.Kind.{Kind}
+use Rattle.just_lexer.specs.declared.lexer.Kind.TheVariants as kind
+use Rattle.just_lexer.specs.declared.lexer.Lexeme.{Lexeme}
+use Rattle.just_lexer.specs.Lexemes.{between_quotes}
 use Rattle.just_records.specs.declared.string_literal.StringLiteral.{StringLiteral}
 
 -- an identifier, and a quoted text

@@ -8,10 +8,10 @@ use crate::places::{
     paren_open_at, quoted_at,
 };
 use just_data::Text;
+use just_lexer::lexer::Lexeme;
+use just_lexer::spelling::Spelling;
 use just_names::Name;
 use just_plain::expressions::{Found, read_expression};
-use just_plain::lexer::Lexeme;
-use just_plain::spelling::Spelling;
 use just_records::{
     ArgumentAttribute, ArgumentProperty, Attribute, Expression, NamedAttribute, StringLiteral,
 };

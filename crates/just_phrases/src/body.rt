@@ -1,16 +1,16 @@
 //! The lines of bodies.
 ghost use Rattle.std.specs.Prelude.{◌≡◌, ◌≤◌, ◌<◌, ◌+◌, drop, length, Some, IfOk, IfSome};
 ghost use Rattle.std.specs.Str.{IsCharBoundary};
-ghost use Rattle.just_plain.specs.Lines.{IsLineOf};
+ghost use Rattle.just_lexer.specs.Lines.{IsLineOf};
 ghost use Rattle.just_phrases.specs.Body as spec;
 
 use crate::definitions::whole_expression;
 use just_data::{BorrowedText, Sequence};
+use just_lexer::lexer::{is_blank, lex};
+use just_lexer::lines::TextLine;
+use just_lexer::spelling::Spelling;
 use just_names::Token;
 use just_plain::features::list_features;
-use just_plain::lexer::{is_blank, lex};
-use just_plain::lines::TextLine;
-use just_plain::spelling::Spelling;
 use just_records::{Fragment, Line, ListUse};
 use std::alloc::{AllocError, Global};
 

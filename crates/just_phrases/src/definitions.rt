@@ -4,10 +4,10 @@ ghost use Rattle.just_phrases.specs.Definitions as spec;
 
 use crate::places::{assign_at, comma_at, name_at, paren_close_at, paren_open_at, word_at};
 use just_data::Sequence;
+use just_lexer::lexer::Lexeme;
+use just_lexer::spelling::Spelling;
 use just_names::{Name, Number};
 use just_plain::expressions::{Found, read_expression};
-use just_plain::lexer::Lexeme;
-use just_plain::spelling::Spelling;
 use just_records::{Assignment, Expression, FunctionDefinition, FunctionParameter, Set, Setting};
 use std::alloc::{AllocError, Global};
 

@@ -1,6 +1,6 @@
 //! What a line says.
 ghost use Rattle.std.specs.Prelude.{◌≡◌, ◌≤◌, length, IfOk, IfSome};
-ghost use Rattle.just_plain.specs.Lines.{IsLineOf};
+ghost use Rattle.just_lexer.specs.Lines.{IsLineOf};
 ghost use Rattle.just_phrases.specs.Meaning as spec;
 
 use crate::attributes::{Mark, read_attribute};
@@ -8,11 +8,11 @@ use crate::definitions::{read_assignment, read_function, read_set, read_unexport
 use crate::heading::{Heading, read_heading};
 use crate::places::{literal_at, name_at, question_at, word_at};
 use just_data::Sequence;
+use just_lexer::lexer::{Lexeme, is_blank, lex};
+use just_lexer::lines::TextLine;
+use just_lexer::spelling::Spelling;
 use just_names::Name;
 use just_plain::features::list_features;
-use just_plain::lexer::{Lexeme, is_blank, lex};
-use just_plain::lines::TextLine;
-use just_plain::spelling::Spelling;
 use just_records::{Assignment, FunctionDefinition, ListUse, Set, StringLiteral};
 use std::alloc::{AllocError, Global};
 

@@ -1,13 +1,13 @@
 //! What stands at a place among lexemes.
 ghost use Rattle.std.specs.Prelude.{◌≡◌, ◌<◌, length, IsTrue, IfOk, IfSome};
 ghost use Rattle.just_names.specs.Token.{lexeme};
-ghost use Rattle.just_plain.specs.Lexemes.{IsQuoted};
+ghost use Rattle.just_lexer.specs.Lexemes.{IsQuoted};
 ghost use Rattle.just_phrases.specs.Places as spec;
 
 use just_data::Text;
+use just_lexer::lexer::{Kind, Lexeme};
+use just_lexer::spelling::Spelling;
 use just_names::{Name, Token};
-use just_plain::lexer::{Kind, Lexeme};
-use just_plain::spelling::Spelling;
 use just_records::StringLiteral;
 use std::alloc::{AllocError, Global};
 

@@ -1,5 +1,1 @@
-pub mod Cuts
-pub mod Lexing
-pub mod Quoting
 pub mod Reading
-pub mod Spelled

@@ -7,7 +7,7 @@ use Rattle.std.proofs.lemmas.List.{drop_all, length-drop}
 use Rattle.just_plain.specs.declared.expressions.Found.{Found}
 use Rattle.just_records.specs.declared.expression.Expression.{Expression}
 use Rattle.just_plain.specs.declared.expressions.State.{State}
-use Rattle.just_plain.specs.declared.lexer.Lexeme.{Lexeme}
+use Rattle.just_lexer.specs.declared.lexer.Lexeme.{Lexeme}
 use Rattle.just_plain.specs.Stack.{top}
 use Rattle.just_plain.specs.Expressions.{calls, is_read, is_outermost, stops, step, found_at, finished, onward, read, unread, expression}
 

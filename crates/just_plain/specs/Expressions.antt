@@ -13,11 +13,11 @@ use Rattle.just_plain.specs.declared.expressions.Level.{Level}
 use Rattle.just_plain.specs.declared.expressions.Ready.{Ready}
 use Rattle.just_plain.specs.declared.expressions.Ready.TheVariants as ready
 use Rattle.just_plain.specs.declared.expressions.State.{State}
-use Rattle.just_plain.specs.declared.lexer.Kind.{Kind}
-use Rattle.just_plain.specs.declared.lexer.Kind.TheVariants as kind
-use Rattle.just_plain.specs.declared.lexer.Lexeme.{Lexeme}
-use Rattle.just_plain.specs.Lexemes.{between_quotes}
-use Rattle.just_plain.specs.Spelling.{spell, is_plus}
+use Rattle.just_lexer.specs.declared.lexer.Kind.{Kind}
+use Rattle.just_lexer.specs.declared.lexer.Kind.TheVariants as kind
+use Rattle.just_lexer.specs.declared.lexer.Lexeme.{Lexeme}
+use Rattle.just_lexer.specs.Lexemes.{between_quotes}
+use Rattle.just_lexer.specs.Spelling.{spell, is_plus}
 use Rattle.just_plain.specs.Stack.{top}
 
 -- `(`

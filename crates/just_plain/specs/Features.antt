@@ -2,9 +2,9 @@
 use Rattle.std.specs.Prelude.{Bool, true, false, if◌then◌else◌, List, [], ◌∷◌}
 use Rattle.just_records.specs.declared.list_feature.ListFeature.TheVariants as feature
 use Rattle.just_records.specs.declared.list_feature.ListUse.{ListUse}
-use Rattle.just_plain.specs.declared.lexer.Kind.{Kind}
-use Rattle.just_plain.specs.declared.lexer.Kind.TheVariants as kind
-use Rattle.just_plain.specs.declared.lexer.Lexeme.{Lexeme}
+use Rattle.just_lexer.specs.declared.lexer.Kind.{Kind}
+use Rattle.just_lexer.specs.declared.lexer.Kind.TheVariants as kind
+use Rattle.just_lexer.specs.declared.lexer.Lexeme.{Lexeme}
 
 -- `[`, at which a list begins
 abbrev pub is_list : Kind → Bool

@@ -1,13 +1,13 @@
 //! Expressions, from lexemes on. A level is the expression as a whole, or what stands between two brackets in it.
 ghost use Rattle.std.specs.Prelude.{◌≡◌, ◌<◌, ◌≤◌, ◌+◌, length, drop, IfOk, IfSome, OnOk, true, false};
-ghost use Rattle.just_plain.specs.Lexemes.{HasQuotes, IsQuoted, between_quotes};
+ghost use Rattle.just_lexer.specs.Lexemes.{HasQuotes, IsQuoted, between_quotes};
 ghost use Rattle.just_names.specs.Token.{lexeme as text_of};
 ghost use Rattle.just_plain.specs.Expressions as spec;
 
-use crate::lexer::{Kind, Lexeme};
-use crate::spelling::{Spelling, is_plus};
 use crate::stack::Stack;
 use just_data::{Sequence, Shared, Text};
+use just_lexer::lexer::{Kind, Lexeme};
+use just_lexer::spelling::{Spelling, is_plus};
 use just_names::Name;
 use just_records::{Expression, Shape};
 use std::alloc::{AllocError, Global};

@@ -2,8 +2,8 @@
 ghost use Rattle.std.specs.Prelude.{◌≡◌, ◌≤◌, length, slice_range, IfOk};
 ghost use Rattle.just_plain.specs.Features as spec;
 
-use crate::lexer::{Kind, Lexeme};
 use just_data::Sequence;
+use just_lexer::lexer::{Kind, Lexeme};
 use just_records::{ListFeature, ListUse};
 use std::alloc::{AllocError, Global};
 

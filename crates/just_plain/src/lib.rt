@@ -1,9 +1,6 @@
-//! The lines of a text, their lexemes, and the expressions that these spell.
+//! The expressions of the plain grammar.
 #![tactic(auto)]
 
 pub mod expressions;
 pub mod features;
-pub mod lexer;
-pub mod lines;
-pub mod spelling;
 mod stack;

@@ -1,6 +1,6 @@
 use Rattle.std.proofs.Common.{ap, sym, ◌∙◌}
 use Rattle.std.specs.List.{prefix_len}
-use Rattle.just_plain.specs.Lexemes.{is_blank}
+use Rattle.just_lexer.specs.Lexemes.{is_blank}
 use Rattle.just_phrases.proofs.Bounds.{blanks_cut}
 use Rattle.just_grammar.proofs.items.begin_body.Goals as goal
 

@@ -3,7 +3,7 @@ use Rattle.std.specs.Prelude.{◌==◌, if◌then◌else◌}
 use Rattle.std.specs.List.{prefix_len, starts_with}
 use Rattle.std.proofs.lemmas.Grind.{common_steps}
 use Rattle.std.proofs.lemmas.Str.Pattern.{starts_text}
-use Rattle.just_plain.specs.Lexemes.{is_blank}
+use Rattle.just_lexer.specs.Lexemes.{is_blank}
 use Rattle.just_phrases.proofs.Bounds.{blanks_cut}
 use Rattle.just_grammar.proofs.Dropped.{dropped_by}
 use Rattle.just_grammar.proofs.items.dropped.Goals as goal

@@ -1,4 +1,4 @@
-use Rattle.just_plain.proofs.Cuts.{joined}
+use Rattle.just_lexer.proofs.Cuts.{joined}
 use Rattle.just_phrases.proofs.laws.lines_joined.Goals as goal
 
 pub returns : goal.returns

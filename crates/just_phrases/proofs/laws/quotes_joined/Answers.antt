@@ -1,4 +1,4 @@
-use Rattle.just_plain.proofs.Quoting.{quotes_stand_round}
+use Rattle.just_lexer.proofs.Quoting.{quotes_stand_round}
 use Rattle.just_phrases.proofs.laws.quotes_joined.Goals as goal
 
 pub returns : goal.returns

@@ -1,6 +1,6 @@
 use Rattle.std.proofs.Common.{sym, subst}
-use Rattle.just_plain.specs.Lexemes.{IsQuoted}
-use Rattle.just_plain.proofs.Quoting.{quote_starts, quote_ends}
+use Rattle.just_lexer.specs.Lexemes.{IsQuoted}
+use Rattle.just_lexer.proofs.Quoting.{quote_starts, quote_ends}
 use Rattle.just_plain.proofs.expressions.cooked.Goals as goal
 
 pub range-requires-clause-start_boundary : goal.range-requires-clause-start_boundary

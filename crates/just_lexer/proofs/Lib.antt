@@ -1,0 +1,4 @@
+pub mod Cuts
+pub mod Lexing
+pub mod Quoting
+pub mod Spelled

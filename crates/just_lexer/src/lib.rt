@@ -1,0 +1,6 @@
+//! The lines and the lexemes of the plain grammar.
+#![tactic(auto)]
+
+pub mod lexer;
+pub mod lines;
+pub mod spelling;
