@@ -11,12 +11,12 @@ use just_analyzer::{
 use just_bench::bundle::read_sources;
 use just_bench::{PlainEvaluation, PlainSyntax, Recorder, StopWriter};
 use just_lines::asked::{Asked, read_asked};
-use just_lines::bundles::{answer_file, answer_find, answer_table};
-use just_lines::copies::answer_copy;
 use just_lines::faults::add_fault;
-use just_lines::items::{answer_conflicts, answer_parse, answer_read};
 use just_lines::lists::{add_group, add_list, before};
 use just_lines::written::unmarked;
+use just_questions::bundles::{answer_file, answer_find, answer_table};
+use just_questions::copies::answer_copy;
+use just_questions::items::{answer_conflicts, answer_parse, answer_read};
 use std::alloc::{AllocError, Global};
 
 // Compiles the file at a path.

@@ -2,10 +2,7 @@
 #![tactic(auto)]
 
 pub mod asked;
-pub mod bundles;
-pub mod copies;
 pub mod faults;
-pub mod items;
 pub mod lists;
-mod readings;
+pub mod readings;
 pub mod written;

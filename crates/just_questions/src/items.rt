@@ -1,9 +1,9 @@
 //! What a text says, item by item.
-use crate::faults::add_fault;
-use crate::lists::before;
-use crate::readings::add_readings;
 use just_bench::PlainSyntax;
 use just_data::Text;
+use just_lines::faults::add_fault;
+use just_lines::lists::before;
+use just_lines::readings::add_readings;
 use just_names::is_clean;
 use just_parts::Source;
 use just_parts::layers::{Ast, Error, Item, Keyword, LoadError, Numerator, StringLiteral, Syntax};

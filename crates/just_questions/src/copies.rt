@@ -1,8 +1,8 @@
 //! Copies: what was read, and what is asked of a host, is equal to its copy.
-use crate::faults::add_fault;
 use crate::items::{parse, root_source};
 use just_bench::{PlainSyntax, Recorder};
 use just_data::{Exact, Sequence, Text};
+use just_lines::faults::add_fault;
 use just_names::Modulepath;
 use just_parts::layers::{Config, Error, Groups, Host};
 use std::alloc::{AllocError, Global};

@@ -1,0 +1,6 @@
+//! Questions of the worked examples that the crates below the analyzer answer.
+#![tactic(auto)]
+
+pub mod bundles;
+pub mod copies;
+pub mod items;
