@@ -14,7 +14,7 @@ use Rattle.just_joining.specs.Joined.{IsJoined}
 use Rattle.just_modules.specs.Modules.{Heading, IsHeading, Module, a_module, contents_of, no_module}
 use Rattle.just_joining.specs.Named.{BreaksRecipes, KeepsRecipes, in_bodies, in_dependencies, in_parameters}
 use Rattle.just_joining.specs.Reading.{Reading, reading_of}
-use Rattle.just_joining.specs.Rules.{Bodies, Headers, Parameters, duplicate_parameter, module_redefinition, of_parameters}
+use Rattle.just_joining.specs.Rules.{Bodies, Headers, Parameters, duplicate_parameter, module_redefinition, of_parameters, required_after_default}
 use Rattle.just_joining.specs.OfPlaces.{names_of_place, recipes_of_place}
 use Rattle.just_joining.specs.declared.files.Files.{Files}
 use Rattle.just_joining.specs.declared.files.Rows.{Rows}
@@ -26,6 +26,7 @@ use Rattle.just_modules.proofs.Ready.{names_are, recipes_are}
 
 headers_more : (m : Contents) (c : Cause) → Headers (of_names m.modules) c → Headers m c
 headers_more m _ (of_parameters (duplicate_parameter i p q h a b d)) = absurd (omega arith)
+headers_more m _ (of_parameters (required_after_default i q h f x)) = absurd (omega arith)
 headers_more m c (module_redefinition i j first second r a b f g l) = module_redefinition i j first second r a b f g l
 
 -- the groups before another

@@ -1,5 +1,5 @@
 -- Modules that are compiled one after another, by the places of their own files.
-use Rattle.std.specs.Prelude.{◌≡◌, ◌<◌, ◌++◌, ℕ, Bool, List, map, flat_map, length, slice_get, slice_index, take, Option, None, Some}
+use Rattle.std.specs.Prelude.{◌≡◌, ◌<◌, ◌++◌, ℕ, Bool, List, map, flat_map, length, slice_get, slice_index, take, Option, Some}
 use Rattle.std.specs.List.{All, Contains}
 use Rattle.std.specs.declared.alloc.Global.{Global}
 use Rattle.std.specs.declared.vec.Vec.{Vec}
@@ -11,18 +11,14 @@ use Rattle.just_names.specs.Modulepath.{Text}
 use Rattle.just_parts.specs.Syntax.{SyntaxAnswers}
 use Rattle.just_parts.specs.declared.dependency.Dependency.{Dependency}
 use Rattle.just_parts.specs.Items.{Ast, Item}
-use Rattle.just_parts.specs.declared.layers.ast.UnresolvedDependency.{UnresolvedDependency}
-use Rattle.just_names.specs.declared.name.Name.{Name}
 use Rattle.just_parts.specs.declared.recipe.Recipe.{Recipe}
 use Rattle.just_invoke.specs.declared.justfile.Justfile.{Justfile, out-Justfile}
 use Rattle.just_modules.specs.Analysis.{IsOf}
 use Rattle.just_joining.specs.Files.{asts_in, keys_in}
 use Rattle.just_modules.specs.Justfiles.{by_name, slot, with_names}
-use Rattle.just_joining.specs.Named.{BreaksRecipes, KeepsRecipes, names_from, recipes_by, recipes_from}
+use Rattle.just_joining.specs.Named.{BreaksRecipes, KeepsRecipes, recipes_by}
 use Rattle.just_joining.specs.Resolved.{AreResolved, HasPriors, unresolved_numbers}
-use Rattle.just_joining.specs.Contents.{of_names, texts_of_names}
-use Rattle.just_joining.specs.Index.{AreDifferent}
-use Rattle.just_joining.specs.Rules.{Headers}
+use Rattle.just_joining.specs.OfPlaces.{names_of_place, recipes_of_place}
 use Rattle.just_joining.specs.declared.files.Files.{Files}
 use Rattle.just_joining.specs.declared.joined.Joined.{Joined}
 
