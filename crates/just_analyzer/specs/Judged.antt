@@ -27,6 +27,7 @@ abbrev pub is_judged : Item → Bool
 is_judged (item.Recipe r) = is_heading r
 is_judged (item.Module name relative absolute attributes doc optional) = is_empty attributes
 is_judged (item.Import relative absolute optional) = true
+is_judged (item.Unexport name) = true
 is_judged (item.Comment token) = true
 is_judged item.Newline = true
 is_judged _ = false

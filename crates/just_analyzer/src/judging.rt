@@ -40,7 +40,7 @@ fn fault_of<'src>(item: &Item<'src>) -> Option<Token<'src>>
     ensures { is_none result ≡ is_judged item.now }
 {
     match item {
-        Item::Import { .. } | Item::Comment(_) | Item::Newline => None,
+        Item::Import { .. } | Item::Unexport { .. } | Item::Comment(_) | Item::Newline => None,
         Item::Module {
             name,
             attributes,
@@ -62,7 +62,6 @@ fn fault_of<'src>(item: &Item<'src>) -> Option<Token<'src>>
         Item::Assignment(assignment) => Some(assignment.name.token.copied()),
         Item::Function(function) => Some(function.name.token.copied()),
         Item::Setting(set) => Some(set.name.token.copied()),
-        Item::Unexport { name } => Some(name.token.copied()),
     }
 }
 

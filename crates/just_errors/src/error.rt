@@ -99,6 +99,10 @@ pub enum CompileErrorKind<'src> {
     RequiredParameterFollowsDefaultParameter {
         parameter: BorrowedText<'src>,
     },
+    /// A variable is unexported twice.
+    DuplicateUnexport {
+        variable: BorrowedText<'src>,
+    },
     /// A name is defined twice. `first` is the line of the first definition, which counts from 0.
     Redefinition {
         first_type: Definition,
@@ -137,6 +141,7 @@ impl<'src> CompileErrorKind<'src> {
             CompileErrorKind::RequiredParameterFollowsDefaultParameter { .. } => {
                 "RequiredParameterFollowsDefaultParameter"
             }
+            CompileErrorKind::DuplicateUnexport { .. } => "DuplicateUnexport",
             CompileErrorKind::Redefinition { .. } => "Redefinition",
             CompileErrorKind::UnknownDependency { .. } => "UnknownDependency",
             CompileErrorKind::CircularRecipeDependency { .. } => "CircularRecipeDependency",
@@ -206,6 +211,9 @@ impl<'src> fmt::Display for CompileErrorKind<'src> {
                     f,
                     "Non-default parameter `{parameter}` follows default parameter"
                 )
+            }
+            CompileErrorKind::DuplicateUnexport { variable } => {
+                write!(f, "Variable `{variable}` is unexported multiple times")
             }
             CompileErrorKind::Redefinition {
                 first_type,

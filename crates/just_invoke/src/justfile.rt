@@ -59,6 +59,9 @@ pub struct Justfile<'src> {
     pub recipes: Table<'src, RecipeKey<'src>>,
     /// The path of the module's own file.
     pub source: Text,
+    /// The names of the variables that recipes do not have in their environment, each once, in the order of the module's
+    /// files.
+    pub unexports: Sequence<Name<'src>>,
     /// The folder of its own file.
     pub working_directory: Text,
 }

@@ -1,5 +1,5 @@
 -- Recipes that are alike in what the rules read break the same rules.
-use Rattle.std.proofs.Common.{◌≡◌, ℕ, zero, suc, ◌+◌, ◌<◌, Bool, false, true, List, [], ◌∷◌, map, length, min, get_or, refl, sym, ◌∙◌, ap, subst}
+use Rattle.std.proofs.Common.{◌≡◌, ℕ, zero, suc, ◌+◌, ◌<◌, Bool, false, List, [], ◌∷◌, ◌++◌, map, length, get_or, refl, sym, ◌∙◌, ap, subst}
 use Rattle.std.specs.List.{Contains}
 use Rattle.std.proofs.lemmas.List.{length-map}
 use Rattle.just_errors.specs.Causes.{Cause, Keeps}
@@ -7,9 +7,12 @@ use Rattle.just_names.specs.Name.{texts_of_path}
 use Rattle.just_names.specs.Token.{Place, lexeme}
 use Rattle.just_parts.specs.declared.layers.ast.UnresolvedDependency.{UnresolvedDependency}
 use Rattle.just_parts.specs.declared.recipe.Recipe.{Recipe}
-use Rattle.just_joining.specs.Index.{Repeats}
-use Rattle.just_joining.specs.Recipes.{name_of, token_of, parameter_names, is_defaulted, is_needed, FollowsDefault, dependency_paths, least_of, most_of, no_recipe, recipe_at, names_of, Depends, DependsOn}
-use Rattle.just_joining.specs.Rules.{Bodies, Dependencies, IsCircleOf, IsLater, Parameters, argument_count, circular, duplicate_parameter, redefinition, required_after_default, unknown_dependency}
+use Rattle.just_names.specs.declared.name.Name.{Name}
+use Rattle.just_errors.specs.declared.error.Definition.TheVariants as definition
+use Rattle.just_joining.specs.Contents.{Contents, Defined, all_defined, defined, defined_in, defined_recipe, module_of_name, texts_of_names}
+use Rattle.just_joining.specs.Index.{Repeats, name_at}
+use Rattle.just_joining.specs.Recipes.{name_of, token_of, parameter_names, is_defaulted, is_needed, FollowsDefault, dependency_paths, least_of, most_of, no_recipe, recipe_at, Depends, DependsOn}
+use Rattle.just_joining.specs.Rules.{Bodies, Dependencies, Headers, IsCircleOf, Parameters, Redefines, argument_count, circular, duplicate_parameter, duplicate_unexport, module_redefinition, of_parameters, required_after_default, unknown_dependency}
 
 -- What the rules read of a recipe.
 pub record Outline : Type 0 where
@@ -44,16 +47,17 @@ outline_read [] i = refl
 outline_read (r ∷ rs) zero = refl
 outline_read (r ∷ rs) (suc i) = outline_read rs i
 
-names_read : (rs : List (Recipe UnresolvedDependency)) → names_of rs ≡ map (λ (o : Outline). lexeme o.token) (outlines_of rs)
-names_read [] = refl
-names_read (r ∷ rs) = ap (λ ns. name_of r ∷ ns) (names_read rs)
+-- what a recipe defines
+abbrev defined_by : Outline → Defined
+defined_by o = defined definition.Recipe (record { token = o.token })
+
+defined_read : (rs : List (Recipe UnresolvedDependency)) → map defined_recipe rs ≡ map defined_by (outlines_of rs)
+defined_read [] = refl
+defined_read (r ∷ rs) = ap (λ ds. defined_recipe r ∷ ds) (defined_read rs)
 
 module _ (rs qs : List (Recipe UnresolvedDependency)) (alike : AreAlike rs qs) where
   many : length rs ≡ length qs
   many = sym (length-map rs outline_of) ∙ ap length alike ∙ length-map qs outline_of
-
-  names : names_of rs ≡ names_of qs
-  names = names_read rs ∙ ap (map (λ (o : Outline). lexeme o.token)) alike ∙ sym (names_read qs)
 
   at : (i : ℕ) → outline_of (recipe_at rs i) ≡ outline_of (recipe_at qs i)
   at i = outline_read rs i ∙ ap (λ os. get_or os i (outline_of no_recipe)) alike ∙ sym (outline_read qs i)
@@ -88,10 +92,9 @@ module _ (rs qs : List (Recipe UnresolvedDependency)) (alike : AreAlike rs qs) w
   parameters_alike _ (required_after_default {place} {parameter} i q h f x) =
       required_after_default i q (inside i h) (follows i q f) (ap (λ (o : Outline). get_or o.parameters q []) (sym (at i)) ∙ x)
 
-  pub bodies_alike : (c : Cause) → Bodies rs c → Bodies qs c
-  bodies_alike _ (redefinition {place} i j r e f l) =
-      redefinition i j (subst (λ ns. Repeats ns i j) names r) (sym (name j) ∙ e) ((λ n. min (sym (tokens i) n).line (sym (tokens j) n).line) ∙ f)
-      (subst (λ x. IsLater x (token_of (recipe_at qs j)) place) (tokens i) (subst (λ x. IsLater (token_of (recipe_at rs i)) x place) (tokens j) l))
+  -- they define the same
+  defined_alike : (ns : List Name) → all_defined ns rs ≡ all_defined ns qs
+  defined_alike ns = ap (λ ds. map module_of_name ns ++ ds) (defined_read rs ∙ ap (map defined_by) alike ∙ sym (defined_read qs))
 
   depends_alike : (a b : ℕ) → Depends rs a b → Depends qs a b
   depends_alike a b d = record {
@@ -121,13 +124,36 @@ module _ (rs qs : List (Recipe UnresolvedDependency)) (alike : AreAlike rs qs) w
       argument_count i j (inside i h) (inside j l) (contains i (texts_of_path dependency) c) (is ∙ ap (λ n. n ∷ []) (name j)) none
       (ap (λ (o : Outline). o.least) (sym (at j)) ∙ least) (ap (λ (o : Outline). o.most) (sym (at j)) ∙ most) wrong
 
--- recipes that are alike keep the same rules
-module _ (rs qs : List (Recipe UnresolvedDependency)) (alike : AreAlike rs qs) where
-  pub parameters_kept_alike : Keeps (Parameters rs) → Keeps (Parameters qs)
-  parameters_kept_alike kept c b = kept c (parameters_alike qs rs (sym alike) c b)
+-- Contents that are alike: so are their recipes, and their names are the same.
+pub record AreAlikeContents (m n : Contents) : Type 0 where
+  pub recipes : AreAlike m.recipes n.recipes
+  pub modules : m.modules ≡ n.modules
+  pub unexports : m.unexports ≡ n.unexports
 
-  pub bodies_kept_alike : Keeps (Bodies rs) → Keeps (Bodies qs)
-  bodies_kept_alike kept c b = kept c (bodies_alike qs rs (sym alike) c b)
+-- they break the same rules
+module _ (m n : Contents) (alike : AreAlikeContents m n) where
+  pub headers_alike : (c : Cause) → Headers m c → Headers n c
+  headers_alike c (of_parameters b) = of_parameters (parameters_alike m.recipes n.recipes alike.recipes c b)
+  headers_alike _ (duplicate_unexport {place} {variable} i j r e) =
+      duplicate_unexport i j (subst (λ ns. Repeats (texts_of_names ns) i j) alike.unexports r) (ap (λ ns. name_at (texts_of_names ns) j) (sym alike.unexports) ∙ e)
+  headers_alike _ (module_redefinition {place} {told} r) = module_redefinition (subst (λ ns. Redefines (map module_of_name ns) place told) alike.modules r)
 
-  pub dependencies_kept_alike : Keeps (Dependencies rs) → Keeps (Dependencies qs)
-  dependencies_kept_alike kept c b = kept c (dependencies_alike qs rs (sym alike) c b)
+  defined_same : defined_in m ≡ defined_in n
+  defined_same = ap (λ ns. all_defined ns m.recipes) alike.modules ∙ defined_alike m.recipes n.recipes alike.recipes n.modules
+
+  pub bodies_alike : (c : Cause) → Bodies (defined_in m) c → Bodies (defined_in n) c
+  bodies_alike c b = subst (λ ds. Bodies ds c) defined_same b
+
+  pub alike_back : AreAlikeContents n m
+  alike_back = record { recipes = sym alike.recipes; modules = sym alike.modules; unexports = sym alike.unexports }
+
+-- and keep the same
+module _ (m n : Contents) (alike : AreAlikeContents m n) where
+  pub headers_kept_alike : Keeps (Headers m) → Keeps (Headers n)
+  headers_kept_alike kept c b = kept c (headers_alike n m (alike_back m n alike) c b)
+
+  pub bodies_kept_alike : Keeps (Bodies (defined_in m)) → Keeps (Bodies (defined_in n))
+  bodies_kept_alike kept c b = kept c (bodies_alike n m (alike_back m n alike) c b)
+
+  pub dependencies_kept_alike : Keeps (Dependencies m.recipes) → Keeps (Dependencies n.recipes)
+  dependencies_kept_alike kept c b = kept c (dependencies_alike n.recipes m.recipes (sym alike.recipes) c b)

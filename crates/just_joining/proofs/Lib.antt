@@ -1,11 +1,11 @@
 pub mod Alike
 pub mod BareOutlines
+pub mod Defining
 pub mod Edges
 pub mod FilePlaces
 pub mod Holding
 pub mod Indexing
 pub mod Joining
-pub mod ModuleNames
 pub mod Numbers
 pub mod Placing
 pub mod RecipeCircles

@@ -1,19 +1,17 @@
 -- Recipes, place by place.
-use Rattle.std.proofs.Common.{◌≡◌, ℕ, zero, suc, ◌+◌, ◌<◌, List, [], ◌∷◌, ◌++◌, length, take, get_or, Some, sym, ◌∙◌, ap, subst, arith, min, inl, inr}
+use Rattle.std.proofs.Common.{◌≡◌, ℕ, zero, suc, ◌+◌, ◌<◌, List, [], ◌∷◌, ◌++◌, length, take, get_or, Some, sym, ◌∙◌, ap, subst, arith, inl, inr}
 use Rattle.std.specs.List.{slice_get}
 use Rattle.std.proofs.lemmas.Bool.{cases_lt}
 use Rattle.std.proofs.lemmas.List.{length-map, take_more, map-append, get_or-map}
 use Rattle.std.specs.Borrow.{Bor}
 use Rattle.just_parts.specs.declared.layers.ast.UnresolvedDependency.{UnresolvedDependency}
 use Rattle.just_parts.specs.declared.recipe.Recipe.{Recipe}
-use Rattle.just_errors.specs.declared.error.CompileErrorKind.{CompileErrorKind}
 use Rattle.just_errors.specs.declared.error.CompileErrorKind.TheVariants as kind
-use Rattle.just_errors.specs.declared.error.Definition.TheVariants as definition
-use Rattle.just_joining.specs.Recipes.{FollowsDefault, NoneFollows, name_of, token_of, line_of, parameter_names, lent, no_recipe, recipe_at, names_of}
+use Rattle.just_joining.specs.Recipes.{FollowsDefault, NoneFollows, name_of, parameter_names, lent, no_recipe, recipe_at, names_of}
 use Rattle.just_joining.specs.Index.{name_at, Repeats, AreDifferent}
 use Rattle.just_errors.specs.Causes.{Cause, Broken}
 use Rattle.just_names.specs.Token.{Place}
-use Rattle.just_joining.specs.Rules.{Parameters, Bodies, IsLater, duplicate_parameter, redefinition, required_after_default}
+use Rattle.just_joining.specs.Rules.{Parameters, duplicate_parameter, required_after_default}
 
 pub recipe_read : (rs : List (Recipe UnresolvedDependency)) (i : ℕ) (r : Recipe UnresolvedDependency) → slice_get rs i ≡ Some r → r ≡ recipe_at rs i
 recipe_read [] i r e = cc
@@ -42,20 +40,10 @@ pub has_needed : (rs : List (Recipe UnresolvedDependency)) (i q : ℕ) (o : Reci
 has_needed rs i q o parameter h at follows is =
     required_after_default i q h (subst (λ (r : Recipe UnresolvedDependency). FollowsDefault r.parameters q) at follows) (sym (is ∙ ap (λ r. get_or (parameter_names r) q []) at))
 
--- two recipes of one name
-pub is_redefined : (rs : List (Recipe UnresolvedDependency)) (i j : ℕ) (first second : Recipe UnresolvedDependency) (place : Place) (k : CompileErrorKind) → Repeats (names_of rs) i j → first ≡ recipe_at rs i → second ≡ recipe_at rs j
-    → k ≡ kind.Redefinition definition.Recipe definition.Recipe (name_of second) (min (line_of first) (line_of second)) → IsLater (token_of first) (token_of second) place → Bodies rs (Broken place k)
-is_redefined rs i j first second place k repeats a b is later =
-    subst (λ x. Bodies rs (Broken place x)) (sym is)
-    (redefinition i j repeats (ap name_of (sym b)) (λ n. min (line_of (sym a n)) (line_of (sym b n))) (subst (λ x. IsLater (token_of x) (token_of (recipe_at rs j)) place) a (subst (λ x. IsLater (token_of first) (token_of x) place) b later)))
-
--- no rule on parameters is broken, and none on names
+-- no rule on parameters is broken
 pub parameters_kept : (rs : List (Recipe UnresolvedDependency)) → ((k : ℕ) → k < length rs → AreDifferent (parameter_names (recipe_at rs k))) → ((k : ℕ) → k < length rs → NoneFollows (recipe_at rs k).parameters) → {c : Cause} → Parameters rs c → ⊥
 parameters_kept rs ps ds (duplicate_parameter i p q h e r x) = ps i h p q r.apart r.within r.same
 parameters_kept rs ps ds (required_after_default i q h f x) = ds i h q f
-
-pub bodies_kept : (rs : List (Recipe UnresolvedDependency)) → AreDifferent (names_of rs) → {c : Cause} → Bodies rs c → ⊥
-bodies_kept rs ns (redefinition i j r e f l) = ns i j r.apart r.within r.same
 
 -- a name has one place
 pub one_place : (rs : List (Recipe UnresolvedDependency)) → AreDifferent (names_of rs) → (i j : ℕ) → i < length rs → j < length rs → name_of (recipe_at rs i) ≡ name_of (recipe_at rs j) → i ≡ j

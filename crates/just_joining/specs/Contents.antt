@@ -1,20 +1,48 @@
 -- What the rules read of a module.
-use Rattle.std.specs.Prelude.{List, [], map}
+use Rattle.std.specs.Prelude.{List, [], ◌++◌, map}
 use Rattle.just_names.specs.Modulepath.{Text}
 use Rattle.just_names.specs.Name.{text_of_name}
 use Rattle.just_names.specs.declared.name.Name.{Name}
+use Rattle.just_errors.specs.declared.error.Definition.{Definition}
+use Rattle.just_errors.specs.declared.error.Definition.TheVariants as definition
 use Rattle.just_parts.specs.declared.layers.ast.UnresolvedDependency.{UnresolvedDependency}
 use Rattle.just_parts.specs.declared.recipe.Recipe.{Recipe}
 
--- The recipes of a module, and the names of the modules that it declares, in the order of its files and then of their texts.
+-- The recipes of a module, and the names of the modules that it declares and of the variables that it unexports, in the order of its files and then of their texts.
 pub record Contents : Type 0 where
   pub recipes : List (Recipe UnresolvedDependency)
   pub modules : List Name
+  pub unexports : List Name
 
 -- the texts of names
 abbrev pub texts_of_names : List Name → List Text
 texts_of_names = map text_of_name
 
--- what names alone tell of a module
+-- what the names of modules alone tell of a module
 abbrev pub of_names : List Name → Contents
-of_names names = record { recipes = []; modules = names }
+of_names names = record { recipes = []; modules = names; unexports = [] }
+
+-- What is defined, and its name.
+pub record Defined : Type 0 where
+  pub sort : Definition
+  pub name : Name
+
+abbrev pub defined : Definition → Name → Defined
+defined sort name = record { sort = sort; name = name }
+
+abbrev pub module_of_name : Name → Defined
+module_of_name = defined definition.Module
+
+abbrev pub defined_recipe : Recipe UnresolvedDependency → Defined
+defined_recipe recipe = defined definition.Recipe recipe.name
+
+-- what is defined in the name space of modules and recipes: the modules, then the recipes
+abbrev pub all_defined : List Name → List (Recipe UnresolvedDependency) → List Defined
+all_defined modules recipes = map module_of_name modules ++ map defined_recipe recipes
+
+abbrev pub defined_in : Contents → List Defined
+defined_in m = all_defined m.modules m.recipes
+
+-- the texts of their names
+abbrev pub texts_of_defined : List Defined → List Text
+texts_of_defined = map (λ (d : Defined). text_of_name d.name)

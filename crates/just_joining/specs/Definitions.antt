@@ -1,9 +1,13 @@
--- A module's recipes.
+-- A module's recipes and names.
 use Rattle.std.specs.Prelude.{List}
 use Rattle.just_joining.specs.declared.definitions.Definitions.{Definitions}
 use Rattle.just_parts.specs.declared.layers.ast.UnresolvedDependency.{UnresolvedDependency}
 use Rattle.just_parts.specs.declared.recipe.Recipe.{Recipe}
+use Rattle.just_joining.specs.Contents.{Contents}
 use Rattle.just_joining.specs.Recipes.{lent}
 
 abbrev pub recipes_in : Definitions → List (Recipe UnresolvedDependency)
 recipes_in m = lent m.recipes.items
+
+abbrev pub contents_in : Definitions → Contents
+contents_in m = record { recipes = recipes_in m; modules = m.modules.items; unexports = m.unexports.items }

@@ -29,3 +29,7 @@ abbrev pub place_in : (List ℕ → Option ℕ) → List (List ℕ) → Option �
 place_in found [] = None
 place_in found (name ∷ []) = found name
 place_in found (name ∷ more ∷ names) = None
+
+-- no name stands in both lists
+abbrev pub AreApart : List (List ℕ) → List (List ℕ) → Type 0
+AreApart names others = (i j : ℕ) → i < length names → j < length others → name_at names i ≢ name_at others j

@@ -12,7 +12,10 @@ use Rattle.just_parts.specs.declared.recipe.Recipe.{Recipe}
 use Rattle.just_joining.specs.Files.{asts_in}
 use Rattle.just_joining.specs.Recipes.{recipes_of}
 use Rattle.just_joining.specs.Resolved.{AreResolved}
-use Rattle.just_joining.specs.Rules.{Bodies, Dependencies, Parameters}
+use Rattle.just_joining.specs.Contents.{Contents, defined_in}
+use Rattle.just_joining.specs.Rules.{Bodies, Dependencies, Headers}
+use Rattle.just_joining.specs.declared.module_names.Named.{Named}
+use Rattle.just_joining.specs.declared.module_names.Named.TheVariants.{Module, Unexport}
 use Rattle.just_joining.specs.declared.files.Files.{Files}
 
 -- the name of the module that an item declares
@@ -20,17 +23,27 @@ abbrev pub name_by : Item → List Name
 name_by (item.Module name relative (Some file) attributes doc optional) = name ∷ []
 name_by _ = []
 
--- the names of the modules that items declare
-abbrev pub names_said : (Item → Bool) → List Item → List Name
-names_said enabled items = flat_map (λ i. if enabled (bare_item i) then name_by i else []) items
+-- the name of the variable that an item unexports
+abbrev pub unexported_by : Item → List Name
+unexported_by (item.Unexport name) = name ∷ []
+unexported_by _ = []
 
-abbrev pub names_in : (Item → Bool) → Option Ast → List Name
-names_in enabled None = []
-names_in enabled (Some ast) = names_said enabled ast.items
+-- what an item is read for
+abbrev pub named_by : Named → Item → List Name
+named_by Module = name_by
+named_by Unexport = unexported_by
 
--- the names of the modules that files declare, file after file
-abbrev pub names_from : (Item → Bool) → List Ast → List ℕ → List Name
-names_from enabled asts files = flat_map (λ p. names_in enabled (slice_get asts p)) files
+-- the names that enabled items have, by what they are read for
+abbrev pub names_said : (Item → List Name) → (Item → Bool) → List Item → List Name
+names_said by enabled items = flat_map (λ i. if enabled (bare_item i) then by i else []) items
+
+abbrev pub names_in : (Item → List Name) → (Item → Bool) → Option Ast → List Name
+names_in by enabled None = []
+names_in by enabled (Some ast) = names_said by enabled ast.items
+
+-- the names that files have, file after file
+abbrev pub names_from : (Item → List Name) → (Item → Bool) → List Ast → List ℕ → List Name
+names_from by enabled asts files = flat_map (λ p. names_in by enabled (slice_get asts p)) files
 
 abbrev pub recipes_by : (Item → Bool) → Option Ast → List (Recipe UnresolvedDependency)
 recipes_by enabled None = []
@@ -40,17 +53,25 @@ recipes_by enabled (Some ast) = recipes_of enabled ast.items
 abbrev pub recipes_from : (Item → Bool) → List Ast → List ℕ → List (Recipe UnresolvedDependency)
 recipes_from enabled asts files = flat_map (λ p. recipes_by enabled (slice_get asts p)) files
 
--- What is broken in a module whose modules have different names: in its parameters; where these are kept, in its bodies; and where these are kept too, in its dependencies.
-pub data BreaksRecipes (rs : List (Recipe UnresolvedDependency)) : Cause → Type 0 where
-  in_parameters : {c : Cause} → Parameters rs c → BreaksRecipes rs c
-  in_bodies : {c : Cause} → Keeps (Parameters rs) → Bodies rs c → BreaksRecipes rs c
-  in_dependencies : {c : Cause} → Keeps (Parameters rs) → Keeps (Bodies rs) → Dependencies rs c → BreaksRecipes rs c
+-- what files say of a module
+abbrev pub contents_from : (Item → Bool) → List Ast → List ℕ → Contents
+contents_from enabled asts files = record {
+  recipes = recipes_from enabled asts files;
+  modules = names_from name_by enabled asts files;
+  unexports = names_from unexported_by enabled asts files;
+}
 
--- no rule on recipes is broken
-pub record KeepsRecipes (rs : List (Recipe UnresolvedDependency)) : Type 0 where
-  pub parameters : Keeps (Parameters rs)
-  pub bodies : Keeps (Bodies rs)
-  pub dependencies : Keeps (Dependencies rs)
+-- What is broken in a module: in its headers; where these are kept, in its bodies; and where these are kept too, in its dependencies.
+pub data BreaksContents (m : Contents) : Cause → Type 0 where
+  in_headers : {c : Cause} → Headers m c → BreaksContents m c
+  in_bodies : {c : Cause} → Keeps (Headers m) → Bodies (defined_in m) c → BreaksContents m c
+  in_dependencies : {c : Cause} → Keeps (Headers m) → Keeps (Bodies (defined_in m)) → Dependencies m.recipes c → BreaksContents m c
+
+-- no rule is broken in it
+pub record KeepsContents (m : Contents) : Type 0 where
+  pub headers : Keeps (Headers m)
+  pub bodies : Keeps (Bodies (defined_in m))
+  pub dependencies : Keeps (Dependencies m.recipes)
 
 -- What is made of the recipes of a module: resolved ones, that come after the old ones.
 pub record AreAdded (rs : List (Recipe UnresolvedDependency)) (path : Modulepath) (old new : List (Recipe Dependency)) : Type 0 where

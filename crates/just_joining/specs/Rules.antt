@@ -1,18 +1,17 @@
 -- The rules of a module: each relates what is compiled to the errors that report where it is broken.
-use Rattle.std.specs.Prelude.{◌≡◌, ◌≢◌, ℕ, ◌+◌, ◌-◌, ◌<◌, ◌≤◌, ◌⊎◌, min, List, [], ◌∷◌, length, get_or, Some}
+use Rattle.std.specs.Prelude.{◌≡◌, ◌≢◌, ℕ, ◌+◌, ◌-◌, ◌<◌, ◌≤◌, ◌⊎◌, List, [], ◌∷◌, map, length, get_or, Some}
 use Rattle.std.specs.List.{Contains, slice_get}
 use Rattle.just_errors.specs.Causes.{Cause, Broken, Keeps}
 use Rattle.just_names.specs.Name.{text_of_name, texts_of_path}
 use Rattle.just_names.specs.Token.{Place}
-use Rattle.just_names.specs.declared.name.Name.{Name}
 use Rattle.just_names.specs.declared.name.Namepath.{Namepath}
-use Rattle.just_errors.specs.declared.error.Definition.TheVariants as definition
+use Rattle.just_errors.specs.declared.error.CompileErrorKind.{CompileErrorKind}
 use Rattle.just_errors.specs.declared.error.CompileErrorKind.TheVariants as kind
 use Rattle.just_parts.specs.declared.layers.ast.UnresolvedDependency.{UnresolvedDependency}
 use Rattle.just_parts.specs.declared.recipe.Recipe.{Recipe}
-use Rattle.just_joining.specs.Contents.{Contents, texts_of_names}
-use Rattle.just_joining.specs.Index.{Repeats}
-use Rattle.just_joining.specs.Recipes.{name_of, token_of, line_of, parameter_names, FollowsDefault, dependency_paths, least_of, most_of, recipe_at, names_of, DependsOn}
+use Rattle.just_joining.specs.Contents.{Contents, Defined, module_of_name, texts_of_defined, texts_of_names}
+use Rattle.just_joining.specs.Index.{Repeats, name_at}
+use Rattle.just_joining.specs.Recipes.{name_of, parameter_names, FollowsDefault, dependency_paths, least_of, most_of, recipe_at, DependsOn}
 
 -- A recipe has a parameter's name twice: those two that follow each other under that name; or a parameter whose group may not be empty follows one with a default, both given by their places.
 pub data Parameters (recipes : List (Recipe UnresolvedDependency)) : Cause → Type 0 where
@@ -23,27 +22,34 @@ pub data Parameters (recipes : List (Recipe UnresolvedDependency)) : Cause → T
       → get_or (parameter_names (recipe_at recipes i)) q [] ≡ parameter
       → Parameters recipes (Broken place (kind.RequiredParameterFollowsDefaultParameter parameter))
 
--- The token of the later of two definitions: the one on the greater line, and of one line the second.
-pub record IsLater (first second later : Place) : Type 0 where
-  pub greater : second.line < first.line → later ≡ first
-  pub not_greater : first.line ≤ second.line → later ≡ second
+-- How two definitions of one name are told: at the one on the greater line, and the line of the other with it; of one line the second, as they were met, comes after the first.
+pub record IsRedefinition (first second : Defined) (place : Place) (told : CompileErrorKind) : Type 0 where
+  pub greater : second.name.token.line < first.name.token.line → (place ≡ first.name.token)
+      × (told ≡ kind.Redefinition second.sort first.sort (text_of_name first.name) second.name.token.line)
+  pub not_greater : first.name.token.line ≤ second.name.token.line → (place ≡ second.name.token)
+      × (told ≡ kind.Redefinition first.sort second.sort (text_of_name second.name) first.name.token.line)
 
--- the smaller line of two names
-abbrev pub first_line : Name → Name → ℕ
-first_line first second = min first.token.line second.token.line
+-- Two of these definitions have one name: those two that follow each other under that name.
+pub record Redefines (ds : List Defined) (place : Place) (told : CompileErrorKind) : Type 0 where
+  pub i : ℕ
+  pub j : ℕ
+  pub first : Defined
+  pub second : Defined
+  pub repeats : Repeats (texts_of_defined ds) i j
+  pub first_is : slice_get ds i ≡ Some first
+  pub second_is : slice_get ds j ≡ Some second
+  pub told_is : IsRedefinition first second place told
 
--- What is broken in the headers of a module: those of its recipes, or two modules that it declares have one name.
+-- What is broken in the headers of a module: those of its recipes, a variable is unexported twice, or two modules that it declares have one name.
 pub data Headers (m : Contents) : Cause → Type 0 where
   of_parameters : {c : Cause} → Parameters m.recipes c → Headers m c
-  module_redefinition : {place : Place} {name : List ℕ} {line : ℕ} (i j : ℕ) (first second : Name) → Repeats (texts_of_names m.modules) i j
-      → slice_get m.modules i ≡ Some first → slice_get m.modules j ≡ Some second → text_of_name second ≡ name → min first.token.line second.token.line ≡ line → IsLater first.token second.token place
-      → Headers m (Broken place (kind.Redefinition definition.Module definition.Module name line))
+  duplicate_unexport : {place : Place} {variable : List ℕ} (i j : ℕ) → Repeats (texts_of_names m.unexports) i j → name_at (texts_of_names m.unexports) j ≡ variable
+      → Headers m (Broken place (kind.DuplicateUnexport variable))
+  module_redefinition : {place : Place} {told : CompileErrorKind} → Redefines (map module_of_name m.modules) place told → Headers m (Broken place told)
 
--- What is broken in the bodies of a module: two recipes have one name, those two that follow each other under that name.
-pub data Bodies (recipes : List (Recipe UnresolvedDependency)) : Cause → Type 0 where
-  redefinition : {place : Place} {name : List ℕ} {line : ℕ} (i j : ℕ) → Repeats (names_of recipes) i j → name_of (recipe_at recipes j) ≡ name
-      → min (line_of (recipe_at recipes i)) (line_of (recipe_at recipes j)) ≡ line → IsLater (token_of (recipe_at recipes i)) (token_of (recipe_at recipes j)) place
-      → Bodies recipes (Broken place (kind.Redefinition definition.Recipe definition.Recipe name line))
+-- What is broken in the bodies of a module: two of its modules and recipes have one name.
+pub data Bodies (ds : List Defined) : Cause → Type 0 where
+  redefinition : {place : Place} {told : CompileErrorKind} → Redefines ds place told → Bodies ds (Broken place told)
 
 -- A circle of names: it begins and ends with one name, each recipe depends on the next, and `recipe` is the last that does.
 pub record IsCircleOf (recipes : List (Recipe UnresolvedDependency)) (recipe : List ℕ) (circle : List (List ℕ)) : Type 0 where

@@ -1,21 +1,19 @@
-ghost use Rattle.std.specs.Prelude.{◌≡◌, ◌<◌, ℕ, length, min, IfOk, IfErr, IfNone, IfSome, OnOk, map};
+ghost use Rattle.std.specs.Prelude.{◌≡◌, ◌<◌, ℕ, length, IfOk, IfErr, IfNone, IfSome, OnOk, map};
 ghost use Rattle.std.specs.Str.{bytes_eq};
 ghost use Rattle.std.specs.HashMap.{get};
 ghost use Rattle.just_names.specs.Name.{text_of_name};
 ghost use Rattle.just_records.specs.declared.parameter.Parameter.{Parameter};
 ghost use Rattle.just_errors.specs.declared.error.CompileErrorKind.TheVariants as kind;
-ghost use Rattle.just_errors.specs.declared.error.Definition.TheVariants as definition;
-ghost use Rattle.just_joining.specs.Index.{AreDifferent, IsIndex};
-ghost use Rattle.just_joining.specs.Recipes.{FollowsDefault, NoneFollows, is_defaulted, is_needed, line_of, name_of, names_of, parameter_names, recipe_at, token_of};
-ghost use Rattle.just_joining.specs.Definitions.{recipes_in};
+ghost use Rattle.just_joining.specs.Index.{AreApart, AreDifferent, IsIndex};
+ghost use Rattle.just_joining.specs.Recipes.{FollowsDefault, NoneFollows, is_defaulted, is_needed, names_of, parameter_names, recipe_at};
+ghost use Rattle.just_joining.specs.Definitions.{contents_in, recipes_in};
 ghost use Rattle.just_errors.specs.Causes.{Keeps, Reports};
-ghost use Rattle.just_joining.specs.Contents.{of_names};
-ghost use Rattle.just_joining.specs.Rules.{Bodies, Headers, IsLater, Parameters, first_line};
+ghost use Rattle.just_joining.specs.Contents.{defined, defined_in, of_names, texts_of_names};
+ghost use Rattle.just_joining.specs.Rules.{Bodies, Headers, IsRedefinition, Parameters};
 
 use crate::definitions::{Definitions, recipe_at};
 use crate::names::index_names;
 use just_data::BorrowedText;
-use just_parts::UnresolvedRecipe;
 use just_parts::layers::error::Definition;
 use just_parts::layers::{CompileError, CompileErrorKind, Error, Name, Parameter};
 use std::alloc::{AllocError, Global};
@@ -129,8 +127,8 @@ fn check_names_at<'a, 'src>(
     }
 }
 
-/// Refuses the first recipe that has two parameters of one name, or one without a default after one that has one.
-pub fn check_parameters<'a, 'src>(
+// Refuses the first recipe that has two parameters of one name, or one without a default after one that has one.
+fn check_parameters<'a, 'src>(
     alloc: Global,
     definitions: &Definitions<'src, 'a>,
 ) -> Result<(), Error<'src>>
@@ -144,48 +142,104 @@ pub fn check_parameters<'a, 'src>(
     Ok(())
 }
 
-// The error of two recipes of one name: the one on the smaller line is the first.
-fn redefinition<'src>(
-    first: &UnresolvedRecipe<'src>,
-    second: &UnresolvedRecipe<'src>,
+// Tells a definition that comes after another one of its name.
+fn told<'src>(
+    first: Definition,
+    first_name: &Name<'src>,
+    second: Definition,
+    second_name: &Name<'src>,
 ) -> CompileError<'src>
-    ensures token { IsLater (token_of first.now) (token_of second.now) result.token }
-    ensures kind { result.kind ≡ kind.Redefinition definition.Recipe definition.Recipe (name_of second.now) (min (line_of first.now) (line_of second.now)) }
+    ensures token { result.token ≡ second_name.now.token }
+    ensures kind { result.kind ≡ kind.Redefinition first second (text_of_name second_name.now) first_name.now.token.line }
 {
-    let later = if second.name.line() < first.name.line() {
-        first
-    } else {
-        second
-    };
     CompileError {
-        token: later.name.token.copied(),
+        token: second_name.token.copied(),
         kind: CompileErrorKind::Redefinition {
-            first_type: Definition::Recipe,
-            second_type: Definition::Recipe,
-            name: BorrowedText::new(second.name.lexeme()),
-            first: first.name.line().min(second.name.line()),
+            first_type: first,
+            second_type: second,
+            name: BorrowedText::new(second_name.lexeme()),
+            first: first_name.line(),
         },
     }
 }
 
-/// The place of each recipe's name. Two recipes of one name are refused.
-pub fn index_recipes<'a, 'src>(
+// The error of two definitions of one name, in the order in which they are met: the one on the smaller line is the first.
+fn redefinition<'src>(
+    first: Definition,
+    first_name: &Name<'src>,
+    second: Definition,
+    second_name: &Name<'src>,
+) -> CompileError<'src>
+    ensures { IsRedefinition (defined first first_name.now) (defined second second_name.now) result.token result.kind }
+{
+    if second_name.line() < first_name.line() {
+        return told(second, second_name, first, first_name);
+    }
+    told(first, first_name, second, second_name)
+}
+
+// The place of each recipe's name. Two recipes of one name are refused.
+fn index_alone<'a, 'src>(
     alloc: Global,
     definitions: &Definitions<'src, 'a>,
 ) -> Result<HashMap<BorrowedText<'src>, usize>, Error<'src>>
-    ensures kept { IfOk result (λ _. Keeps (Bodies (recipes_in definitions.now))) }
     ensures different { IfOk result (λ _. AreDifferent (names_of (recipes_in definitions.now))) }
     ensures index { IfOk result (λ index. IsIndex (names_of (recipes_in definitions.now)) (get bytes_eq index)) }
-    ensures named { IfErr result (Reports (Bodies (recipes_in definitions.now))) }
+    ensures named { IfErr result (Reports (Bodies (defined_in (contents_in definitions.now)))) }
 {
     let names = recipe_names(alloc, definitions)?;
     match index_names(alloc, names.as_slice())? {
         Ok(index) => Ok(index),
         Err((first, second)) => Err(Error::Compile(redefinition(
-            recipe_at(definitions, first),
-            recipe_at(definitions, second),
+            Definition::Recipe,
+            &recipe_at(definitions, first).name,
+            Definition::Recipe,
+            &recipe_at(definitions, second).name,
         ))),
     }
+}
+
+// Refuses the first module that has the name of a recipe.
+fn check_shared<'a, 'src>(
+    definitions: &Definitions<'src, 'a>,
+    index: &HashMap<BorrowedText<'src>, usize>,
+) -> Result<(), Error<'src>>
+    requires modules { AreDifferent (texts_of_names definitions.now.modules.items) }
+    requires recipes { AreDifferent (names_of (recipes_in definitions.now)) }
+    requires index { IsIndex (names_of (recipes_in definitions.now)) (get bytes_eq index.now) }
+    ensures apart { OnOk result (AreApart (texts_of_names definitions.now.modules.items) (names_of (recipes_in definitions.now))) }
+    ensures named { IfErr result (Reports (Bodies (defined_in (contents_in definitions.now)))) }
+{
+    for name in &definitions.modules {
+        match index.get(&BorrowedText::new(name.lexeme())) {
+            None => continue,
+            Some(place) => {
+                return Err(Error::Compile(redefinition(
+                    Definition::Module,
+                    name,
+                    Definition::Recipe,
+                    &recipe_at(definitions, *place).name,
+                )));
+            }
+        }
+    }
+    Ok(())
+}
+
+/// The place of each recipe's name. Two recipes of one name are refused, and a recipe that has the name of a module.
+pub fn index_recipes<'a, 'src>(
+    alloc: Global,
+    definitions: &Definitions<'src, 'a>,
+) -> Result<HashMap<BorrowedText<'src>, usize>, Error<'src>>
+    requires { AreDifferent (texts_of_names definitions.now.modules.items) }
+    ensures kept { IfOk result (λ _. Keeps (Bodies (defined_in (contents_in definitions.now)))) }
+    ensures different { IfOk result (λ _. AreDifferent (names_of (recipes_in definitions.now))) }
+    ensures index { IfOk result (λ index. IsIndex (names_of (recipes_in definitions.now)) (get bytes_eq index)) }
+    ensures named { IfErr result (Reports (Bodies (defined_in (contents_in definitions.now)))) }
+{
+    let index = index_alone(alloc, definitions)?;
+    check_shared(definitions, &index)?;
+    Ok(index)
 }
 
 // The texts of names.
@@ -193,7 +247,7 @@ fn texts_of<'src>(
     alloc: Global,
     names: &[Name<'src>],
 ) -> Result<Vec<BorrowedText<'src>>, AllocError>
-    ensures { IfOk result (λ texts. texts.items ≡ map text_of_name names.now) }
+    ensures { IfOk result (λ texts. texts.items ≡ texts_of_names names.now) }
 {
     let mut texts = Vec::new(alloc);
     for name in names {
@@ -202,38 +256,54 @@ fn texts_of<'src>(
     Ok(texts)
 }
 
-// The error of two modules of one name: the one on the smaller line is the first.
-fn module_redefinition<'src>(first: &Name<'src>, second: &Name<'src>) -> CompileError<'src>
-    ensures token { IsLater first.now.token second.now.token result.token }
-    ensures kind { result.kind ≡ kind.Redefinition definition.Module definition.Module (text_of_name second.now) (first_line first.now second.now) }
-{
-    let later = if second.line() < first.line() {
-        first
-    } else {
-        second
-    };
-    CompileError {
-        token: later.token.copied(),
-        kind: CompileErrorKind::Redefinition {
-            first_type: Definition::Module,
-            second_type: Definition::Module,
-            name: BorrowedText::new(second.lexeme()),
-            first: first.line().min(second.line()),
-        },
-    }
-}
-
 /// Checks that the names of a module's modules are different.
 pub fn check_modules<'src>(alloc: Global, names: &[Name<'src>]) -> Result<(), Error<'src>>
-    ensures kept { OnOk result (AreDifferent (map text_of_name names.now)) }
+    ensures kept { OnOk result (AreDifferent (texts_of_names names.now)) }
     ensures named { IfErr result (Reports (Headers (of_names names.now))) }
 {
     let texts = texts_of(alloc, names)?;
     match index_names(alloc, texts.as_slice())? {
         Ok(_) => Ok(()),
-        Err((first, second)) => Err(Error::Compile(module_redefinition(
+        Err((first, second)) => Err(Error::Compile(redefinition(
+            Definition::Module,
             &names[first],
+            Definition::Module,
             &names[second],
         ))),
     }
+}
+
+// Refuses the first variable that is unexported twice.
+fn check_unexports<'a, 'src>(
+    alloc: Global,
+    definitions: &Definitions<'src, 'a>,
+) -> Result<(), Error<'src>>
+    ensures kept { OnOk result (AreDifferent (texts_of_names definitions.now.unexports.items)) }
+    ensures named { IfErr result (Reports (Headers (contents_in definitions.now))) }
+{
+    let names = definitions.unexports.as_slice();
+    let texts = texts_of(alloc, names)?;
+    match index_names(alloc, texts.as_slice())? {
+        Ok(_) => Ok(()),
+        Err((_, second)) => Err(Error::Compile(CompileError {
+            token: names[second].token.copied(),
+            kind: CompileErrorKind::DuplicateUnexport {
+                variable: texts[second].copied(),
+            },
+        })),
+    }
+}
+
+/// Refuses a rule that is broken in the headers of a module whose modules have different names: of its recipes, or of
+/// what it unexports.
+pub fn check_headers<'a, 'src>(
+    alloc: Global,
+    definitions: &Definitions<'src, 'a>,
+) -> Result<(), Error<'src>>
+    requires { AreDifferent (texts_of_names definitions.now.modules.items) }
+    ensures kept { OnOk result (Keeps (Headers (contents_in definitions.now))) }
+    ensures named { IfErr result (Reports (Headers (contents_in definitions.now))) }
+{
+    check_parameters(alloc, definitions)?;
+    check_unexports(alloc, definitions)
 }

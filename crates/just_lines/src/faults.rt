@@ -32,6 +32,9 @@ fn add_broken(text: &mut String, kind: &CompileErrorKind) -> Result<(), AllocErr
         CompileErrorKind::RequiredParameterFollowsDefaultParameter { parameter } => {
             write!(text, ": parameter {parameter}")
         }
+        CompileErrorKind::DuplicateUnexport { variable } => {
+            write!(text, ": variable {variable}")
+        }
         CompileErrorKind::Redefinition {
             first_type,
             second_type,

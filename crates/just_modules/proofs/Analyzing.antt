@@ -113,7 +113,7 @@ module _ (enabled : Item → Bool) (entries : List (AstKey × Ast)) (d : AstKey)
       pub broken_named : (c : Cause) → BreaksInOrder enabled files joined order c → NamesModules R top c
       broken_named c r =
           let h = heading r.at r.there in
-          names_next enabled entries d files placed rows are can.paths joined order below joins arr.ordered.steps_first different top r.at r.there h.0 h.2 h.1 c r.before r.broken
+          names_next enabled entries d files placed rows are can.paths joined order below joins arr.ordered.steps_first top r.at r.there h.0 h.2 h.1 c r.before r.broken
 
       -- the root's place in the order
       root_listed : (k : ℕ) × (k < length order) × (slice_index order k ≡ root)
@@ -151,11 +151,11 @@ module _ (enabled : Item → Bool) (entries : List (AstKey × Ast)) (d : AstKey)
         inside0 = (forest_at enabled entries d files placed rows are can.paths joined order below joins arr.ordered.steps_first loaded so.made so.justfile so.each many k0 l0 top e0).inside
 
         known : (k : ℕ) (x : Module) → IsListed enabled entries d files placed rows are can.paths joined order below joins arr.ordered.steps_first k x → k ≤ length order → KeepsGroups x
-        known k x i b = keeps_listed enabled entries d files placed rows are can.paths joined order below joins arr.ordered.steps_first different k x (λ j l. (so.each j (omega (arith, l, b))).kept) i
+        known k x i b = keeps_listed enabled entries d files placed rows are can.paths joined order below joins arr.ordered.steps_first k x (λ j l. (so.each j (omega (arith, l, b))).kept) i
 
         kept : (x : Module) (below' : Forest) → HasModule (Tree m0 inside0 Empty) x below' → KeepsGroups x
         unfolding inside0
-        kept x below' first = keeps_groups enabled entries d files placed rows are can.paths joined order below joins arr.ordered.steps_first different k0 l0 top (so.each k0 l0).kept
+        kept x below' first = keeps_groups enabled entries d files placed rows are can.paths joined order below joins arr.ordered.steps_first k0 l0 top (so.each k0 l0).kept
         kept x below' (in_it i) = known k0 x ((forest_at enabled entries d files placed rows are can.paths joined order below joins arr.ordered.steps_first loaded so.made so.justfile so.each many k0 l0 top e0).known x below' i) (omega (arith, l0))
         kept x below' (after_it i) = absurd (nobody i refl)
 

@@ -65,6 +65,7 @@ module _ (enabled : Item → Bool) (entries : List (AstKey × Ast)) (d : AstKey)
         names = ap length (names_same r) ∙ length-map (subs_at enabled entries d files placed rows are can.paths joined p) (λ (s : Submodule). s.name)
             ∙ sym (length-map (subs_at enabled entries d files placed rows are can.paths joined p) (λ (s : Submodule). s.key))
             ∙ ap length (inner_keys enabled entries d files placed rows are can.paths joined p s.0 s.1) ∙ length-map (targets joined.modules.items p) _;
+        different = different;
       }
 
   module _ (order : List ℕ) (ordered : IsOrder (HasEdge joined.modules.items) (length joined.modules.items) (root ∷ []) order) (reached : All IsReached order)

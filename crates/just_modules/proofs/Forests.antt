@@ -1,6 +1,6 @@
 -- The modules of headings are compiled to the justfiles at their places.
 use Rattle.std.proofs.Common.{◌≡◌, ◌<◌, ℕ, Bool, List, [], ◌∷◌, ◌++◌, map, length, get_or, slice_index, Option, Some, refl, sym, ap, subst, ◌∙◌, inl, inr, arith}
-use Rattle.std.specs.Prelude.{slice_get}
+use Rattle.std.specs.Prelude.{flat_map, slice_get}
 use Rattle.std.specs.List.{Contains}
 use Rattle.std.specs.Map.{keys_of, lookup}
 use Rattle.std.proofs.lemmas.List.{get_or_default, length-map}
@@ -20,13 +20,14 @@ use Rattle.just_invoke.specs.declared.justfile.Justfile.{Justfile, out-Justfile,
 use Rattle.just_modules.specs.Analysis.{AreKeysOf, HasKeysOf, IsDefaultOf, IsOf}
 use Rattle.just_joining.specs.Files.{ArePlaced, AreRows, asts_in}
 use Rattle.just_joining.specs.Joined.{IsJoined}
-use Rattle.just_modules.specs.Justfiles.{AreCompiled, Built, IsCompiled, by_name, labelled_as, none, one, recipes_in, with_name, with_names}
+use Rattle.just_modules.specs.Justfiles.{AreCompiled, Built, IsCompiled, by_name, contents_in, labelled_as, none, one, recipes_in, with_name, with_names}
 use Rattle.just_modules.specs.Modules.{Empty, Forest, Heading, Module, Tree, heading_of, headings_in}
-use Rattle.just_joining.specs.Named.{recipes_by, recipes_from}
+use Rattle.just_joining.specs.Contents.{Contents}
+use Rattle.just_joining.specs.Named.{contents_from, name_by, names_from, names_in, recipes_by, recipes_from, unexported_by}
 use Rattle.just_joining.specs.Recipes.{recipes_of}
 use Rattle.just_joining.specs.Reading.{Submodule, items_in}
 use Rattle.just_joining.specs.Resolved.{AreResolved}
-use Rattle.just_joining.specs.OfPlaces.{names_of_place, recipes_of_place}
+use Rattle.just_joining.specs.OfPlaces.{contents_of_place, names_of_place, recipes_of_place}
 use Rattle.just_modules.specs.Steps.{IsCompiledAt}
 use Rattle.just_joining.specs.declared.files.Files.{Files}
 use Rattle.just_modules.specs.declared.inner.Label.{Label}
@@ -51,13 +52,14 @@ names_under justfile (s ∷ subs) [] e = cc
 names_under justfile (s ∷ subs) (q ∷ row) e = ap (λ js. with_name s.name (justfile q) ∷ js) (names_under justfile subs row (omega (arith, e)))
 
 -- a label changes nothing else
-module _ (rs own : List (Recipe UnresolvedDependency)) (ast : Ast) (loaded : List Text) (source : Text) (label : Label) (j : Justfile) (is : IsOf rs own ast loaded source j) where
-  pub labelled_is_of : IsOf rs own ast loaded source (labelled_as label j)
+module _ (cs : Contents) (own : List (Recipe UnresolvedDependency)) (ast : Ast) (loaded : List Text) (source : Text) (label : Label) (j : Justfile) (is : IsOf cs own ast loaded source j) where
+  pub labelled_is_of : IsOf cs own ast loaded source (labelled_as label j)
   labelled_is_of =
       let out = out-roll-Justfile (record (out-Justfile j) { name = label.name; doc = label.doc; groups = label.groups; private = label.private }) in
       record {
-        keys = subst (λ x. AreKeysOf rs (length rs) x.recipes) (sym out) is.keys;
-        held = subst (λ x. HasKeysOf rs (length rs) x.recipes) (sym out) is.held;
+        keys = subst (λ x. AreKeysOf cs.recipes (length cs.recipes) x.recipes) (sym out) is.keys;
+        held = subst (λ x. HasKeysOf cs.recipes (length cs.recipes) x.recipes) (sym out) is.held;
+        unexports_are = ap (λ x. x.unexports) out ∙ is.unexports_are;
         default = subst (λ x. IsDefaultOf own x.default) (sym out) is.default;
         loaded_is = ap (λ x. x.loaded) out ∙ is.loaded_is;
         source_is = ap (λ x. x.source) out ∙ is.source_is;
@@ -96,6 +98,18 @@ module _ (enabled : Item → Bool) (entries : List (AstKey × Ast)) (d : AstKey)
   recipes_same [] inside = refl
   recipes_same (q ∷ xs) inside = λ i. recipes_here q (inside q (inl refl)) i ++ recipes_same xs (λ r h. inside r (inr h)) i
 
+  names_here : (by : Item → List Name) (q : ℕ) → q < n → names_in by enabled (slice_get (asts_in files) q) ≡ names_in by enabled (asts (key_at q))
+  names_here by q h =
+      let s = says enabled entries d files placed rows are paths q h in
+      ap (names_in by enabled) (s.listed ∙ sym s.said)
+
+  names_at : (by : Item → List Name) (xs : List ℕ) → ((q : ℕ) → In q xs → q < n) → names_from by enabled (asts_in files) xs ≡ flat_map (λ k. names_in by enabled (asts k)) (map key_at xs)
+  names_at by [] inside = refl
+  names_at by (q ∷ xs) inside = λ i. names_here by q (inside q (inl refl)) i ++ names_at by xs (λ r h. inside r (inr h)) i
+
+  contents_same : (xs : List ℕ) → ((q : ℕ) → In q xs → q < n) → contents_from enabled (asts_in files) xs ≡ contents_in enabled asts (map key_at xs)
+  contents_same xs inside = λ i. record { recipes = recipes_same xs inside i; modules = names_at name_by xs inside i; unexports = names_at unexported_by xs inside i }
+
   module _ (k : ℕ) (l : k < length order) (h : Heading) (e : h.key ≡ key_at (slice_index order k)) where
     abbrev p : ℕ
     p = slice_index order k
@@ -121,6 +135,9 @@ module _ (enabled : Item → Bool) (entries : List (AstKey × Ast)) (d : AstKey)
     rs_same : recipes_of_place enabled files joined p ≡ recipes_in enabled asts m.files
     rs_same = recipes_same (targets joined.files.items p) (file_inside enabled entries d files placed rows are paths joined p (below k l) (joins k l))
 
+    cs_same : contents_of_place enabled files joined p ≡ contents_in enabled asts m.files
+    cs_same = contents_same (targets joined.files.items p) (file_inside enabled entries d files placed rows are paths joined p (below k l) (joins k l))
+
     names_same : names_of_place enabled files joined p ≡ map (λ (s : Submodule). s.name) m.modules
     names_same = names_are enabled entries d files placed rows are paths joined (targets joined.files.items p) (file_inside enabled entries d files placed rows are paths joined p (below k l) (joins k l))
 
@@ -137,8 +154,8 @@ module _ (enabled : Item → Bool) (entries : List (AstKey × Ast)) (d : AstKey)
           own_said = own_same;
           own_there = subst (λ k. Contains m.files k) (sym e) (own_joined same_ast_key keys_equivalent.refl _ (key_at p) m.files (join_at enabled entries d files placed rows are paths joined p (below k l) (joins k l)));
           resolved = subst (λ path. AreResolved (recipes_in enabled asts m.files) path (made p)) path_same (subst (λ rs. AreResolved rs at.own.module_path (made p)) rs_same at.resolved);
-          fields = labelled_is_of (recipes_in enabled asts m.files) (recipes_of enabled at.own.items) at.own loaded h.key.1 h.label (justfile p)
-              (subst (λ rs. IsOf rs (recipes_of enabled at.own.items) at.own loaded h.key.1 (justfile p)) rs_same (subst (λ (x : AstKey). IsOf (recipes_of_place enabled files joined p) (recipes_of enabled at.own.items) at.own loaded x.1 (justfile p)) key_same at.fields));
+          fields = labelled_is_of (contents_in enabled asts m.files) (recipes_of enabled at.own.items) at.own loaded h.key.1 h.label (justfile p)
+              (subst (λ cs. IsOf cs (recipes_of enabled at.own.items) at.own loaded h.key.1 (justfile p)) cs_same (subst (λ (x : AstKey). IsOf (contents_of_place enabled files joined p) (recipes_of enabled at.own.items) at.own loaded x.1 (justfile p)) key_same at.fields));
           label = ap (λ x. let label : Label = record { name = x.name; doc = x.doc; groups = x.groups; private = x.private } in label) out;
           modules = ap (λ x. x.modules) out ∙ at.modules ∙ ap by_name inner_same;
         }

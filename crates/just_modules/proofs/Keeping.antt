@@ -6,28 +6,27 @@ use Rattle.just_graph.specs.Steps.{ListsStepsFirst}
 use Rattle.just_parts.specs.Asts.{AstKey, same_ast_key}
 use Rattle.just_errors.specs.Causes.{Cause, Keeps}
 use Rattle.just_parts.specs.Items.{Ast, Item}
-use Rattle.just_joining.specs.Contents.{Contents, of_names, texts_of_names}
+use Rattle.just_joining.specs.Contents.{Contents, defined_in, of_names}
 use Rattle.just_joining.specs.Files.{ArePlaced, AreRows}
 use Rattle.just_modules.specs.Groups.{Breaks, Group, KeepsGroups, KeepsModules, NamesModules, OfBodies, OfDependencies, OfHeaders, in_module, rank}
-use Rattle.just_joining.specs.Index.{AreDifferent}
 use Rattle.just_joining.specs.Joined.{IsJoined}
 use Rattle.just_modules.specs.Modules.{Heading, IsHeading, Module, a_module, contents_of, no_module}
-use Rattle.just_joining.specs.Named.{BreaksRecipes, KeepsRecipes, in_bodies, in_dependencies, in_parameters}
+use Rattle.just_joining.specs.Named.{BreaksContents, KeepsContents, in_bodies, in_dependencies, in_headers}
 use Rattle.just_joining.specs.Reading.{Reading, reading_of}
-use Rattle.just_joining.specs.Rules.{Bodies, Headers, Parameters, duplicate_parameter, module_redefinition, of_parameters, required_after_default}
-use Rattle.just_joining.specs.OfPlaces.{names_of_place, recipes_of_place}
+use Rattle.just_joining.specs.Rules.{Bodies, Headers, duplicate_parameter, duplicate_unexport, module_redefinition, of_parameters, required_after_default}
+use Rattle.just_joining.specs.OfPlaces.{contents_of_place, names_of_place}
 use Rattle.just_joining.specs.declared.files.Files.{Files}
 use Rattle.just_joining.specs.declared.files.Rows.{Rows}
 use Rattle.just_joining.specs.declared.joined.Joined.{Joined}
-use Rattle.just_joining.proofs.Alike.{AreAlike, bodies_alike, bodies_kept_alike, dependencies_alike, dependencies_kept_alike, parameters_alike, parameters_kept_alike}
-use Rattle.just_joining.proofs.ModuleNames.{headers_kept}
+use Rattle.just_joining.proofs.Alike.{AreAlikeContents, bodies_alike, bodies_kept_alike, dependencies_alike, dependencies_kept_alike, headers_alike, headers_kept_alike}
 use Rattle.just_modules.proofs.ModulePlaces.{IsListed, TreeAt, file_inside, module_of, tree_at}
-use Rattle.just_modules.proofs.Ready.{names_are, recipes_are}
+use Rattle.just_modules.proofs.Ready.{names_are, recipes_are, unexports_are}
 
 headers_more : (m : Contents) (c : Cause) → Headers (of_names m.modules) c → Headers m c
 headers_more m _ (of_parameters (duplicate_parameter i p q h a b d)) = absurd (omega arith)
 headers_more m _ (of_parameters (required_after_default i q h f x)) = absurd (omega arith)
-headers_more m c (module_redefinition i j first second r a b f g l) = module_redefinition i j first second r a b f g l
+headers_more m _ (duplicate_unexport i j r e) = absurd (omega (arith, r.within))
+headers_more m _ (module_redefinition r) = module_redefinition r
 
 -- the groups before another
 earlier_headers : (m : Module) → Keeps (Headers (contents_of m)) → (f : Group) → rank f < 1 → Keeps (Breaks f m)
@@ -35,7 +34,7 @@ earlier_headers m headers OfHeaders lt = headers
 earlier_headers m headers OfBodies lt = absurd (omega (arith, lt))
 earlier_headers m headers OfDependencies lt = absurd (omega (arith, lt))
 
-earlier_both : (m : Module) → Keeps (Headers (contents_of m)) → Keeps (Bodies (contents_of m).recipes) → (f : Group) → rank f < 2 → Keeps (Breaks f m)
+earlier_both : (m : Module) → Keeps (Headers (contents_of m)) → Keeps (Bodies (defined_in (contents_of m))) → (f : Group) → rank f < 2 → Keeps (Breaks f m)
 earlier_both m headers bodies OfHeaders lt = headers
 earlier_both m headers bodies OfBodies lt = bodies
 earlier_both m headers bodies OfDependencies lt = absurd (omega (arith, lt))
@@ -53,48 +52,60 @@ module _ (enabled : Item → Bool) (entries : List (AstKey × Ast)) (d : AstKey)
   abbrev the_module : (k : ℕ) → k < length order → Heading → Module
   the_module = module_of enabled entries d files placed rows are paths joined order below joins lists_first
 
-  recipes_same : (k : ℕ) (l : k < length order) (h : Heading) → AreAlike (recipes_of_place enabled files joined (slice_index order k)) (contents_of (the_module k l h)).recipes
-  recipes_same k l h = recipes_are enabled entries d files placed rows are paths joined (targets joined.files.items (slice_index order k)) (file_inside enabled entries d files placed rows are paths joined (slice_index order k) (below k l) (joins k l))
+  abbrev here : ℕ → Contents
+  here k = contents_of_place enabled files joined (slice_index order k)
 
-  names_same : (k : ℕ) (l : k < length order) (h : Heading) → names_of_place enabled files joined (slice_index order k) ≡ (contents_of (the_module k l h)).modules
-  names_same k l h = names_are enabled entries d files placed rows are paths joined (targets joined.files.items (slice_index order k)) (file_inside enabled entries d files placed rows are paths joined (slice_index order k) (below k l) (joins k l))
+  -- what files at places say of a module
+  contents_same : (k : ℕ) (l : k < length order) (h : Heading) → AreAlikeContents (here k) (contents_of (the_module k l h))
+  contents_same k l h =
+      let row = targets joined.files.items (slice_index order k) in
+      let in_files = file_inside enabled entries d files placed rows are paths joined (slice_index order k) (below k l) (joins k l) in
+      record {
+        recipes = recipes_are enabled entries d files placed rows are paths joined row in_files;
+        modules = names_are enabled entries d files placed rows are paths joined row in_files;
+        unexports = unexports_are enabled entries d files placed rows are paths joined row in_files;
+      }
 
-  module _ (different : (k : ℕ) → k < length order → AreDifferent (texts_of_names (names_of_place enabled files joined (slice_index order k)))) where
-    keeps_headers : (k : ℕ) (l : k < length order) (h : Heading) → Keeps (Parameters (recipes_of_place enabled files joined (slice_index order k))) → Keeps (Headers (contents_of (the_module k l h)))
-    keeps_headers k l h kept = headers_kept (contents_of (the_module k l h)) (parameters_kept_alike (recipes_of_place enabled files joined (slice_index order k)) (contents_of (the_module k l h)).recipes (recipes_same k l h) kept) (subst (λ ns. AreDifferent (texts_of_names ns)) (names_same k l h) (different k l))
+  headers_same : (k : ℕ) (l : k < length order) (h : Heading) → Keeps (Headers (here k)) → Keeps (Headers (contents_of (the_module k l h)))
+  headers_same k l h kept = headers_kept_alike (here k) (contents_of (the_module k l h)) (contents_same k l h) kept
 
-    -- a module keeps all groups
-    pub keeps_groups : (k : ℕ) (l : k < length order) (h : Heading) → KeepsRecipes (recipes_of_place enabled files joined (slice_index order k)) → KeepsGroups (the_module k l h)
-    keeps_groups k l h kept OfHeaders = keeps_headers k l h kept.parameters
-    keeps_groups k l h kept OfBodies = bodies_kept_alike (recipes_of_place enabled files joined (slice_index order k)) (contents_of (the_module k l h)).recipes (recipes_same k l h) kept.bodies
-    keeps_groups k l h kept OfDependencies = dependencies_kept_alike (recipes_of_place enabled files joined (slice_index order k)) (contents_of (the_module k l h)).recipes (recipes_same k l h) kept.dependencies
+  bodies_same : (k : ℕ) (l : k < length order) (h : Heading) → Keeps (Bodies (defined_in (here k))) → Keeps (Bodies (defined_in (contents_of (the_module k l h))))
+  bodies_same k l h kept = bodies_kept_alike (here k) (contents_of (the_module k l h)) (contents_same k l h) kept
 
-    -- so do the modules listed before a place
-    pub keeps_listed : (k : ℕ) (x : Module) → ((j : ℕ) → j < k → KeepsRecipes (recipes_of_place enabled files joined (slice_index order j))) → IsListed enabled entries d files placed rows are paths joined order below joins lists_first k x → KeepsGroups x
-    keeps_listed k x kept i = subst KeepsGroups (sym i.is) (keeps_groups i.at i.there i.h (kept i.at i.before))
+  -- a module keeps all groups
+  pub keeps_groups : (k : ℕ) (l : k < length order) (h : Heading) → KeepsContents (contents_of_place enabled files joined (slice_index order k)) → KeepsGroups (the_module k l h)
+  keeps_groups k l h kept OfHeaders = headers_same k l h kept.headers
+  keeps_groups k l h kept OfBodies = bodies_same k l h kept.bodies
+  keeps_groups k l h kept OfDependencies = dependencies_kept_alike (here k) (contents_of (the_module k l h)) (contents_same k l h) kept.dependencies
 
-    pub keeps_inside : (k : ℕ) (l : k < length order) (h : Heading) → ((j : ℕ) → j < k → KeepsRecipes (recipes_of_place enabled files joined (slice_index order j)))
-        → (t : TreeAt enabled entries d files placed rows are paths joined order below joins lists_first (λ f hs row. Unit {0}) tt (λ k l h inside after hs row e a b. tt) k l h) → KeepsModules t.inside
-    keeps_inside k l h kept t x inside i = keeps_listed k x kept (t.known x inside i)
+  -- so do the modules listed before a place
+  pub keeps_listed : (k : ℕ) (x : Module) → ((j : ℕ) → j < k → KeepsContents (contents_of_place enabled files joined (slice_index order j))) → IsListed enabled entries d files placed rows are paths joined order below joins lists_first k x → KeepsGroups x
+  keeps_listed k x kept i = subst KeepsGroups (sym i.is) (keeps_groups i.at i.there i.h (kept i.at i.before))
 
-    module _ (root : Heading) (k : ℕ) (l : k < length order) (h : Heading) (e : h.key ≡ key_at (slice_index order k)) (reached : IsHeading R root h) where
-      abbrev t : TreeAt enabled entries d files placed rows are paths joined order below joins lists_first (λ f hs row. Unit {0}) tt (λ k l h inside after hs row e a b. tt) k l h
-      t = tree_at enabled entries d files placed rows are paths joined order below joins lists_first (λ f hs row. Unit {0}) tt (λ k l h inside after hs row e a b. tt) k l h e
+  pub keeps_inside : (k : ℕ) (l : k < length order) (h : Heading) → ((j : ℕ) → j < k → KeepsContents (contents_of_place enabled files joined (slice_index order j)))
+      → (t : TreeAt enabled entries d files placed rows are paths joined order below joins lists_first (λ f hs row. Unit {0}) tt (λ k l h inside after hs row e a b. tt) k l h) → KeepsModules t.inside
+  keeps_inside k l h kept t x inside i = keeps_listed k x kept (t.known x inside i)
 
-      -- what the next module breaks is named
-      pub names_next : (c : Cause) → ((j : ℕ) → j < k → KeepsRecipes (recipes_of_place enabled files joined (slice_index order j))) → BreaksRecipes (recipes_of_place enabled files joined (slice_index order k)) c → NamesModules R root c
-      names_next c kept (in_parameters b) =
-          in_module OfHeaders reached (a_module t.is t.are_modules no_module) (record { earlier = λ f lt. absurd (omega (arith, lt)); below = λ ne. absurd (ne refl) })
-          (of_parameters (parameters_alike (recipes_of_place enabled files joined (slice_index order k)) (contents_of (the_module k l h)).recipes (recipes_same k l h) c b))
-      names_next c kept (in_bodies parameters b) =
-          in_module OfBodies reached (a_module t.is t.are_modules no_module) (record { earlier = earlier_headers (the_module k l h) (keeps_headers k l h parameters); below = λ ne. keeps_inside k l h kept t }) (bodies_alike (recipes_of_place enabled files joined (slice_index order k)) (contents_of (the_module k l h)).recipes (recipes_same k l h) c b)
-      names_next c kept (in_dependencies parameters bodies b) =
-          in_module OfDependencies reached (a_module t.is t.are_modules no_module)
-          (record { earlier = earlier_both (the_module k l h) (keeps_headers k l h parameters) (bodies_kept_alike (recipes_of_place enabled files joined (slice_index order k)) (contents_of (the_module k l h)).recipes (recipes_same k l h) bodies); below = λ ne. keeps_inside k l h kept t }) (dependencies_alike (recipes_of_place enabled files joined (slice_index order k)) (contents_of (the_module k l h)).recipes (recipes_same k l h) c b)
+  module _ (root : Heading) (k : ℕ) (l : k < length order) (h : Heading) (e : h.key ≡ key_at (slice_index order k)) (reached : IsHeading R root h) where
+    abbrev t : TreeAt enabled entries d files placed rows are paths joined order below joins lists_first (λ f hs row. Unit {0}) tt (λ k l h inside after hs row e a b. tt) k l h
+    t = tree_at enabled entries d files placed rows are paths joined order below joins lists_first (λ f hs row. Unit {0}) tt (λ k l h inside after hs row e a b. tt) k l h e
+
+    -- what the next module breaks is named
+    pub names_next : (c : Cause) → ((j : ℕ) → j < k → KeepsContents (contents_of_place enabled files joined (slice_index order j))) → BreaksContents (contents_of_place enabled files joined (slice_index order k)) c → NamesModules R root c
+    names_next c kept (in_headers b) =
+        in_module OfHeaders reached (a_module t.is t.are_modules no_module) (record { earlier = λ f lt. absurd (omega (arith, lt)); below = λ ne. absurd (ne refl) })
+        (headers_alike (here k) (contents_of (the_module k l h)) (contents_same k l h) c b)
+    names_next c kept (in_bodies headers b) =
+        in_module OfBodies reached (a_module t.is t.are_modules no_module) (record { earlier = earlier_headers (the_module k l h) (headers_same k l h headers); below = λ ne. keeps_inside k l h kept t })
+        (bodies_alike (here k) (contents_of (the_module k l h)) (contents_same k l h) c b)
+    names_next c kept (in_dependencies headers bodies b) =
+        in_module OfDependencies reached (a_module t.is t.are_modules no_module)
+        (record { earlier = earlier_both (the_module k l h) (headers_same k l h headers) (bodies_same k l h bodies); below = λ ne. keeps_inside k l h kept t })
+        (dependencies_alike (here k).recipes (contents_of (the_module k l h)).recipes (contents_same k l h).recipes c b)
 
   -- two modules of one name are named
   pub names_repeated : (root : Heading) (k : ℕ) (l : k < length order) (h : Heading) → h.key ≡ key_at (slice_index order k) → IsHeading R root h → (c : Cause) → Headers (of_names (names_of_place enabled files joined (slice_index order k))) c → NamesModules R root c
   names_repeated root k l h e reached c b =
       let t = tree_at enabled entries d files placed rows are paths joined order below joins lists_first (λ f hs row. Unit {0}) tt (λ k l h inside after hs row e a b. tt) k l h e in
       in_module OfHeaders reached (a_module t.is t.are_modules no_module) (record { earlier = λ f lt. absurd (omega (arith, lt)); below = λ ne. absurd (ne refl) })
-      (headers_more (contents_of (the_module k l h)) c (subst (λ ns. Headers (of_names ns) c) (names_same k l h) b))
+      (headers_more (contents_of (the_module k l h)) c (subst (λ ns. Headers (of_names ns) c) (contents_same k l h).modules b))

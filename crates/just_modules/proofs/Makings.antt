@@ -13,6 +13,7 @@ use Rattle.just_running.specs.Recipes.{numbers}
 use Rattle.just_invoke.specs.declared.justfile.Justfile.{Justfile, out-Justfile}
 use Rattle.just_invoke.specs.declared.justfile.RecipeKey.{RecipeKey}
 use Rattle.just_modules.specs.Analysis.{AreKeysOf, HasKeysOf, IsDefaultOf, IsOf}
+use Rattle.just_joining.specs.Contents.{Contents}
 use Rattle.just_joining.specs.Resolved.{AreMadeOf, Resolving, AreResolved, unresolved_numbers}
 use Rattle.just_joining.specs.Rows.{IsOrderOf}
 use Rattle.just_joining.proofs.Resolving.{all_resolved}
@@ -31,23 +32,24 @@ made_numbers rs path (place ∷ order) (r ∷ made) all n (inr h) = made_numbers
 pub resolved_numbers : (rs : List (Recipe UnresolvedDependency)) (path : Modulepath) (made : List (Recipe Dependency)) → AreResolved rs path made → (n : ℕ) → Contains (numbers made) n → Contains (unresolved_numbers rs) n
 resolved_numbers rs path made so n c = contained n (unresolved_numbers rs) (made_numbers rs path so.order made so.made_of n (is_in n (numbers made) c))
 
--- a justfile of recipes, by its parts
-pub is_of : (rs own : List (Recipe UnresolvedDependency)) (ast : Ast) (loaded : List (List ℕ)) (source : List ℕ) (j : Justfile) (count : ℕ) (keys : List (List ℕ × RecipeKey)) (default : Option Number)
-    → length rs ≡ count → (out-Justfile j).recipes ≡ keys → (out-Justfile j).default ≡ default → AreKeysOf rs count keys → HasKeysOf rs count keys → IsDefaultOf own default
-    → (out-Justfile j).loaded ≡ loaded → (out-Justfile j).source ≡ source → (out-Justfile j).module_path ≡ ast.module_path → (out-Justfile j).working_directory ≡ ast.working_directory → IsOf rs own ast loaded source j
-is_of rs own ast loaded source j count keys default many keys_are default_is all held d loaded_is source_is path folder = record {
-  keys = subst (AreKeysOf rs (length rs)) (sym keys_are) (subst (λ n. AreKeysOf rs n keys) (sym many) all);
-  held = subst (HasKeysOf rs (length rs)) (sym keys_are) (subst (λ n. HasKeysOf rs n keys) (sym many) held);
+-- a justfile, by its parts
+pub is_of : (m : Contents) (own : List (Recipe UnresolvedDependency)) (ast : Ast) (loaded : List (List ℕ)) (source : List ℕ) (j : Justfile) (count : ℕ) (keys : List (List ℕ × RecipeKey)) (default : Option Number)
+    → length m.recipes ≡ count → (out-Justfile j).recipes ≡ keys → (out-Justfile j).default ≡ default → AreKeysOf m.recipes count keys → HasKeysOf m.recipes count keys → IsDefaultOf own default → (out-Justfile j).unexports ≡ m.unexports
+    → (out-Justfile j).loaded ≡ loaded → (out-Justfile j).source ≡ source → (out-Justfile j).module_path ≡ ast.module_path → (out-Justfile j).working_directory ≡ ast.working_directory → IsOf m own ast loaded source j
+is_of m own ast loaded source j count keys default many keys_are default_is all held d unexports loaded_is source_is path folder = record {
+  keys = subst (AreKeysOf m.recipes (length m.recipes)) (sym keys_are) (subst (λ n. AreKeysOf m.recipes n keys) (sym many) all);
+  held = subst (HasKeysOf m.recipes (length m.recipes)) (sym keys_are) (subst (λ n. HasKeysOf m.recipes n keys) (sym many) held);
   default = subst (IsDefaultOf own) (sym default_is) d;
+  unexports_are = unexports;
   loaded_is = loaded_is;
   source_is = source_is;
   module_path = path;
   working_directory = folder;
 }
 
--- the same of equal recipes, lists and paths
-pub is_of_same : (rs qs own own' : List (Recipe UnresolvedDependency)) (ast : Ast) (loaded loaded' : List (List ℕ)) (source source' : List ℕ) (j : Justfile) → rs ≡ qs → own ≡ own' → loaded ≡ loaded' → source ≡ source' → IsOf rs own ast loaded source j → IsOf qs own' ast loaded' source' j
-is_of_same rs qs own own' ast loaded loaded' source source' j same owns lists paths is =
-    subst (λ (xs : List (Recipe UnresolvedDependency)). IsOf xs own' ast loaded' source' j) same
-    (subst (λ (xs : List (Recipe UnresolvedDependency)). IsOf rs xs ast loaded' source' j) owns
-    (subst (λ l. IsOf rs own ast l source' j) lists (subst (λ s. IsOf rs own ast loaded s j) paths is)))
+-- the same of equal contents, lists and paths
+pub is_of_same : (m n : Contents) (own own' : List (Recipe UnresolvedDependency)) (ast : Ast) (loaded loaded' : List (List ℕ)) (source source' : List ℕ) (j : Justfile) → m ≡ n → own ≡ own' → loaded ≡ loaded' → source ≡ source' → IsOf m own ast loaded source j → IsOf n own' ast loaded' source' j
+is_of_same m n own own' ast loaded loaded' source source' j same owns lists paths is =
+    subst (λ (c : Contents). IsOf c own' ast loaded' source' j) same
+    (subst (λ (xs : List (Recipe UnresolvedDependency)). IsOf m xs ast loaded' source' j) owns
+    (subst (λ l. IsOf m own ast l source' j) lists (subst (λ s. IsOf m own ast loaded s j) paths is)))

@@ -17,9 +17,9 @@ use Rattle.just_parts.specs.declared.recipe.Recipe.{Recipe}
 use Rattle.just_running.specs.Recipes.{numbers}
 use Rattle.just_invoke.specs.declared.justfile.Justfile.{Justfile, roll-Justfile}
 use Rattle.just_modules.specs.Justfiles.{slot}
-use Rattle.just_joining.specs.Named.{BreaksRecipes}
+use Rattle.just_joining.specs.Named.{BreaksContents}
 use Rattle.just_joining.specs.Resolved.{unresolved_numbers}
-use Rattle.just_joining.specs.OfPlaces.{recipes_of_place}
+use Rattle.just_joining.specs.OfPlaces.{contents_of_place, recipes_of_place}
 use Rattle.just_modules.specs.Steps.{BreaksInOrder, CanCompileAll, CompilesPlace, HaveCompiled, IsCompiledAt}
 use Rattle.just_joining.specs.declared.files.Files.{Files}
 use Rattle.just_joining.specs.declared.joined.Joined.{Joined}
@@ -148,7 +148,7 @@ module _ (enabled : Item → Bool) (files : Files) (joined : Joined) (loaded : L
     }
 
 no_justfile : Justfile
-no_justfile = roll-Justfile (record { default = None; doc = None; groups = []; loaded = []; module_path = record { components = []; spaced = false }; modules = []; name = None; private = false; recipes = []; source = []; working_directory = [] })
+no_justfile = roll-Justfile (record { default = None; doc = None; groups = []; loaded = []; module_path = record { components = []; spaced = false }; modules = []; name = None; private = false; recipes = []; source = []; unexports = []; working_directory = [] })
 
 -- none is compiled
 pub compiled_none : (enabled : Item → Bool) (files : Files) (joined : Joined) (loaded : List Text) (order : List ℕ) (slots : List (Option Justfile)) (recipes : List (Recipe Dependency)) → length slots ≡ length files.asts.items → recipes ≡ []
@@ -164,7 +164,7 @@ compiled_none enabled files joined loaded order slots recipes room none = record
 
 -- what the next breaks
 pub breaks_next : (enabled : Item → Bool) (files : Files) (joined : Joined) (loaded : List Text) (order : List ℕ) (n : ℕ) → n < length order → (slots : List (Option Justfile)) (recipes : List (Recipe Dependency)) → HaveCompiled enabled files joined loaded order n slots recipes
-    → (e : Error) → Reports (BreaksRecipes (recipes_of_place enabled files joined (slice_index order n))) e → Reports (BreaksInOrder enabled files joined order) e
+    → (e : Error) → Reports (BreaksContents (contents_of_place enabled files joined (slice_index order n))) e → Reports (BreaksInOrder enabled files joined order) e
 breaks_next enabled files joined loaded order n h slots recipes so e r =
-    reports_by (BreaksRecipes (recipes_of_place enabled files joined (slice_index order n))) (BreaksInOrder enabled files joined order)
+    reports_by (BreaksContents (contents_of_place enabled files joined (slice_index order n))) (BreaksInOrder enabled files joined order)
     (λ c b. record { at = n; there = h; before = λ k l. (so.each k l).kept; broken = b }) e r

@@ -5,6 +5,7 @@ use Rattle.std.specs.List.{Contains}
 use Rattle.std.specs.Map.{keys_of, lookup}
 use Rattle.std.specs.Option.{option_map, unwrap_or}
 use Rattle.std.proofs.lemmas.Bool.{cases_lt}
+use Rattle.std.proofs.lemmas.Grind.{flat_map-append}
 use Rattle.std.proofs.lemmas.List.{map-append}
 use Rattle.just_graph.specs.Building.{targets_past}
 use Rattle.just_graph.specs.Graph.{HasEdge, targets}
@@ -21,7 +22,7 @@ use Rattle.just_names.specs.declared.modulepath.Modulepath.{Modulepath}
 use Rattle.just_parts.specs.declared.recipe.Recipe.{Recipe}
 use Rattle.just_joining.specs.Files.{ArePlaced, AreRows, asts_in}
 use Rattle.just_joining.specs.Joined.{AreJoined, IsJoined}
-use Rattle.just_joining.specs.Named.{name_by, names_from, names_in, names_said, recipes_by, recipes_from}
+use Rattle.just_joining.specs.Named.{name_by, names_from, names_in, names_said, recipes_by, recipes_from, unexported_by}
 use Rattle.just_joining.specs.Recipes.{recipes_of, recipes_said}
 use Rattle.just_joining.specs.Reading.{Reading, Submodule, declared, enabled_items, items_in, located_ast, reading_of, submodules_of}
 use Rattle.just_joining.specs.declared.files.Files.{Files}
@@ -30,6 +31,7 @@ use Rattle.just_joining.specs.declared.joined.Joined.{Joined}
 use Rattle.just_joining.proofs.Alike.{AreAlike, outline_of, outlines_of}
 use Rattle.just_joining.proofs.BareOutlines.{outline_located}
 use Rattle.just_joining.proofs.FilePlaces.{are_graphs, says}
+use Rattle.just_modules.specs.Modules.{items_of}
 use Rattle.just_modules.proofs.ModulePlaces.{no_ast}
 
 abbrev name_of : Submodule → Name
@@ -47,9 +49,24 @@ module _ (enabled : Item → Bool) (path : Modulepath) where
   one_name true i items = map-append name_of (declared path (located_item i)) (flat_map (declared path) (map located_item (enabled_items enabled items))) ∙ ap (λ ns. ns ++ map name_of (flat_map (declared path) (map located_item (enabled_items enabled items)))) (name_located path i)
   one_name false i items = refl
 
-  names_counted : (items : List Item) → map name_of (flat_map (declared path) (map located_item (enabled_items enabled items))) ≡ names_said enabled items
+  names_counted : (items : List Item) → map name_of (flat_map (declared path) (map located_item (enabled_items enabled items))) ≡ names_said name_by enabled items
   names_counted [] = refl
   names_counted (i ∷ items) = one_name (enabled (bare_item i)) i items ∙ ap (λ ns. cond (enabled (bare_item i)) (name_by i) [] ++ ns) (names_counted items)
+
+-- what a located item unexports
+unexport_located : (i : Item) → unexported_by (located_item i) ≡ unexported_by i
+unexport_located (item.Unexport name) = refl
+unexport_located _ = refl
+
+module _ (enabled : Item → Bool) where
+  one_unexport : (b : Bool) (i : Item) (items : List Item)
+      → flat_map unexported_by (map located_item (cond b (i ∷ enabled_items enabled items) (enabled_items enabled items))) ≡ cond b (unexported_by i) [] ++ flat_map unexported_by (map located_item (enabled_items enabled items))
+  one_unexport true i items = ap (λ ns. ns ++ flat_map unexported_by (map located_item (enabled_items enabled items))) (unexport_located i)
+  one_unexport false i items = refl
+
+  unexports_counted : (items : List Item) → flat_map unexported_by (map located_item (enabled_items enabled items)) ≡ names_said unexported_by enabled items
+  unexports_counted [] = refl
+  unexports_counted (i ∷ items) = one_unexport (enabled (bare_item i)) i items ∙ ap (λ ns. cond (enabled (bare_item i)) (unexported_by i) [] ++ ns) (unexports_counted items)
 
 -- the recipes of located items
 module _ (enabled : Item → Bool) where
@@ -84,14 +101,14 @@ module _ (enabled : Item → Bool) (entries : List (AstKey × Ast)) (d : AstKey)
   abbrev key_at : ℕ → AstKey
   key_at p = get_or (keys_of entries) p d
 
-  names_here : (q : ℕ) → q < n → names_in enabled (slice_get (asts_in files) q) ≡ map name_of (submodules_of R (key_at q))
+  names_here : (q : ℕ) → q < n → names_in name_by enabled (slice_get (asts_in files) q) ≡ map name_of (submodules_of R (key_at q))
   names_here q h =
       let s = says enabled entries d files placed rows are paths q h in
-      ap (names_in enabled) s.listed ∙ sym (names_counted enabled (key_at q).0 s.ast.items)
+      ap (names_in name_by enabled) s.listed ∙ sym (names_counted enabled (key_at q).0 s.ast.items)
       ∙ ap (λ o. map name_of (flat_map (declared (key_at q).0) (items_in (option_map (located_ast enabled) o)))) (sym s.said)
 
   -- the names of the modules in a module
-  pub names_are : (xs : List ℕ) → ((q : ℕ) → In q xs → q < n) → names_from enabled (asts_in files) xs ≡ map name_of (flat_map (submodules_of R) (map key_at xs))
+  pub names_are : (xs : List ℕ) → ((q : ℕ) → In q xs → q < n) → names_from name_by enabled (asts_in files) xs ≡ map name_of (flat_map (submodules_of R) (map key_at xs))
   names_are [] inside = refl
   names_are (q ∷ xs) inside =
       (λ i. names_here q (inside q (inl refl)) i ++ names_are xs (λ r h. inside r (inr h)) i) ∙ sym (map-append name_of (submodules_of R (key_at q)) (flat_map (submodules_of R) (map key_at xs)))
@@ -111,6 +128,19 @@ module _ (enabled : Item → Bool) (entries : List (AstKey × Ast)) (d : AstKey)
       map-append outline_of (recipes_by enabled (slice_get (asts_in files) q)) (recipes_from enabled (asts_in files) xs)
       ∙ (λ i. recipes_here q (inside q (inl refl)) i ++ recipes_are xs (λ r h. inside r (inr h)) i)
       ∙ sym (ap outlines_of (said_append enabled (unwrap_or (R (key_at q)) no_ast).items rest) ∙ map-append outline_of (recipes_said (unwrap_or (R (key_at q)) no_ast).items) (recipes_said rest))
+
+  unexports_here : (q : ℕ) → q < n → names_in unexported_by enabled (slice_get (asts_in files) q) ≡ flat_map unexported_by (unwrap_or (R (key_at q)) no_ast).items
+  unexports_here q h =
+      let s = says enabled entries d files placed rows are paths q h in
+      ap (names_in unexported_by enabled) s.listed ∙ sym (unexports_counted enabled s.ast.items)
+      ∙ ap (λ o. flat_map unexported_by (unwrap_or (option_map (located_ast enabled) o) no_ast).items) (sym s.said)
+
+  -- what a module unexports
+  pub unexports_are : (xs : List ℕ) → ((q : ℕ) → In q xs → q < n) → names_from unexported_by enabled (asts_in files) xs ≡ flat_map unexported_by (items_of (map (λ k. unwrap_or (R k) no_ast) (map key_at xs)))
+  unexports_are [] inside = refl
+  unexports_are (q ∷ xs) inside =
+      (λ i. unexports_here q (inside q (inl refl)) i ++ unexports_are xs (λ r h. inside r (inr h)) i)
+      ∙ sym (flat_map-append unexported_by (unwrap_or (R (key_at q)) no_ast).items (items_of (map (λ k. unwrap_or (R k) no_ast) (map key_at xs))))
 
   module _ (aj : AreJoined rows n joined) where
     -- what has modules in it is joined

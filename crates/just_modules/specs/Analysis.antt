@@ -14,8 +14,9 @@ use Rattle.just_invoke.specs.declared.justfile.Justfile.{Justfile, out-Justfile}
 use Rattle.just_parts.specs.declared.layers.ast.UnresolvedDependency.{UnresolvedDependency}
 use Rattle.just_parts.specs.declared.recipe.Recipe.{Recipe}
 use Rattle.just_invoke.specs.declared.justfile.RecipeKey.{RecipeKey}
+use Rattle.just_joining.specs.Contents.{Contents}
 use Rattle.just_joining.specs.Files.{asts_in}
-use Rattle.just_joining.specs.Named.{recipes_by, recipes_from}
+use Rattle.just_joining.specs.Named.{contents_from, recipes_by}
 use Rattle.just_joining.specs.declared.files.Files.{Files}
 use Rattle.just_joining.specs.Recipes.{name_of, line_of, recipe_at}
 use Rattle.just_joining.specs.Resolved.{number_at}
@@ -47,10 +48,11 @@ abbrev pub IsDefaultOf : List (Recipe UnresolvedDependency) → Option Number �
 IsDefaultOf recipes None = recipes ≡ []
 IsDefaultOf recipes (Some number) = (place : ℕ) × IsDefault recipes place × (number_at recipes place ≡ number.0)
 
--- A module has the keys of these recipes, the default of those of its own file, the paths that it was given, and what its own file says.
-pub record IsOf (recipes own : List (Recipe UnresolvedDependency)) (ast : Ast) (loaded : List (List ℕ)) (source : List ℕ) (justfile : Justfile) : Type 0 where
-  pub keys : AreKeysOf recipes (length recipes) (out-Justfile justfile).recipes
-  pub held : HasKeysOf recipes (length recipes) (out-Justfile justfile).recipes
+-- A module has the keys of its recipes, the default of those of its own file, the names that it unexports, the paths that it was given, and what its own file says.
+pub record IsOf (m : Contents) (own : List (Recipe UnresolvedDependency)) (ast : Ast) (loaded : List (List ℕ)) (source : List ℕ) (justfile : Justfile) : Type 0 where
+  pub keys : AreKeysOf m.recipes (length m.recipes) (out-Justfile justfile).recipes
+  pub held : HasKeysOf m.recipes (length m.recipes) (out-Justfile justfile).recipes
+  pub unexports_are : (out-Justfile justfile).unexports ≡ m.unexports
   pub default : IsDefaultOf own (out-Justfile justfile).default
   pub loaded_is : (out-Justfile justfile).loaded ≡ loaded
   pub source_is : (out-Justfile justfile).source ≡ source
@@ -60,4 +62,4 @@ pub record IsOf (recipes own : List (Recipe UnresolvedDependency)) (ast : Ast) (
 -- a module has what these files say, of which one is its own
 abbrev pub IsOfFiles : (Item → Bool) → Files → ℕ → List ℕ → List Text → Text → Justfile → Type 0
 IsOfFiles enabled files own places loaded source j = (ast : Ast) → slice_get (asts_in files) own ≡ Some ast
-    → IsOf (recipes_from enabled (asts_in files) places) (recipes_by enabled (Some ast)) ast loaded source j
+    → IsOf (contents_from enabled (asts_in files) places) (recipes_by enabled (Some ast)) ast loaded source j

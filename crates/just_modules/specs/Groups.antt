@@ -2,6 +2,7 @@
 use Rattle.std.specs.Prelude.{◌≢◌, ◌<◌, ℕ, [], ◌∷◌}
 use Rattle.just_errors.specs.Causes.{Cause, Keeps}
 use Rattle.just_modules.specs.Modules.{Module, Heading, Forest, Empty, Tree, AreModules, HasModule, IsHeading, contents_of}
+use Rattle.just_joining.specs.Contents.{defined_in}
 use Rattle.just_joining.specs.Reading.{Reading}
 use Rattle.just_joining.specs.Rules.{Headers, Bodies, Dependencies}
 
@@ -19,7 +20,7 @@ rank OfDependencies = 2
 -- what a module breaks of a group
 abbrev pub Breaks : Group → Module → Cause → Type 0
 Breaks OfHeaders m = Headers (contents_of m)
-Breaks OfBodies m = Bodies (contents_of m).recipes
+Breaks OfBodies m = Bodies (defined_in (contents_of m))
 Breaks OfDependencies m = Dependencies (contents_of m).recipes
 
 -- all groups of a module are kept

@@ -15,6 +15,8 @@ use Rattle.just_invoke.specs.declared.justfile.Justfile.{Justfile, out-Justfile,
 use Rattle.just_modules.specs.Analysis.{IsOf}
 use Rattle.just_modules.specs.Modules.{Module, Forest, Empty, Tree, label_of}
 use Rattle.just_modules.specs.declared.inner.Label.{Label}
+use Rattle.just_joining.specs.Contents.{Contents}
+use Rattle.just_joining.specs.Named.{name_by, names_in, unexported_by}
 use Rattle.just_joining.specs.Recipes.{recipes_of}
 use Rattle.just_joining.specs.Reading.{items_in}
 use Rattle.just_joining.specs.Resolved.{AreResolved}
@@ -22,6 +24,14 @@ use Rattle.just_joining.specs.Resolved.{AreResolved}
 -- the recipes that files say, file after file
 abbrev pub recipes_in : (Item → Bool) → (AstKey → Option Ast) → List AstKey → List (Recipe UnresolvedDependency)
 recipes_in enabled asts files = flat_map (λ k. recipes_of enabled (items_in (asts k))) files
+
+-- what the rules read of files
+abbrev pub contents_in : (Item → Bool) → (AstKey → Option Ast) → List AstKey → Contents
+contents_in enabled asts files = record {
+  recipes = recipes_in enabled asts files;
+  modules = flat_map (λ k. names_in name_by enabled (asts k)) files;
+  unexports = flat_map (λ k. names_in unexported_by enabled (asts k)) files;
+}
 
 -- modules under their names, one after another
 abbrev pub held_by_name : List (Text × Justfile) → List Justfile → List (Text × Justfile)
@@ -46,7 +56,7 @@ pub record IsCompiled (enabled : Item → Bool) (asts : AstKey → Option Ast) (
   pub own_said : asts m.heading.key ≡ Some own
   pub own_there : Contains m.files m.heading.key
   pub resolved : AreResolved (recipes_in enabled asts m.files) m.heading.key.0 made
-  pub fields : IsOf (recipes_in enabled asts m.files) (recipes_of enabled own.items) own loaded m.heading.key.1 j
+  pub fields : IsOf (contents_in enabled asts m.files) (recipes_of enabled own.items) own loaded m.heading.key.1 j
   pub label : label_in j ≡ m.heading.label
   pub modules : (out-Justfile j).modules ≡ by_name inner
 

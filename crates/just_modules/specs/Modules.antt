@@ -4,10 +4,11 @@ use Rattle.std.specs.List.{Contains}
 use Rattle.just_graph.specs.Levels.{AreLevels}
 use Rattle.just_parts.specs.Asts.{AstKey, same_ast_key}
 use Rattle.just_names.specs.Modulepath.{Text}
-use Rattle.just_parts.specs.Items.{Ast}
+use Rattle.just_parts.specs.Items.{Ast, Item}
 use Rattle.just_records.specs.declared.string_literal.StringLiteral.{StringLiteral}
 use Rattle.just_names.specs.declared.name.Name.{Name}
 use Rattle.just_joining.specs.Contents.{Contents}
+use Rattle.just_joining.specs.Named.{unexported_by}
 use Rattle.just_joining.specs.Recipes.{recipes_said}
 use Rattle.just_joining.specs.Reading.{Reading, Submodule, imports_of, submodules_of}
 use Rattle.just_modules.specs.declared.inner.Label.{Label}
@@ -41,11 +42,16 @@ heading_of s = heading s.key (label_of s.name)
 abbrev pub headings_in : Module → List Heading
 headings_in m = map heading_of m.modules
 
+-- the items of files, file after file
+abbrev pub items_of : List Ast → List Item
+items_of = flat_map (λ (ast : Ast). ast.items)
+
 -- what the rules read of it
 abbrev pub contents_of : Module → Contents
 contents_of m = record {
-  recipes = recipes_said (flat_map (λ (ast : Ast). ast.items) m.asts);
+  recipes = recipes_said (items_of m.asts);
   modules = map (λ (s : Submodule). s.name) m.modules;
+  unexports = flat_map unexported_by (items_of m.asts);
 }
 
 -- the module of a heading

@@ -14,15 +14,17 @@ use Rattle.just_parts.specs.Items.{Ast, Item}
 use Rattle.just_parts.specs.declared.recipe.Recipe.{Recipe}
 use Rattle.just_invoke.specs.declared.justfile.Justfile.{Justfile, out-Justfile}
 use Rattle.just_modules.specs.Analysis.{IsOf}
+use Rattle.just_joining.specs.Contents.{texts_of_names}
 use Rattle.just_joining.specs.Files.{asts_in, keys_in}
+use Rattle.just_joining.specs.Index.{AreDifferent}
 use Rattle.just_modules.specs.Justfiles.{by_name, slot, with_names}
-use Rattle.just_joining.specs.Named.{BreaksRecipes, KeepsRecipes, recipes_by}
+use Rattle.just_joining.specs.Named.{BreaksContents, KeepsContents, recipes_by}
 use Rattle.just_joining.specs.Resolved.{AreResolved, HasPriors, unresolved_numbers}
-use Rattle.just_joining.specs.OfPlaces.{names_of_place, recipes_of_place}
+use Rattle.just_joining.specs.OfPlaces.{contents_of_place, names_of_place, recipes_of_place}
 use Rattle.just_joining.specs.declared.files.Files.{Files}
 use Rattle.just_joining.specs.declared.joined.Joined.{Joined}
 
--- The module at a place can be compiled: its files have places, the numbers of its recipes are different, and the modules in it stand at different places, with a name for each.
+-- The module at a place can be compiled: its files have places, the numbers of its recipes are different, and the modules in it stand at different places, with a name for each that no other one has.
 pub record CanCompile (enabled : Item → Bool) (files : Files) (joined : Joined) (p : ℕ) : Type 0 where
   pub there : p < length files.asts.items
   pub files_there : All (λ q. q < length files.asts.items) (targets joined.files.items p)
@@ -31,6 +33,7 @@ pub record CanCompile (enabled : Item → Bool) (files : Files) (joined : Joined
   pub priors : All HasPriors (recipes_of_place enabled files joined p)
   pub apart : IsOnce (targets joined.modules.items p)
   pub names : length (names_of_place enabled files joined p) ≡ length (targets joined.modules.items p)
+  pub different : AreDifferent (texts_of_names (names_of_place enabled files joined p))
 
 -- What the module at a place is compiled to, from the justfiles of the modules in it; it has no label yet.
 pub record IsCompiledAt (enabled : Item → Bool) (files : Files) (joined : Joined) (loaded : List Text) (p : ℕ) (inner : List Justfile) (made : List (Recipe Dependency)) (j : Justfile) : Type 0 where
@@ -38,9 +41,9 @@ pub record IsCompiledAt (enabled : Item → Bool) (files : Files) (joined : Join
   pub own_said : slice_get (asts_in files) p ≡ Some own
   pub key : AstKey
   pub key_is : slice_get (keys_in files) p ≡ Some key
-  pub kept : KeepsRecipes (recipes_of_place enabled files joined p)
+  pub kept : KeepsContents (contents_of_place enabled files joined p)
   pub resolved : AreResolved (recipes_of_place enabled files joined p) own.module_path made
-  pub fields : IsOf (recipes_of_place enabled files joined p) (recipes_by enabled (Some own)) own loaded key.1 j
+  pub fields : IsOf (contents_of_place enabled files joined p) (recipes_by enabled (Some own)) own loaded key.1 j
   pub modules : (out-Justfile j).modules ≡ by_name (with_names inner (names_of_place enabled files joined p))
 
 -- One more module is compiled, from those that are held at the places of the modules in it.
@@ -80,9 +83,9 @@ pub record HaveCompiled (enabled : Item → Bool) (files : Files) (joined : Join
 abbrev pub HaveCompiledAll : (Item → Bool) → Files → Joined → List Text → List ℕ → Vec (Option Justfile) Global × List (Recipe Dependency) → Type 0
 HaveCompiledAll enabled files joined loaded order made = HaveCompiled enabled files joined loaded order (length order) made.0.items made.1
 
--- A rule on recipes is broken in the module at a place of an order, and none is in those before it.
+-- A rule is broken in the module at a place of an order, and none is in those before it.
 pub record BreaksInOrder (enabled : Item → Bool) (files : Files) (joined : Joined) (order : List ℕ) (c : Cause) : Type 0 where
   pub at : ℕ
   pub there : at < length order
-  pub before : (k : ℕ) → k < at → KeepsRecipes (recipes_of_place enabled files joined (slice_index order k))
-  pub broken : BreaksRecipes (recipes_of_place enabled files joined (slice_index order at)) c
+  pub before : (k : ℕ) → k < at → KeepsContents (contents_of_place enabled files joined (slice_index order k))
+  pub broken : BreaksContents (contents_of_place enabled files joined (slice_index order at)) c

@@ -10,10 +10,11 @@ ghost use Rattle.just_running.specs.Recipes.{numbers};
 ghost use Rattle.just_invoke.specs.declared.justfile.Justfile.{Justfile, out-Justfile};
 ghost use Rattle.just_joining.specs.Analyzable.{AreAnalyzable};
 ghost use Rattle.just_modules.specs.Analyzed.{Analyzes, NamesAnalyzed};
-ghost use Rattle.just_joining.specs.Definitions.{recipes_in};
+ghost use Rattle.just_joining.specs.Definitions.{contents_in, recipes_in};
 ghost use Rattle.just_joining.specs.Files.{asts_in};
 ghost use Rattle.just_modules.specs.Analysis.{IsOfFiles};
-ghost use Rattle.just_joining.specs.Named.{AreAddedAt, BreaksRecipes, KeepsRecipes, recipes_from};
+ghost use Rattle.just_joining.specs.Named.{AreAddedAt, BreaksContents, KeepsContents, contents_from, name_by, names_from, recipes_from};
+ghost use Rattle.just_joining.specs.Contents.{texts_of_names};
 ghost use Rattle.just_joining.specs.Index.{AreDifferent};
 ghost use Rattle.just_joining.specs.Recipes.{names_of};
 ghost use Rattle.just_joining.specs.Resolved.{AreNew, AreResolved, HasPriors, unresolved_numbers};
@@ -25,16 +26,16 @@ use just_data::{Sequence, Shared, Text};
 use just_invoke::{Justfile, Recipes};
 use just_joining::definitions::Definitions;
 use just_joining::files::{Files, ast_at, file_rows, place_files, place_of};
-use just_joining::headers::{check_parameters, index_recipes};
+use just_joining::headers::{check_headers, index_recipes};
 use just_joining::joined::arrange;
-use just_joining::module_names::check_module_names;
+use just_joining::module_names::{Named, check_module_names, names_at};
 use just_joining::recipe_resolver::{order_recipes, resolve_in_order};
 use just_names::Modulepath;
 use just_parts::layers::{Ast, Config, Error, Evaluation, Name, Number, StringLiteral, Syntax};
 use std::alloc::{AllocError, Global};
 use std::collections::HashMap;
 
-// The recipes that the files at places say, file after file.
+// What the files at places say of a module, file after file.
 fn definitions_at<'b, 'a, 'src, S: Syntax>(
     alloc: Global,
     files: &'b Files<'src, 'a>,
@@ -42,17 +43,19 @@ fn definitions_at<'b, 'a, 'src, S: Syntax>(
     places: &[usize],
 ) -> Result<Definitions<'src, 'b>, AllocError>
     requires { All (λ p. p < length files.now.asts.items) places.now }
-    ensures { IfOk result (λ definitions. recipes_in definitions ≡ recipes_from (S.answers syntax.now).enabled (asts_in files.now) places.now) }
+    ensures { IfOk result (λ definitions. contents_in definitions ≡ contents_from (S.answers syntax.now).enabled (asts_in files.now) places.now) }
 {
     let mut definitions = Definitions::new(alloc);
+    definitions.modules = names_at(alloc, files, syntax, places, Named::Module)?;
+    definitions.unexports = names_at(alloc, files, syntax, places, Named::Unexport)?;
     for place in places {
         definitions.add(ast_at(files, *place).items.as_slice(), syntax)?;
     }
     Ok(definitions)
 }
 
-// The recipes of the module at a path, resolved, each after those that it depends on. An error names a rule on recipes
-// that is broken.
+// The recipes of the module at a path, resolved, each after those that it depends on. An error names a rule that is
+// broken in the module.
 fn resolve_recipes<'src, 'a>(
     alloc: Global,
     definitions: &Definitions<'src, 'a>,
@@ -60,20 +63,21 @@ fn resolve_recipes<'src, 'a>(
 ) -> Result<Recipes<'src>, Error<'src>>
     requires once { IsOnce (unresolved_numbers (recipes_in definitions.now)) }
     requires priors { All HasPriors (recipes_in definitions.now) }
-    ensures kept { IfOk result (λ _. KeepsRecipes (recipes_in definitions.now)) }
+    requires modules { AreDifferent (texts_of_names definitions.now.modules.items) }
+    ensures kept { IfOk result (λ _. KeepsContents (contents_in definitions.now)) }
     ensures different { IfOk result (λ _. AreDifferent (names_of (recipes_in definitions.now))) }
     ensures resolved { IfOk result (AreResolved (recipes_in definitions.now) path.now) }
-    ensures named { IfErr result (Reports (BreaksRecipes (recipes_in definitions.now))) }
+    ensures named { IfErr result (Reports (BreaksContents (contents_in definitions.now))) }
 {
-    check_parameters(alloc, definitions)?;
+    check_headers(alloc, definitions)?;
     let index = index_recipes(alloc, definitions)?;
     let (rows, order) = order_recipes(alloc, definitions, &index)?;
     let made = resolve_in_order(alloc, definitions, rows.as_slice(), order.as_slice(), path)?;
     Ok(made)
 }
 
-/// Analyzes the module of these files, whose own stands at `own`: checks its recipes, resolves them, and adds them to the
-/// others. An error names a rule on recipes that is broken.
+/// Analyzes the module of these files, whose own stands at `own`: checks what they say, resolves its recipes, and adds
+/// them to the others. An error names a rule that is broken.
 pub fn analyze_module<'a, 'src, S: Syntax>(
     alloc: Global,
     files: &Files<'src, 'a>,
@@ -88,11 +92,12 @@ pub fn analyze_module<'a, 'src, S: Syntax>(
     requires once { IsOnce (unresolved_numbers (recipes_from (S.answers syntax.now).enabled (asts_in files.now) places.now)) }
     requires priors { All HasPriors (recipes_from (S.answers syntax.now).enabled (asts_in files.now) places.now) }
     requires apart { AreNew recipes.old (recipes_from (S.answers syntax.now).enabled (asts_in files.now) places.now) }
-    ensures kept { IfOk result (λ _. KeepsRecipes (recipes_from (S.answers syntax.now).enabled (asts_in files.now) places.now)) }
+    requires modules { AreDifferent (texts_of_names (names_from name_by (S.answers syntax.now).enabled (asts_in files.now) places.now)) }
+    ensures kept { IfOk result (λ _. KeepsContents (contents_from (S.answers syntax.now).enabled (asts_in files.now) places.now)) }
     ensures added { IfOk result (λ _. AreAddedAt (S.answers syntax.now).enabled files.now own places.now recipes.old recipes.new) }
     ensures fields { IfOk result (IsOfFiles (S.answers syntax.now).enabled files.now own places.now surroundings.entry.loaded surroundings.entry.source) }
     ensures modules { IfOk result (λ j. (out-Justfile j).modules ≡ surroundings.entry.modules) }
-    ensures named { IfErr result (Reports (BreaksRecipes (recipes_from (S.answers syntax.now).enabled (asts_in files.now) places.now))) }
+    ensures named { IfErr result (Reports (BreaksContents (contents_from (S.answers syntax.now).enabled (asts_in files.now) places.now))) }
 {
     let definitions = definitions_at(alloc, files, syntax, places)?;
     let ast = ast_at(files, own);

@@ -5,9 +5,9 @@ ghost use Rattle.just_graph.specs.Graph.{targets};
 ghost use Rattle.just_errors.specs.Causes.{Reports};
 ghost use Rattle.just_invoke.specs.declared.justfile.Justfile.{Justfile};
 ghost use Rattle.just_modules.specs.Justfiles.{slot};
-ghost use Rattle.just_joining.specs.Named.{BreaksRecipes, KeepsRecipes};
+ghost use Rattle.just_joining.specs.Named.{BreaksContents};
 ghost use Rattle.just_joining.specs.Resolved.{AreNew};
-ghost use Rattle.just_joining.specs.OfPlaces.{recipes_of_place};
+ghost use Rattle.just_joining.specs.OfPlaces.{contents_of_place, recipes_of_place};
 ghost use Rattle.just_modules.specs.Steps.{BreaksInOrder, CanCompile, CanCompileAll, CompilesAt, HaveCompiledAll};
 
 use crate::analyzer::analyze_module;
@@ -40,7 +40,7 @@ fn compile_place<'a, 'src, S: Syntax>(
     requires inner { (js : List Justfile) × (map Some js ≡ map (slot slots.old.items) (targets joined.now.modules.items place)) }
     requires apart { AreNew recipes.old (recipes_of_place (S.answers syntax.now).enabled files.now joined.now place) }
     ensures compiled { OnOk result (CompilesAt (S.answers syntax.now) files.now joined.now loaded.now place slots.old slots.new recipes.old recipes.new) }
-    ensures named { IfErr result (Reports (BreaksRecipes (recipes_of_place (S.answers syntax.now).enabled files.now joined.now place))) }
+    ensures named { IfErr result (Reports (BreaksContents (contents_of_place (S.answers syntax.now).enabled files.now joined.now place))) }
 {
     let row = joined.files[place].as_slice();
     let names = module_names(alloc, files, syntax, row)?;

@@ -3,7 +3,7 @@
 ghost use Rattle.std.specs.Prelude.{◌≡◌, ◌<◌, ℕ, [], false, IsTrue, IfOk, IfSome, IfNone, length};
 ghost use Rattle.just_invoke.specs.declared.justfile.Justfile.{out-Justfile};
 ghost use Rattle.just_modules.specs.Analysis.{AreKeysOf, HasKeysOf, IsBefore, IsDefault, IsOf};
-ghost use Rattle.just_joining.specs.Definitions.{recipes_in};
+ghost use Rattle.just_joining.specs.Definitions.{contents_in, recipes_in};
 ghost use Rattle.just_joining.specs.Index.{AreDifferent};
 ghost use Rattle.just_joining.specs.Recipes.{names_of};
 
@@ -11,7 +11,7 @@ use just_data::{Sequence, Shared, Text};
 use just_invoke::{Justfile, RecipeKey};
 use just_joining::definitions::{Definitions, recipe_at};
 use just_parts::UnresolvedRecipe;
-use just_parts::layers::Ast;
+use just_parts::layers::{Ast, Name};
 use just_table::Table;
 use std::alloc::{AllocError, Global};
 
@@ -65,6 +65,20 @@ fn default_place<'a, 'src>(definitions: &Definitions<'src, 'a>) -> Option<usize>
     Some(best)
 }
 
+// The names once more.
+fn copied_names<'src>(
+    alloc: Global,
+    names: &[Name<'src>],
+) -> Result<Sequence<Name<'src>>, AllocError>
+    ensures { IfOk result (λ copies. copies ≡ names.now) }
+{
+    let mut copies = Vec::with_capacity(alloc, names.len())?;
+    for name in names {
+        copies.push(name.copied())?;
+    }
+    Ok(Sequence::from_vec(copies))
+}
+
 /// What a module has besides its recipes: the shared list of loaded files, and the modules that it declares.
 #[derive(Drop)]
 pub struct Surroundings<'src> {
@@ -85,7 +99,7 @@ pub fn make_justfile<'a, 'src>(
     surroundings: Surroundings<'src>,
 ) -> Result<Justfile<'src>, AllocError>
     requires { AreDifferent (names_of (recipes_in definitions.now)) }
-    ensures fields { IfOk result (λ j. IsOf (recipes_in definitions.now) (recipes_in own.now) ast.now surroundings.entry.loaded surroundings.entry.source j) }
+    ensures fields { IfOk result (λ j. IsOf (contents_in definitions.now) (recipes_in own.now) ast.now surroundings.entry.loaded surroundings.entry.source j) }
     ensures modules { IfOk result (λ j. (out-Justfile j).modules ≡ surroundings.entry.modules) }
 {
     let default = match default_place(own) {
@@ -108,6 +122,7 @@ pub fn make_justfile<'a, 'src>(
         private: false,
         recipes: recipe_keys(alloc, definitions)?,
         source,
+        unexports: copied_names(alloc, definitions.unexports.as_slice())?,
         working_directory: ast.working_directory.clone()?,
     })
 }

@@ -2,8 +2,6 @@
 #![tactic(auto)]
 
 #[cfg(test)]
-mod compilations;
-#[cfg(test)]
 mod tests;
 
 use just_program::{Fault, program, tell};

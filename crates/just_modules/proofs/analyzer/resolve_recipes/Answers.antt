@@ -2,27 +2,28 @@ use Rattle.std.proofs.Common.{length, subst, rules}
 use Rattle.std.proofs.lemmas.Result.{IfErr-weaker}
 use Rattle.just_errors.specs.Causes.{Reports}
 use Rattle.just_errors.proofs.Lifts.{reports_by}
-use Rattle.just_joining.specs.Definitions.{recipes_in}
-use Rattle.just_joining.specs.Named.{BreaksRecipes, in_bodies, in_dependencies, in_parameters}
+use Rattle.just_joining.specs.Contents.{defined_in}
+use Rattle.just_joining.specs.Definitions.{contents_in, recipes_in}
+use Rattle.just_joining.specs.Named.{BreaksContents, in_bodies, in_dependencies, in_headers}
 use Rattle.just_joining.specs.Resolved.{Resolving}
-use Rattle.just_joining.specs.Rules.{Bodies, Dependencies, Parameters}
+use Rattle.just_joining.specs.Rules.{Bodies, Dependencies, Headers}
 use Rattle.just_joining.proofs.Resolving.{all_resolved}
 use Rattle.just_modules.proofs.analyzer.resolve_recipes.Goals as goal
 
-pub returns-in_err-check_parameters-clause-named : goal.returns-in_err-check_parameters-clause-named
-returns-in_err-check_parameters-clause-named c =
-    IfErr-weaker c.from_residual.result (Reports (Parameters (recipes_in c.args.definitions.now))) _
-    (λ e h. reports_by (Parameters _) (BreaksRecipes _) (λ x k. in_parameters k) e h) (search rules)
+pub returns-in_err-check_headers-clause-named : goal.returns-in_err-check_headers-clause-named
+returns-in_err-check_headers-clause-named c =
+    IfErr-weaker c.from_residual.result (Reports (Headers (contents_in c.args.definitions.now))) _
+    (λ e h. reports_by (Headers _) (BreaksContents _) (λ x k. in_headers k) e h) (search rules)
 
 pub returns-in_err-index-clause-named : goal.returns-in_err-index-clause-named
 returns-in_err-index-clause-named c =
-    IfErr-weaker c.from_residual-in_err-index.result (Reports (Bodies (recipes_in c.args.definitions.now))) _
-    (λ e h. reports_by (Bodies _) (BreaksRecipes _) (λ x k. in_bodies c.in_ok-check_parameters.ensures.kept k) e h) (search rules)
+    IfErr-weaker c.from_residual-in_err-index.result (Reports (Bodies (defined_in (contents_in c.args.definitions.now)))) _
+    (λ e h. reports_by (Bodies _) (BreaksContents _) (λ x k. in_bodies c.in_ok-check_headers.ensures.kept k) e h) (search rules)
 
 pub returns-in_err-rows-clause-named : goal.returns-in_err-rows-clause-named
 returns-in_err-rows-clause-named c =
     IfErr-weaker c.from_residual-in_err-rows.result (Reports (Dependencies (recipes_in c.args.definitions.now))) _
-    (λ e h. reports_by (Dependencies _) (BreaksRecipes _) (λ x k. in_dependencies c.in_ok-check_parameters.ensures.kept c.in_ok-index.ensures.kept k) e h) (search rules)
+    (λ e h. reports_by (Dependencies _) (BreaksContents _) (λ x k. in_dependencies c.in_ok-check_headers.ensures.kept c.in_ok-index.ensures.kept k) e h) (search rules)
 
 pub returns-clause-resolved : goal.returns-clause-resolved
 returns-clause-resolved c =

@@ -3,8 +3,8 @@ use Rattle.std.proofs.lemmas.Grind.{common_steps}
 use Rattle.std.proofs.lemmas.Result.{IfErr-weaker}
 use Rattle.just_graph.specs.Graph.{targets}
 use Rattle.just_errors.specs.Causes.{Reports}
-use Rattle.just_joining.specs.Named.{BreaksRecipes}
-use Rattle.just_joining.specs.OfPlaces.{recipes_of_place}
+use Rattle.just_joining.specs.Named.{BreaksContents}
+use Rattle.just_joining.specs.OfPlaces.{contents_of_place}
 use Rattle.just_modules.proofs.Ordered.{breaks_next, compiled_more, compiled_none, inner_there, numbers_apart}
 use Rattle.just_modules.proofs.compiling.compile_in_order.Goals as goal
 
@@ -25,7 +25,7 @@ compile_place-requires-clause-apart g c =
 
 pub returns-in_err-compile_place-clause-named : goal.returns-in_err-compile_place-clause-named
 returns-in_err-compile_place-clause-named g c =
-    IfErr-weaker c.from_residual-in_err-compile_place.result (Reports (BreaksRecipes (recipes_of_place (g.S.Syntax.answers c.args.syntax.now).enabled c.args.files.now c.args.joined.now (slice_index c.args.order.now c.loop-place.place-index)))) _
+    IfErr-weaker c.from_residual-in_err-compile_place.result (Reports (BreaksContents (contents_of_place (g.S.Syntax.answers c.args.syntax.now).enabled c.args.files.now c.args.joined.now (slice_index c.args.order.now c.loop-place.place-index)))) _
     (λ e h. breaks_next (g.S.Syntax.answers c.args.syntax.now).enabled c.args.files.now c.args.joined.now c.args.loaded.now c.args.order.now c.loop-place.place-index (omega arith) c.loop-place.slots.items c.loop-place.recipes c.loop-place.invariant e h)
     (search rules)
 

@@ -5,4 +5,5 @@ use Rattle.just_joining.proofs.definitions.Definitions.add.Given as goal
 
 abbrev pub invariant-loop-item : goal.invariant-loop-item
 invariant-loop-item g l =
-    recipes_in l.initial.self ++ recipes_of (g.S.Syntax.answers l.syntax).enabled l.items ≡ recipes_in l.self ++ recipes_of (g.S.Syntax.answers l.syntax).enabled (drop l.item-index l.items)
+    (recipes_in l.initial.self ++ recipes_of (g.S.Syntax.answers l.syntax).enabled l.items ≡ recipes_in l.self ++ recipes_of (g.S.Syntax.answers l.syntax).enabled (drop l.item-index l.items))
+    × (l.self.modules ≡ l.initial.self.modules) × (l.self.unexports ≡ l.initial.self.unexports)

@@ -1,4 +1,4 @@
-use Rattle.justrun.proofs.compilations.compile.Goals as goal
+use Rattle.just_tests.proofs.compilations.compile.Goals as goal
 
 pub returns : goal.returns
 returns c = c.compile.ensures.closed
