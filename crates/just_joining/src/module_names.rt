@@ -76,7 +76,12 @@ pub fn names_at<'a, 'src, S: Syntax>(
 {
     let mut names = Vec::new(alloc);
     for place in places {
-        push_names(ast_at(files, *place).items.as_slice(), syntax, named, &mut names)?;
+        push_names(
+            ast_at(files, *place).items.as_slice(),
+            syntax,
+            named,
+            &mut names,
+        )?;
     }
     Ok(names)
 }
