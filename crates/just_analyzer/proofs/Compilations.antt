@@ -1,5 +1,5 @@
 -- A compilation, and a refusal.
-use Rattle.std.proofs.Common.{◌≡◌, List, [], ◌∷◌, Option, Result, Ok, Err, IfOk, IfErr, ap, subst, sym}
+use Rattle.std.proofs.Common.{List, Option, Result, Ok, Err, IfOk, IfErr}
 use Rattle.just_parts.specs.Asts.{AstKey}
 use Rattle.just_errors.specs.Causes.{Keeps, Reports}
 use Rattle.just_names.specs.Modulepath.{Text}

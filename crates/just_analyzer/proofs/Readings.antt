@@ -1,7 +1,7 @@
 -- What is loaded is a reading of the source map, and can be analyzed.
-use Rattle.std.proofs.Common.{◌≡◌, ◌≤◌, ℕ, Bool, true, false, List, [], ◌∷◌, ◌++◌, map, Option, None, Some, IsSome, inl, inr, refl, sym, ap, subst, ◌∙◌, arith}
+use Rattle.std.proofs.Common.{◌≡◌, ◌≤◌, ℕ, Bool, true, false, List, [], ◌∷◌, map, Option, None, Some, IsSome, inl, inr, refl, sym, ap, subst, ◌∙◌, arith}
 use Rattle.std.specs.Prelude.{if◌then◌else◌}
-use Rattle.std.specs.List.{All, Contains}
+use Rattle.std.specs.List.{Contains}
 use Rattle.std.specs.Option.{option_map}
 use Rattle.std.proofs.lemmas.Bool.{false_from_ne_true}
 use Rattle.just_graph.specs.Steps.{IsOnce}
@@ -19,7 +19,7 @@ use Rattle.just_parts.specs.declared.layers.ast.Item.TheVariants as item
 use Rattle.just_names.specs.declared.modulepath.Modulepath.{Modulepath}
 use Rattle.just_parts.proofs.AstKeys.{key_same}
 use Rattle.just_parts.proofs.Edges.{bare_twice}
-use Rattle.just_loader.specs.Keys.{FileKey, IsLeastFileDepth, ast_key, items_at, key_of_ast}
+use Rattle.just_loader.specs.Keys.{IsLeastFileDepth, ast_key, items_at, key_of_ast}
 use Rattle.just_loader.specs.Loaded.{IsLoaded, with_path}
 use Rattle.just_loader.specs.Reached.{World}
 use Rattle.just_loader.proofs.HeldKeys.{closed, held_key, held_path, key_held, path_led, said}

@@ -8,7 +8,7 @@ use Rattle.just_parts.specs.Items.{Ast, Item}
 use Rattle.just_errors.specs.declared.error.Error.{Error}
 use Rattle.just_errors.specs.declared.error.Error.TheVariants as error
 use Rattle.just_parts.specs.declared.layers.ast.Item.TheVariants as item
-use Rattle.just_analyzer.specs.Judged.{is_empty, is_judged, is_placed, judged, judged_ast}
+use Rattle.just_analyzer.specs.Judged.{is_empty, is_judged, is_placed, is_whole, judged, judged_ast}
 
 all-mapped : {A : Type 0} (test : A → Bool) (f : A → A) → ((x : A) → test (f x) ≡ test x) → (xs : List A) → list_all test (map f xs) ≡ list_all test xs
 all-mapped test f same [] = refl
@@ -21,16 +21,19 @@ judged_bare _ = refl
 pub all_judged_bare : (is : List Item) → list_all is_judged (map bare_item is) ≡ list_all is_judged is
 all_judged_bare is = all-mapped is_judged bare_item judged_bare is
 
+pub whole_bare : (ast : Ast) → is_whole (bare_ast ast) ≡ is_whole ast
+whole_bare ast = ap (λ b. is_empty ast.list_features && b) (all_judged_bare ast.items)
+
 -- what is judged of a text that was read
-pub judged_whole : (answers : SyntaxAnswers) (relative text : List ℕ) (ast : Ast) → answers.parsed relative text ≡ Some (bare_ast ast) → list_all is_judged ast.items ≡ true
+pub judged_whole : (answers : SyntaxAnswers) (relative text : List ℕ) (ast : Ast) → answers.parsed relative text ≡ Some (bare_ast ast) → is_whole ast ≡ true
     → (judged answers).parsed relative text ≡ Some (bare_ast ast)
 judged_whole answers relative text ast read all =
-    ap judged_ast read ∙ ap (λ b. if b then Some (bare_ast ast) else None) (all_judged_bare ast.items ∙ all)
+    ap judged_ast read ∙ ap (λ b. if b then Some (bare_ast ast) else None) (whole_bare ast ∙ all)
 
-pub judged_none : (answers : SyntaxAnswers) (relative text : List ℕ) (ast : Ast) → answers.parsed relative text ≡ Some (bare_ast ast) → list_all is_judged ast.items ≡ false
+pub judged_none : (answers : SyntaxAnswers) (relative text : List ℕ) (ast : Ast) → answers.parsed relative text ≡ Some (bare_ast ast) → is_whole ast ≡ false
     → (judged answers).parsed relative text ≡ None
 judged_none answers relative text ast read all =
-    ap judged_ast read ∙ ap (λ b. if b then Some (bare_ast ast) else None) (all_judged_bare ast.items ∙ all)
+    ap judged_ast read ∙ ap (λ b. if b then Some (bare_ast ast) else None) (whole_bare ast ∙ all)
 
 -- what a refused parse says stays true
 pub refuses_judged : (answers : SyntaxAnswers) (relative text : List ℕ) (given : ℕ) (e : Error) → Refuses answers relative text given e → Refuses (judged answers) relative text given e

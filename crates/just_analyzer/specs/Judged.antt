@@ -28,14 +28,19 @@ is_judged (item.Recipe r) = is_heading r
 is_judged (item.Module name relative absolute attributes doc optional) = is_empty attributes
 is_judged (item.Import relative absolute optional) = true
 is_judged (item.Unexport name) = true
+is_judged (item.Function f) = true
 is_judged (item.Comment token) = true
 is_judged item.Newline = true
 is_judged _ = false
 
+-- so are the rules of all items of a text, and it needs no lists
+abbrev pub is_whole : Ast → Bool
+is_whole ast = is_empty ast.list_features && list_all is_judged ast.items
+
 -- what a text says, if compiling can judge all of it
 abbrev pub judged_ast : Option Ast → Option Ast
 judged_ast None = None
-judged_ast (Some ast) = if list_all is_judged ast.items then Some ast else None
+judged_ast (Some ast) = if is_whole ast then Some ast else None
 
 -- the syntax layer's answers, as far as compiling can judge them
 abbrev pub judged : SyntaxAnswers → SyntaxAnswers

@@ -1,7 +1,7 @@
 //! What compiling can judge in this stage.
 ghost use Rattle.std.specs.Prelude.{◌≡◌, is_none};
 ghost use Rattle.std.specs.List.{list_all};
-ghost use Rattle.just_analyzer.specs.Judged.{is_heading, is_judged, is_placed};
+ghost use Rattle.just_analyzer.specs.Judged.{is_heading, is_judged, is_placed, is_whole};
 
 use just_data::Sequence;
 use just_names::{Numerator, Token};
@@ -40,7 +40,11 @@ fn fault_of<'src>(item: &Item<'src>) -> Option<Token<'src>>
     ensures { is_none result ≡ is_judged item.now }
 {
     match item {
-        Item::Import { .. } | Item::Unexport { .. } | Item::Comment(_) | Item::Newline => None,
+        Item::Import { .. }
+        | Item::Unexport { .. }
+        | Item::Function(_)
+        | Item::Comment(_)
+        | Item::Newline => None,
         Item::Module {
             name,
             attributes,
@@ -60,13 +64,12 @@ fn fault_of<'src>(item: &Item<'src>) -> Option<Token<'src>>
             }
         }
         Item::Assignment(assignment) => Some(assignment.name.token.copied()),
-        Item::Function(function) => Some(function.name.token.copied()),
         Item::Setting(set) => Some(set.name.token.copied()),
     }
 }
 
 // The first of them in a text.
-fn first_fault<'src>(ast: &Ast<'src>) -> Option<Token<'src>>
+fn first_item<'src>(ast: &Ast<'src>) -> Option<Token<'src>>
     ensures { is_none result ≡ list_all is_judged ast.now.items }
 {
     for item in ast.items.as_slice() {
@@ -75,6 +78,19 @@ fn first_fault<'src>(ast: &Ast<'src>) -> Option<Token<'src>>
         }
     }
     None
+}
+
+// Where a text is told whose rules are not built: at such an item, or at the first place that needs lists.
+fn first_fault<'src>(ast: &Ast<'src>) -> Option<Token<'src>>
+    ensures { is_none result ≡ is_whole ast.now }
+{
+    if let Some(token) = first_item(ast) {
+        return Some(token);
+    }
+    match ast.list_features.as_slice().first() {
+        Some(used) => Some(used.token.copied()),
+        None => None,
+    }
 }
 
 impl<'a, S: Syntax> Syntax for Judging<'a, S> {

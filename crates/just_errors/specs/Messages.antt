@@ -32,6 +32,7 @@ kind_name kind.Syntax = codes "Syntax"
 kind_name (kind.DuplicateParameter recipe parameter) = codes "DuplicateParameter"
 kind_name (kind.RequiredParameterFollowsDefaultParameter parameter) = codes "RequiredParameterFollowsDefaultParameter"
 kind_name (kind.DuplicateUnexport variable) = codes "DuplicateUnexport"
+kind_name (kind.DuplicateFunctionParameter function parameter) = codes "DuplicateFunctionParameter"
 kind_name (kind.Redefinition first_type second_type name first) = codes "Redefinition"
 kind_name (kind.UnknownDependency recipe unknown) = codes "UnknownDependency"
 kind_name (kind.CircularRecipeDependency recipe circle) = codes "CircularRecipeDependency"
@@ -62,6 +63,7 @@ error_name error.Memory = codes "Memory"
 abbrev pub definition_text : Definition → List ℕ
 definition_text definition.Module = codes "module"
 definition_text definition.Recipe = codes "recipe"
+definition_text definition.Function = codes "function"
 
 -- the text of a path of names
 abbrev pub path_text : Namepath → List ℕ
@@ -82,6 +84,7 @@ kind_text kind.Syntax = codes "The line does not follow the grammar"
 kind_text (kind.DuplicateParameter recipe parameter) = codes "Recipe `" ++ (recipe ++ (codes "` has duplicate parameter `" ++ (parameter ++ codes "`")))
 kind_text (kind.RequiredParameterFollowsDefaultParameter parameter) = codes "Non-default parameter `" ++ (parameter ++ codes "` follows default parameter")
 kind_text (kind.DuplicateUnexport variable) = codes "Variable `" ++ (variable ++ codes "` is unexported multiple times")
+kind_text (kind.DuplicateFunctionParameter function parameter) = codes "Function `" ++ (function ++ (codes "` has duplicate parameter `" ++ (parameter ++ codes "`")))
 kind_text (kind.Redefinition first_type second_type name first) =
     codes "`" ++ (name ++ (codes "` is redefined as " ++ (definition_text second_type ++ (codes "; its first definition is a " ++ (definition_text first_type ++ (codes " on line " ++ (place_text first ++ codes " of this file or of another one of its module")))))))
 kind_text (kind.UnknownDependency recipe unknown) = codes "Recipe `" ++ (recipe ++ (codes "` has unknown dependency `" ++ (path_text unknown ++ codes "`")))

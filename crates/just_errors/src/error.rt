@@ -69,6 +69,8 @@ pub enum Definition {
     Module,
     /// A recipe.
     Recipe,
+    /// A function.
+    Function,
 }
 
 impl fmt::Display for Definition {
@@ -81,6 +83,7 @@ impl fmt::Display for Definition {
         match self {
             Definition::Module => f.write_str("module"),
             Definition::Recipe => f.write_str("recipe"),
+            Definition::Function => f.write_str("function"),
         }
     }
 }
@@ -102,6 +105,11 @@ pub enum CompileErrorKind<'src> {
     /// A variable is unexported twice.
     DuplicateUnexport {
         variable: BorrowedText<'src>,
+    },
+    /// A function has two parameters of one name.
+    DuplicateFunctionParameter {
+        function: BorrowedText<'src>,
+        parameter: BorrowedText<'src>,
     },
     /// A name is defined twice. `first` is the line of the first definition, which counts from 0.
     Redefinition {
@@ -142,6 +150,7 @@ impl<'src> CompileErrorKind<'src> {
                 "RequiredParameterFollowsDefaultParameter"
             }
             CompileErrorKind::DuplicateUnexport { .. } => "DuplicateUnexport",
+            CompileErrorKind::DuplicateFunctionParameter { .. } => "DuplicateFunctionParameter",
             CompileErrorKind::Redefinition { .. } => "Redefinition",
             CompileErrorKind::UnknownDependency { .. } => "UnknownDependency",
             CompileErrorKind::CircularRecipeDependency { .. } => "CircularRecipeDependency",
@@ -214,6 +223,15 @@ impl<'src> fmt::Display for CompileErrorKind<'src> {
             }
             CompileErrorKind::DuplicateUnexport { variable } => {
                 write!(f, "Variable `{variable}` is unexported multiple times")
+            }
+            CompileErrorKind::DuplicateFunctionParameter {
+                function,
+                parameter,
+            } => {
+                write!(
+                    f,
+                    "Function `{function}` has duplicate parameter `{parameter}`"
+                )
             }
             CompileErrorKind::Redefinition {
                 first_type,

@@ -9,10 +9,10 @@ use Rattle.just_parts.specs.declared.layers.ast.UnresolvedDependency.{Unresolved
 use Rattle.just_parts.specs.declared.recipe.Recipe.{Recipe}
 use Rattle.just_names.specs.declared.name.Name.{Name}
 use Rattle.just_errors.specs.declared.error.Definition.TheVariants as definition
-use Rattle.just_joining.specs.Contents.{Contents, Defined, all_defined, defined, defined_in, defined_recipe, module_of_name, texts_of_names}
+use Rattle.just_joining.specs.Contents.{Contents, Defined, Signature, all_defined, defined, defined_in, defined_recipe, module_of_name, signatures, texts_of_names}
 use Rattle.just_joining.specs.Index.{Repeats, name_at}
 use Rattle.just_joining.specs.Recipes.{name_of, token_of, parameter_names, is_defaulted, is_needed, FollowsDefault, dependency_paths, least_of, most_of, no_recipe, recipe_at, Depends, DependsOn}
-use Rattle.just_joining.specs.Rules.{Bodies, Dependencies, Headers, IsCircleOf, Parameters, Redefines, argument_count, circular, duplicate_parameter, duplicate_unexport, module_redefinition, of_parameters, required_after_default, unknown_dependency}
+use Rattle.just_joining.specs.Rules.{Bodies, Dependencies, Headers, IsCircleOf, Names, Parameters, Redefines, argument_count, circular, duplicate_parameter, duplicate_unexport, module_redefinition, of_parameters, required_after_default, unknown_dependency}
 
 -- What the rules read of a recipe.
 pub record Outline : Type 0 where
@@ -124,9 +124,10 @@ module _ (rs qs : List (Recipe UnresolvedDependency)) (alike : AreAlike rs qs) w
       argument_count i j (inside i h) (inside j l) (contains i (texts_of_path dependency) c) (is ∙ ap (λ n. n ∷ []) (name j)) none
       (ap (λ (o : Outline). o.least) (sym (at j)) ∙ least) (ap (λ (o : Outline). o.most) (sym (at j)) ∙ most) wrong
 
--- Contents that are alike: so are their recipes, and their names are the same.
+-- Contents that are alike: so are their recipes, and the signatures of their functions and their names are the same.
 pub record AreAlikeContents (m n : Contents) : Type 0 where
   pub recipes : AreAlike m.recipes n.recipes
+  pub functions : signatures m.functions ≡ signatures n.functions
   pub modules : m.modules ≡ n.modules
   pub unexports : m.unexports ≡ n.unexports
 
@@ -138,6 +139,9 @@ module _ (m n : Contents) (alike : AreAlikeContents m n) where
       duplicate_unexport i j (subst (λ ns. Repeats (texts_of_names ns) i j) alike.unexports r) (ap (λ ns. name_at (texts_of_names ns) j) (sym alike.unexports) ∙ e)
   headers_alike _ (module_redefinition {place} {told} r) = module_redefinition (subst (λ ns. Redefines (map module_of_name ns) place told) alike.modules r)
 
+  pub names_alike : (c : Cause) → Names (signatures m.functions) c → Names (signatures n.functions) c
+  names_alike c b = subst (λ (ss : List Signature). Names ss c) alike.functions b
+
   defined_same : defined_in m ≡ defined_in n
   defined_same = ap (λ ns. all_defined ns m.recipes) alike.modules ∙ defined_alike m.recipes n.recipes alike.recipes n.modules
 
@@ -145,12 +149,15 @@ module _ (m n : Contents) (alike : AreAlikeContents m n) where
   bodies_alike c b = subst (λ ds. Bodies ds c) defined_same b
 
   pub alike_back : AreAlikeContents n m
-  alike_back = record { recipes = sym alike.recipes; modules = sym alike.modules; unexports = sym alike.unexports }
+  alike_back = record { recipes = sym alike.recipes; functions = sym alike.functions; modules = sym alike.modules; unexports = sym alike.unexports }
 
 -- and keep the same
 module _ (m n : Contents) (alike : AreAlikeContents m n) where
   pub headers_kept_alike : Keeps (Headers m) → Keeps (Headers n)
   headers_kept_alike kept c b = kept c (headers_alike n m (alike_back m n alike) c b)
+
+  pub names_kept_alike : Keeps (Names (signatures m.functions)) → Keeps (Names (signatures n.functions))
+  names_kept_alike kept c b = kept c (names_alike n m (alike_back m n alike) c b)
 
   pub bodies_kept_alike : Keeps (Bodies (defined_in m)) → Keeps (Bodies (defined_in n))
   bodies_kept_alike kept c b = kept c (bodies_alike n m (alike_back m n alike) c b)

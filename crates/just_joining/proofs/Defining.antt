@@ -101,8 +101,9 @@ modules_redefined m i j first second place told repeats a b is = module_redefini
 })
 
 -- a variable that is unexported twice
-pub unexported_twice : (m : Contents) (i j : ℕ) (variable : List ℕ) → Repeats (texts_of_names m.unexports) i j → variable ≡ name_at (texts_of_names m.unexports) j → {place : Place} → Headers m (Broken place (kind.DuplicateUnexport variable))
-unexported_twice m i j variable repeats is = duplicate_unexport i j repeats (sym is)
+pub unexported_twice : (m : Contents) (i j : ℕ) (second : Name) (variable : List ℕ) → Repeats (texts_of_names m.unexports) i j → slice_get m.unexports j ≡ Some second → variable ≡ text_of_name second → {place : Place} → Headers m (Broken place (kind.DuplicateUnexport variable))
+unexported_twice m i j second variable repeats at is =
+    duplicate_unexport i j repeats (get_or_from_slice_get (texts_of_names m.unexports) j (text_of_name second) [] (map_get text_of_name m.unexports j second at) ∙ sym is)
 
 -- the headers of a module
 pub headers_kept : (m : Contents) → Keeps (Parameters m.recipes) → AreDifferent (texts_of_names m.unexports) → AreDifferent (texts_of_names m.modules) → Keeps (Headers m)

@@ -3,6 +3,7 @@ pub mod BareOutlines
 pub mod Defining
 pub mod Edges
 pub mod FilePlaces
+pub mod Signatures
 pub mod Holding
 pub mod Indexing
 pub mod Joining

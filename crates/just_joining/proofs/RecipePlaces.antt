@@ -58,5 +58,5 @@ one_place rs different i j in_i in_j e =
       ]
     ]
 
-pub length-lent : (lents : List (Bor (Recipe UnresolvedDependency))) → length (lent lents) ≡ length lents
-length-lent lents = length-map lents (λ (r : Bor (Recipe UnresolvedDependency)). r.now)
+pub length-lent : {A : Type 0} (lents : List (Bor A)) → length (lent lents) ≡ length lents
+length-lent {A} lents = length-map lents (λ (r : Bor A). r.now)

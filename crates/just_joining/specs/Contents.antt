@@ -3,14 +3,16 @@ use Rattle.std.specs.Prelude.{List, [], ◌++◌, map}
 use Rattle.just_names.specs.Modulepath.{Text}
 use Rattle.just_names.specs.Name.{text_of_name}
 use Rattle.just_names.specs.declared.name.Name.{Name}
+use Rattle.just_records.specs.declared.function_definition.FunctionDefinition.{FunctionDefinition}
 use Rattle.just_errors.specs.declared.error.Definition.{Definition}
 use Rattle.just_errors.specs.declared.error.Definition.TheVariants as definition
 use Rattle.just_parts.specs.declared.layers.ast.UnresolvedDependency.{UnresolvedDependency}
 use Rattle.just_parts.specs.declared.recipe.Recipe.{Recipe}
 
--- The recipes of a module, and the names of the modules that it declares and of the variables that it unexports, in the order of its files and then of their texts.
+-- The recipes and the functions of a module, and the names of the modules that it declares and of the variables that it unexports, in the order of its files and then of their texts.
 pub record Contents : Type 0 where
   pub recipes : List (Recipe UnresolvedDependency)
+  pub functions : List FunctionDefinition
   pub modules : List Name
   pub unexports : List Name
 
@@ -18,9 +20,24 @@ pub record Contents : Type 0 where
 abbrev pub texts_of_names : List Name → List Text
 texts_of_names = map text_of_name
 
+-- What the rules read of a function: its name, and those of its parameters.
+pub record Signature : Type 0 where
+  pub name : Name
+  pub parameters : List Name
+
+abbrev pub signature : FunctionDefinition → Signature
+signature f = record { name = f.name; parameters = map (λ p. p.name) f.parameters }
+
+abbrev pub signatures : List FunctionDefinition → List Signature
+signatures = map signature
+
+-- the names of functions
+abbrev pub function_names : List Signature → List Name
+function_names = map (λ s. s.name)
+
 -- what the names of modules alone tell of a module
 abbrev pub of_names : List Name → Contents
-of_names names = record { recipes = []; modules = names; unexports = [] }
+of_names names = record { recipes = []; functions = []; modules = names; unexports = [] }
 
 -- What is defined, and its name.
 pub record Defined : Type 0 where

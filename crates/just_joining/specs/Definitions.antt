@@ -1,13 +1,17 @@
--- A module's recipes and names.
+-- A module's recipes, functions and names.
 use Rattle.std.specs.Prelude.{List}
 use Rattle.just_joining.specs.declared.definitions.Definitions.{Definitions}
 use Rattle.just_parts.specs.declared.layers.ast.UnresolvedDependency.{UnresolvedDependency}
 use Rattle.just_parts.specs.declared.recipe.Recipe.{Recipe}
+use Rattle.just_records.specs.declared.function_definition.FunctionDefinition.{FunctionDefinition}
 use Rattle.just_joining.specs.Contents.{Contents}
 use Rattle.just_joining.specs.Recipes.{lent}
 
 abbrev pub recipes_in : Definitions → List (Recipe UnresolvedDependency)
 recipes_in m = lent m.recipes.items
 
+abbrev pub functions_in : Definitions → List FunctionDefinition
+functions_in m = lent m.functions.items
+
 abbrev pub contents_in : Definitions → Contents
-contents_in m = record { recipes = recipes_in m; modules = m.modules.items; unexports = m.unexports.items }
+contents_in m = record { recipes = recipes_in m; functions = functions_in m; modules = m.modules.items; unexports = m.unexports.items }

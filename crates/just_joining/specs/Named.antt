@@ -1,4 +1,4 @@
--- The modules and the recipes that files at places say.
+-- What files at places say: recipes, functions and names.
 use Rattle.std.specs.Prelude.{◌≡◌, ◌++◌, ℕ, Bool, List, [], ◌∷◌, flat_map, slice_get, Option, None, Some, if◌then◌else◌}
 use Rattle.just_parts.specs.Bare.{bare_item}
 use Rattle.just_errors.specs.Causes.{Cause, Keeps}
@@ -7,15 +7,14 @@ use Rattle.just_parts.specs.Items.{Ast, Item}
 use Rattle.just_parts.specs.declared.layers.ast.Item.TheVariants as item
 use Rattle.just_parts.specs.declared.layers.ast.UnresolvedDependency.{UnresolvedDependency}
 use Rattle.just_names.specs.declared.name.Name.{Name}
+use Rattle.just_records.specs.declared.function_definition.FunctionDefinition.{FunctionDefinition}
 use Rattle.just_names.specs.declared.modulepath.Modulepath.{Modulepath}
 use Rattle.just_parts.specs.declared.recipe.Recipe.{Recipe}
 use Rattle.just_joining.specs.Files.{asts_in}
 use Rattle.just_joining.specs.Recipes.{recipes_of}
 use Rattle.just_joining.specs.Resolved.{AreResolved}
-use Rattle.just_joining.specs.Contents.{Contents, defined_in}
-use Rattle.just_joining.specs.Rules.{Bodies, Dependencies, Headers}
-use Rattle.just_joining.specs.declared.module_names.Named.{Named}
-use Rattle.just_joining.specs.declared.module_names.Named.TheVariants.{Module, Unexport}
+use Rattle.just_joining.specs.Contents.{Contents, defined_in, signatures}
+use Rattle.just_joining.specs.Rules.{Bodies, Dependencies, Headers, Names}
 use Rattle.just_joining.specs.declared.files.Files.{Files}
 
 -- the name of the module that an item declares
@@ -28,22 +27,22 @@ abbrev pub unexported_by : Item → List Name
 unexported_by (item.Unexport name) = name ∷ []
 unexported_by _ = []
 
--- what an item is read for
-abbrev pub named_by : Named → Item → List Name
-named_by Module = name_by
-named_by Unexport = unexported_by
+-- the function that an item defines
+abbrev pub function_by : Item → List FunctionDefinition
+function_by (item.Function f) = f ∷ []
+function_by _ = []
 
--- the names that enabled items have, by what they are read for
-abbrev pub names_said : (Item → List Name) → (Item → Bool) → List Item → List Name
-names_said by enabled items = flat_map (λ i. if enabled (bare_item i) then by i else []) items
+-- what enabled items say, by what is read of each
+abbrev pub said : {A : Type 0} → (Item → List A) → (Item → Bool) → List Item → List A
+said by enabled items = flat_map (λ i. if enabled (bare_item i) then by i else []) items
 
-abbrev pub names_in : (Item → List Name) → (Item → Bool) → Option Ast → List Name
-names_in by enabled None = []
-names_in by enabled (Some ast) = names_said by enabled ast.items
+abbrev pub said_in : {A : Type 0} → (Item → List A) → (Item → Bool) → Option Ast → List A
+said_in by enabled None = []
+said_in by enabled (Some ast) = said by enabled ast.items
 
--- the names that files have, file after file
-abbrev pub names_from : (Item → List Name) → (Item → Bool) → List Ast → List ℕ → List Name
-names_from by enabled asts files = flat_map (λ p. names_in by enabled (slice_get asts p)) files
+-- what files say, file after file
+abbrev pub said_from : {A : Type 0} → (Item → List A) → (Item → Bool) → List Ast → List ℕ → List A
+said_from by enabled asts files = flat_map (λ p. said_in by enabled (slice_get asts p)) files
 
 abbrev pub recipes_by : (Item → Bool) → Option Ast → List (Recipe UnresolvedDependency)
 recipes_by enabled None = []
@@ -57,19 +56,22 @@ recipes_from enabled asts files = flat_map (λ p. recipes_by enabled (slice_get 
 abbrev pub contents_from : (Item → Bool) → List Ast → List ℕ → Contents
 contents_from enabled asts files = record {
   recipes = recipes_from enabled asts files;
-  modules = names_from name_by enabled asts files;
-  unexports = names_from unexported_by enabled asts files;
+  functions = said_from function_by enabled asts files;
+  modules = said_from name_by enabled asts files;
+  unexports = said_from unexported_by enabled asts files;
 }
 
--- What is broken in a module: in its headers; where these are kept, in its bodies; and where these are kept too, in its dependencies.
+-- What is broken in a module: in its headers; where these are kept, in its names; where these are kept too, in its bodies; and where all these are kept, in its dependencies.
 pub data BreaksContents (m : Contents) : Cause → Type 0 where
   in_headers : {c : Cause} → Headers m c → BreaksContents m c
-  in_bodies : {c : Cause} → Keeps (Headers m) → Bodies (defined_in m) c → BreaksContents m c
-  in_dependencies : {c : Cause} → Keeps (Headers m) → Keeps (Bodies (defined_in m)) → Dependencies m.recipes c → BreaksContents m c
+  in_names : {c : Cause} → Keeps (Headers m) → Names (signatures m.functions) c → BreaksContents m c
+  in_bodies : {c : Cause} → Keeps (Headers m) → Keeps (Names (signatures m.functions)) → Bodies (defined_in m) c → BreaksContents m c
+  in_dependencies : {c : Cause} → Keeps (Headers m) → Keeps (Names (signatures m.functions)) → Keeps (Bodies (defined_in m)) → Dependencies m.recipes c → BreaksContents m c
 
 -- no rule is broken in it
 pub record KeepsContents (m : Contents) : Type 0 where
   pub headers : Keeps (Headers m)
+  pub names : Keeps (Names (signatures m.functions))
   pub bodies : Keeps (Bodies (defined_in m))
   pub dependencies : Keeps (Dependencies m.recipes)
 

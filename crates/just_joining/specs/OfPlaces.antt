@@ -10,7 +10,7 @@ use Rattle.just_names.specs.declared.name.Name.{Name}
 use Rattle.just_joining.specs.Contents.{Contents, of_names, texts_of_names}
 use Rattle.just_joining.specs.Files.{asts_in}
 use Rattle.just_joining.specs.Index.{AreDifferent}
-use Rattle.just_joining.specs.Named.{contents_from, name_by, names_from, recipes_from}
+use Rattle.just_joining.specs.Named.{contents_from, name_by, said_from, recipes_from}
 use Rattle.just_joining.specs.Rules.{Headers}
 use Rattle.just_joining.specs.declared.files.Files.{Files}
 use Rattle.just_joining.specs.declared.joined.Joined.{Joined}
@@ -20,7 +20,7 @@ abbrev pub recipes_of_place : (Item → Bool) → Files → Joined → ℕ → L
 recipes_of_place enabled files joined p = recipes_from enabled (asts_in files) (targets joined.files.items p)
 
 abbrev pub names_of_place : (Item → Bool) → Files → Joined → ℕ → List Name
-names_of_place enabled files joined p = names_from name_by enabled (asts_in files) (targets joined.files.items p)
+names_of_place enabled files joined p = said_from name_by enabled (asts_in files) (targets joined.files.items p)
 
 -- all that the rules read of it
 abbrev pub contents_of_place : (Item → Bool) → Files → Joined → ℕ → Contents

@@ -69,8 +69,8 @@ recipes_said [] = []
 recipes_said (item.Recipe r ∷ items) = r ∷ recipes_said items
 recipes_said (_ ∷ items) = recipes_said items
 
--- borrowed recipes
-abbrev pub lent : List (Bor (Recipe UnresolvedDependency)) → List (Recipe UnresolvedDependency)
+-- what is borrowed
+abbrev pub lent : {A : Type 0} → List (Bor A) → List A
 lent = map (λ r. r.now)
 
 -- what is read where there is no recipe

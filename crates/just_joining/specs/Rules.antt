@@ -1,15 +1,17 @@
 -- The rules of a module: each relates what is compiled to the errors that report where it is broken.
 use Rattle.std.specs.Prelude.{◌≡◌, ◌≢◌, ℕ, ◌+◌, ◌-◌, ◌<◌, ◌≤◌, ◌⊎◌, List, [], ◌∷◌, map, length, get_or, Some}
 use Rattle.std.specs.List.{Contains, slice_get}
-use Rattle.just_errors.specs.Causes.{Cause, Broken, Keeps}
+use Rattle.just_errors.specs.Causes.{Cause, Broken}
 use Rattle.just_names.specs.Name.{text_of_name, texts_of_path}
 use Rattle.just_names.specs.Token.{Place}
 use Rattle.just_names.specs.declared.name.Namepath.{Namepath}
 use Rattle.just_errors.specs.declared.error.CompileErrorKind.{CompileErrorKind}
 use Rattle.just_errors.specs.declared.error.CompileErrorKind.TheVariants as kind
+use Rattle.just_errors.specs.declared.error.Definition.TheVariants as definition
+use Rattle.just_names.specs.declared.name.Name.{Name}
 use Rattle.just_parts.specs.declared.layers.ast.UnresolvedDependency.{UnresolvedDependency}
 use Rattle.just_parts.specs.declared.recipe.Recipe.{Recipe}
-use Rattle.just_joining.specs.Contents.{Contents, Defined, module_of_name, texts_of_defined, texts_of_names}
+use Rattle.just_joining.specs.Contents.{Contents, Defined, Signature, function_names, module_of_name, texts_of_defined, texts_of_names}
 use Rattle.just_joining.specs.Index.{Repeats, name_at}
 use Rattle.just_joining.specs.Recipes.{name_of, parameter_names, FollowsDefault, dependency_paths, least_of, most_of, recipe_at, DependsOn}
 
@@ -46,6 +48,17 @@ pub data Headers (m : Contents) : Cause → Type 0 where
   duplicate_unexport : {place : Place} {variable : List ℕ} (i j : ℕ) → Repeats (texts_of_names m.unexports) i j → name_at (texts_of_names m.unexports) j ≡ variable
       → Headers m (Broken place (kind.DuplicateUnexport variable))
   module_redefinition : {place : Place} {told : CompileErrorKind} → Redefines (map module_of_name m.modules) place told → Headers m (Broken place told)
+
+-- A function has the name of a parameter twice: those two that follow each other under that name. It is told at the second.
+pub data RepeatsParameter (s : Signature) : Cause → Type 0 where
+  duplicate_function_parameter : {second : Name} (p q : ℕ) → Repeats (texts_of_names s.parameters) p q → slice_get s.parameters q ≡ Some second
+      → RepeatsParameter s (Broken second.token (kind.DuplicateFunctionParameter (text_of_name s.name) (text_of_name second)))
+
+-- What is broken in the names of a module: two functions have one name, those two that follow each other under it, and it is told at the second; or one has the name of a parameter twice.
+pub data Names (functions : List Signature) : Cause → Type 0 where
+  function_redefinition : {first second : Name} (i j : ℕ) → Repeats (texts_of_names (function_names functions)) i j → slice_get (function_names functions) i ≡ Some first → slice_get (function_names functions) j ≡ Some second
+      → Names functions (Broken second.token (kind.Redefinition definition.Function definition.Function (text_of_name second) first.token.line))
+  of_function : {s : Signature} {c : Cause} (i : ℕ) → slice_get functions i ≡ Some s → RepeatsParameter s c → Names functions c
 
 -- What is broken in the bodies of a module: two of its modules and recipes have one name.
 pub data Bodies (ds : List Defined) : Cause → Type 0 where

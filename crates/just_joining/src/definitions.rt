@@ -1,10 +1,10 @@
 ghost use Rattle.std.specs.Prelude.{◌≡◌, ◌<◌, IfOk, Some, length, slice_get};
 ghost use Rattle.just_joining.specs.Recipes.{recipes_of, recipe_at};
-ghost use Rattle.just_joining.specs.Definitions.{recipes_in};
+ghost use Rattle.just_joining.specs.Definitions.{functions_in, recipes_in};
 
 use crate::enabled::is_enabled;
 use just_parts::UnresolvedRecipe;
-use just_parts::layers::{Item, Name, Syntax};
+use just_parts::layers::{FunctionDefinition, Item, Name, Syntax};
 use std::alloc::{AllocError, Global};
 
 /// What the files of a module say of it, file after file, before its recipes are resolved.
@@ -12,6 +12,8 @@ use std::alloc::{AllocError, Global};
 pub struct Definitions<'src, 'a> {
     /// The recipes.
     pub recipes: Vec<&'a UnresolvedRecipe<'src>>,
+    /// The functions.
+    pub functions: Vec<&'a FunctionDefinition<'src>>,
     /// The names of the modules in it.
     pub modules: Vec<Name<'src>>,
     /// The names of the variables that it unexports.
@@ -21,7 +23,8 @@ pub struct Definitions<'src, 'a> {
 impl<'a, 'src> Definitions<'src, 'a> {
     ghost use Rattle.std.specs.Prelude.{◌++◌, [], OnOk};
     ghost use Rattle.just_joining.specs.Contents.{of_names};
-    ghost use Rattle.just_joining.specs.Definitions.{contents_in, recipes_in};
+    ghost use Rattle.just_joining.specs.Definitions.{contents_in, functions_in, recipes_in};
+    ghost use Rattle.just_joining.specs.Named.{function_by, name_by, said, unexported_by};
 
     /// Nothing.
     pub fn new(alloc: Global) -> Definitions<'src, 'a>
@@ -29,16 +32,18 @@ impl<'a, 'src> Definitions<'src, 'a> {
     {
         Definitions {
             recipes: Vec::new(alloc),
+            functions: Vec::new(alloc),
             modules: Vec::new(alloc),
             unexports: Vec::new(alloc),
         }
     }
 
-    /// Adds the recipes of the enabled items, in the order of the text. Other items are not looked at.
+    /// Adds what the enabled items say, in the order of the text.
     pub fn add<S: Syntax>(&mut self, items: &'a [Item<'src>], syntax: &S) -> Result<(), AllocError>
         ensures recipes { OnOk result (recipes_in self.new ≡ recipes_in self.old ++ recipes_of (S.answers syntax.now).enabled items.now) }
-        ensures modules { OnOk result (self.new.modules ≡ self.old.modules) }
-        ensures unexports { OnOk result (self.new.unexports ≡ self.old.unexports) }
+        ensures functions { OnOk result (functions_in self.new ≡ functions_in self.old ++ said function_by (S.answers syntax.now).enabled items.now) }
+        ensures modules { OnOk result (self.new.modules.items ≡ self.old.modules.items ++ said name_by (S.answers syntax.now).enabled items.now) }
+        ensures unexports { OnOk result (self.new.unexports.items ≡ self.old.unexports.items ++ said unexported_by (S.answers syntax.now).enabled items.now) }
     {
         for item in items {
             if !is_enabled(item, syntax) {
@@ -46,6 +51,13 @@ impl<'a, 'src> Definitions<'src, 'a> {
             }
             match item {
                 Item::Recipe(recipe) => self.recipes.push(recipe)?,
+                Item::Function(function) => self.functions.push(function)?,
+                Item::Module {
+                    name,
+                    absolute: Some(_),
+                    ..
+                } => self.modules.push(name.copied())?,
+                Item::Unexport { name } => self.unexports.push(name.copied())?,
                 _ => continue,
             }
         }
@@ -74,4 +86,15 @@ pub fn recipe_at<'b, 'a, 'src>(
     ensures there { result.now ≡ recipe_at (recipes_in definitions.now) place }
 {
     lent_at(definitions, place)
+}
+
+/// The function at a place.
+pub fn function_at<'b, 'a, 'src>(
+    definitions: &'b Definitions<'src, 'a>,
+    place: usize,
+) -> &'b FunctionDefinition<'src>
+    requires { place < length definitions.now.functions.items }
+    ensures { slice_get (functions_in definitions.now) place ≡ Some result.now }
+{
+    &*definitions.functions[place]
 }

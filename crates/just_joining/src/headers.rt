@@ -12,7 +12,7 @@ ghost use Rattle.just_joining.specs.Contents.{defined, defined_in, of_names, tex
 ghost use Rattle.just_joining.specs.Rules.{Bodies, Headers, IsRedefinition, Parameters};
 
 use crate::definitions::{Definitions, recipe_at};
-use crate::names::index_names;
+use crate::names::{index_names, repeated_name};
 use just_data::BorrowedText;
 use just_parts::layers::error::Definition;
 use just_parts::layers::{CompileError, CompileErrorKind, Error, Name, Parameter};
@@ -142,8 +142,8 @@ fn check_parameters<'a, 'src>(
     Ok(())
 }
 
-// Tells a definition that comes after another one of its name.
-fn told<'src>(
+/// Tells a definition that comes after another one of its name.
+pub(crate) fn told<'src>(
     first: Definition,
     first_name: &Name<'src>,
     second: Definition,
@@ -242,29 +242,14 @@ pub fn index_recipes<'a, 'src>(
     Ok(index)
 }
 
-// The texts of names.
-fn texts_of<'src>(
-    alloc: Global,
-    names: &[Name<'src>],
-) -> Result<Vec<BorrowedText<'src>>, AllocError>
-    ensures { IfOk result (λ texts. texts.items ≡ texts_of_names names.now) }
-{
-    let mut texts = Vec::new(alloc);
-    for name in names {
-        texts.push(BorrowedText::new(name.lexeme()))?;
-    }
-    Ok(texts)
-}
-
 /// Checks that the names of a module's modules are different.
 pub fn check_modules<'src>(alloc: Global, names: &[Name<'src>]) -> Result<(), Error<'src>>
     ensures kept { OnOk result (AreDifferent (texts_of_names names.now)) }
     ensures named { IfErr result (Reports (Headers (of_names names.now))) }
 {
-    let texts = texts_of(alloc, names)?;
-    match index_names(alloc, texts.as_slice())? {
-        Ok(_) => Ok(()),
-        Err((first, second)) => Err(Error::Compile(redefinition(
+    match repeated_name(alloc, names)? {
+        None => Ok(()),
+        Some((first, second)) => Err(Error::Compile(redefinition(
             Definition::Module,
             &names[first],
             Definition::Module,
@@ -282,13 +267,12 @@ fn check_unexports<'a, 'src>(
     ensures named { IfErr result (Reports (Headers (contents_in definitions.now))) }
 {
     let names = definitions.unexports.as_slice();
-    let texts = texts_of(alloc, names)?;
-    match index_names(alloc, texts.as_slice())? {
-        Ok(_) => Ok(()),
-        Err((_, second)) => Err(Error::Compile(CompileError {
+    match repeated_name(alloc, names)? {
+        None => Ok(()),
+        Some((_, second)) => Err(Error::Compile(CompileError {
             token: names[second].token.copied(),
             kind: CompileErrorKind::DuplicateUnexport {
-                variable: texts[second].copied(),
+                variable: BorrowedText::new(names[second].lexeme()),
             },
         })),
     }

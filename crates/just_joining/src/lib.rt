@@ -4,6 +4,7 @@
 pub mod definitions;
 pub mod enabled;
 pub mod files;
+pub mod functions;
 pub mod headers;
 pub mod joined;
 pub mod module_names;

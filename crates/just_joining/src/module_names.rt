@@ -1,11 +1,10 @@
-//! The names of the modules in a module, and of the variables that it unexports.
+//! The names of the modules in a module.
 
 ghost use Rattle.std.specs.Prelude.{◌≡◌, ◌<◌, ◌++◌, ℕ, IfOk, IfErr, OnOk, length};
 ghost use Rattle.std.specs.List.{All};
-ghost use Rattle.std.specs.Option.{option_copied, option_to_list};
 ghost use Rattle.just_errors.specs.Causes.{Reports};
 ghost use Rattle.just_joining.specs.Files.{asts_in};
-ghost use Rattle.just_joining.specs.Named.{name_by, named_by, names_from, names_said};
+ghost use Rattle.just_joining.specs.Named.{name_by, said, said_from};
 ghost use Rattle.just_joining.specs.OfPlaces.{HaveFiles, HaveNames, RepeatsNames};
 
 use crate::enabled::is_enabled;
@@ -15,75 +14,28 @@ use crate::joined::Joined;
 use just_parts::layers::{Error, Item, Name, Syntax};
 use std::alloc::{AllocError, Global};
 
-/// What an item is read for.
-#[derive(Clone, Copy, Debug, PartialEq, Eq)]
-pub enum Named {
-    /// The module that it declares.
-    Module,
-    /// The variable that it unexports.
-    Unexport,
-}
-
-// The name that an item has for this.
-fn named_by<'a, 'src>(item: &'a Item<'src>, named: Named) -> Option<&'a Name<'src>>
-    ensures { option_to_list (option_copied result) ≡ named_by named item.now }
-{
-    match (named, item) {
-        (
-            Named::Module,
-            Item::Module {
-                name,
-                absolute: Some(_),
-                ..
-            },
-        ) => Some(name),
-        (Named::Unexport, Item::Unexport { name }) => Some(name),
-        _ => None,
-    }
-}
-
-// Pushes the names that enabled items have for this.
+// Pushes the names of the modules that enabled items declare.
 fn push_names<'src, S: Syntax>(
     items: &[Item<'src>],
     syntax: &S,
-    named: Named,
     names: &mut Vec<Name<'src>>,
 ) -> Result<(), AllocError>
-    ensures { OnOk result (names.new.items ≡ names.old.items ++ names_said (named_by named) (S.answers syntax.now).enabled items.now) }
+    ensures { OnOk result (names.new.items ≡ names.old.items ++ said name_by (S.answers syntax.now).enabled items.now) }
 {
     for item in items {
         if !is_enabled(item, syntax) {
             continue;
         }
-        let Some(name) = named_by(item, named) else {
-            continue;
-        };
-        names.push(name.copied())?;
+        match item {
+            Item::Module {
+                name,
+                absolute: Some(_),
+                ..
+            } => names.push(name.copied())?,
+            _ => continue,
+        }
     }
     Ok(())
-}
-
-/// The names that the files at places have for this, file after file.
-pub fn names_at<'a, 'src, S: Syntax>(
-    alloc: Global,
-    files: &Files<'src, 'a>,
-    syntax: &S,
-    places: &[usize],
-    named: Named,
-) -> Result<Vec<Name<'src>>, AllocError>
-    requires { All (λ p. p < length files.now.asts.items) places.now }
-    ensures { IfOk result (λ names. names.items ≡ names_from (named_by named) (S.answers syntax.now).enabled (asts_in files.now) places.now) }
-{
-    let mut names = Vec::new(alloc);
-    for place in places {
-        push_names(
-            ast_at(files, *place).items.as_slice(),
-            syntax,
-            named,
-            &mut names,
-        )?;
-    }
-    Ok(names)
 }
 
 /// The names of the modules that the files at places declare, file after file.
@@ -94,9 +46,13 @@ pub fn module_names<'a, 'src, S: Syntax>(
     places: &[usize],
 ) -> Result<Vec<Name<'src>>, AllocError>
     requires { All (λ p. p < length files.now.asts.items) places.now }
-    ensures { IfOk result (λ names. names.items ≡ names_from name_by (S.answers syntax.now).enabled (asts_in files.now) places.now) }
+    ensures { IfOk result (λ names. names.items ≡ said_from name_by (S.answers syntax.now).enabled (asts_in files.now) places.now) }
 {
-    names_at(alloc, files, syntax, places, Named::Module)
+    let mut names = Vec::new(alloc);
+    for place in places {
+        push_names(ast_at(files, *place).items.as_slice(), syntax, &mut names)?;
+    }
+    Ok(names)
 }
 
 /// Refuses the first module of an order in which two modules have one name.

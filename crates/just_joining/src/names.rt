@@ -1,9 +1,11 @@
-ghost use Rattle.std.specs.Prelude.{◌≡◌, IfOk, IfErr};
+ghost use Rattle.std.specs.Prelude.{◌≡◌, IfOk, IfErr, IfSome, IfNone};
 ghost use Rattle.std.specs.Str.{bytes_eq};
 ghost use Rattle.std.specs.HashMap.{get};
+ghost use Rattle.just_joining.specs.Contents.{texts_of_names};
 ghost use Rattle.just_joining.specs.Index.{Repeats, AreDifferent, IsIndex};
 
 use just_data::BorrowedText;
+use just_parts::layers::Name;
 use std::alloc::{AllocError, Global};
 use std::collections::HashMap;
 
@@ -24,4 +26,30 @@ pub fn index_names<'src>(
         }
     }
     Ok(Ok(index))
+}
+
+// The texts of names.
+fn texts_of<'src>(
+    alloc: Global,
+    names: &[Name<'src>],
+) -> Result<Vec<BorrowedText<'src>>, AllocError>
+    ensures { IfOk result (λ texts. texts.items ≡ texts_of_names names.now) }
+{
+    let mut texts = Vec::new(alloc);
+    for name in names {
+        texts.push(BorrowedText::new(name.lexeme()))?;
+    }
+    Ok(texts)
+}
+
+/// The first place whose name stood before, after the place where it stood last; none where all names are different.
+pub fn repeated_name(alloc: Global, names: &[Name]) -> Result<Option<(usize, usize)>, AllocError>
+    ensures repeated { IfOk result (λ places. IfSome places (λ two. Repeats (texts_of_names names.now) two.0 two.1)) }
+    ensures different { IfOk result (λ places. IfNone places (AreDifferent (texts_of_names names.now))) }
+{
+    let texts = texts_of(alloc, names)?;
+    match index_names(alloc, texts.as_slice())? {
+        Ok(_) => Ok(None),
+        Err(places) => Ok(Some(places)),
+    }
 }

@@ -35,6 +35,10 @@ fn add_broken(text: &mut String, kind: &CompileErrorKind) -> Result<(), AllocErr
         CompileErrorKind::DuplicateUnexport { variable } => {
             write!(text, ": variable {variable}")
         }
+        CompileErrorKind::DuplicateFunctionParameter {
+            function,
+            parameter,
+        } => write!(text, ": function {function}, parameter {parameter}"),
         CompileErrorKind::Redefinition {
             first_type,
             second_type,

@@ -1,5 +1,5 @@
 -- Two readings that agree on what is reached have the same modules.
-use Rattle.std.proofs.Common.{◌≡◌, ℕ, Bool, true, false, List, [], ◌∷◌, ◌++◌, map, Option, Some, inl, inr, refl, sym, ap, subst, ◌∙◌}
+use Rattle.std.proofs.Common.{◌≡◌, Bool, true, false, List, [], ◌∷◌, ◌++◌, map, Option, Some, inl, inr, refl, sym, ap, subst, ◌∙◌}
 use Rattle.std.specs.Prelude.{flat_map}
 use Rattle.std.specs.List.{Contains}
 use Rattle.std.specs.Option.{option_map}
@@ -8,12 +8,12 @@ use Rattle.just_graph.proofs.Ended.{one_list}
 use Rattle.just_graph.proofs.Mapped.{every_level, levels_mapped}
 use Rattle.just_graph.proofs.Members.{In, contained, from_flat, from_map, in_map, is_in}
 use Rattle.just_parts.specs.Asts.{AstKey, same_ast_key}
-use Rattle.just_errors.specs.Causes.{Cause, Keeps}
+use Rattle.just_errors.specs.Causes.{Keeps}
 use Rattle.just_parts.specs.Items.{Ast, Item}
 use Rattle.just_parts.specs.Bare.{bare_item}
 use Rattle.just_joining.specs.Analyzable.{AreAnalyzable}
 use Rattle.just_joining.specs.Files.{all_led, led, led_by}
-use Rattle.just_modules.specs.Groups.{Breaks, Group, KeepsGroups, KeepsModules, NamesModules, in_module}
+use Rattle.just_modules.specs.Groups.{Breaks, KeepsModules, NamesModules, in_module}
 use Rattle.just_modules.specs.Modules.{AreModules, Empty, Forest, HasModule, Heading, IsHeading, IsModule, Module, Tree, a_module, after_it, first, heading_of, headings_in, in_it, no_module, of_module, of_root}
 use Rattle.just_joining.specs.Reading.{Reading, Submodule, declared, imported, imports_of, items_in, located_ast, reading_of, submodules_of}
 use Rattle.just_joining.proofs.FilePlaces.{keys_flat, led_counted}

@@ -14,7 +14,6 @@ use Rattle.just_names.specs.Modulepath.{Text}
 use Rattle.just_parts.specs.declared.dependency.Dependency.{Dependency}
 use Rattle.just_parts.specs.Items.{Ast, Item}
 use Rattle.just_parts.specs.declared.layers.ast.UnresolvedDependency.{UnresolvedDependency}
-use Rattle.just_names.specs.declared.name.Name.{Name}
 use Rattle.just_parts.specs.declared.recipe.Recipe.{Recipe}
 use Rattle.just_invoke.specs.declared.justfile.Justfile.{Justfile, out-Justfile, out-roll-Justfile}
 use Rattle.just_modules.specs.Analysis.{AreKeysOf, HasKeysOf, IsDefaultOf, IsOf}
@@ -23,7 +22,7 @@ use Rattle.just_joining.specs.Joined.{IsJoined}
 use Rattle.just_modules.specs.Justfiles.{AreCompiled, Built, IsCompiled, by_name, contents_in, labelled_as, none, one, recipes_in, with_name, with_names}
 use Rattle.just_modules.specs.Modules.{Empty, Forest, Heading, Module, Tree, heading_of, headings_in}
 use Rattle.just_joining.specs.Contents.{Contents}
-use Rattle.just_joining.specs.Named.{contents_from, name_by, names_from, names_in, recipes_by, recipes_from, unexported_by}
+use Rattle.just_joining.specs.Named.{contents_from, function_by, name_by, said_from, said_in, recipes_by, recipes_from, unexported_by}
 use Rattle.just_joining.specs.Recipes.{recipes_of}
 use Rattle.just_joining.specs.Reading.{Submodule, items_in}
 use Rattle.just_joining.specs.Resolved.{AreResolved}
@@ -98,17 +97,17 @@ module _ (enabled : Item → Bool) (entries : List (AstKey × Ast)) (d : AstKey)
   recipes_same [] inside = refl
   recipes_same (q ∷ xs) inside = λ i. recipes_here q (inside q (inl refl)) i ++ recipes_same xs (λ r h. inside r (inr h)) i
 
-  names_here : (by : Item → List Name) (q : ℕ) → q < n → names_in by enabled (slice_get (asts_in files) q) ≡ names_in by enabled (asts (key_at q))
-  names_here by q h =
+  said_here : {A : Type 0} (by : Item → List A) (q : ℕ) → q < n → said_in by enabled (slice_get (asts_in files) q) ≡ said_in by enabled (asts (key_at q))
+  said_here by q h =
       let s = says enabled entries d files placed rows are paths q h in
-      ap (names_in by enabled) (s.listed ∙ sym s.said)
+      ap (said_in by enabled) (s.listed ∙ sym s.said)
 
-  names_at : (by : Item → List Name) (xs : List ℕ) → ((q : ℕ) → In q xs → q < n) → names_from by enabled (asts_in files) xs ≡ flat_map (λ k. names_in by enabled (asts k)) (map key_at xs)
-  names_at by [] inside = refl
-  names_at by (q ∷ xs) inside = λ i. names_here by q (inside q (inl refl)) i ++ names_at by xs (λ r h. inside r (inr h)) i
+  said_at : {A : Type 0} (by : Item → List A) (xs : List ℕ) → ((q : ℕ) → In q xs → q < n) → said_from by enabled (asts_in files) xs ≡ flat_map (λ k. said_in by enabled (asts k)) (map key_at xs)
+  said_at by [] inside = refl
+  said_at by (q ∷ xs) inside = λ i. said_here by q (inside q (inl refl)) i ++ said_at by xs (λ r h. inside r (inr h)) i
 
   contents_same : (xs : List ℕ) → ((q : ℕ) → In q xs → q < n) → contents_from enabled (asts_in files) xs ≡ contents_in enabled asts (map key_at xs)
-  contents_same xs inside = λ i. record { recipes = recipes_same xs inside i; modules = names_at name_by xs inside i; unexports = names_at unexported_by xs inside i }
+  contents_same xs inside = λ i. record { recipes = recipes_same xs inside i; functions = said_at function_by xs inside i; modules = said_at name_by xs inside i; unexports = said_at unexported_by xs inside i }
 
   module _ (k : ℕ) (l : k < length order) (h : Heading) (e : h.key ≡ key_at (slice_index order k)) where
     abbrev p : ℕ

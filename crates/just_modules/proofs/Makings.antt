@@ -14,9 +14,7 @@ use Rattle.just_invoke.specs.declared.justfile.Justfile.{Justfile, out-Justfile}
 use Rattle.just_invoke.specs.declared.justfile.RecipeKey.{RecipeKey}
 use Rattle.just_modules.specs.Analysis.{AreKeysOf, HasKeysOf, IsDefaultOf, IsOf}
 use Rattle.just_joining.specs.Contents.{Contents}
-use Rattle.just_joining.specs.Resolved.{AreMadeOf, Resolving, AreResolved, unresolved_numbers}
-use Rattle.just_joining.specs.Rows.{IsOrderOf}
-use Rattle.just_joining.proofs.Resolving.{all_resolved}
+use Rattle.just_joining.specs.Resolved.{AreMadeOf, AreResolved, unresolved_numbers}
 
 -- recipes that are resolved have numbers of the source
 pub made_numbers : (rs : List (Recipe UnresolvedDependency)) (path : Modulepath) (order : List ℕ) (made : List (Recipe Dependency)) → AreMadeOf rs path order made → (n : ℕ) → In n (numbers made) → In n (unresolved_numbers rs)

@@ -6,13 +6,13 @@ use Rattle.std.specs.Map.{keys_of, lookup}
 use Rattle.std.specs.Option.{option_map, unwrap_or}
 use Rattle.std.proofs.lemmas.Bool.{cases_lt}
 use Rattle.std.proofs.lemmas.Grind.{flat_map-append}
-use Rattle.std.proofs.lemmas.List.{map-append}
+use Rattle.std.proofs.lemmas.List.{map-append, map-id}
 use Rattle.just_graph.specs.Building.{targets_past}
 use Rattle.just_graph.specs.Graph.{HasEdge, targets}
 use Rattle.just_graph.specs.Steps.{Reached, from_member, from_start}
 use Rattle.just_graph.proofs.Members.{In, contained, from_flat, is_in}
 use Rattle.just_parts.specs.Asts.{AstKey, same_ast_key}
-use Rattle.just_parts.specs.Bare.{bare_item}
+use Rattle.just_parts.specs.Bare.{bare_function_parameter, bare_item}
 use Rattle.just_parts.specs.Located.{located_item}
 use Rattle.just_parts.specs.Items.{Ast, Item}
 use Rattle.just_parts.specs.declared.layers.ast.Item.TheVariants as item
@@ -20,9 +20,11 @@ use Rattle.just_parts.specs.declared.layers.ast.UnresolvedDependency.{Unresolved
 use Rattle.just_names.specs.declared.name.Name.{Name}
 use Rattle.just_names.specs.declared.modulepath.Modulepath.{Modulepath}
 use Rattle.just_parts.specs.declared.recipe.Recipe.{Recipe}
+use Rattle.just_records.specs.declared.function_definition.FunctionParameter.{FunctionParameter}
+use Rattle.just_joining.specs.Contents.{signature, signatures}
 use Rattle.just_joining.specs.Files.{ArePlaced, AreRows, asts_in}
 use Rattle.just_joining.specs.Joined.{AreJoined, IsJoined}
-use Rattle.just_joining.specs.Named.{name_by, names_from, names_in, names_said, recipes_by, recipes_from, unexported_by}
+use Rattle.just_joining.specs.Named.{function_by, name_by, said, said_from, said_in, recipes_by, recipes_from, unexported_by}
 use Rattle.just_joining.specs.Recipes.{recipes_of, recipes_said}
 use Rattle.just_joining.specs.Reading.{Reading, Submodule, declared, enabled_items, items_in, located_ast, reading_of, submodules_of}
 use Rattle.just_joining.specs.declared.files.Files.{Files}
@@ -49,24 +51,34 @@ module _ (enabled : Item → Bool) (path : Modulepath) where
   one_name true i items = map-append name_of (declared path (located_item i)) (flat_map (declared path) (map located_item (enabled_items enabled items))) ∙ ap (λ ns. ns ++ map name_of (flat_map (declared path) (map located_item (enabled_items enabled items)))) (name_located path i)
   one_name false i items = refl
 
-  names_counted : (items : List Item) → map name_of (flat_map (declared path) (map located_item (enabled_items enabled items))) ≡ names_said name_by enabled items
+  names_counted : (items : List Item) → map name_of (flat_map (declared path) (map located_item (enabled_items enabled items))) ≡ said name_by enabled items
   names_counted [] = refl
   names_counted (i ∷ items) = one_name (enabled (bare_item i)) i items ∙ ap (λ ns. cond (enabled (bare_item i)) (name_by i) [] ++ ns) (names_counted items)
 
--- what a located item unexports
+-- what is read of a located item
 unexport_located : (i : Item) → unexported_by (located_item i) ≡ unexported_by i
 unexport_located (item.Unexport name) = refl
 unexport_located _ = refl
 
-module _ (enabled : Item → Bool) where
-  one_unexport : (b : Bool) (i : Item) (items : List Item)
-      → flat_map unexported_by (map located_item (cond b (i ∷ enabled_items enabled items) (enabled_items enabled items))) ≡ cond b (unexported_by i) [] ++ flat_map unexported_by (map located_item (enabled_items enabled items))
-  one_unexport true i items = ap (λ ns. ns ++ flat_map unexported_by (map located_item (enabled_items enabled items))) (unexport_located i)
-  one_unexport false i items = refl
+parameters_bare : (ps : List FunctionParameter) → map (λ (p : FunctionParameter). p.name) (map bare_function_parameter ps) ≡ map (λ (p : FunctionParameter). p.name) ps
+parameters_bare [] = refl
+parameters_bare (p ∷ ps) = ap (λ (ns : List Name). p.name ∷ ns) (parameters_bare ps)
 
-  unexports_counted : (items : List Item) → flat_map unexported_by (map located_item (enabled_items enabled items)) ≡ names_said unexported_by enabled items
-  unexports_counted [] = refl
-  unexports_counted (i ∷ items) = one_unexport (enabled (bare_item i)) i items ∙ ap (λ ns. cond (enabled (bare_item i)) (unexported_by i) [] ++ ns) (unexports_counted items)
+function_located : (i : Item) → signatures (function_by (located_item i)) ≡ signatures (function_by i)
+function_located (item.Function f) = λ i. record { name = f.name; parameters = parameters_bare f.parameters i } ∷ []
+function_located _ = refl
+
+module _ {A B : Type 0} (by : Item → List A) (f : A → B) (located : (i : Item) → map f (by (located_item i)) ≡ map f (by i)) (enabled : Item → Bool) where
+  one_said : (b : Bool) (i : Item) (items : List Item)
+      → map f (flat_map by (map located_item (cond b (i ∷ enabled_items enabled items) (enabled_items enabled items)))) ≡ map f (cond b (by i) []) ++ map f (flat_map by (map located_item (enabled_items enabled items)))
+  one_said true i items = map-append f (by (located_item i)) (flat_map by (map located_item (enabled_items enabled items))) ∙ ap (λ ys. ys ++ map f (flat_map by (map located_item (enabled_items enabled items)))) (located i)
+  one_said false i items = refl
+
+  said_counted : (items : List Item) → map f (flat_map by (map located_item (enabled_items enabled items))) ≡ map f (said by enabled items)
+  said_counted [] = refl
+  said_counted (i ∷ items) =
+      one_said (enabled (bare_item i)) i items ∙ ap (λ ys. map f (cond (enabled (bare_item i)) (by i) []) ++ ys) (said_counted items)
+      ∙ sym (map-append f (cond (enabled (bare_item i)) (by i) []) (said by enabled items))
 
 -- the recipes of located items
 module _ (enabled : Item → Bool) where
@@ -101,14 +113,14 @@ module _ (enabled : Item → Bool) (entries : List (AstKey × Ast)) (d : AstKey)
   abbrev key_at : ℕ → AstKey
   key_at p = get_or (keys_of entries) p d
 
-  names_here : (q : ℕ) → q < n → names_in name_by enabled (slice_get (asts_in files) q) ≡ map name_of (submodules_of R (key_at q))
+  names_here : (q : ℕ) → q < n → said_in name_by enabled (slice_get (asts_in files) q) ≡ map name_of (submodules_of R (key_at q))
   names_here q h =
       let s = says enabled entries d files placed rows are paths q h in
-      ap (names_in name_by enabled) s.listed ∙ sym (names_counted enabled (key_at q).0 s.ast.items)
+      ap (said_in name_by enabled) s.listed ∙ sym (names_counted enabled (key_at q).0 s.ast.items)
       ∙ ap (λ o. map name_of (flat_map (declared (key_at q).0) (items_in (option_map (located_ast enabled) o)))) (sym s.said)
 
   -- the names of the modules in a module
-  pub names_are : (xs : List ℕ) → ((q : ℕ) → In q xs → q < n) → names_from name_by enabled (asts_in files) xs ≡ map name_of (flat_map (submodules_of R) (map key_at xs))
+  pub names_are : (xs : List ℕ) → ((q : ℕ) → In q xs → q < n) → said_from name_by enabled (asts_in files) xs ≡ map name_of (flat_map (submodules_of R) (map key_at xs))
   names_are [] inside = refl
   names_are (q ∷ xs) inside =
       (λ i. names_here q (inside q (inl refl)) i ++ names_are xs (λ r h. inside r (inr h)) i) ∙ sym (map-append name_of (submodules_of R (key_at q)) (flat_map (submodules_of R) (map key_at xs)))
@@ -129,18 +141,31 @@ module _ (enabled : Item → Bool) (entries : List (AstKey × Ast)) (d : AstKey)
       ∙ (λ i. recipes_here q (inside q (inl refl)) i ++ recipes_are xs (λ r h. inside r (inr h)) i)
       ∙ sym (ap outlines_of (said_append enabled (unwrap_or (R (key_at q)) no_ast).items rest) ∙ map-append outline_of (recipes_said (unwrap_or (R (key_at q)) no_ast).items) (recipes_said rest))
 
-  unexports_here : (q : ℕ) → q < n → names_in unexported_by enabled (slice_get (asts_in files) q) ≡ flat_map unexported_by (unwrap_or (R (key_at q)) no_ast).items
-  unexports_here q h =
-      let s = says enabled entries d files placed rows are paths q h in
-      ap (names_in unexported_by enabled) s.listed ∙ sym (unexports_counted enabled s.ast.items)
-      ∙ ap (λ o. flat_map unexported_by (unwrap_or (option_map (located_ast enabled) o) no_ast).items) (sym s.said)
+  module _ {A B : Type 0} (by : Item → List A) (f : A → B) (located : (i : Item) → map f (by (located_item i)) ≡ map f (by i)) where
+    said_here : (q : ℕ) → q < n → map f (said_in by enabled (slice_get (asts_in files) q)) ≡ map f (flat_map by (unwrap_or (R (key_at q)) no_ast).items)
+    said_here q h =
+        let s = says enabled entries d files placed rows are paths q h in
+        ap (λ o. map f (said_in by enabled o)) s.listed ∙ sym (said_counted by f located enabled s.ast.items)
+        ∙ ap (λ o. map f (flat_map by (unwrap_or (option_map (located_ast enabled) o) no_ast).items)) (sym s.said)
+
+    -- what the files of a module say
+    said_are : (xs : List ℕ) → ((q : ℕ) → In q xs → q < n) → map f (said_from by enabled (asts_in files) xs) ≡ map f (flat_map by (items_of (map (λ k. unwrap_or (R k) no_ast) (map key_at xs))))
+    said_are [] inside = refl
+    said_are (q ∷ xs) inside =
+        let rest = items_of (map (λ k. unwrap_or (R k) no_ast) (map key_at xs)) in
+        map-append f (said_in by enabled (slice_get (asts_in files) q)) (said_from by enabled (asts_in files) xs)
+        ∙ (λ i. said_here q (inside q (inl refl)) i ++ said_are xs (λ r h. inside r (inr h)) i)
+        ∙ sym (ap (map f) (flat_map-append by (unwrap_or (R (key_at q)) no_ast).items rest) ∙ map-append f (flat_map by (unwrap_or (R (key_at q)) no_ast).items) (flat_map by rest))
 
   -- what a module unexports
-  pub unexports_are : (xs : List ℕ) → ((q : ℕ) → In q xs → q < n) → names_from unexported_by enabled (asts_in files) xs ≡ flat_map unexported_by (items_of (map (λ k. unwrap_or (R k) no_ast) (map key_at xs)))
-  unexports_are [] inside = refl
-  unexports_are (q ∷ xs) inside =
-      (λ i. unexports_here q (inside q (inl refl)) i ++ unexports_are xs (λ r h. inside r (inr h)) i)
-      ∙ sym (flat_map-append unexported_by (unwrap_or (R (key_at q)) no_ast).items (items_of (map (λ k. unwrap_or (R k) no_ast) (map key_at xs))))
+  pub unexports_are : (xs : List ℕ) → ((q : ℕ) → In q xs → q < n) → said_from unexported_by enabled (asts_in files) xs ≡ flat_map unexported_by (items_of (map (λ k. unwrap_or (R k) no_ast) (map key_at xs)))
+  unexports_are xs inside =
+      sym (map-id (said_from unexported_by enabled (asts_in files) xs)) ∙ said_are unexported_by (λ n. n) (λ i. ap (map (λ n. n)) (unexport_located i)) xs inside
+      ∙ map-id (flat_map unexported_by (items_of (map (λ k. unwrap_or (R k) no_ast) (map key_at xs))))
+
+  -- the signatures of its functions
+  pub functions_are : (xs : List ℕ) → ((q : ℕ) → In q xs → q < n) → signatures (said_from function_by enabled (asts_in files) xs) ≡ signatures (flat_map function_by (items_of (map (λ k. unwrap_or (R k) no_ast) (map key_at xs))))
+  functions_are xs inside = said_are function_by signature function_located xs inside
 
   module _ (aj : AreJoined rows n joined) where
     -- what has modules in it is joined

@@ -2,24 +2,27 @@
 use Rattle.std.specs.Prelude.{◌≢◌, ◌<◌, ℕ, [], ◌∷◌}
 use Rattle.just_errors.specs.Causes.{Cause, Keeps}
 use Rattle.just_modules.specs.Modules.{Module, Heading, Forest, Empty, Tree, AreModules, HasModule, IsHeading, contents_of}
-use Rattle.just_joining.specs.Contents.{defined_in}
+use Rattle.just_joining.specs.Contents.{defined_in, signatures}
 use Rattle.just_joining.specs.Reading.{Reading}
-use Rattle.just_joining.specs.Rules.{Headers, Bodies, Dependencies}
+use Rattle.just_joining.specs.Rules.{Headers, Names, Bodies, Dependencies}
 
 -- The groups of rules, in the order in which they are read.
 pub data Group : Type 0 where
   OfHeaders : Group
+  OfNames : Group
   OfBodies : Group
   OfDependencies : Group
 
 abbrev pub rank : Group → ℕ
 rank OfHeaders = 0
-rank OfBodies = 1
-rank OfDependencies = 2
+rank OfNames = 1
+rank OfBodies = 2
+rank OfDependencies = 3
 
 -- what a module breaks of a group
 abbrev pub Breaks : Group → Module → Cause → Type 0
 Breaks OfHeaders m = Headers (contents_of m)
+Breaks OfNames m = Names (signatures (contents_of m).functions)
 Breaks OfBodies m = Bodies (defined_in (contents_of m))
 Breaks OfDependencies m = Dependencies (contents_of m).recipes
 

@@ -16,7 +16,7 @@ use Rattle.just_modules.specs.Analysis.{IsOf}
 use Rattle.just_modules.specs.Modules.{Module, Forest, Empty, Tree, label_of}
 use Rattle.just_modules.specs.declared.inner.Label.{Label}
 use Rattle.just_joining.specs.Contents.{Contents}
-use Rattle.just_joining.specs.Named.{name_by, names_in, unexported_by}
+use Rattle.just_joining.specs.Named.{function_by, name_by, said_in, unexported_by}
 use Rattle.just_joining.specs.Recipes.{recipes_of}
 use Rattle.just_joining.specs.Reading.{items_in}
 use Rattle.just_joining.specs.Resolved.{AreResolved}
@@ -29,8 +29,9 @@ recipes_in enabled asts files = flat_map (λ k. recipes_of enabled (items_in (as
 abbrev pub contents_in : (Item → Bool) → (AstKey → Option Ast) → List AstKey → Contents
 contents_in enabled asts files = record {
   recipes = recipes_in enabled asts files;
-  modules = flat_map (λ k. names_in name_by enabled (asts k)) files;
-  unexports = flat_map (λ k. names_in unexported_by enabled (asts k)) files;
+  functions = flat_map (λ k. said_in function_by enabled (asts k)) files;
+  modules = flat_map (λ k. said_in name_by enabled (asts k)) files;
+  unexports = flat_map (λ k. said_in unexported_by enabled (asts k)) files;
 }
 
 -- modules under their names, one after another

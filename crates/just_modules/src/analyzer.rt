@@ -13,7 +13,7 @@ ghost use Rattle.just_modules.specs.Analyzed.{Analyzes, NamesAnalyzed};
 ghost use Rattle.just_joining.specs.Definitions.{contents_in, recipes_in};
 ghost use Rattle.just_joining.specs.Files.{asts_in};
 ghost use Rattle.just_modules.specs.Analysis.{IsOfFiles};
-ghost use Rattle.just_joining.specs.Named.{AreAddedAt, BreaksContents, KeepsContents, contents_from, name_by, names_from, recipes_from};
+ghost use Rattle.just_joining.specs.Named.{AreAddedAt, BreaksContents, KeepsContents, contents_from, name_by, said_from, recipes_from};
 ghost use Rattle.just_joining.specs.Contents.{texts_of_names};
 ghost use Rattle.just_joining.specs.Index.{AreDifferent};
 ghost use Rattle.just_joining.specs.Recipes.{names_of};
@@ -26,9 +26,10 @@ use just_data::{Sequence, Shared, Text};
 use just_invoke::{Justfile, Recipes};
 use just_joining::definitions::Definitions;
 use just_joining::files::{Files, ast_at, file_rows, place_files, place_of};
+use just_joining::functions::check_functions;
 use just_joining::headers::{check_headers, index_recipes};
 use just_joining::joined::arrange;
-use just_joining::module_names::{Named, check_module_names, names_at};
+use just_joining::module_names::check_module_names;
 use just_joining::recipe_resolver::{order_recipes, resolve_in_order};
 use just_names::Modulepath;
 use just_parts::layers::{Ast, Config, Error, Evaluation, Name, Number, StringLiteral, Syntax};
@@ -46,8 +47,6 @@ fn definitions_at<'b, 'a, 'src, S: Syntax>(
     ensures { IfOk result (λ definitions. contents_in definitions ≡ contents_from (S.answers syntax.now).enabled (asts_in files.now) places.now) }
 {
     let mut definitions = Definitions::new(alloc);
-    definitions.modules = names_at(alloc, files, syntax, places, Named::Module)?;
-    definitions.unexports = names_at(alloc, files, syntax, places, Named::Unexport)?;
     for place in places {
         definitions.add(ast_at(files, *place).items.as_slice(), syntax)?;
     }
@@ -70,6 +69,7 @@ fn resolve_recipes<'src, 'a>(
     ensures named { IfErr result (Reports (BreaksContents (contents_in definitions.now))) }
 {
     check_headers(alloc, definitions)?;
+    check_functions(alloc, definitions)?;
     let index = index_recipes(alloc, definitions)?;
     let (rows, order) = order_recipes(alloc, definitions, &index)?;
     let made = resolve_in_order(alloc, definitions, rows.as_slice(), order.as_slice(), path)?;
@@ -92,7 +92,7 @@ pub fn analyze_module<'a, 'src, S: Syntax>(
     requires once { IsOnce (unresolved_numbers (recipes_from (S.answers syntax.now).enabled (asts_in files.now) places.now)) }
     requires priors { All HasPriors (recipes_from (S.answers syntax.now).enabled (asts_in files.now) places.now) }
     requires apart { AreNew recipes.old (recipes_from (S.answers syntax.now).enabled (asts_in files.now) places.now) }
-    requires modules { AreDifferent (texts_of_names (names_from name_by (S.answers syntax.now).enabled (asts_in files.now) places.now)) }
+    requires modules { AreDifferent (texts_of_names (said_from name_by (S.answers syntax.now).enabled (asts_in files.now) places.now)) }
     ensures kept { IfOk result (λ _. KeepsContents (contents_from (S.answers syntax.now).enabled (asts_in files.now) places.now)) }
     ensures added { IfOk result (λ _. AreAddedAt (S.answers syntax.now).enabled files.now own places.now recipes.old recipes.new) }
     ensures fields { IfOk result (IsOfFiles (S.answers syntax.now).enabled files.now own places.now surroundings.entry.loaded surroundings.entry.source) }

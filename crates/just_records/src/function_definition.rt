@@ -1,6 +1,7 @@
 use crate::expression::Expression;
 use just_data::{Exact, Sequence};
 use just_names::{Name, Number};
+use just_table::Keyed;
 
 /// A parameter of a function.
 #[derive(Clone, Debug, PartialEq, Eq, Drop)]
@@ -32,4 +33,14 @@ impl<'src> Exact for FunctionDefinition<'src> {
     ghost use Rattle.std.proofs.Common.{rules};
 
     ghost exact = { Prim.search rules };
+}
+
+impl<'src> Keyed<'src> for FunctionDefinition<'src> {
+    ghost use Rattle.just_names.specs.Token.{lexeme};
+
+    ghost key_of = { λ function. lexeme function.name.token };
+
+    fn key(&self) -> &'src str {
+        self.name.lexeme()
+    }
 }

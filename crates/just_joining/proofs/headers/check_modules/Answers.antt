@@ -1,4 +1,4 @@
-use Rattle.std.proofs.Common.{◌<◌, ◌∙◌, List, ℕ, arith, length, refl, subst}
+use Rattle.std.proofs.Common.{◌<◌, arith, length, refl}
 use Rattle.std.proofs.lemmas.List.{length-map}
 use Rattle.std.proofs.lemmas.Option.{slice_get_read}
 use Rattle.just_names.specs.Name.{text_of_name}
@@ -7,12 +7,10 @@ use Rattle.just_joining.specs.Index.{Repeats}
 use Rattle.just_joining.proofs.Defining.{modules_redefined}
 use Rattle.just_joining.proofs.headers.check_modules.Goals as goal
 
-pub returns-clause-named : goal.returns-clause-named
-returns-clause-named c =
-    let read : Repeats c.as_slice.result.now c.in-Err.first c.in-Err.second = rw c.in-Err.is at c.in_ok-index_names.ensures.repeated in
-    let repeats : Repeats (texts_of_names c.args.names.now) c.in-Err.first c.in-Err.second =
-    subst (λ (ns : List (List ℕ)). Repeats ns c.in-Err.first c.in-Err.second) (c.as_slice.ensures.value ∙ c.in_ok-texts.ensures) read in
-    let inside : c.in-Err.second < length c.args.names.now = omega (arith, repeats.within, length-map c.args.names.now text_of_name) in
-    modules_redefined (of_names c.args.names.now) c.in-Err.first c.in-Err.second c.index-names-first.result c.index-names-second.result c.redefinition.result.token c.redefinition.result.kind repeats
-    (slice_get_read c.args.names.now (length c.args.names.now) c.in-Err.first c.index-names-first.result refl (omega (arith, repeats.apart, inside)) c.index-names-first.is)
-    (slice_get_read c.args.names.now (length c.args.names.now) c.in-Err.second c.index-names-second.result refl inside c.index-names-second.is) c.redefinition.ensures
+pub returns-in-Some-clause-named : goal.returns-in-Some-clause-named
+returns-in-Some-clause-named c =
+    let repeats : Repeats (texts_of_names c.args.names.now) c.in-Some.first c.in-Some.second = rw c.in-Some.is at c.in_ok-repeated_name.ensures.repeated in
+    let inside : c.in-Some.second < length c.args.names.now = omega (arith, repeats.within, length-map c.args.names.now text_of_name) in
+    modules_redefined (of_names c.args.names.now) c.in-Some.first c.in-Some.second c.index-names-first.result c.index-names-second.result c.redefinition.result.token c.redefinition.result.kind repeats
+    (slice_get_read c.args.names.now (length c.args.names.now) c.in-Some.first c.index-names-first.result refl (omega (arith, repeats.apart, inside)) c.index-names-first.is)
+    (slice_get_read c.args.names.now (length c.args.names.now) c.in-Some.second c.index-names-second.result refl inside c.index-names-second.is) c.redefinition.ensures

@@ -1,16 +1,23 @@
-use Rattle.std.proofs.Common.{◌≡◌, ◌<◌, ◌∙◌, List, ℕ, [], ap, arith, get_or, length, subst}
-use Rattle.std.proofs.lemmas.List.{get_or_default}
+use Rattle.std.proofs.Common.{◌≡◌, ◌<◌, ◌∙◌, List, Some, arith, length, refl, subst}
+use Rattle.std.specs.List.{slice_get}
+use Rattle.std.proofs.lemmas.List.{length-map}
+use Rattle.std.proofs.lemmas.Option.{slice_get_read}
+use Rattle.just_names.specs.Name.{text_of_name}
+use Rattle.just_names.specs.declared.name.Name.{Name}
 use Rattle.just_joining.specs.Contents.{texts_of_names}
 use Rattle.just_joining.specs.Definitions.{contents_in}
 use Rattle.just_joining.specs.Index.{Repeats}
 use Rattle.just_joining.proofs.Defining.{unexported_twice}
 use Rattle.just_joining.proofs.headers.check_unexports.Goals as goal
 
-pub returns-clause-named : goal.returns-clause-named
-returns-clause-named c =
-    let second = c.in-Err.second in
-    let read : Repeats c.as_slice.result.now c.in-Err.field-0-0 second = rw c.in-Err.is at c.in_ok-index_names.ensures.repeated in
-    let texts : c.in_ok-texts.texts.items ≡ texts_of_names c.args.definitions.now.unexports.items = c.in_ok-texts.ensures ∙ ap texts_of_names c.as_slice-names.ensures.value in
-    let within : second < length c.in_ok-texts.texts.items = omega (arith, read.within, ap length c.as_slice.ensures.value) in
-    unexported_twice (contents_in c.args.definitions.now) c.in-Err.field-0-0 second c.copied-in-Err.result (subst (λ (ns : List (List ℕ)). Repeats ns c.in-Err.field-0-0 second) (c.as_slice.ensures.value ∙ texts) read)
-    (c.copied-in-Err.ensures ∙ (c.index.ensures ∙ (get_or_default c.in_ok-texts.texts.items second c.index.result.now [] within ∙ ap (λ (ns : List (List ℕ)). get_or ns second []) texts)))
+pub returns-in-Some-clause-named : goal.returns-in-Some-clause-named
+returns-in-Some-clause-named c =
+    let lent = c.as_slice-names.result.now in
+    let second = c.in-Some.second in
+    let told = c.index-names-second-in-Some.result in
+    let repeats : Repeats (texts_of_names lent) c.in-Some.field-0-0 second = rw c.in-Some.is at c.in_ok-repeated_name.ensures.repeated in
+    let inside : second < length lent = omega (arith, repeats.within, length-map lent text_of_name) in
+    let at : slice_get lent second ≡ Some told = slice_get_read lent (length lent) second told refl inside c.index-names-second-in-Some.is in
+    unexported_twice (contents_in c.args.definitions.now) c.in-Some.field-0-0 second told c.new.result
+    (subst (λ (ns : List Name). Repeats (texts_of_names ns) c.in-Some.field-0-0 second) c.as_slice-names.ensures.value repeats)
+    (subst (λ (ns : List Name). slice_get ns second ≡ Some told) c.as_slice-names.ensures.value at) (c.new.ensures ∙ c.lexeme.ensures)

@@ -9,7 +9,7 @@ use Rattle.just_errors.proofs.Lifts.{reports_by}
 use Rattle.just_joining.specs.Contents.{of_names, texts_of_names}
 use Rattle.just_joining.specs.Files.{asts_in}
 use Rattle.just_joining.specs.Index.{AreDifferent}
-use Rattle.just_joining.specs.Named.{name_by, names_from}
+use Rattle.just_joining.specs.Named.{name_by, said_from}
 use Rattle.just_joining.specs.Rules.{Headers}
 use Rattle.just_joining.specs.OfPlaces.{RepeatsNames, names_of_place}
 use Rattle.just_joining.proofs.Joining.{row_lent}
@@ -26,7 +26,7 @@ returns-in_err-check_modules-clause-named g c =
     let enabled = (g.S.Syntax.answers c.args.syntax.now).enabled in
     let inside : slice_index c.args.order.now c.loop-place.place-index < length c.args.joined.now.files.items = c.requires.places c.loop-place.place-index 0 (omega arith) in
     let row = row_lent c.args.joined.now.files.items (slice_index c.args.order.now c.loop-place.place-index) c.index.result.now c.as_slice-row.result.now inside c.index.ensures c.as_slice-row.ensures.value in
-    let names = c.as_slice.ensures.value ∙ c.in_ok-names.ensures ∙ ap (names_from name_by enabled (asts_in c.args.files.now)) row in
+    let names = c.as_slice.ensures.value ∙ c.in_ok-names.ensures ∙ ap (said_from name_by enabled (asts_in c.args.files.now)) row in
     IfErr-weaker c.from_residual-in_err-check_modules.result (Reports (Headers (of_names c.as_slice.result.now))) _
     (λ e h. reports_by (Headers (of_names (names_of_place enabled c.args.files.now c.args.joined.now (slice_index c.args.order.now c.loop-place.place-index)))) (RepeatsNames enabled c.args.files.now c.args.joined.now c.args.order.now)
     (λ x b. record { at = c.loop-place.place-index; there = omega arith; broken = b }) e (subst (λ (ns : List Name). Reports (Headers (of_names ns)) e) names h))
@@ -37,7 +37,7 @@ loop-place-preserved g c = λ k l.
     let enabled = (g.S.Syntax.answers c.args.syntax.now).enabled in
     let inside : slice_index c.args.order.now c.loop-place.place-index < length c.args.joined.now.files.items = c.requires.places c.loop-place.place-index 0 (omega arith) in
     let row = row_lent c.args.joined.now.files.items (slice_index c.args.order.now c.loop-place.place-index) c.index.result.now c.as_slice-row.result.now inside c.index.ensures c.as_slice-row.ensures.value in
-    let names = c.as_slice.ensures.value ∙ c.in_ok-names.ensures ∙ ap (names_from name_by enabled (asts_in c.args.files.now)) row in
+    let names = c.as_slice.ensures.value ∙ c.in_ok-names.ensures ∙ ap (said_from name_by enabled (asts_in c.args.files.now)) row in
     elim (cases_lt k c.loop-place.place-index) [
       | inl b ↦ c.loop-place.invariant k b
       | inr b ↦

@@ -1,7 +1,7 @@
 use Rattle.std.proofs.Common.{◌≡◌, ◌++◌, drop}
-use Rattle.just_joining.specs.Named.{named_by, names_said}
+use Rattle.just_joining.specs.Named.{name_by, said}
 use Rattle.just_joining.proofs.module_names.push_names.Given as goal
 
 abbrev pub invariant-loop-item : goal.invariant-loop-item
 invariant-loop-item g l =
-    l.initial.names.items ++ names_said (named_by l.named) (g.S.Syntax.answers l.syntax).enabled l.items ≡ l.names.items ++ names_said (named_by l.named) (g.S.Syntax.answers l.syntax).enabled (drop l.item-index l.items)
+    l.initial.names.items ++ said name_by (g.S.Syntax.answers l.syntax).enabled l.items ≡ l.names.items ++ said name_by (g.S.Syntax.answers l.syntax).enabled (drop l.item-index l.items)

@@ -12,7 +12,7 @@ use Rattle.just_joining.specs.Files.{asts_in, keys_in}
 use Rattle.just_modules.specs.Justfiles.{by_name, slot, with_names}
 use Rattle.just_joining.specs.Contents.{texts_of_names}
 use Rattle.just_joining.specs.Index.{AreDifferent}
-use Rattle.just_joining.specs.Named.{AreAdded, BreaksContents, KeepsContents, contents_from, name_by, names_from, recipes_by, recipes_from}
+use Rattle.just_joining.specs.Named.{AreAdded, BreaksContents, KeepsContents, contents_from, name_by, said_from, recipes_by, recipes_from}
 use Rattle.just_joining.specs.Resolved.{HasPriors, unresolved_numbers}
 use Rattle.just_modules.proofs.Makings.{is_of_same}
 use Rattle.just_joining.proofs.Joining.{row_lent, some_at}
@@ -42,7 +42,7 @@ pub take_inner-requires-clause-names : goal.take_inner-requires-clause-names
 take_inner-requires-clause-names g c =
     let row = row_lent c.args.joined.now.modules.items c.args.place c.index-2.result.now c.as_slice.result.now (omega (arith, c.requires.ready.there, c.requires.modules)) c.index-2.ensures c.as_slice.ensures.value in
     let files = row_lent c.args.joined.now.files.items c.args.place c.index.result.now c.as_slice-row.result.now (omega (arith, c.requires.ready.there, c.requires.files)) c.index.ensures c.as_slice-row.ensures.value in
-    ap length (c.as_slice-2.ensures.value ∙ c.in_ok-names.ensures ∙ ap (names_from name_by (g.S.Syntax.answers c.args.syntax.now).enabled (asts_in c.args.files.now)) files) ∙ c.requires.ready.names ∙ ap length (sym row)
+    ap length (c.as_slice-2.ensures.value ∙ c.in_ok-names.ensures ∙ ap (said_from name_by (g.S.Syntax.answers c.args.syntax.now).enabled (asts_in c.args.files.now)) files) ∙ c.requires.ready.names ∙ ap length (sym row)
 
 pub analyze_module-requires-clause-places : goal.analyze_module-requires-clause-places
 analyze_module-requires-clause-places g c =
@@ -67,7 +67,7 @@ analyze_module-requires-clause-apart g c = λ m a b.
 pub analyze_module-requires-clause-modules : goal.analyze_module-requires-clause-modules
 analyze_module-requires-clause-modules g c =
     let row = row_lent c.args.joined.now.files.items c.args.place c.index.result.now c.as_slice-row.result.now (omega (arith, c.requires.ready.there, c.requires.files)) c.index.ensures c.as_slice-row.ensures.value in
-    subst (λ (xs : List ℕ). AreDifferent (texts_of_names (names_from name_by (g.S.Syntax.answers c.args.syntax.now).enabled (asts_in c.args.files.now) xs))) (sym row) c.requires.ready.different
+    subst (λ (xs : List ℕ). AreDifferent (texts_of_names (said_from name_by (g.S.Syntax.answers c.args.syntax.now).enabled (asts_in c.args.files.now) xs))) (sym row) c.requires.ready.different
 
 pub returns-in_err-justfile-clause-named : goal.returns-in_err-justfile-clause-named
 returns-in_err-justfile-clause-named g c =
@@ -100,7 +100,7 @@ returns-clause-compiled g c =
         fields = is_of_same (contents_from enabled asts c.as_slice-row.result.now) _ (recipes_by enabled (Some own.0)) (recipes_by enabled (Some own.0)) own.0 c.in_ok-clone.field-0 c.args.loaded.now c.in_ok-from_str.field-0 c.index-3.result.now.now.1 c.in_ok-justfile.justfile
             (ap (contents_from enabled asts) row) refl c.in_ok-clone.ensures.cases (c.in_ok-from_str.ensures ∙ c.as_str.ensures) (c.in_ok-justfile.ensures.fields own.0 own.1);
         modules = c.in_ok-justfile.ensures.modules ∙ c.modules.view_is ∙ c.in_ok-modules.ensures.modules inner (e ∙ ap (map (slot c.args.slots.now.items)) (sym inner_row))
-            ∙ ap (λ names. by_name (with_names inner names)) (c.as_slice-2.ensures.value ∙ c.in_ok-names.ensures ∙ ap (names_from name_by enabled asts) row);
+            ∙ ap (λ names. by_name (with_names inner names)) (c.as_slice-2.ensures.value ∙ c.in_ok-names.ensures ∙ ap (said_from name_by enabled asts) row);
       };
       here = get_or-set_same c.take_inner.new.slots.items c.args.place (Some c.in_ok-justfile.justfile) None room;
       others = λ q ne out. get_or-set_other c.take_inner.new.slots.items c.args.place q (Some c.in_ok-justfile.justfile) None ne ∙ c.in_ok-modules.ensures.others q (λ x. out (subst (λ xs. Contains xs q) inner_row x));

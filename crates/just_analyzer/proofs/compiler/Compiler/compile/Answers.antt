@@ -1,7 +1,7 @@
 use Rattle.std.proofs.Common.{◌≡◌, ◌∙◌, false, [], None, IsSome, refl, sym, ap, subst, rules}
 use Rattle.std.specs.HashMap.{get}
 use Rattle.just_invoke.specs.Closed.{is_closed}
-use Rattle.just_parts.specs.Asts.{AstKey, root_ast_key, same_ast_key}
+use Rattle.just_parts.specs.Asts.{root_ast_key, same_ast_key}
 use Rattle.just_errors.specs.Causes.{Reports}
 use Rattle.just_names.specs.declared.modulepath.Modulepath.{Modulepath}
 use Rattle.just_errors.proofs.Lifts.{lifted}

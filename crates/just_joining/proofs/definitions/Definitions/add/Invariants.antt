@@ -1,9 +1,14 @@
 use Rattle.std.proofs.Common.{◌≡◌, ◌++◌, drop}
-use Rattle.just_joining.specs.Definitions.{recipes_in}
+use Rattle.just_joining.specs.Definitions.{functions_in, recipes_in}
+use Rattle.just_joining.specs.Named.{function_by, name_by, said, unexported_by}
 use Rattle.just_joining.specs.Recipes.{recipes_of}
 use Rattle.just_joining.proofs.definitions.Definitions.add.Given as goal
 
 abbrev pub invariant-loop-item : goal.invariant-loop-item
 invariant-loop-item g l =
-    (recipes_in l.initial.self ++ recipes_of (g.S.Syntax.answers l.syntax).enabled l.items ≡ recipes_in l.self ++ recipes_of (g.S.Syntax.answers l.syntax).enabled (drop l.item-index l.items))
-    × (l.self.modules ≡ l.initial.self.modules) × (l.self.unexports ≡ l.initial.self.unexports)
+    let enabled = (g.S.Syntax.answers l.syntax).enabled in
+    let left = drop l.item-index l.items in
+    (recipes_in l.initial.self ++ recipes_of enabled l.items ≡ recipes_in l.self ++ recipes_of enabled left)
+    × (functions_in l.initial.self ++ said function_by enabled l.items ≡ functions_in l.self ++ said function_by enabled left)
+    × (l.initial.self.modules.items ++ said name_by enabled l.items ≡ l.self.modules.items ++ said name_by enabled left)
+    × (l.initial.self.unexports.items ++ said unexported_by enabled l.items ≡ l.self.unexports.items ++ said unexported_by enabled left)
