@@ -4,7 +4,8 @@ use crate::running::run_invocations;
 use just_data::{Exact, Sequence, Shared, Text};
 use just_names::Modulepath;
 use just_parts::layers::{
-    Config, Error, Evaluation, Host, Name, Number, Output, RunError, StringLiteral, Syntax,
+    Config, Error, Evaluation, FunctionDefinition, Host, Name, Number, Output, RunError,
+    StringLiteral, Syntax,
 };
 use just_running::{Recipes, Report};
 use just_table::{Keyed, Table};
@@ -43,6 +44,8 @@ pub struct Justfile<'src> {
     pub default: Option<Number>,
     /// What a listing says of it.
     pub doc: Option<Text>,
+    /// The functions of the module, by their names.
+    pub functions: Table<'src, FunctionDefinition<'src>>,
     /// The groups that a listing has it in.
     pub groups: Sequence<StringLiteral<'src>>,
     /// The relative paths of the files, each once, in the order of loading.

@@ -58,6 +58,7 @@ module _ (cs : Contents) (own : List (Recipe UnresolvedDependency)) (ast : Ast) 
       record {
         keys = subst (λ x. AreKeysOf cs.recipes (length cs.recipes) x.recipes) (sym out) is.keys;
         held = subst (λ x. HasKeysOf cs.recipes (length cs.recipes) x.recipes) (sym out) is.held;
+        functions_are = ap (λ x. x.functions) out ∙ is.functions_are;
         unexports_are = ap (λ x. x.unexports) out ∙ is.unexports_are;
         default = subst (λ x. IsDefaultOf own x.default) (sym out) is.default;
         loaded_is = ap (λ x. x.loaded) out ∙ is.loaded_is;

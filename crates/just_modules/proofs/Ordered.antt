@@ -148,7 +148,7 @@ module _ (enabled : Item → Bool) (files : Files) (joined : Joined) (loaded : L
     }
 
 no_justfile : Justfile
-no_justfile = roll-Justfile (record { default = None; doc = None; groups = []; loaded = []; module_path = record { components = []; spaced = false }; modules = []; name = None; private = false; recipes = []; source = []; unexports = []; working_directory = [] })
+no_justfile = roll-Justfile (record { default = None; doc = None; functions = []; groups = []; loaded = []; module_path = record { components = []; spaced = false }; modules = []; name = None; private = false; recipes = []; source = []; unexports = []; working_directory = [] })
 
 -- none is compiled
 pub compiled_none : (enabled : Item → Bool) (files : Files) (joined : Joined) (loaded : List Text) (order : List ℕ) (slots : List (Option Justfile)) (recipes : List (Recipe Dependency)) → length slots ≡ length files.asts.items → recipes ≡ []

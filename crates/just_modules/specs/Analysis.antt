@@ -1,11 +1,11 @@
 -- What a module's recipes are compiled to.
-use Rattle.std.specs.Prelude.{◌≡◌, ◌≢◌, ℕ, ◌<◌, ◌≤◌, Bool, List, [], length, slice_get, Option, Some, None}
+use Rattle.std.specs.Prelude.{◌≡◌, ◌≢◌, ℕ, ◌<◌, ◌≤◌, Bool, List, [], ◌∷◌, length, slice_get, Option, Some, None}
 use Rattle.std.specs.Cmp.Lexicographic.{slice_cmp}
 use Rattle.std.specs.List.{AllByRecursion}
 use Rattle.std.specs.Option.{option_map}
 use Rattle.std.specs.Ordering.{nat_cmp}
 use Rattle.std.specs.declared.cmp.Ordering.TheVariants.{Less}
-use Rattle.just_table.specs.Entries.{find}
+use Rattle.just_table.specs.Entries.{find, put}
 use Rattle.just_names.specs.Name.{text_of_name}
 use Rattle.just_names.specs.Modulepath.{Text}
 use Rattle.just_parts.specs.Items.{Ast, Item}
@@ -13,6 +13,7 @@ use Rattle.just_names.specs.declared.number.Number.{Number}
 use Rattle.just_invoke.specs.declared.justfile.Justfile.{Justfile, out-Justfile}
 use Rattle.just_parts.specs.declared.layers.ast.UnresolvedDependency.{UnresolvedDependency}
 use Rattle.just_parts.specs.declared.recipe.Recipe.{Recipe}
+use Rattle.just_records.specs.declared.function_definition.FunctionDefinition.{FunctionDefinition}
 use Rattle.just_invoke.specs.declared.justfile.RecipeKey.{RecipeKey}
 use Rattle.just_joining.specs.Contents.{Contents}
 use Rattle.just_joining.specs.Files.{asts_in}
@@ -48,10 +49,20 @@ abbrev pub IsDefaultOf : List (Recipe UnresolvedDependency) → Option Number �
 IsDefaultOf recipes None = recipes ≡ []
 IsDefaultOf recipes (Some number) = (place : ℕ) × IsDefault recipes place × (number_at recipes place ≡ number.0)
 
--- A module has the keys of its recipes, the default of those of its own file, the names that it unexports, the paths that it was given, and what its own file says.
+-- values under their keys, one after another
+abbrev pub put_all : {A : Type 0} → (A → Text) → List (Text × A) → List A → List (Text × A)
+put_all key held [] = held
+put_all key held (x ∷ xs) = put_all key (put (key x) x held) xs
+
+-- functions by their names
+abbrev pub by_function_name : List FunctionDefinition → List (Text × FunctionDefinition)
+by_function_name = put_all (λ f. text_of_name f.name) []
+
+-- A module has the keys of its recipes, the default of those of its own file, its functions, the names that it unexports, the paths that it was given, and what its own file says.
 pub record IsOf (m : Contents) (own : List (Recipe UnresolvedDependency)) (ast : Ast) (loaded : List (List ℕ)) (source : List ℕ) (justfile : Justfile) : Type 0 where
   pub keys : AreKeysOf m.recipes (length m.recipes) (out-Justfile justfile).recipes
   pub held : HasKeysOf m.recipes (length m.recipes) (out-Justfile justfile).recipes
+  pub functions_are : (out-Justfile justfile).functions ≡ by_function_name m.functions
   pub unexports_are : (out-Justfile justfile).unexports ≡ m.unexports
   pub default : IsDefaultOf own (out-Justfile justfile).default
   pub loaded_is : (out-Justfile justfile).loaded ≡ loaded

@@ -2,16 +2,16 @@
 
 ghost use Rattle.std.specs.Prelude.{◌≡◌, ◌<◌, ℕ, [], false, IsTrue, IfOk, IfSome, IfNone, length};
 ghost use Rattle.just_invoke.specs.declared.justfile.Justfile.{out-Justfile};
-ghost use Rattle.just_modules.specs.Analysis.{AreKeysOf, HasKeysOf, IsBefore, IsDefault, IsOf};
-ghost use Rattle.just_joining.specs.Definitions.{contents_in, recipes_in};
+ghost use Rattle.just_modules.specs.Analysis.{AreKeysOf, HasKeysOf, IsBefore, IsDefault, IsOf, by_function_name};
+ghost use Rattle.just_joining.specs.Definitions.{contents_in, functions_in, recipes_in};
 ghost use Rattle.just_joining.specs.Index.{AreDifferent};
 ghost use Rattle.just_joining.specs.Recipes.{names_of};
 
 use just_data::{Sequence, Shared, Text};
 use just_invoke::{Justfile, RecipeKey};
-use just_joining::definitions::{Definitions, recipe_at};
+use just_joining::definitions::{Definitions, function_at, recipe_at};
 use just_parts::UnresolvedRecipe;
-use just_parts::layers::{Ast, Name};
+use just_parts::layers::{Ast, FunctionDefinition, Name};
 use just_table::Table;
 use std::alloc::{AllocError, Global};
 
@@ -65,6 +65,20 @@ fn default_place<'a, 'src>(definitions: &Definitions<'src, 'a>) -> Option<usize>
     Some(best)
 }
 
+// The functions, under their names.
+fn function_table<'a, 'src>(
+    alloc: Global,
+    definitions: &Definitions<'src, 'a>,
+) -> Result<Table<'src, FunctionDefinition<'src>>, AllocError>
+    ensures { IfOk result (λ functions. functions ≡ by_function_name (functions_in definitions.now)) }
+{
+    let mut functions = Table::new(alloc);
+    for place in 0..definitions.functions.len() {
+        functions.insert(function_at(definitions, place).clone()?)?;
+    }
+    Ok(functions)
+}
+
 // The names once more.
 fn copied_names<'src>(
     alloc: Global,
@@ -114,6 +128,7 @@ pub fn make_justfile<'a, 'src>(
     Ok(Justfile {
         default,
         doc: None,
+        functions: function_table(alloc, definitions)?,
         groups: Sequence::new(alloc),
         loaded,
         module_path: ast.module_path.clone()?,

@@ -16,5 +16,5 @@ returns-clause-fields c =
       | in-None w ↦ subst (IsDefaultOf (recipes_in c.args.own.now)) (sym w.default-is) w.in-None.ensures.missing
     ] in
     is_of (contents_in c.args.definitions.now) (recipes_in c.args.own.now) c.args.ast.now c.args.surroundings.loaded c.args.surroundings.source _ (length c.args.definitions.now.recipes.items) c.in_ok-recipe_keys.field-0 c.match-default_place.default
-    many (search (rules, the_lemmas)) (search (rules, the_lemmas)) c.in_ok-recipe_keys.ensures.keys c.in_ok-recipe_keys.ensures.held default (search (rules, the_lemmas))
+    many (search (rules, the_lemmas)) (search (rules, the_lemmas)) c.in_ok-recipe_keys.ensures.keys c.in_ok-recipe_keys.ensures.held default (search (rules, the_lemmas)) (search (rules, the_lemmas))
     (search (rules, the_lemmas)) (search (rules, the_lemmas)) (search (rules, the_lemmas)) (search (rules, the_lemmas))
