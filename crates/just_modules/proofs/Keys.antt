@@ -11,8 +11,7 @@ use Rattle.just_parts.specs.declared.layers.ast.UnresolvedDependency.{Unresolved
 use Rattle.just_parts.specs.declared.recipe.Recipe.{Recipe}
 use Rattle.just_invoke.specs.declared.justfile.RecipeKey.{RecipeKey}
 use Rattle.just_modules.specs.Analysis.{IsKeyOf, AreKeysOf}
-use Rattle.just_joining.specs.Recipes.{name_of, recipe_at}
-use Rattle.just_names.specs.Name.{text_of_name}
+use Rattle.just_joining.specs.Recipes.{recipe_at}
 use Rattle.just_joining.proofs.Resolving.{number_read}
 
 module _ (Q : RecipeKey → Type 0) where
@@ -43,7 +42,7 @@ each_by P Q f [] all = tt
 each_by P Q f (e ∷ es) all = (f e.1 all.0, each_by P Q f es all.1)
 
 -- one more key
-pub keys_more : (rs : List (Recipe UnresolvedDependency)) (n : ℕ) (r : Recipe UnresolvedDependency) (k : List ℕ) (key : RecipeKey) (old new : List (List ℕ × RecipeKey)) → AreKeysOf rs n old → slice_get rs n ≡ Some r → key.number ≡ r.number → name_of (recipe_at rs n) ≡ text_of_name key.name → new ≡ put k key old → AreKeysOf rs (n + 1) new
+pub keys_more : (rs : List (Recipe UnresolvedDependency)) (n : ℕ) (r : Recipe UnresolvedDependency) (k : List ℕ) (key : RecipeKey) (old new : List (List ℕ × RecipeKey)) → AreKeysOf rs n old → slice_get rs n ≡ Some r → key.number ≡ r.number → (recipe_at rs n).name ≡ key.name → new ≡ put k key old → AreKeysOf rs (n + 1) new
 keys_more rs n r k key old new all read number name e =
     subst (AreKeysOf rs (n + 1)) (sym e)
     (each_put (IsKeyOf rs (n + 1)) k key old (n, omega arith, number_read rs n r read ∙ ap (λ m. m.0) (sym number), name) (each_by (IsKeyOf rs n) (IsKeyOf rs (n + 1)) (λ x p. (p.0, omega (arith, p.1), p.2, p.3)) old all))

@@ -22,9 +22,9 @@ use Rattle.just_joining.specs.declared.files.Files.{Files}
 use Rattle.just_joining.specs.Recipes.{name_of, line_of, recipe_at}
 use Rattle.just_joining.specs.Resolved.{number_at}
 
--- a key has the number and the name of one of the first n recipes
+-- a key has the number and the name of one of the first n recipes, as it stands there
 abbrev pub IsKeyOf : List (Recipe UnresolvedDependency) → ℕ → RecipeKey → Type 0
-IsKeyOf recipes n key = (place : ℕ) × (place < n) × (number_at recipes place ≡ key.number.0) × (name_of (recipe_at recipes place) ≡ text_of_name key.name)
+IsKeyOf recipes n key = (place : ℕ) × (place < n) × (number_at recipes place ≡ key.number.0) × ((recipe_at recipes place).name ≡ key.name)
 
 -- so has each key of the table
 abbrev pub AreKeysOf : List (Recipe UnresolvedDependency) → ℕ → List (List ℕ × RecipeKey) → Type 0
