@@ -1,6 +1,6 @@
 -- Recipes that are alike in what the rules read break the same rules.
-use Rattle.std.proofs.Common.{◌≡◌, ℕ, zero, suc, ◌+◌, ◌<◌, Bool, false, List, [], ◌∷◌, ◌++◌, map, length, get_or, refl, sym, ◌∙◌, ap, subst}
-use Rattle.std.specs.List.{Contains}
+use Rattle.std.proofs.Common.{◌≡◌, ℕ, zero, suc, ◌+◌, ◌<◌, Bool, false, List, [], ◌∷◌, ◌++◌, map, length, get_or, Some, refl, sym, ◌∙◌, ap, subst}
+use Rattle.std.specs.List.{Contains, slice_get}
 use Rattle.std.proofs.lemmas.List.{length-map}
 use Rattle.just_errors.specs.Causes.{Cause, Keeps}
 use Rattle.just_names.specs.Name.{texts_of_path}
@@ -10,13 +10,14 @@ use Rattle.just_parts.specs.declared.recipe.Recipe.{Recipe}
 use Rattle.just_names.specs.declared.name.Name.{Name}
 use Rattle.just_errors.specs.declared.error.Definition.TheVariants as definition
 use Rattle.just_joining.specs.Contents.{Contents, Defined, Signature, all_defined, defined, defined_in, defined_recipe, module_of_name, signatures, texts_of_names}
-use Rattle.just_joining.specs.Index.{Repeats, name_at}
-use Rattle.just_joining.specs.Recipes.{name_of, token_of, parameter_names, is_defaulted, is_needed, FollowsDefault, dependency_paths, least_of, most_of, no_recipe, recipe_at, Depends, DependsOn}
+use Rattle.just_joining.specs.Index.{Repeats}
+use Rattle.just_joining.specs.Recipes.{name_of, token_of, named_parameters, parameter_names, is_defaulted, is_needed, FollowsDefault, dependency_paths, least_of, most_of, no_recipe, recipe_at, Depends, DependsOn}
 use Rattle.just_joining.specs.Rules.{Bodies, Dependencies, Headers, IsCircleOf, Names, Parameters, Redefines, argument_count, circular, duplicate_parameter, duplicate_unexport, module_redefinition, of_parameters, required_after_default, unknown_dependency}
 
 -- What the rules read of a recipe.
 pub record Outline : Type 0 where
   pub token : Place
+  pub named : List Name
   pub parameters : List (List ℕ)
   pub defaulted : List Bool
   pub needed : List Bool
@@ -27,6 +28,7 @@ pub record Outline : Type 0 where
 abbrev pub outline_of : Recipe UnresolvedDependency → Outline
 outline_of recipe = record {
   token = token_of recipe;
+  named = named_parameters recipe;
   parameters = parameter_names recipe;
   defaulted = map is_defaulted recipe.parameters;
   needed = map is_needed recipe.parameters;
@@ -86,11 +88,10 @@ module _ (rs qs : List (Recipe UnresolvedDependency)) (alike : AreAlike rs qs) w
   }
 
   pub parameters_alike : (c : Cause) → Parameters rs c → Parameters qs c
-  parameters_alike _ (duplicate_parameter i p q h e r x) =
-      let same : parameter_names (recipe_at rs i) ≡ parameter_names (recipe_at qs i) = ap (λ (o : Outline). o.parameters) (at i) in
-      duplicate_parameter i p q (inside i h) (sym (name i) ∙ e) (subst (λ ns. Repeats ns p q) same r) (ap (λ ns. get_or ns q []) (sym same) ∙ x)
-  parameters_alike _ (required_after_default {place} {parameter} i q h f x) =
-      required_after_default i q (inside i h) (follows i q f) (ap (λ (o : Outline). get_or o.parameters q []) (sym (at i)) ∙ x)
+  parameters_alike _ (duplicate_parameter {second} {recipe} i p q h e r x) =
+      duplicate_parameter i p q (inside i h) (sym (name i) ∙ e) (subst (λ ns. Repeats ns p q) (ap (λ (o : Outline). o.parameters) (at i)) r) (subst (λ (ns : List Name). slice_get ns q ≡ Some second) (ap (λ (o : Outline). o.named) (at i)) x)
+  parameters_alike _ (required_after_default {second} i q h f x) =
+      required_after_default i q (inside i h) (follows i q f) (subst (λ (ns : List Name). slice_get ns q ≡ Some second) (ap (λ (o : Outline). o.named) (at i)) x)
 
   -- they define the same
   defined_alike : (ns : List Name) → all_defined ns rs ≡ all_defined ns qs
@@ -135,8 +136,8 @@ pub record AreAlikeContents (m n : Contents) : Type 0 where
 module _ (m n : Contents) (alike : AreAlikeContents m n) where
   pub headers_alike : (c : Cause) → Headers m c → Headers n c
   headers_alike c (of_parameters b) = of_parameters (parameters_alike m.recipes n.recipes alike.recipes c b)
-  headers_alike _ (duplicate_unexport {place} {variable} i j r e) =
-      duplicate_unexport i j (subst (λ ns. Repeats (texts_of_names ns) i j) alike.unexports r) (ap (λ ns. name_at (texts_of_names ns) j) (sym alike.unexports) ∙ e)
+  headers_alike _ (duplicate_unexport {second} i j r e) =
+      duplicate_unexport i j (subst (λ (ns : List Name). Repeats (texts_of_names ns) i j) alike.unexports r) (subst (λ (ns : List Name). slice_get ns j ≡ Some second) alike.unexports e)
   headers_alike _ (module_redefinition {place} {told} r) = module_redefinition (subst (λ ns. Redefines (map module_of_name ns) place told) alike.modules r)
 
   pub names_alike : (c : Cause) → Names (signatures m.functions) c → Names (signatures n.functions) c

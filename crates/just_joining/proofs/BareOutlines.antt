@@ -6,12 +6,17 @@ use Rattle.std.proofs.lemmas.List.{length-map}
 use Rattle.just_parts.specs.Bare.{bare_parameter, bare_recipe}
 use Rattle.just_parts.specs.Located.{located_recipe}
 use Rattle.just_names.specs.Name.{text_of_name}
+use Rattle.just_names.specs.declared.name.Name.{Name}
 use Rattle.just_records.specs.Parameter.{is_required, is_variadic, least_arguments, most_arguments}
 use Rattle.just_parts.specs.declared.layers.ast.UnresolvedDependency.{UnresolvedDependency}
 use Rattle.just_records.specs.declared.parameter.Parameter.{Parameter}
 use Rattle.just_parts.specs.declared.recipe.Recipe.{Recipe}
 use Rattle.just_joining.specs.Recipes.{dependency_paths, is_defaulted, is_needed}
 use Rattle.just_joining.proofs.Alike.{outline_of}
+
+named_bare : (ps : List Parameter) → map (λ (p : Parameter). p.name) (map bare_parameter ps) ≡ map (λ (p : Parameter). p.name) ps
+named_bare [] = refl
+named_bare (p ∷ ps) = ap (λ (ns : List Name). p.name ∷ ns) (named_bare ps)
 
 names_bare : (ps : List Parameter) → map (λ (p : Parameter). text_of_name p.name) (map bare_parameter ps) ≡ map (λ (p : Parameter). text_of_name p.name) ps
 names_bare [] = refl
@@ -42,6 +47,7 @@ least_bare ps = count_from 0 ps
 pub outline_bare : (r : Recipe UnresolvedDependency) → outline_of (bare_recipe r) ≡ outline_of r
 outline_bare r = λ i. record {
   token = r.name.token;
+  named = named_bare r.parameters i;
   parameters = names_bare r.parameters i;
   defaulted = defaulted_bare r.parameters i;
   needed = needed_bare r.parameters i;

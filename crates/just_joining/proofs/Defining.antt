@@ -101,9 +101,10 @@ modules_redefined m i j first second place told repeats a b is = module_redefini
 })
 
 -- a variable that is unexported twice
-pub unexported_twice : (m : Contents) (i j : ℕ) (second : Name) (variable : List ℕ) → Repeats (texts_of_names m.unexports) i j → slice_get m.unexports j ≡ Some second → variable ≡ text_of_name second → {place : Place} → Headers m (Broken place (kind.DuplicateUnexport variable))
-unexported_twice m i j second variable repeats at is =
-    duplicate_unexport i j repeats (get_or_from_slice_get (texts_of_names m.unexports) j (text_of_name second) [] (map_get text_of_name m.unexports j second at) ∙ sym is)
+pub unexported_twice : (m : Contents) (i j : ℕ) (second : Name) (place : Place) (variable : List ℕ) → Repeats (texts_of_names m.unexports) i j → slice_get m.unexports j ≡ Some second → place ≡ second.token → variable ≡ text_of_name second
+    → Headers m (Broken place (kind.DuplicateUnexport variable))
+unexported_twice m i j second place variable repeats b at is =
+    subst (λ p. Headers m (Broken p (kind.DuplicateUnexport variable))) (sym at) (subst (λ v. Headers m (Broken second.token (kind.DuplicateUnexport v))) (sym is) (duplicate_unexport i j repeats b))
 
 -- the headers of a module
 pub headers_kept : (m : Contents) → Keeps (Parameters m.recipes) → AreDifferent (texts_of_names m.unexports) → AreDifferent (texts_of_names m.modules) → Keeps (Headers m)

@@ -1,5 +1,5 @@
 -- Recipes, place by place.
-use Rattle.std.proofs.Common.{◌≡◌, ℕ, zero, suc, ◌+◌, ◌<◌, List, [], ◌∷◌, ◌++◌, length, take, get_or, Some, sym, ◌∙◌, ap, subst, arith, inl, inr}
+use Rattle.std.proofs.Common.{◌≡◌, ℕ, zero, suc, ◌+◌, ◌<◌, List, [], ◌∷◌, ◌++◌, length, take, Some, sym, ◌∙◌, ap, subst, arith, inl, inr}
 use Rattle.std.specs.List.{slice_get}
 use Rattle.std.proofs.lemmas.Bool.{cases_lt}
 use Rattle.std.proofs.lemmas.List.{length-map, take_more, map-append, get_or-map}
@@ -7,7 +7,9 @@ use Rattle.std.specs.Borrow.{Bor}
 use Rattle.just_parts.specs.declared.layers.ast.UnresolvedDependency.{UnresolvedDependency}
 use Rattle.just_parts.specs.declared.recipe.Recipe.{Recipe}
 use Rattle.just_errors.specs.declared.error.CompileErrorKind.TheVariants as kind
-use Rattle.just_joining.specs.Recipes.{FollowsDefault, NoneFollows, name_of, parameter_names, lent, no_recipe, recipe_at, names_of}
+use Rattle.just_names.specs.Name.{text_of_name}
+use Rattle.just_names.specs.declared.name.Name.{Name}
+use Rattle.just_joining.specs.Recipes.{FollowsDefault, NoneFollows, name_of, named_parameters, parameter_names, lent, no_recipe, recipe_at, names_of}
 use Rattle.just_joining.specs.Index.{name_at, Repeats, AreDifferent}
 use Rattle.just_errors.specs.Causes.{Cause, Broken}
 use Rattle.just_names.specs.Token.{Place}
@@ -29,16 +31,21 @@ names_more rs names more i x o so h at is e =
     ∙ (sym (map-append name_of (take i rs) (recipe_at rs i ∷ [])) ∙ ap names_of (sym (take_more rs i no_recipe h)))))
 
 -- a recipe with two parameters of one name
-pub has_duplicate : (rs : List (Recipe UnresolvedDependency)) (i p q : ℕ) (o : Recipe UnresolvedDependency) (ps : List (List ℕ)) (recipe parameter : List ℕ) → i < length rs → o ≡ recipe_at rs i → recipe ≡ name_of o → ps ≡ parameter_names o → Repeats ps p q → parameter ≡ name_at ps q → {place : Place} → Parameters rs (Broken place (kind.DuplicateParameter recipe parameter))
-has_duplicate rs i p q o ps recipe parameter h at name list repeats is =
+pub has_duplicate : (rs : List (Recipe UnresolvedDependency)) (i p q : ℕ) (o : Recipe UnresolvedDependency) (ps : List (List ℕ)) (second : Name) (place : Place) (recipe parameter : List ℕ) → i < length rs → o ≡ recipe_at rs i → recipe ≡ name_of o → ps ≡ parameter_names o → Repeats ps p q
+    → slice_get (named_parameters o) q ≡ Some second → place ≡ second.token → parameter ≡ text_of_name second → Parameters rs (Broken place (kind.DuplicateParameter recipe parameter))
+has_duplicate rs i p q o ps second place recipe parameter h at name list repeats b told is =
     let all : ps ≡ parameter_names (recipe_at rs i) = list ∙ ap parameter_names at in
-    duplicate_parameter i p q h (sym (name ∙ ap name_of at)) (subst (λ ns. Repeats ns p q) all repeats) (sym (is ∙ ap (λ ns. name_at ns q) all))
+    subst (λ x. Parameters rs (Broken x (kind.DuplicateParameter recipe parameter))) (sym told)
+    (subst (λ t. Parameters rs (Broken second.token (kind.DuplicateParameter recipe t))) (sym is)
+    (duplicate_parameter i p q h (sym (name ∙ ap name_of at)) (subst (λ ns. Repeats ns p q) all repeats) (subst (λ (r : Recipe UnresolvedDependency). slice_get (named_parameters r) q ≡ Some second) at b)))
 
 -- a recipe in which a parameter that needs a word follows one with a default
-pub has_needed : (rs : List (Recipe UnresolvedDependency)) (i q : ℕ) (o : Recipe UnresolvedDependency) (parameter : List ℕ) → i < length rs → o ≡ recipe_at rs i → FollowsDefault o.parameters q
-    → parameter ≡ get_or (parameter_names o) q [] → {place : Place} → Parameters rs (Broken place (kind.RequiredParameterFollowsDefaultParameter parameter))
-has_needed rs i q o parameter h at follows is =
-    required_after_default i q h (subst (λ (r : Recipe UnresolvedDependency). FollowsDefault r.parameters q) at follows) (sym (is ∙ ap (λ r. get_or (parameter_names r) q []) at))
+pub has_needed : (rs : List (Recipe UnresolvedDependency)) (i q : ℕ) (o : Recipe UnresolvedDependency) (second : Name) (place : Place) (parameter : List ℕ) → i < length rs → o ≡ recipe_at rs i → FollowsDefault o.parameters q
+    → slice_get (named_parameters o) q ≡ Some second → place ≡ second.token → parameter ≡ text_of_name second → Parameters rs (Broken place (kind.RequiredParameterFollowsDefaultParameter parameter))
+has_needed rs i q o second place parameter h at follows b told is =
+    subst (λ x. Parameters rs (Broken x (kind.RequiredParameterFollowsDefaultParameter parameter))) (sym told)
+    (subst (λ t. Parameters rs (Broken second.token (kind.RequiredParameterFollowsDefaultParameter t))) (sym is)
+    (required_after_default i q h (subst (λ (r : Recipe UnresolvedDependency). FollowsDefault r.parameters q) at follows) (subst (λ (r : Recipe UnresolvedDependency). slice_get (named_parameters r) q ≡ Some second) at b)))
 
 -- no rule on parameters is broken
 pub parameters_kept : (rs : List (Recipe UnresolvedDependency)) → ((k : ℕ) → k < length rs → AreDifferent (parameter_names (recipe_at rs k))) → ((k : ℕ) → k < length rs → NoneFollows (recipe_at rs k).parameters) → {c : Cause} → Parameters rs c → ⊥

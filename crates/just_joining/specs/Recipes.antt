@@ -6,6 +6,7 @@ use Rattle.just_names.specs.Name.{text_of_name, texts_of_path}
 use Rattle.just_records.specs.Parameter.{is_option, is_required, least_arguments, most_arguments}
 use Rattle.just_records.specs.declared.parameter.Parameter.{Parameter}
 use Rattle.just_names.specs.Number.{no_number}
+use Rattle.just_names.specs.declared.name.Name.{Name}
 use Rattle.just_parts.specs.Bare.{bare_item}
 use Rattle.just_names.specs.Token.{Place}
 use Rattle.just_parts.specs.declared.layers.ast.UnresolvedDependency.{UnresolvedDependency}
@@ -23,7 +24,10 @@ name_of recipe = text_of_name recipe.name
 abbrev pub line_of : Recipe UnresolvedDependency → ℕ
 line_of recipe = recipe.name.token.line
 
--- the names of its parameters
+-- its parameters by their names, and the texts of these
+abbrev pub named_parameters : Recipe UnresolvedDependency → List Name
+named_parameters recipe = map (λ p. p.name) recipe.parameters
+
 abbrev pub parameter_names : Recipe UnresolvedDependency → List (List ℕ)
 parameter_names recipe = map (λ p. text_of_name p.name) recipe.parameters
 

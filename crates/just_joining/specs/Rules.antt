@@ -12,17 +12,17 @@ use Rattle.just_names.specs.declared.name.Name.{Name}
 use Rattle.just_parts.specs.declared.layers.ast.UnresolvedDependency.{UnresolvedDependency}
 use Rattle.just_parts.specs.declared.recipe.Recipe.{Recipe}
 use Rattle.just_joining.specs.Contents.{Contents, Defined, Signature, function_names, module_of_name, texts_of_defined, texts_of_names}
-use Rattle.just_joining.specs.Index.{Repeats, name_at}
-use Rattle.just_joining.specs.Recipes.{name_of, parameter_names, FollowsDefault, dependency_paths, least_of, most_of, recipe_at, DependsOn}
+use Rattle.just_joining.specs.Index.{Repeats}
+use Rattle.just_joining.specs.Recipes.{name_of, named_parameters, parameter_names, FollowsDefault, dependency_paths, least_of, most_of, recipe_at, DependsOn}
 
--- A recipe has a parameter's name twice: those two that follow each other under that name; or a parameter whose group may not be empty follows one with a default, both given by their places.
+-- A recipe has a parameter's name twice: those two that follow each other under that name; or a parameter whose group may not be empty follows one with a default, both given by their places. It is told at the later parameter.
 pub data Parameters (recipes : List (Recipe UnresolvedDependency)) : Cause → Type 0 where
-  duplicate_parameter : {place : Place} {recipe parameter : List ℕ} (i p q : ℕ) → i < length recipes → name_of (recipe_at recipes i) ≡ recipe
-      → Repeats (parameter_names (recipe_at recipes i)) p q → get_or (parameter_names (recipe_at recipes i)) q [] ≡ parameter
-      → Parameters recipes (Broken place (kind.DuplicateParameter recipe parameter))
-  required_after_default : {place : Place} {parameter : List ℕ} (i q : ℕ) → i < length recipes → FollowsDefault (recipe_at recipes i).parameters q
-      → get_or (parameter_names (recipe_at recipes i)) q [] ≡ parameter
-      → Parameters recipes (Broken place (kind.RequiredParameterFollowsDefaultParameter parameter))
+  duplicate_parameter : {second : Name} {recipe : List ℕ} (i p q : ℕ) → i < length recipes → name_of (recipe_at recipes i) ≡ recipe
+      → Repeats (parameter_names (recipe_at recipes i)) p q → slice_get (named_parameters (recipe_at recipes i)) q ≡ Some second
+      → Parameters recipes (Broken second.token (kind.DuplicateParameter recipe (text_of_name second)))
+  required_after_default : {second : Name} (i q : ℕ) → i < length recipes → FollowsDefault (recipe_at recipes i).parameters q
+      → slice_get (named_parameters (recipe_at recipes i)) q ≡ Some second
+      → Parameters recipes (Broken second.token (kind.RequiredParameterFollowsDefaultParameter (text_of_name second)))
 
 -- How two definitions of one name are told: at the one on the greater line, and the line of the other with it; of one line the second, as they were met, comes after the first.
 pub record IsRedefinition (first second : Defined) (place : Place) (told : CompileErrorKind) : Type 0 where
@@ -42,11 +42,10 @@ pub record Redefines (ds : List Defined) (place : Place) (told : CompileErrorKin
   pub second_is : slice_get ds j ≡ Some second
   pub told_is : IsRedefinition first second place told
 
--- What is broken in the headers of a module: those of its recipes, a variable is unexported twice, or two modules that it declares have one name.
+-- What is broken in the headers of a module: those of its recipes, a variable is unexported twice, which is told at the second place, or two modules that it declares have one name.
 pub data Headers (m : Contents) : Cause → Type 0 where
   of_parameters : {c : Cause} → Parameters m.recipes c → Headers m c
-  duplicate_unexport : {place : Place} {variable : List ℕ} (i j : ℕ) → Repeats (texts_of_names m.unexports) i j → name_at (texts_of_names m.unexports) j ≡ variable
-      → Headers m (Broken place (kind.DuplicateUnexport variable))
+  duplicate_unexport : {second : Name} (i j : ℕ) → Repeats (texts_of_names m.unexports) i j → slice_get m.unexports j ≡ Some second → Headers m (Broken second.token (kind.DuplicateUnexport (text_of_name second)))
   module_redefinition : {place : Place} {told : CompileErrorKind} → Redefines (map module_of_name m.modules) place told → Headers m (Broken place told)
 
 -- A function has the name of a parameter twice: those two that follow each other under that name. It is told at the second.

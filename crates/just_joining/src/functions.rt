@@ -41,13 +41,16 @@ fn check_function<'src>(
     let names = parameter_names(alloc, function)?;
     match repeated_name(alloc, names.as_slice())? {
         None => Ok(()),
-        Some((_, second)) => Err(Error::Compile(CompileError {
-            token: names[second].token.copied(),
-            kind: CompileErrorKind::DuplicateFunctionParameter {
-                function: BorrowedText::new(function.name.lexeme()),
-                parameter: BorrowedText::new(names[second].lexeme()),
-            },
-        })),
+        Some((_, second)) => {
+            let name = &names[second];
+            Err(Error::Compile(CompileError {
+                token: name.token.copied(),
+                kind: CompileErrorKind::DuplicateFunctionParameter {
+                    function: BorrowedText::new(function.name.lexeme()),
+                    parameter: BorrowedText::new(name.lexeme()),
+                },
+            }))
+        }
     }
 }
 

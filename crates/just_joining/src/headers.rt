@@ -117,13 +117,16 @@ fn check_names_at<'a, 'src>(
     let names = parameter_names(alloc, parameters)?;
     match index_names(alloc, names.as_slice())? {
         Ok(_) => Ok(()),
-        Err((_, second)) => Err(Error::Compile(CompileError {
-            token: parameters[second].name.token.copied(),
-            kind: CompileErrorKind::DuplicateParameter {
-                recipe: BorrowedText::new(recipe.name.lexeme()),
-                parameter: names[second].copied(),
-            },
-        })),
+        Err((_, second)) => {
+            let name = &parameters[second].name;
+            Err(Error::Compile(CompileError {
+                token: name.token.copied(),
+                kind: CompileErrorKind::DuplicateParameter {
+                    recipe: BorrowedText::new(recipe.name.lexeme()),
+                    parameter: BorrowedText::new(name.lexeme()),
+                },
+            }))
+        }
     }
 }
 
@@ -269,12 +272,15 @@ fn check_unexports<'a, 'src>(
     let names = definitions.unexports.as_slice();
     match repeated_name(alloc, names)? {
         None => Ok(()),
-        Some((_, second)) => Err(Error::Compile(CompileError {
-            token: names[second].token.copied(),
-            kind: CompileErrorKind::DuplicateUnexport {
-                variable: BorrowedText::new(names[second].lexeme()),
-            },
-        })),
+        Some((_, second)) => {
+            let name = &names[second];
+            Err(Error::Compile(CompileError {
+                token: name.token.copied(),
+                kind: CompileErrorKind::DuplicateUnexport {
+                    variable: BorrowedText::new(name.lexeme()),
+                },
+            }))
+        }
     }
 }
 

@@ -1,5 +1,7 @@
-use Rattle.std.proofs.Common.{◌≡◌, ◌<◌, ◌∙◌, List, [], length, map, get_or, sym, ap, subst, arith}
-use Rattle.std.proofs.lemmas.List.{get_or-map}
+use Rattle.std.proofs.Common.{◌≡◌, ◌<◌, ◌∙◌, List, Some, length, map, ap, subst, refl, arith, sym}
+use Rattle.std.specs.List.{slice_get}
+use Rattle.std.proofs.lemmas.Option.{slice_get_read}
+use Rattle.just_graph.proofs.Index.{map_get}
 use Rattle.just_names.specs.Name.{text_of_name}
 use Rattle.just_records.specs.declared.parameter.Parameter.{Parameter}
 use Rattle.just_parts.specs.declared.layers.ast.UnresolvedDependency.{UnresolvedDependency}
@@ -18,9 +20,10 @@ returns-in-Some-clause-named c =
     let rs : List (Recipe UnresolvedDependency) = recipes_in c.args.definitions.now in
     let long : length rs ≡ length c.args.definitions.now.recipes.items = length-lent c.args.definitions.now.recipes.items in
     let inside : c.args.place < length rs = omega (arith, long, c.requires) in
-    let parameters : List Parameter = c.as_slice-parameters.result.now in
-    let named : get_or (map (λ (p : Parameter). text_of_name p.name) parameters) c.in-Some.at [] ≡ text_of_name (get_or parameters c.in-Some.at c.index-parameters-at.result).name =
-    get_or-map (λ (p : Parameter). text_of_name p.name) parameters c.in-Some.at c.index-parameters-at.result [] c.in-Some.ensures.within in
-    has_needed rs c.args.place c.in-Some.at c.recipe_at.result.now c.new.result inside c.recipe_at.ensures.there
+    let lent : List Parameter = c.as_slice-parameters.result.now in
+    let told = c.index-parameters-at.result in
+    let at : slice_get lent c.in-Some.at ≡ Some told = slice_get_read lent (length lent) c.in-Some.at told refl c.in-Some.ensures.within c.index-parameters-at.is in
+    has_needed rs c.args.place c.in-Some.at c.recipe_at.result.now told.name c.copied.result c.new.result inside c.recipe_at.ensures.there
     (subst (λ ps. FollowsDefault ps c.in-Some.at) c.as_slice-parameters.ensures c.in-Some.ensures.found)
-    ((c.new.ensures ∙ c.lexeme.ensures) ∙ (sym named ∙ ap (λ ps. get_or (map (λ (p : Parameter). text_of_name p.name) ps) c.in-Some.at []) c.as_slice-parameters.ensures))
+    (subst (λ (ps : List Parameter). slice_get (map (λ (p : Parameter). p.name) ps) c.in-Some.at ≡ Some told.name) c.as_slice-parameters.ensures (map_get (λ (p : Parameter). p.name) lent c.in-Some.at told at))
+    (c.copied.ensures ∙ ap (λ (p : Parameter). p.name.token) (sym c.index-parameters-at.is)) (c.new.ensures ∙ (c.lexeme.ensures ∙ ap (λ (p : Parameter). text_of_name p.name) (sym c.index-parameters-at.is)))

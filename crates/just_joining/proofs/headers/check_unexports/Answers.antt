@@ -14,10 +14,10 @@ pub returns-in-Some-clause-named : goal.returns-in-Some-clause-named
 returns-in-Some-clause-named c =
     let lent = c.as_slice-names.result.now in
     let second = c.in-Some.second in
-    let told = c.index-names-second-in-Some.result in
+    let told = c.index-names-second.result in
     let repeats : Repeats (texts_of_names lent) c.in-Some.field-0-0 second = rw c.in-Some.is at c.in_ok-repeated_name.ensures.repeated in
     let inside : second < length lent = omega (arith, repeats.within, length-map lent text_of_name) in
-    let at : slice_get lent second ≡ Some told = slice_get_read lent (length lent) second told refl inside c.index-names-second-in-Some.is in
-    unexported_twice (contents_in c.args.definitions.now) c.in-Some.field-0-0 second told c.new.result
+    let at : slice_get lent second ≡ Some told = slice_get_read lent (length lent) second told refl inside c.index-names-second.is in
+    unexported_twice (contents_in c.args.definitions.now) c.in-Some.field-0-0 second told c.copied.result c.new.result
     (subst (λ (ns : List Name). Repeats (texts_of_names ns) c.in-Some.field-0-0 second) c.as_slice-names.ensures.value repeats)
-    (subst (λ (ns : List Name). slice_get ns second ≡ Some told) c.as_slice-names.ensures.value at) (c.new.ensures ∙ c.lexeme.ensures)
+    (subst (λ (ns : List Name). slice_get ns second ≡ Some told) c.as_slice-names.ensures.value at) c.copied.ensures (c.new.ensures ∙ c.lexeme.ensures)
