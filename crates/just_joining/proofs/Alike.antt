@@ -3,15 +3,15 @@ use Rattle.std.proofs.Common.{◌≡◌, ℕ, zero, suc, ◌+◌, ◌<◌, Bool,
 use Rattle.std.specs.List.{Contains, slice_get}
 use Rattle.std.proofs.lemmas.List.{length-map}
 use Rattle.just_errors.specs.Causes.{Cause, Keeps}
-use Rattle.just_names.specs.Name.{texts_of_path}
 use Rattle.just_names.specs.Token.{Place, lexeme}
 use Rattle.just_parts.specs.declared.layers.ast.UnresolvedDependency.{UnresolvedDependency}
 use Rattle.just_parts.specs.declared.recipe.Recipe.{Recipe}
 use Rattle.just_names.specs.declared.name.Name.{Name}
+use Rattle.just_names.specs.declared.name.Namepath.{Namepath}
 use Rattle.just_errors.specs.declared.error.Definition.TheVariants as definition
 use Rattle.just_joining.specs.Contents.{Contents, Defined, Signature, all_defined, defined, defined_in, defined_recipe, module_of_name, signatures, texts_of_names}
 use Rattle.just_joining.specs.Index.{Repeats}
-use Rattle.just_joining.specs.Recipes.{name_of, token_of, named_parameters, parameter_names, is_defaulted, is_needed, FollowsDefault, dependency_paths, least_of, most_of, no_recipe, recipe_at, Depends, DependsOn}
+use Rattle.just_joining.specs.Recipes.{name_of, token_of, named_parameters, parameter_names, is_defaulted, is_needed, FollowsDefault, named_paths, dependency_paths, least_of, most_of, no_recipe, recipe_at, Depends, DependsOn}
 use Rattle.just_joining.specs.Rules.{Bodies, Dependencies, Headers, IsCircleOf, Names, Parameters, Redefines, argument_count, circular, duplicate_parameter, duplicate_unexport, module_redefinition, of_parameters, required_after_default, unknown_dependency}
 
 -- What the rules read of a recipe.
@@ -21,6 +21,7 @@ pub record Outline : Type 0 where
   pub parameters : List (List ℕ)
   pub defaulted : List Bool
   pub needed : List Bool
+  pub paths : List Namepath
   pub dependencies : List (List (List ℕ))
   pub least : ℕ
   pub most : ℕ
@@ -32,6 +33,7 @@ outline_of recipe = record {
   parameters = parameter_names recipe;
   defaulted = map is_defaulted recipe.parameters;
   needed = map is_needed recipe.parameters;
+  paths = named_paths recipe;
   dependencies = dependency_paths recipe;
   least = least_of recipe;
   most = most_of recipe;
@@ -76,6 +78,9 @@ module _ (rs qs : List (Recipe UnresolvedDependency)) (alike : AreAlike rs qs) w
   contains : (i : ℕ) (path : List (List ℕ)) → Contains (dependency_paths (recipe_at rs i)) path → Contains (dependency_paths (recipe_at qs i)) path
   contains i path c = subst (λ ps. Contains ps path) (paths i) c
 
+  named : (i : ℕ) (path : Namepath) → Contains (named_paths (recipe_at rs i)) path → Contains (named_paths (recipe_at qs i)) path
+  named i path c = subst (λ (ps : List Namepath). Contains ps path) (ap (λ (o : Outline). o.paths) (at i)) c
+
   inside : (i : ℕ) → i < length rs → i < length qs
   inside i h = subst (λ n. i < n) many h
 
@@ -117,12 +122,12 @@ module _ (rs qs : List (Recipe UnresolvedDependency)) (alike : AreAlike rs qs) w
   circle_alike recipe circle c = record { steps = c.steps; closed = c.closed; walk = λ k h. depends_on_alike (get_or circle k []) (get_or circle (k + 1) []) (c.walk k h); closing = c.closing }
 
   pub dependencies_alike : (c : Cause) → Dependencies rs c → Dependencies qs c
-  dependencies_alike _ (unknown_dependency {place} {recipe} {unknown} i h e c none) =
-      unknown_dependency i (inside i h) (sym (name i) ∙ e) (contains i (texts_of_path unknown) c)
+  dependencies_alike _ (unknown_dependency {recipe} {unknown} i h e c none) =
+      unknown_dependency i (inside i h) (sym (name i) ∙ e) (named i unknown c)
       (λ j l is. none j (subst (λ n. j < n) (sym many) l) (is ∙ ap (λ n. n ∷ []) (sym (name j))))
   dependencies_alike _ (circular {place} {recipe} {circle} c) = circular (circle_alike recipe circle c)
-  dependencies_alike _ (argument_count {place} {dependency} i j h l c is none least most wrong) =
-      argument_count i j (inside i h) (inside j l) (contains i (texts_of_path dependency) c) (is ∙ ap (λ n. n ∷ []) (name j)) none
+  dependencies_alike _ (argument_count {dependency} i j h l c is none least most wrong) =
+      argument_count i j (inside i h) (inside j l) (named i dependency c) (is ∙ ap (λ n. n ∷ []) (name j)) none
       (ap (λ (o : Outline). o.least) (sym (at j)) ∙ least) (ap (λ (o : Outline). o.most) (sym (at j)) ∙ most) wrong
 
 -- Contents that are alike: so are their recipes, and the signatures of their functions and their names are the same.

@@ -11,7 +11,7 @@ use Rattle.just_records.specs.Parameter.{is_required, is_variadic, least_argumen
 use Rattle.just_parts.specs.declared.layers.ast.UnresolvedDependency.{UnresolvedDependency}
 use Rattle.just_records.specs.declared.parameter.Parameter.{Parameter}
 use Rattle.just_parts.specs.declared.recipe.Recipe.{Recipe}
-use Rattle.just_joining.specs.Recipes.{dependency_paths, is_defaulted, is_needed}
+use Rattle.just_joining.specs.Recipes.{named_paths, dependency_paths, is_defaulted, is_needed}
 use Rattle.just_joining.proofs.Alike.{outline_of}
 
 named_bare : (ps : List Parameter) → map (λ (p : Parameter). p.name) (map bare_parameter ps) ≡ map (λ (p : Parameter). p.name) ps
@@ -51,6 +51,7 @@ outline_bare r = λ i. record {
   parameters = names_bare r.parameters i;
   defaulted = defaulted_bare r.parameters i;
   needed = needed_bare r.parameters i;
+  paths = named_paths r;
   dependencies = dependency_paths r;
   least = least_bare r.parameters i;
   most = most_bare r.parameters i;

@@ -14,6 +14,7 @@ use Rattle.just_joining.specs.Recipes.{name_of, least_of, recipe_at, names_of, D
 use Rattle.just_joining.specs.Rows.{IsRow, IsOrderOf}
 use Rattle.just_errors.specs.Causes.{Cause}
 use Rattle.just_joining.specs.Rules.{Dependencies, unknown_dependency, circular, argument_count}
+use Rattle.just_joining.proofs.Targets.{path_named}
 use Rattle.just_joining.proofs.RecipePlaces.{one_place}
 use Rattle.just_joining.proofs.Edges.{target_of, edges}
 use Rattle.just_joining.proofs.RecipeCircles.{circle_leads}
@@ -35,13 +36,13 @@ module _ (rs : List (Recipe UnresolvedDependency)) (different : AreDifferent (na
 
   pub dependencies_kept : {c : Cause} → Dependencies rs c → ⊥
   dependencies_kept (unknown_dependency {recipe} {unknown} i inside e c none) =
-      let t = target_of rs different i _ (texts_of_path unknown) (rows.rows i inside) c in
+      let t = target_of rs different i _ (texts_of_path unknown) (rows.rows i inside) (path_named (recipe_at rs i) unknown c) in
       none _ t.2.there t.2.named
   dependencies_kept (circular c) =
       let back = circle_leads rs different _ _ c in
       by_depends.no_circle back.0 (listed back.0 back.1) back.2
   dependencies_kept (argument_count {dependency} {found} {least} {most} i j ki kj c n f is_least is_most wrong) =
-      let t = target_of rs different i _ (texts_of_path dependency) (rows.rows i ki) c in
+      let t = target_of rs different i _ (texts_of_path dependency) (rows.rows i ki) (path_named (recipe_at rs i) dependency c) in
       let name : name_of (recipe_at rs (slice_index (targets g i) t.0)) ≡ name_of (recipe_at rs j) = let e = sym t.2.named ∙ n in cc in
       let same = one_place rs different _ j t.2.there kj name in
       let enough : least_of (recipe_at rs j) ≡ 0 = subst (λ x. least_of (recipe_at rs x) ≡ 0) same t.2.enough in

@@ -1,6 +1,6 @@
 -- What a dependency names.
-use Rattle.std.proofs.Common.{◌≡◌, ◌≢◌, ℕ, ◌<◌, List, [], ◌∷◌, length, map, get_or, Option, Some, None, sym, ◌∙◌, ap, subst, arith, inl, refl}
-use Rattle.std.specs.List.{Contains}
+use Rattle.std.proofs.Common.{◌≡◌, ◌≢◌, ℕ, ◌<◌, List, [], ◌∷◌, length, map, get_or, Option, Some, None, sym, ◌∙◌, ap, subst, arith, inl, inr, refl}
+use Rattle.std.specs.List.{Contains, slice_get}
 use Rattle.std.proofs.lemmas.List.{get_or_default, get_or-map, length-map}
 use Rattle.just_names.specs.Name.{texts_of_path}
 use Rattle.just_names.specs.declared.name.Namepath.{Namepath}
@@ -8,7 +8,10 @@ use Rattle.just_errors.specs.declared.error.CompileErrorKind.TheVariants as kind
 use Rattle.just_parts.specs.declared.layers.ast.UnresolvedDependency.{UnresolvedDependency}
 use Rattle.just_parts.specs.declared.recipe.Recipe.{Recipe}
 use Rattle.just_joining.specs.Index.{name_at, IsLast, IsIndex, place_in}
-use Rattle.just_joining.specs.Recipes.{name_of, dependency_paths, least_of, most_of, recipe_at, names_of}
+use Rattle.just_graph.proofs.Index.{got_in, map_get}
+use Rattle.just_graph.proofs.Members.{In, contained, is_in}
+use Rattle.std.proofs.lemmas.Option.{slice_get_read}
+use Rattle.just_joining.specs.Recipes.{name_of, named_paths, dependency_paths, least_of, most_of, recipe_at, names_of}
 use Rattle.just_errors.specs.Causes.{Broken}
 use Rattle.just_names.specs.Token.{Place}
 use Rattle.just_joining.specs.Rules.{Dependencies, unknown_dependency, argument_count}
@@ -35,6 +38,15 @@ place_in-missing names found (name ∷ []) index e j h same =
     let is : name ≡ name_at names j = cc in
     last_none names (length names) name (found name) (index name) e j h (sym is)
 place_in-missing names found (name ∷ more ∷ rest) index e j h same = cc
+
+in_paths : (ds : List UnresolvedDependency) (p : Namepath) → In p (map (λ (d : UnresolvedDependency). d.recipe) ds) → In (texts_of_path p) (map (λ (d : UnresolvedDependency). texts_of_path d.recipe) ds)
+in_paths [] p h = absurd h
+in_paths (d ∷ ds) p (inl e) = inl (ap texts_of_path e)
+in_paths (d ∷ ds) p (inr h) = inr (in_paths ds p h)
+
+-- the texts of a dependency's path
+pub path_named : (r : Recipe UnresolvedDependency) (p : Namepath) → Contains (named_paths r) p → Contains (dependency_paths r) (texts_of_path p)
+path_named r p c = contained (texts_of_path p) (dependency_paths r) (in_paths r.dependencies p (is_in p (named_paths r) c))
 
 module _ (rs : List (Recipe UnresolvedDependency)) (found : List ℕ → Option ℕ) (index : IsIndex (names_of rs) found) where
   count : length (names_of rs) ≡ length rs
@@ -67,17 +79,20 @@ module _ (rs : List (Recipe UnresolvedDependency)) (found : List ℕ → Option 
         let h : at < length (dependency_paths (recipe_at rs i)) = omega (arith, inside, many) in
         (at, h, get_or_default (dependency_paths (recipe_at rs i)) at (texts_of_path d.recipe) [] h ∙ sym path_read)
 
-    pub is_unknown : (name : List ℕ) (unknown : Namepath) → name ≡ name_of r → unknown ≡ d.recipe → place_in found (texts_of_path d.recipe) ≡ None → {place : Place} → Dependencies rs (Broken place (kind.UnknownDependency name unknown))
-    is_unknown name unknown named copied none =
-        unknown_dependency i in_rs (sym (named ∙ ap name_of is))
-        (subst (λ (p : Namepath). Contains (dependency_paths (recipe_at rs i)) (texts_of_path p)) (sym copied) path_there)
-        (λ j h e. recipe_missing (texts_of_path d.recipe) none j h (ap texts_of_path (sym copied) ∙ e))
+    named_there : (path : Namepath) → path ≡ d.recipe → Contains (named_paths (recipe_at rs i)) path
+    named_there path copied =
+        subst (Contains (named_paths (recipe_at rs i))) (sym copied)
+        (got_in (named_paths (recipe_at rs i)) at d.recipe (map_get (λ (x : UnresolvedDependency). x.recipe) (recipe_at rs i).dependencies at d
+        (subst (λ (o : Recipe UnresolvedDependency). slice_get o.dependencies at ≡ Some d) is (subst (λ (xs : List UnresolvedDependency). slice_get xs at ≡ Some d) same (slice_get_read ds (length ds) at d refl inside read)))))
 
-    pub is_mismatch : (j least most : ℕ) (t : Recipe UnresolvedDependency) (dependency : Namepath) → dependency ≡ d.recipe → place_in found (texts_of_path d.recipe) ≡ Some j → t ≡ recipe_at rs j → least ≡ least_of t → most ≡ most_of t → 0 < least
-        → {place : Place} → Dependencies rs (Broken place (kind.DependencyArgumentCountMismatch dependency 0 least most))
-    is_mismatch j least most t dependency copied e there is_least is_most some =
+    pub is_unknown : (name : List ℕ) (unknown : Namepath) (place : Place) → name ≡ name_of r → unknown ≡ d.recipe → place ≡ d.recipe.last.token → place_in found (texts_of_path d.recipe) ≡ None → Dependencies rs (Broken place (kind.UnknownDependency name unknown))
+    is_unknown name unknown place named copied told none =
+        subst (λ x. Dependencies rs (Broken x (kind.UnknownDependency name unknown))) (ap (λ (p : Namepath). p.last.token) copied ∙ sym told)
+        (unknown_dependency i in_rs (sym (named ∙ ap name_of is)) (named_there unknown copied) (λ j h e. recipe_missing (texts_of_path d.recipe) none j h (ap texts_of_path (sym copied) ∙ e)))
+
+    pub is_mismatch : (j least most : ℕ) (t : Recipe UnresolvedDependency) (dependency : Namepath) (place : Place) → dependency ≡ d.recipe → place ≡ d.recipe.last.token → place_in found (texts_of_path d.recipe) ≡ Some j → t ≡ recipe_at rs j → least ≡ least_of t → most ≡ most_of t → 0 < least
+        → Dependencies rs (Broken place (kind.DependencyArgumentCountMismatch dependency 0 least most))
+    is_mismatch j least most t dependency place copied told e there is_least is_most some =
         let s = recipe_found (texts_of_path d.recipe) j e in
-        argument_count i j in_rs s.0
-        (subst (λ (p : Namepath). Contains (dependency_paths (recipe_at rs i)) (texts_of_path p)) (sym copied) path_there)
-        (ap texts_of_path copied ∙ s.1) refl
-        (sym (is_least ∙ ap least_of there)) (sym (is_most ∙ ap most_of there)) (inl some)
+        subst (λ x. Dependencies rs (Broken x (kind.DependencyArgumentCountMismatch dependency 0 least most))) (ap (λ (p : Namepath). p.last.token) copied ∙ sym told)
+        (argument_count i j in_rs s.0 (named_there dependency copied) (ap texts_of_path copied ∙ s.1) refl (sym (is_least ∙ ap least_of there)) (sym (is_most ∙ ap most_of there)) (inl some))

@@ -7,6 +7,7 @@ use Rattle.just_records.specs.Parameter.{is_option, is_required, least_arguments
 use Rattle.just_records.specs.declared.parameter.Parameter.{Parameter}
 use Rattle.just_names.specs.Number.{no_number}
 use Rattle.just_names.specs.declared.name.Name.{Name}
+use Rattle.just_names.specs.declared.name.Namepath.{Namepath}
 use Rattle.just_parts.specs.Bare.{bare_item}
 use Rattle.just_names.specs.Token.{Place}
 use Rattle.just_parts.specs.declared.layers.ast.UnresolvedDependency.{UnresolvedDependency}
@@ -50,7 +51,10 @@ pub record FollowsDefault (parameters : List Parameter) (place : ℕ) : Type 0 w
 abbrev pub NoneFollows : List Parameter → Type 0
 NoneFollows parameters = (place : ℕ) → FollowsDefault parameters place → ⊥
 
--- the paths of its dependencies
+-- its dependencies by their paths, and the texts of these
+abbrev pub named_paths : Recipe UnresolvedDependency → List Namepath
+named_paths recipe = map (λ d. d.recipe) recipe.dependencies
+
 abbrev pub dependency_paths : Recipe UnresolvedDependency → List (List (List ℕ))
 dependency_paths recipe = map (λ d. texts_of_path d.recipe) recipe.dependencies
 

@@ -13,7 +13,7 @@ use Rattle.just_parts.specs.declared.layers.ast.UnresolvedDependency.{Unresolved
 use Rattle.just_parts.specs.declared.recipe.Recipe.{Recipe}
 use Rattle.just_joining.specs.Contents.{Contents, Defined, Signature, function_names, module_of_name, texts_of_defined, texts_of_names}
 use Rattle.just_joining.specs.Index.{Repeats}
-use Rattle.just_joining.specs.Recipes.{name_of, named_parameters, parameter_names, FollowsDefault, dependency_paths, least_of, most_of, recipe_at, DependsOn}
+use Rattle.just_joining.specs.Recipes.{name_of, named_parameters, parameter_names, FollowsDefault, named_paths, least_of, most_of, recipe_at, DependsOn}
 
 -- A recipe has a parameter's name twice: those two that follow each other under that name; or a parameter whose group may not be empty follows one with a default, both given by their places. It is told at the later parameter.
 pub data Parameters (recipes : List (Recipe UnresolvedDependency)) : Cause → Type 0 where
@@ -70,15 +70,15 @@ pub record IsCircleOf (recipes : List (Recipe UnresolvedDependency)) (recipe : L
   pub walk : (k : ℕ) → k + 1 < length circle → DependsOn recipes (get_or circle k []) (get_or circle (k + 1) [])
   pub closing : get_or circle (length circle - 2) [] ≡ recipe
 
--- A dependency is no recipe, a recipe depends on itself, or one is depended on with too few or too many arguments.
+-- A dependency is no recipe, a recipe depends on itself, or one is depended on with too few or too many arguments. The first and the last are told at the last name of the dependency.
 pub data Dependencies (recipes : List (Recipe UnresolvedDependency)) : Cause → Type 0 where
-  unknown_dependency : {place : Place} {recipe : List ℕ} {unknown : Namepath} (i : ℕ) → i < length recipes → name_of (recipe_at recipes i) ≡ recipe
-      → Contains (dependency_paths (recipe_at recipes i)) (texts_of_path unknown)
+  unknown_dependency : {recipe : List ℕ} {unknown : Namepath} (i : ℕ) → i < length recipes → name_of (recipe_at recipes i) ≡ recipe
+      → Contains (named_paths (recipe_at recipes i)) unknown
       → ((j : ℕ) → j < length recipes → texts_of_path unknown ≢ name_of (recipe_at recipes j) ∷ [])
-      → Dependencies recipes (Broken place (kind.UnknownDependency recipe unknown))
+      → Dependencies recipes (Broken unknown.last.token (kind.UnknownDependency recipe unknown))
   circular : {place : Place} {recipe : List ℕ} {circle : List (List ℕ)} → IsCircleOf recipes recipe circle
       → Dependencies recipes (Broken place (kind.CircularRecipeDependency recipe circle))
-  argument_count : {place : Place} {dependency : Namepath} {found least most : ℕ} (i j : ℕ) → i < length recipes → j < length recipes
-      → Contains (dependency_paths (recipe_at recipes i)) (texts_of_path dependency) → texts_of_path dependency ≡ name_of (recipe_at recipes j) ∷ []
+  argument_count : {dependency : Namepath} {found least most : ℕ} (i j : ℕ) → i < length recipes → j < length recipes
+      → Contains (named_paths (recipe_at recipes i)) dependency → texts_of_path dependency ≡ name_of (recipe_at recipes j) ∷ []
       → found ≡ 0 → least_of (recipe_at recipes j) ≡ least → most_of (recipe_at recipes j) ≡ most → (found < least) ⊎ (most < found)
-      → Dependencies recipes (Broken place (kind.DependencyArgumentCountMismatch dependency found least most))
+      → Dependencies recipes (Broken dependency.last.token (kind.DependencyArgumentCountMismatch dependency found least most))
