@@ -125,7 +125,13 @@ module _ (rs qs : List (Recipe UnresolvedDependency)) (alike : AreAlike rs qs) w
   dependencies_alike _ (unknown_dependency {recipe} {unknown} i h e c none) =
       unknown_dependency i (inside i h) (sym (name i) ∙ e) (named i unknown c)
       (λ j l is. none j (subst (λ n. j < n) (sym many) l) (is ∙ ap (λ n. n ∷ []) (sym (name j))))
-  dependencies_alike _ (circular {place} {recipe} {circle} c) = circular (circle_alike recipe circle c)
+  dependencies_alike _ (circular {recipe} {circle} {path} c d) = circular (circle_alike recipe circle c) (record {
+    from = d.from;
+    there = inside d.from d.there;
+    dependent_is = sym (name d.from) ∙ d.dependent_is;
+    depends = named d.from path d.depends;
+    names = d.names;
+  })
   dependencies_alike _ (argument_count {dependency} i j h l c is none least most wrong) =
       argument_count i j (inside i h) (inside j l) (named i dependency c) (is ∙ ap (λ n. n ∷ []) (name j)) none
       (ap (λ (o : Outline). o.least) (sym (at j)) ∙ least) (ap (λ (o : Outline). o.most) (sym (at j)) ∙ most) wrong

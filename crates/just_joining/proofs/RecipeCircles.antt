@@ -1,13 +1,19 @@
 -- Circles of places and circles of names.
-use Rattle.std.proofs.Common.{◌≡◌, ℕ, zero, suc, ◌+◌, ◌-◌, ◌<◌, List, [], length, map, get_or, slice_index, sym, ◌∙◌, ap, subst, arith, inl, inr, add-one}
+use Rattle.std.proofs.Common.{◌≡◌, ℕ, zero, suc, ◌+◌, ◌-◌, ◌<◌, List, [], ◌∷◌, length, map, get_or, slice_index, sym, ◌∙◌, ap, subst, arith, inl, inr, add-one}
 use Rattle.std.proofs.lemmas.List.{get_or_default, get_or-map, length-map}
 use Rattle.std.proofs.lemmas.Bool.{cases_lt}
+use Rattle.std.specs.List.{Contains}
+use Rattle.std.specs.declared.vec.Vec.{Vec}
+use Rattle.std.specs.declared.alloc.Global.{Global}
+use Rattle.just_names.specs.Token.{Place}
+use Rattle.just_graph.specs.Graph.{HasEdge, targets}
 use Rattle.just_graph.specs.Steps.{Leads, by_step, by_steps, IsCircle}
 use Rattle.just_parts.specs.declared.layers.ast.UnresolvedDependency.{UnresolvedDependency}
 use Rattle.just_parts.specs.declared.recipe.Recipe.{Recipe}
 use Rattle.just_joining.specs.Index.{AreDifferent}
 use Rattle.just_joining.specs.Recipes.{name_of, recipe_at, names_of, Depends, DependsOn}
-use Rattle.just_joining.specs.Rules.{IsCircleOf}
+use Rattle.just_joining.specs.Rows.{IsTokenOn}
+use Rattle.just_joining.specs.Rules.{IsCircleOf, IsDependencyOn}
 use Rattle.just_joining.proofs.RecipePlaces.{one_place}
 
 pub leads_more : {R : ℕ → ℕ → Type 0} {a b c : ℕ} → Leads R a b → R b c → Leads R a c
@@ -65,3 +71,30 @@ module _ (rs : List (Recipe UnresolvedDependency)) (ns : List ℕ) (c : IsCircle
 -- what a read of the last member but one gives
 pub closing_read : (ns : List ℕ) (n x : ℕ) → n ≡ length ns → 1 < length ns → x ≡ get_or ns (n - 2) x → x ≡ slice_index ns (length ns - 2)
 closing_read ns n x len steps is = is ∙ (get_or_default ns (n - 2) x 0 (omega arith) ∙ ap (λ m. slice_index ns (m - 2)) len)
+
+-- the last number of a circle, as it is read
+pub last_read : (ns : List ℕ) (n x : ℕ) → n ≡ length ns → 1 < length ns → x ≡ get_or ns (n - 1) x → x ≡ slice_index ns (length ns - 1)
+last_read ns n x len steps is = is ∙ (get_or_default ns (n - 1) x 0 (omega arith) ∙ ap (λ m. slice_index ns (m - 1)) len)
+
+-- the row that closes a circle has its last number
+pub closing_row : (g : List (Vec ℕ Global)) (ns : List ℕ) → IsCircle (HasEdge g) ns → (row : List ℕ) (closing last : ℕ) → row ≡ targets g closing → closing ≡ slice_index ns (length ns - 2) → last ≡ slice_index ns (length ns - 1) → Contains row last
+closing_row g ns c row closing last row_is closing_is last_is =
+    let step : HasEdge g (slice_index ns (length ns - 2)) (slice_index ns (length ns - 2 + 1)) = c.walk (length ns - 2) (omega (arith, c.steps)) in
+    let at : length ns - 2 + 1 ≡ length ns - 1 = omega (arith, c.steps) in
+    subst (λ r. Contains r last) (sym row_is) (subst (λ a. HasEdge g a last) (sym closing_is)
+    (subst (HasEdge g (slice_index ns (length ns - 2))) (ap (slice_index ns) at ∙ sym last_is) step))
+
+-- the dependency that closes a circle
+pub closing_dependency : (rs : List (Recipe UnresolvedDependency)) (ns : List ℕ) → IsCircle (Depends rs) ns → (recipe : List ℕ) (names : List (List ℕ)) (closing last : ℕ) (token : Place) → names ≡ map (λ a. name_of (recipe_at rs a)) ns → recipe ≡ name_of (recipe_at rs closing)
+    → closing ≡ slice_index ns (length ns - 2) → last ≡ slice_index ns (length ns - 1) → (t : IsTokenOn rs closing last token) → IsDependencyOn rs recipe (get_or names (length names - 1) []) t.path
+closing_dependency rs ns c recipe names closing last token e r closing_is last_is t =
+    let name : ℕ → List ℕ = λ a. name_of (recipe_at rs a) in
+    let read : get_or names (length names - 1) [] ≡ name (slice_index ns (length ns - 1)) =
+    ap (λ xs. get_or xs (length xs - 1) []) e ∙ (ap (λ n. get_or (map name ns) (n - 1) []) (length-map ns name) ∙ get_or-map name ns (length ns - 1) 0 [] (omega (arith, c.steps))) in
+    record {
+      from = closing;
+      there = subst (λ x. x < length rs) (sym closing_is) (circle_below rs ns c (length ns - 2) (omega (arith, c.steps)));
+      dependent_is = sym r;
+      depends = t.depends;
+      names = t.names ∙ ap (λ x. x ∷ []) (ap name last_is ∙ sym read);
+    }

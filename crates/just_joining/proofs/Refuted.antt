@@ -38,7 +38,7 @@ module _ (rs : List (Recipe UnresolvedDependency)) (different : AreDifferent (na
   dependencies_kept (unknown_dependency {recipe} {unknown} i inside e c none) =
       let t = target_of rs different i _ (texts_of_path unknown) (rows.rows i inside) (path_named (recipe_at rs i) unknown c) in
       none _ t.2.there t.2.named
-  dependencies_kept (circular c) =
+  dependencies_kept (circular c d) =
       let back = circle_leads rs different _ _ c in
       by_depends.no_circle back.0 (listed back.0 back.1) back.2
   dependencies_kept (argument_count {dependency} {found} {least} {most} i j ki kj c n f is_least is_most wrong) =

@@ -4,7 +4,10 @@ use Rattle.std.specs.List.{Contains}
 use Rattle.just_graph.specs.Steps.{IsOnce, ListsStepsFirst}
 use Rattle.just_parts.specs.declared.layers.ast.UnresolvedDependency.{UnresolvedDependency}
 use Rattle.just_parts.specs.declared.recipe.Recipe.{Recipe}
-use Rattle.just_joining.specs.Recipes.{name_of, dependency_paths, least_of, recipe_at, Depends}
+use Rattle.just_names.specs.Name.{texts_of_path}
+use Rattle.just_names.specs.Token.{Place}
+use Rattle.just_names.specs.declared.name.Namepath.{Namepath}
+use Rattle.just_joining.specs.Recipes.{name_of, named_paths, dependency_paths, least_of, recipe_at, Depends}
 
 -- the recipe that a path names, which takes no argument at least
 pub record IsTarget (recipes : List (Recipe UnresolvedDependency)) (path : List (List ℕ)) (b : ℕ) : Type 0 where
@@ -20,6 +23,13 @@ pub record HasTargets (recipes : List (Recipe UnresolvedDependency)) (paths : Li
 -- the targets of a recipe's dependencies
 abbrev pub IsRow : List (Recipe UnresolvedDependency) → ℕ → List ℕ → Type 0
 IsRow recipes a row = HasTargets recipes (dependency_paths (recipe_at recipes a)) (length (dependency_paths (recipe_at recipes a))) row
+
+-- the token of a dependency on the recipe at a place
+pub record IsTokenOn (recipes : List (Recipe UnresolvedDependency)) (dependent place : ℕ) (token : Place) : Type 0 where
+  pub path : Namepath
+  pub depends : Contains (named_paths (recipe_at recipes dependent)) path
+  pub names : texts_of_path path ≡ name_of (recipe_at recipes place) ∷ []
+  pub token_is : token ≡ path.last.token
 
 -- every place once, each after those that it depends on
 pub record IsOrderOf (recipes : List (Recipe UnresolvedDependency)) (order : List ℕ) : Type 0 where

@@ -70,14 +70,22 @@ pub record IsCircleOf (recipes : List (Recipe UnresolvedDependency)) (recipe : L
   pub walk : (k : ℕ) → k + 1 < length circle → DependsOn recipes (get_or circle k []) (get_or circle (k + 1) [])
   pub closing : get_or circle (length circle - 2) [] ≡ recipe
 
--- A dependency is no recipe, a recipe depends on itself, or one is depended on with too few or too many arguments. The first and the last are told at the last name of the dependency.
+-- A dependency of a recipe of one name on one of another.
+pub record IsDependencyOn (recipes : List (Recipe UnresolvedDependency)) (dependent named : List ℕ) (path : Namepath) : Type 0 where
+  pub from : ℕ
+  pub there : from < length recipes
+  pub dependent_is : name_of (recipe_at recipes from) ≡ dependent
+  pub depends : Contains (named_paths (recipe_at recipes from)) path
+  pub names : texts_of_path path ≡ named ∷ []
+
+-- A dependency is no recipe, a recipe depends on itself, or one is depended on with too few or too many arguments. It is told at the last name of the dependency; of a circle, at that of one which closes it.
 pub data Dependencies (recipes : List (Recipe UnresolvedDependency)) : Cause → Type 0 where
   unknown_dependency : {recipe : List ℕ} {unknown : Namepath} (i : ℕ) → i < length recipes → name_of (recipe_at recipes i) ≡ recipe
       → Contains (named_paths (recipe_at recipes i)) unknown
       → ((j : ℕ) → j < length recipes → texts_of_path unknown ≢ name_of (recipe_at recipes j) ∷ [])
       → Dependencies recipes (Broken unknown.last.token (kind.UnknownDependency recipe unknown))
-  circular : {place : Place} {recipe : List ℕ} {circle : List (List ℕ)} → IsCircleOf recipes recipe circle
-      → Dependencies recipes (Broken place (kind.CircularRecipeDependency recipe circle))
+  circular : {recipe : List ℕ} {circle : List (List ℕ)} {path : Namepath} → IsCircleOf recipes recipe circle → IsDependencyOn recipes recipe (get_or circle (length circle - 1) []) path
+      → Dependencies recipes (Broken path.last.token (kind.CircularRecipeDependency recipe circle))
   argument_count : {dependency : Namepath} {found least most : ℕ} (i j : ℕ) → i < length recipes → j < length recipes
       → Contains (named_paths (recipe_at recipes i)) dependency → texts_of_path dependency ≡ name_of (recipe_at recipes j) ∷ []
       → found ≡ 0 → least_of (recipe_at recipes j) ≡ least → most_of (recipe_at recipes j) ≡ most → (found < least) ⊎ (most < found)

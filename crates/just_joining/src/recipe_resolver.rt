@@ -1,7 +1,7 @@
 ghost use Rattle.std.specs.Prelude.{◌≡◌, ◌<◌, ℕ, [], length, get_or, slice_index, map, IfOk, IfErr};
 ghost use Rattle.std.specs.Str.{bytes_eq};
 ghost use Rattle.std.specs.HashMap.{get};
-ghost use Rattle.std.specs.List.{All};
+ghost use Rattle.std.specs.List.{All, Contains};
 ghost use Rattle.just_names.specs.Name.{texts_of_path};
 ghost use Rattle.just_graph.specs.Building.{EachRow};
 ghost use Rattle.just_graph.specs.Graph.{targets};
@@ -10,7 +10,7 @@ ghost use Rattle.just_joining.specs.Index.{AreDifferent, IsIndex, place_in};
 ghost use Rattle.just_joining.specs.Recipes.{name_of, dependency_paths, recipe_at, names_of};
 ghost use Rattle.just_joining.specs.Definitions.{recipes_in};
 ghost use Rattle.just_joining.specs.Resolved.{unresolved_numbers, HasPriors, Resolving, AreResolved};
-ghost use Rattle.just_joining.specs.Rows.{IsTarget, IsRow, IsOrderOf};
+ghost use Rattle.just_joining.specs.Rows.{IsTarget, IsRow, IsOrderOf, IsTokenOn};
 ghost use Rattle.just_errors.specs.Causes.{Keeps, Reports};
 ghost use Rattle.just_joining.specs.Rules.{Dependencies};
 
@@ -140,25 +140,34 @@ fn names_at<'a, 'src>(
     Ok(names)
 }
 
-// The token of a recipe's first dependency that is the recipe at a place, or of its name where there is none.
+// The token of a recipe's first dependency that is the recipe at a place.
 fn dependency_token<'a, 'src>(
     definitions: &Definitions<'src, 'a>,
-    rows: &[Vec<usize>],
+    row: &[usize],
     dependent: usize,
     place: usize,
 ) -> Token<'src>
-    requires { dependent < length definitions.now.recipes.items }
+    requires dependent { dependent < length definitions.now.recipes.items }
+    requires row { IsRow (recipes_in definitions.now) dependent row.now }
+    requires place { Contains row.now place }
+    ensures { IsTokenOn (recipes_in definitions.now) dependent place result }
 {
-    let recipe = recipe_at(definitions, dependent);
-    let Some(row) = rows.get(dependent) else {
-        return recipe.name.token.copied();
-    };
-    for (target, dependency) in row.iter().zip(recipe.dependencies.as_slice()) {
-        if *target == place {
-            return dependency.recipe.last.token.copied();
+    let dependencies = recipe_at(definitions, dependent).dependencies.as_slice();
+    for at in 0..row.len() {
+        if row[at] == place {
+            return dependencies[at].recipe.last.token.copied();
         }
     }
-    recipe.name.token.copied()
+    unreachable!()
+}
+
+// The row of a place.
+#[tactic(auto, using(just_graph::proofs::Targets::targets_at))]
+fn row_at(rows: &[Vec<usize>], place: usize) -> &[usize]
+    requires { place < length rows.now }
+    ensures { result.now ≡ targets rows.now place }
+{
+    rows[place].as_slice()
 }
 
 // Lists the places of all recipes, each after those that it depends on.
@@ -181,7 +190,12 @@ fn ordered<'a, 'src>(
             let last = recipe_at(definitions, closing);
             let names = names_at(alloc, definitions, circle.as_slice())?;
             Err(Error::Compile(CompileError {
-                token: dependency_token(definitions, rows, closing, circle[circle.len() - 1]),
+                token: dependency_token(
+                    definitions,
+                    row_at(rows, closing),
+                    closing,
+                    circle[circle.len() - 1],
+                ),
                 kind: CompileErrorKind::CircularRecipeDependency {
                     recipe: BorrowedText::new(last.name.lexeme()),
                     circle: names,
@@ -189,15 +203,6 @@ fn ordered<'a, 'src>(
             }))
         }
     }
-}
-
-// The row of a place.
-#[tactic(auto, using(just_graph::proofs::Targets::targets_at))]
-fn row_at(rows: &[Vec<usize>], place: usize) -> &[usize]
-    requires { place < length rows.now }
-    ensures { result.now ≡ targets rows.now place }
-{
-    rows[place].as_slice()
 }
 
 /// The recipes of the module at `module_path` in an order, each resolved.

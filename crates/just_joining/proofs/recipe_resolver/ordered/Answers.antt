@@ -7,10 +7,13 @@ use Rattle.just_graph.specs.Steps.{IsOrder, IsCircle, circle_by}
 use Rattle.just_joining.specs.Recipes.{name_of, recipe_at, Depends}
 use Rattle.just_joining.specs.Definitions.{recipes_in}
 use Rattle.just_joining.specs.Rows.{IsRow}
-use Rattle.just_joining.specs.Rules.{circular}
+use Rattle.just_names.specs.Token.{Place}
+use Rattle.just_errors.specs.Causes.{Broken}
+use Rattle.just_errors.specs.declared.error.CompileErrorKind.TheVariants as kind
+use Rattle.just_joining.specs.Rules.{Dependencies, circular}
 use Rattle.just_joining.proofs.RecipePlaces.{length-lent}
 use Rattle.just_joining.proofs.Edges.{edges, is_graph}
-use Rattle.just_joining.proofs.RecipeCircles.{circle_below, circle_of, closing_read}
+use Rattle.just_joining.proofs.RecipeCircles.{circle_below, circle_of, closing_dependency, closing_read, closing_row, last_read}
 use Rattle.just_joining.proofs.Refuted.{is_order_of, dependencies_kept}
 use Rattle.just_joining.proofs.recipe_resolver.ordered.Goals as goal
 
@@ -79,6 +82,19 @@ returns-clause-named c =
     let circle : IsCircle (Depends (recipes_in c.args.definitions.now)) c.in-Err.circle.items = circle_by (λ a b. (edges (recipes_in c.args.definitions.now) c.requires.different c.args.rows.now rows a b).0) c.in-Err.circle.items edge in
     let len : c.len-in-Err.result ≡ length c.in-Err.circle.items = grind (arith, common_steps) in
     let last : c.index-closing.result.now ≡ slice_index c.in-Err.circle.items (length c.in-Err.circle.items - 2) = closing_read _ _ _ len edge.steps c.index-closing.ensures in
-    circular (circle_of (recipes_in c.args.definitions.now) c.in-Err.circle.items circle _ _
-    (c.in_ok-names-in-Err.ensures ∙ ap (map (λ a. name_of (recipe_at (recipes_in c.args.definitions.now) a))) c.as_slice-in-Err.ensures.value)
-    (c.new.ensures ∙ (c.lexeme.ensures ∙ (ap name_of c.recipe_at-last.ensures.there ∙ ap (λ x. name_of (recipe_at (recipes_in c.args.definitions.now) x)) last))))
+    let again : c.len-in-Err-2.result ≡ length c.in-Err.circle.items = grind (arith, common_steps) in
+    let final : c.index.result.now ≡ slice_index c.in-Err.circle.items (length c.in-Err.circle.items - 1) = last_read _ _ _ again edge.steps c.index.ensures in
+    let names = c.in_ok-names-in-Err.ensures ∙ ap (map (λ a. name_of (recipe_at (recipes_in c.args.definitions.now) a))) c.as_slice-in-Err.ensures.value in
+    let recipe = c.new.ensures ∙ (c.lexeme.ensures ∙ ap name_of c.recipe_at-last.ensures.there) in
+    subst (λ (p : Place). Dependencies (recipes_in c.args.definitions.now) (Broken p (kind.CircularRecipeDependency c.new.result c.in_ok-names-in-Err.names))) (sym c.dependency_token.ensures.token_is)
+    (circular (circle_of (recipes_in c.args.definitions.now) c.in-Err.circle.items circle _ _ names (recipe ∙ ap (λ x. name_of (recipe_at (recipes_in c.args.definitions.now) x)) last))
+    (closing_dependency (recipes_in c.args.definitions.now) c.in-Err.circle.items circle c.new.result c.in_ok-names-in-Err.names c.index-closing.result.now c.index.result.now c.dependency_token.result names recipe last final c.dependency_token.ensures))
+
+pub dependency_token-requires-clause-place : goal.dependency_token-requires-clause-place
+dependency_token-requires-clause-place c =
+    let edge : IsCircle (HasEdge c.args.rows.now) c.in-Err.circle.items = rw c.in-Err.is at c.in_ok-order.ensures.circle in
+    let len : c.len-in-Err.result ≡ length c.in-Err.circle.items = grind (arith, common_steps) in
+    let again : c.len-in-Err-2.result ≡ length c.in-Err.circle.items = grind (arith, common_steps) in
+    let last : c.index-closing.result.now ≡ slice_index c.in-Err.circle.items (length c.in-Err.circle.items - 2) = closing_read _ _ _ len edge.steps c.index-closing.ensures in
+    let final : c.index.result.now ≡ slice_index c.in-Err.circle.items (length c.in-Err.circle.items - 1) = last_read _ _ _ again edge.steps c.index.ensures in
+    closing_row c.args.rows.now c.in-Err.circle.items edge c.row_at.result.now c.index-closing.result.now c.index.result.now c.row_at.ensures last final
