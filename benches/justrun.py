@@ -100,6 +100,16 @@ def words(count):
     return bundle("p x:"), [part for n in range(count) for part in ("p", str(n))]
 
 
+def functions(count):
+    """Many functions of two parameters."""
+    return bundle(*(f"f{n}(x, y) := x + y" for n in range(count)), "a:"), ["a"]
+
+
+def function_parameters(count):
+    """A function of many parameters."""
+    return bundle("f(" + ", ".join(f"x{n}" for n in range(count)) + ") := x0", "a:"), ["a"]
+
+
 def parentheses(count):
     """A variable whose value stands in so many parentheses."""
     return bundle("x := " + "(" * count + "'a'" + ")" * count), ["a"]
@@ -139,6 +149,8 @@ INPUTS = {
     "200 modules inside each other": module_chain(200),
     "2,000 modules inside each other": module_chain(2_000),
     "10,000 invocations": words(10_000),
+    "100,000 functions of two parameters": functions(100_000),
+    "function of 100,000 parameters": function_parameters(100_000),
     "parentheses 10,000 deep": parentheses(10_000),
     "list of 100,000 elements": elements(100_000),
     "sum of 10,000 parts": parts(10_000),
