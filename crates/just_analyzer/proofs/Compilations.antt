@@ -8,6 +8,8 @@ use Rattle.just_parts.specs.Items.{Ast}
 use Rattle.just_errors.specs.declared.error.Error.{Error}
 use Rattle.just_parts.specs.declared.recipe.Recipe.{Recipe}
 use Rattle.just_invoke.specs.declared.justfile.Justfile.{Justfile}
+use Rattle.just_parts.specs.Evaluator.{Evaluator}
+use Rattle.just_parts.specs.Layers.{layers_of}
 use Rattle.just_loader.specs.Keys.{NamesInFiles}
 use Rattle.just_loader.specs.Loaded.{IsLoaded}
 use Rattle.just_loader.specs.Reached.{World}
@@ -19,25 +21,25 @@ use Rattle.just_analyzer.specs.Readings.{root_heading}
 use Rattle.just_analyzer.specs.Rules.{KeepsAll, Names, in_files, in_modules}
 use Rattle.just_analyzer.proofs.Readings.{are_analyzable, readings_agree}
 
-module _ (w : World) (asts : AstKey → Option Ast) (loaded : List Text) (is : IsLoaded w asts loaded) (files : Keeps (NamesInFiles w)) (justfile : Justfile) (recipes : List (Recipe Dependency))
-    (analyzed : IsAnalyzed w.answers.enabled asts loaded (root_heading w) justfile recipes) where
+module _ (evaluator : Evaluator) (w : World) (asts : AstKey → Option Ast) (loaded : List Text) (is : IsLoaded w asts loaded) (files : Keeps (NamesInFiles w)) (justfile : Justfile) (recipes : List (Recipe Dependency))
+    (analyzed : IsAnalyzed (layers_of w.answers evaluator) asts loaded (root_heading w) justfile recipes) where
   -- where the analysis succeeds, no rule is broken
-  pub all_kept : KeepsAll w
+  pub all_kept : KeepsAll evaluator w
   all_kept = record {
     files = files;
-    modules = λ R f reads are. agreeing_kept w.answers.enabled asts (are_analyzable w asts loaded is) R (readings_agree w asts loaded is R reads) (root_heading w) (root_held w asts loaded is) _ analyzed.are_modules analyzed.kept f are;
+    modules = λ R f reads are. agreeing_kept w.answers.enabled asts (are_analyzable w asts loaded is) (layers_of w.answers evaluator) R (readings_agree w asts loaded is R reads) (root_heading w) (root_held w asts loaded is) _ analyzed.are_modules analyzed.kept f are;
   }
 
   -- and none is named
-  pub none_named : Keeps (Names w)
+  pub none_named : Keeps (Names evaluator w)
   none_named c (in_files n) = files c n
   none_named c (in_modules R kept reads n) =
-      agreeing_unnamed w.answers.enabled asts (are_analyzable w asts loaded is) R (readings_agree w asts loaded is R reads) (root_heading w) (root_held w asts loaded is) _ analyzed.are_modules analyzed.kept c n
+      agreeing_unnamed w.answers.enabled asts (are_analyzable w asts loaded is) (layers_of w.answers evaluator) R (readings_agree w asts loaded is R reads) (root_heading w) (root_held w asts loaded is) _ analyzed.are_modules analyzed.kept c n
 
 -- a refusal that is named
-pub refused : (w : World) (r : Result Compilation Error) → IfOk r (λ _. ⊥) → IfErr r (Reports (Names w)) → Compiles w r
-refused w (Ok c) none h = absurd none
-refused w (Err e) none h = record {
+pub refused : (evaluator : Evaluator) (w : World) (r : Result Compilation Error) → IfOk r (λ _. ⊥) → IfErr r (Reports (Names evaluator w)) → Compiles evaluator w r
+refused evaluator w (Ok c) none h = absurd none
+refused evaluator w (Err e) none h = record {
   kept = tt;
   unnamed = tt;
   compiled = tt;

@@ -8,6 +8,8 @@ use Rattle.just_parts.specs.declared.layers.ast.UnresolvedDependency.{Unresolved
 use Rattle.just_parts.specs.declared.recipe.Recipe.{Recipe}
 use Rattle.just_records.specs.declared.parameter.Parameter.{Parameter}
 use Rattle.just_records.specs.Parameter.{is_option}
+use Rattle.just_records.specs.declared.setting.Setting.{Setting}
+use Rattle.just_records.specs.declared.setting.Setting.TheVariants as setting
 
 -- no elements
 abbrev pub is_empty : {A : Type 0} → List A → Bool
@@ -22,6 +24,14 @@ is_placed p = not (is_option p)
 abbrev pub is_heading : Recipe UnresolvedDependency → Bool
 is_heading r = (is_empty r.attributes && is_empty r.body) && list_all is_placed r.parameters
 
+-- the rules that a setting changes are built: it needs no lists, names no program, and allows no recipe twice
+abbrev pub is_judged_setting : Setting → Bool
+is_judged_setting (setting.AllowDuplicateRecipes on) = not on
+is_judged_setting (setting.Lists on) = not on
+is_judged_setting (setting.ScriptInterpreter i) = false
+is_judged_setting (setting.Shell i) = false
+is_judged_setting _ = true
+
 -- the rules of the item are built
 abbrev pub is_judged : Item → Bool
 is_judged (item.Recipe r) = is_heading r
@@ -29,6 +39,7 @@ is_judged (item.Module name relative absolute attributes doc optional) = is_empt
 is_judged (item.Import relative absolute optional) = true
 is_judged (item.Unexport name) = true
 is_judged (item.Function f) = true
+is_judged (item.Setting s) = is_judged_setting s.value
 is_judged (item.Comment token) = true
 is_judged item.Newline = true
 is_judged _ = false

@@ -59,10 +59,10 @@ impl Compiler {
 
     /// Compiles the file at `root` and those that it reaches, or names a rule that is broken. Where it succeeds no rule
     /// is broken, and each recipe that the compilation names is held, after those that it depends on. A text with what
-    /// compiling cannot judge yet (settings, variables, functions, attributes, options, bodies)
-    /// is refused as one that does not follow the grammar.
+    /// compiling cannot judge yet (variables, attributes, options, bodies, lists, recipes of one name, programs that run
+    /// lines) is refused as one that does not follow the grammar.
     ///
-    /// The evaluation is asked nothing yet.
+    /// The evaluation is asked for the settings of each module.
     pub fn compile<'src, S: Syntax, E: Evaluation>(
         alloc: Global,
         config: &Config,
@@ -72,7 +72,7 @@ impl Compiler {
         root: &str,
     ) -> Result<Compilation<'src>, Error<'src>>
         requires { IsClean root.now }
-        ensures { Compiles (world_of sources.now config.now (judged (S.answers syntax.now)) root.now) result }
+        ensures { Compiles (E.answers evaluation.now) (world_of sources.now config.now (judged (S.answers syntax.now)) root.now) result }
     {
         let path = Text::from_str(alloc, root)?;
         let judging = Judging { syntax };

@@ -1,7 +1,7 @@
 //! What compiling can judge in this stage.
 ghost use Rattle.std.specs.Prelude.{◌≡◌, is_none};
 ghost use Rattle.std.specs.List.{list_all};
-ghost use Rattle.just_analyzer.specs.Judged.{is_heading, is_judged, is_placed, is_whole};
+ghost use Rattle.just_analyzer.specs.Judged.{is_heading, is_judged, is_judged_setting, is_placed, is_whole};
 
 use just_data::Sequence;
 use just_names::{Numerator, Token};
@@ -35,6 +35,17 @@ fn is_heading(recipe: &UnresolvedRecipe) -> bool
     are_placed(recipe.parameters.as_slice())
 }
 
+// Whether the rules that a setting changes are built.
+fn is_judged_setting(setting: &Setting) -> bool
+    ensures { result ≡ is_judged_setting setting.now }
+{
+    match setting {
+        Setting::AllowDuplicateRecipes(on) | Setting::Lists(on) => !*on,
+        Setting::ScriptInterpreter(_) | Setting::Shell(_) => false,
+        _ => true,
+    }
+}
+
 // Where an item is told whose rules are not built.
 fn fault_of<'src>(item: &Item<'src>) -> Option<Token<'src>>
     ensures { is_none result ≡ is_judged item.now }
@@ -64,7 +75,13 @@ fn fault_of<'src>(item: &Item<'src>) -> Option<Token<'src>>
             }
         }
         Item::Assignment(assignment) => Some(assignment.name.token.copied()),
-        Item::Setting(set) => Some(set.name.token.copied()),
+        Item::Setting(set) => {
+            if is_judged_setting(&set.value) {
+                None
+            } else {
+                Some(set.name.token.copied())
+            }
+        }
     }
 }
 

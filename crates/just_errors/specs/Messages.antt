@@ -29,8 +29,11 @@ load_name (load.CircularImport current next) = codes "CircularImport"
 
 abbrev pub kind_name : CompileErrorKind → List ℕ
 kind_name kind.Syntax = codes "Syntax"
+kind_name (kind.Evaluate fault) = codes "Evaluate"
 kind_name (kind.DuplicateParameter recipe parameter) = codes "DuplicateParameter"
 kind_name (kind.RequiredParameterFollowsDefaultParameter parameter) = codes "RequiredParameterFollowsDefaultParameter"
+kind_name (kind.DuplicateSet setting first) = codes "DuplicateSet"
+kind_name (kind.IncompatibleSettings first first_line second) = codes "IncompatibleSettings"
 kind_name (kind.DuplicateUnexport variable) = codes "DuplicateUnexport"
 kind_name (kind.DuplicateFunctionParameter function parameter) = codes "DuplicateFunctionParameter"
 kind_name (kind.Redefinition first_type second_type name first) = codes "Redefinition"
@@ -81,8 +84,13 @@ circle_text recipe circle =
 -- what a broken rule says
 abbrev pub kind_text : CompileErrorKind → List ℕ
 kind_text kind.Syntax = codes "The line does not follow the grammar"
+kind_text (kind.Evaluate fault) = fault.message
 kind_text (kind.DuplicateParameter recipe parameter) = codes "Recipe `" ++ (recipe ++ (codes "` has duplicate parameter `" ++ (parameter ++ codes "`")))
 kind_text (kind.RequiredParameterFollowsDefaultParameter parameter) = codes "Non-default parameter `" ++ (parameter ++ codes "` follows default parameter")
+kind_text (kind.DuplicateSet setting first) =
+    codes "Setting `" ++ (setting ++ (codes "` is set again; it is first set on line " ++ (place_text first ++ codes " of this file or of another one of its module")))
+kind_text (kind.IncompatibleSettings first first_line second) =
+    codes "Setting `" ++ (second ++ (codes "` may not be set beside `" ++ (first ++ (codes "`, which is set on line " ++ (place_text first_line ++ codes " of this file or of another one of its module")))))
 kind_text (kind.DuplicateUnexport variable) = codes "Variable `" ++ (variable ++ codes "` is unexported multiple times")
 kind_text (kind.DuplicateFunctionParameter function parameter) = codes "Function `" ++ (function ++ (codes "` has duplicate parameter `" ++ (parameter ++ codes "`")))
 kind_text (kind.Redefinition first_type second_type name first) =

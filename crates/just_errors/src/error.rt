@@ -88,11 +88,30 @@ impl fmt::Display for Definition {
     }
 }
 
+/// What a layer says of a question that it cannot answer.
+#[derive(Clone, Debug, PartialEq, Eq, Drop)]
+pub struct Fault {
+    /// What it says.
+    pub message: Text,
+}
+
+impl fmt::Display for Fault {
+    ghost use Rattle.std.specs.Prelude.{Some};
+
+    ghost output = { λ fault. Some fault.message };
+
+    fn fmt<W: fmt::Write>(&self, f: &mut fmt::Formatter<W>) -> fmt::Result {
+        f.write_str(self.message.as_str())
+    }
+}
+
 /// Which rule of compilation is broken.
 #[derive(Debug, PartialEq, Eq, Drop)]
 pub enum CompileErrorKind<'src> {
     /// A text does not follow the grammar.
     Syntax,
+    /// What is evaluated while compiling has no value.
+    Evaluate(Fault),
     /// A recipe has two parameters of one name.
     DuplicateParameter {
         recipe: BorrowedText<'src>,
@@ -101,6 +120,17 @@ pub enum CompileErrorKind<'src> {
     /// A parameter without a default follows one that has one; both are given by their places.
     RequiredParameterFollowsDefaultParameter {
         parameter: BorrowedText<'src>,
+    },
+    /// A setting is set twice. `first` is the line of the first place, which counts from 0.
+    DuplicateSet {
+        setting: BorrowedText<'src>,
+        first: usize,
+    },
+    /// Two settings are set that may not stand together. `first_line` is the line of the first, which counts from 0.
+    IncompatibleSettings {
+        first: BorrowedText<'src>,
+        first_line: usize,
+        second: BorrowedText<'src>,
     },
     /// A variable is unexported twice.
     DuplicateUnexport {
@@ -145,10 +175,13 @@ impl<'src> CompileErrorKind<'src> {
     {
         match self {
             CompileErrorKind::Syntax => "Syntax",
+            CompileErrorKind::Evaluate(_) => "Evaluate",
             CompileErrorKind::DuplicateParameter { .. } => "DuplicateParameter",
             CompileErrorKind::RequiredParameterFollowsDefaultParameter { .. } => {
                 "RequiredParameterFollowsDefaultParameter"
             }
+            CompileErrorKind::DuplicateSet { .. } => "DuplicateSet",
+            CompileErrorKind::IncompatibleSettings { .. } => "IncompatibleSettings",
             CompileErrorKind::DuplicateUnexport { .. } => "DuplicateUnexport",
             CompileErrorKind::DuplicateFunctionParameter { .. } => "DuplicateFunctionParameter",
             CompileErrorKind::Redefinition { .. } => "Redefinition",
@@ -212,6 +245,7 @@ impl<'src> fmt::Display for CompileErrorKind<'src> {
     fn fmt<W: fmt::Write>(&self, f: &mut fmt::Formatter<W>) -> fmt::Result {
         match self {
             CompileErrorKind::Syntax => f.write_str("The line does not follow the grammar"),
+            CompileErrorKind::Evaluate(fault) => write!(f, "{fault}"),
             CompileErrorKind::DuplicateParameter { recipe, parameter } => {
                 write!(f, "Recipe `{recipe}` has duplicate parameter `{parameter}`")
             }
@@ -219,6 +253,24 @@ impl<'src> fmt::Display for CompileErrorKind<'src> {
                 write!(
                     f,
                     "Non-default parameter `{parameter}` follows default parameter"
+                )
+            }
+            CompileErrorKind::DuplicateSet { setting, first } => {
+                let line = first.saturating_add(1);
+                write!(
+                    f,
+                    "Setting `{setting}` is set again; it is first set on line {line} of this file or of another one of its module"
+                )
+            }
+            CompileErrorKind::IncompatibleSettings {
+                first,
+                first_line,
+                second,
+            } => {
+                let line = first_line.saturating_add(1);
+                write!(
+                    f,
+                    "Setting `{second}` may not be set beside `{first}`, which is set on line {line} of this file or of another one of its module"
                 )
             }
             CompileErrorKind::DuplicateUnexport { variable } => {

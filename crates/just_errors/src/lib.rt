@@ -6,6 +6,6 @@ pub mod halt;
 mod wording;
 
 pub use error::{
-    CompileError, CompileErrorKind, Error, InvocationError, LoadError, RunError, SourceError,
+    CompileError, CompileErrorKind, Error, Fault, InvocationError, LoadError, RunError, SourceError,
 };
 pub use halt::Halt;

@@ -16,27 +16,21 @@ use just_lines::lists::{add_group, add_list, before};
 use just_lines::written::unmarked;
 use just_questions::bundles::{answer_file, answer_find, answer_table};
 use just_questions::copies::answer_copy;
-use just_questions::items::{answer_conflicts, answer_parse, answer_read};
+use just_questions::items::{answer_conflicts, answer_parse, answer_read, read_pairs};
 use std::alloc::{AllocError, Global};
 
 // Compiles the file at a path.
 fn compile<'src>(
     alloc: Global,
     sources: &Sources<'src>,
+    syntax: &PlainSyntax,
     config: &Config,
     root: &str,
 ) -> Result<Compilation<'src>, Error<'src>>
     requires { IsClean root.now }
     ensures { IfOk result (λ c. IsClosed c.justfile c.recipes) }
 {
-    Compiler::compile(
-        alloc,
-        config,
-        &PlainSyntax::new(),
-        &PlainEvaluation,
-        sources,
-        root,
-    )
+    Compiler::compile(alloc, config, syntax, &PlainEvaluation, sources, root)
 }
 
 // Runs words over a compilation.
@@ -177,7 +171,9 @@ fn add_sources(
     if !is_clean(root) {
         return text.push_str("error NotClean\n");
     }
-    match compile(alloc, sources, &asked.config, root) {
+    let pairs = read_pairs(alloc, asked.conflicts.as_str())?;
+    let syntax = PlainSyntax::with_conflicts(pairs.as_slice());
+    match compile(alloc, sources, &syntax, &asked.config, root) {
         Ok(compilation) => add_whole(&compilation, alloc, &asked.config, words, text),
         Err(error) => add_fault(text, &error),
     }

@@ -9,6 +9,7 @@ use std::collections::HashSet;
 #[derive(Drop)]
 struct Lines {
     modules: String,
+    settings: String,
     recipes: String,
     entrances: String,
     numbers: HashSet<u64>,
@@ -58,6 +59,30 @@ fn add_module(module: &Justfile, lines: &mut Lines) -> Result<(), AllocError> {
     )
 }
 
+// Adds the settings of a module that are on, behind its own file.
+fn add_settings(module: &Justfile, text: &mut String) -> Result<(), AllocError> {
+    text.push_str(next(text))?;
+    text.push_str(module.source.as_str())?;
+    let settings = &module.settings;
+    let flags = [
+        (
+            "allow-duplicate-variables",
+            settings.allow_duplicate_variables,
+        ),
+        ("export", settings.export),
+        ("ignore-comments", settings.ignore_comments),
+        ("lazy", settings.lazy),
+        ("positional-arguments", settings.positional_arguments),
+        ("quiet", settings.quiet),
+    ];
+    for (name, on) in flags.as_slice() {
+        if *on {
+            write!(text, " {name}")?;
+        }
+    }
+    Ok(())
+}
+
 // Adds the recipes of a module, in the order of its table.
 fn add_recipes<'src>(
     compilation: &Compilation<'src>,
@@ -77,6 +102,7 @@ fn add_recipes<'src>(
 fn lines_of(compilation: &Compilation, alloc: Global) -> Result<Lines, AllocError> {
     let mut lines = Lines {
         modules: String::new(alloc),
+        settings: String::new(alloc),
         recipes: String::new(alloc),
         entrances: String::new(alloc),
         numbers: HashSet::new(alloc),
@@ -89,6 +115,7 @@ fn lines_of(compilation: &Compilation, alloc: Global) -> Result<Lines, AllocErro
             break;
         };
         add_module(module, &mut lines)?;
+        add_settings(module, &mut lines.settings)?;
         add_recipes(compilation, module, alloc, &mut lines)?;
         for inner in module.modules.as_slice().iter().rev() {
             left.push(inner)?;
@@ -109,6 +136,7 @@ pub fn add_compilation(
     writeln!(text, "\ntexts {}", compilation.asts.len())?;
     let lines = lines_of(compilation, alloc)?;
     writeln!(text, "modules{}", lines.modules)?;
+    writeln!(text, "settings{}", lines.settings)?;
     writeln!(text, "recipes{}", lines.recipes)?;
     writeln!(text, "entrances{}", lines.entrances)?;
     writeln!(text, "numbers {} of {}", lines.numbers.len(), lines.count)

@@ -4,7 +4,7 @@ use crate::running::run_invocations;
 use just_data::{Exact, Sequence, Shared, Text};
 use just_names::Modulepath;
 use just_parts::layers::{
-    Config, Error, Evaluation, FunctionDefinition, Host, Name, Number, Output, RunError,
+    Config, Error, Evaluation, FunctionDefinition, Host, Name, Number, Output, RunError, Settings,
     StringLiteral, Syntax,
 };
 use just_running::{Recipes, Report};
@@ -60,6 +60,8 @@ pub struct Justfile<'src> {
     pub private: bool,
     /// The recipes of the module, by their names.
     pub recipes: Table<'src, RecipeKey<'src>>,
+    /// What the module's files set, and the other settings by default.
+    pub settings: Settings,
     /// The path of the module's own file.
     pub source: Text,
     /// The names of the variables that recipes do not have in their environment, each once, in the order of the module's

@@ -1,18 +1,26 @@
 -- Recipes that are alike in what the rules read break the same rules.
-use Rattle.std.proofs.Common.{◌≡◌, ℕ, zero, suc, ◌+◌, ◌<◌, Bool, false, List, [], ◌∷◌, ◌++◌, map, length, get_or, Some, refl, sym, ◌∙◌, ap, subst}
+use Rattle.std.proofs.Common.{◌≡◌, ℕ, zero, suc, ◌+◌, ◌<◌, Bool, false, List, [], ◌∷◌, ◌++◌, map, length, get_or, Option, None, Some, refl, sym, ◌∙◌, ap, subst}
 use Rattle.std.specs.List.{Contains, slice_get}
 use Rattle.std.proofs.lemmas.List.{length-map}
 use Rattle.just_errors.specs.Causes.{Cause, Keeps}
 use Rattle.just_names.specs.Token.{Place, lexeme}
+use Rattle.just_records.specs.declared.function_definition.FunctionDefinition.{FunctionDefinition}
+use Rattle.just_records.specs.declared.function_definition.FunctionParameter.{FunctionParameter}
+use Rattle.just_records.specs.declared.setting.Set.{Set}
+use Rattle.just_records.specs.declared.settings.Settings.{Settings}
+use Rattle.just_parts.specs.Bare.{bare_function, bare_function_parameter}
+use Rattle.just_parts.specs.Evaluator.{functions_by_name}
+use Rattle.just_parts.specs.Layers.{Layers}
 use Rattle.just_parts.specs.declared.layers.ast.UnresolvedDependency.{UnresolvedDependency}
 use Rattle.just_parts.specs.declared.recipe.Recipe.{Recipe}
 use Rattle.just_names.specs.declared.name.Name.{Name}
 use Rattle.just_names.specs.declared.name.Namepath.{Namepath}
 use Rattle.just_errors.specs.declared.error.Definition.TheVariants as definition
-use Rattle.just_joining.specs.Contents.{Contents, Defined, Signature, all_defined, defined, defined_in, defined_recipe, module_of_name, signatures, texts_of_names}
+use Rattle.just_joining.specs.Contents.{Contents, Defined, Signature, all_defined, defined, defined_in, defined_recipe, module_of_name, signature, signatures}
+use Rattle.just_joining.specs.Groups.{Breaks, Group, OfBodies, OfConstants, OfDependencies, OfHeaders, OfNames, functions_under, settings_of}
 use Rattle.just_joining.specs.Index.{Repeats}
 use Rattle.just_joining.specs.Recipes.{name_of, token_of, named_parameters, parameter_names, is_defaulted, is_needed, FollowsDefault, named_paths, dependency_paths, least_of, most_of, no_recipe, recipe_at, Depends, DependsOn}
-use Rattle.just_joining.specs.Rules.{Bodies, Dependencies, Headers, IsCircleOf, Names, Parameters, Redefines, argument_count, circular, duplicate_parameter, duplicate_unexport, module_redefinition, of_parameters, required_after_default, unknown_dependency}
+use Rattle.just_joining.specs.Rules.{Bodies, Constants, Dependencies, Headers, IsCircleOf, Modules, Names, Parameters, Sets, Unexports, argument_count, circular, duplicate_parameter, of_modules, of_parameters, of_sets, of_unexports, required_after_default, unknown_dependency}
 
 -- What the rules read of a recipe.
 pub record Outline : Type 0 where
@@ -136,43 +144,52 @@ module _ (rs qs : List (Recipe UnresolvedDependency)) (alike : AreAlike rs qs) w
       argument_count i j (inside i h) (inside j l) (named i dependency c) (is ∙ ap (λ n. n ∷ []) (name j)) none
       (ap (λ (o : Outline). o.least) (sym (at j)) ∙ least) (ap (λ (o : Outline). o.most) (sym (at j)) ∙ most) wrong
 
--- Contents that are alike: so are their recipes, and the signatures of their functions and their names are the same.
+-- Contents that are alike: so are their recipes, and their functions without numbers, their names and what they set are the same.
 pub record AreAlikeContents (m n : Contents) : Type 0 where
   pub recipes : AreAlike m.recipes n.recipes
-  pub functions : signatures m.functions ≡ signatures n.functions
+  pub functions : map bare_function m.functions ≡ map bare_function n.functions
   pub modules : m.modules ≡ n.modules
   pub unexports : m.unexports ≡ n.unexports
+  pub sets : m.sets ≡ n.sets
+
+signature_bare : (f : FunctionDefinition) → signature (bare_function f) ≡ signature f
+signature_bare f = λ i. record { name = f.name; parameters = names_bare f.parameters i }
+  where
+    names_bare : (ps : List FunctionParameter) → map (λ (p : FunctionParameter). p.name) (map bare_function_parameter ps) ≡ map (λ (p : FunctionParameter). p.name) ps
+    names_bare [] = refl
+    names_bare (p ∷ ps) = ap (λ (ns : List Name). p.name ∷ ns) (names_bare ps)
+
+signatures_bare : (fs : List FunctionDefinition) → signatures (map bare_function fs) ≡ signatures fs
+signatures_bare [] = refl
+signatures_bare (f ∷ fs) = λ i. signature_bare f i ∷ signatures_bare fs i
 
 -- they break the same rules
-module _ (m n : Contents) (alike : AreAlikeContents m n) where
-  pub headers_alike : (c : Cause) → Headers m c → Headers n c
+module _ (layers : Layers) (m n : Contents) (alike : AreAlikeContents m n) where
+  headers_alike : (c : Cause) → Headers layers.syntax.conflicts m c → Headers layers.syntax.conflicts n c
   headers_alike c (of_parameters b) = of_parameters (parameters_alike m.recipes n.recipes alike.recipes c b)
-  headers_alike _ (duplicate_unexport {second} i j r e) =
-      duplicate_unexport i j (subst (λ (ns : List Name). Repeats (texts_of_names ns) i j) alike.unexports r) (subst (λ (ns : List Name). slice_get ns j ≡ Some second) alike.unexports e)
-  headers_alike _ (module_redefinition {place} {told} r) = module_redefinition (subst (λ ns. Redefines (map module_of_name ns) place told) alike.modules r)
+  headers_alike c (of_sets b) = of_sets (subst (λ (ss : List Set). Sets layers.syntax.conflicts ss c) alike.sets b)
+  headers_alike c (of_unexports b) = of_unexports (subst (λ (ns : List Name). Unexports ns c) alike.unexports b)
+  headers_alike c (of_modules b) = of_modules (subst (λ (ns : List Name). Modules ns c) alike.modules b)
 
-  pub names_alike : (c : Cause) → Names (signatures m.functions) c → Names (signatures n.functions) c
-  names_alike c b = subst (λ (ss : List Signature). Names ss c) alike.functions b
+  signed_alike : signatures m.functions ≡ signatures n.functions
+  signed_alike = sym (signatures_bare m.functions) ∙ ap signatures alike.functions ∙ signatures_bare n.functions
 
   defined_same : defined_in m ≡ defined_in n
   defined_same = ap (λ ns. all_defined ns m.recipes) alike.modules ∙ defined_alike m.recipes n.recipes alike.recipes n.modules
 
-  pub bodies_alike : (c : Cause) → Bodies (defined_in m) c → Bodies (defined_in n) c
-  bodies_alike c b = subst (λ ds. Bodies ds c) defined_same b
+  pub settings_alike : settings_of layers.evaluator m ≡ settings_of layers.evaluator n
+  settings_alike = λ i. layers.evaluator.settings (functions_by_name (functions_under (alike.functions i))) (λ _. None) (alike.sets i)
 
-  pub alike_back : AreAlikeContents n m
-  alike_back = record { recipes = sym alike.recipes; functions = sym alike.functions; modules = sym alike.modules; unexports = sym alike.unexports }
+  pub breaks_alike : (g : Group) (c : Cause) → Breaks layers g m c → Breaks layers g n c
+  breaks_alike OfHeaders c b = headers_alike c b
+  breaks_alike OfNames c b = subst (λ (ss : List Signature). Names ss c) signed_alike b
+  breaks_alike OfConstants c b = subst (λ (o : Option Settings). Constants o c) settings_alike b
+  breaks_alike OfBodies c b = subst (λ ds. Bodies ds c) defined_same b
+  breaks_alike OfDependencies c b = dependencies_alike m.recipes n.recipes alike.recipes c b
+
+pub alike_back : (m n : Contents) → AreAlikeContents m n → AreAlikeContents n m
+alike_back m n alike = record { recipes = sym alike.recipes; functions = sym alike.functions; modules = sym alike.modules; unexports = sym alike.unexports; sets = sym alike.sets }
 
 -- and keep the same
-module _ (m n : Contents) (alike : AreAlikeContents m n) where
-  pub headers_kept_alike : Keeps (Headers m) → Keeps (Headers n)
-  headers_kept_alike kept c b = kept c (headers_alike n m (alike_back m n alike) c b)
-
-  pub names_kept_alike : Keeps (Names (signatures m.functions)) → Keeps (Names (signatures n.functions))
-  names_kept_alike kept c b = kept c (names_alike n m (alike_back m n alike) c b)
-
-  pub bodies_kept_alike : Keeps (Bodies (defined_in m)) → Keeps (Bodies (defined_in n))
-  bodies_kept_alike kept c b = kept c (bodies_alike n m (alike_back m n alike) c b)
-
-  pub dependencies_kept_alike : Keeps (Dependencies m.recipes) → Keeps (Dependencies n.recipes)
-  dependencies_kept_alike kept c b = kept c (dependencies_alike n.recipes m.recipes (sym alike.recipes) c b)
+pub kept_alike : (layers : Layers) (m n : Contents) → AreAlikeContents m n → (g : Group) → Keeps (Breaks layers g m) → Keeps (Breaks layers g n)
+kept_alike layers m n alike g kept c b = kept c (breaks_alike layers n m (alike_back m n alike) g c b)

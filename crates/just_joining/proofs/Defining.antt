@@ -16,7 +16,8 @@ use Rattle.just_parts.specs.declared.recipe.Recipe.{Recipe}
 use Rattle.just_joining.specs.Contents.{Contents, Defined, all_defined, defined_recipe, module_of_name, texts_of_defined, texts_of_names}
 use Rattle.just_joining.specs.Index.{AreApart, AreDifferent, IsLast, Repeats, name_at}
 use Rattle.just_joining.specs.Recipes.{name_of, names_of}
-use Rattle.just_joining.specs.Rules.{Bodies, Headers, IsRedefinition, Parameters, duplicate_unexport, module_redefinition, of_parameters, redefinition}
+use Rattle.just_joining.specs.Settings.{Conflicts}
+use Rattle.just_joining.specs.Rules.{Bodies, Headers, IsRedefinition, Modules, Parameters, Sets, Unexports, duplicate_unexport, module_redefinition, of_modules, of_parameters, of_sets, of_unexports, redefinition}
 
 -- names one after another
 module _ (xs ys : List (List ℕ)) where
@@ -87,30 +88,30 @@ texts_all : (ns : List Name) (rs : List (Recipe UnresolvedDependency)) → texts
 texts_all ns rs = map-append (λ (d : Defined). text_of_name d.name) (map module_of_name ns) (map defined_recipe rs) ∙ (λ i. texts_modules ns i ++ texts_recipes rs i)
 
 -- two modules of one name
-pub modules_redefined : (m : Contents) (i j : ℕ) (first second : Name) (place : Place) (told : CompileErrorKind) → Repeats (texts_of_names m.modules) i j → slice_get m.modules i ≡ Some first → slice_get m.modules j ≡ Some second
-    → IsRedefinition (module_of_name first) (module_of_name second) place told → Headers m (Broken place told)
-modules_redefined m i j first second place told repeats a b is = module_redefinition (record {
+pub modules_redefined : (ns : List Name) (i j : ℕ) (first second : Name) (place : Place) (told : CompileErrorKind) → Repeats (texts_of_names ns) i j → slice_get ns i ≡ Some first → slice_get ns j ≡ Some second
+    → IsRedefinition (module_of_name first) (module_of_name second) place told → Modules ns (Broken place told)
+modules_redefined ns i j first second place told repeats a b is = module_redefinition (record {
   i = i;
   j = j;
   first = module_of_name first;
   second = module_of_name second;
-  repeats = subst (λ ts. Repeats ts i j) (sym (texts_modules m.modules)) repeats;
-  first_is = map_get module_of_name m.modules i first a;
-  second_is = map_get module_of_name m.modules j second b;
+  repeats = subst (λ ts. Repeats ts i j) (sym (texts_modules ns)) repeats;
+  first_is = map_get module_of_name ns i first a;
+  second_is = map_get module_of_name ns j second b;
   told_is = is;
 })
 
 -- a variable that is unexported twice
-pub unexported_twice : (m : Contents) (i j : ℕ) (second : Name) (place : Place) (variable : List ℕ) → Repeats (texts_of_names m.unexports) i j → slice_get m.unexports j ≡ Some second → place ≡ second.token → variable ≡ text_of_name second
-    → Headers m (Broken place (kind.DuplicateUnexport variable))
-unexported_twice m i j second place variable repeats b at is =
-    subst (λ p. Headers m (Broken p (kind.DuplicateUnexport variable))) (sym at) (subst (λ v. Headers m (Broken second.token (kind.DuplicateUnexport v))) (sym is) (duplicate_unexport i j repeats b))
+pub unexported_twice : (ns : List Name) (i j : ℕ) (second : Name) (place : Place) (variable : List ℕ) → Repeats (texts_of_names ns) i j → slice_get ns j ≡ Some second → place ≡ second.token → variable ≡ text_of_name second
+    → Unexports ns (Broken place (kind.DuplicateUnexport variable))
+unexported_twice ns i j second place variable repeats b at is = subst (Unexports ns) (λ k. Broken (sym at k) (kind.DuplicateUnexport (sym is k))) (duplicate_unexport i j repeats b)
 
 -- the headers of a module
-pub headers_kept : (m : Contents) → Keeps (Parameters m.recipes) → AreDifferent (texts_of_names m.unexports) → AreDifferent (texts_of_names m.modules) → Keeps (Headers m)
-headers_kept m kept unexports modules c (of_parameters h) = kept c h
-headers_kept m kept unexports modules _ (duplicate_unexport i j r e) = unexports i j r.apart r.within r.same
-headers_kept m kept unexports modules _ (module_redefinition r) = subst AreDifferent (sym (texts_modules m.modules)) modules r.i r.j r.repeats.apart r.repeats.within r.repeats.same
+pub headers_kept : (conflicts : Conflicts) (m : Contents) → Keeps (Parameters m.recipes) → Keeps (Sets conflicts m.sets) → AreDifferent (texts_of_names m.unexports) → AreDifferent (texts_of_names m.modules) → Keeps (Headers conflicts m)
+headers_kept conflicts m kept sets unexports modules c (of_parameters h) = kept c h
+headers_kept conflicts m kept sets unexports modules c (of_sets h) = sets c h
+headers_kept conflicts m kept sets unexports modules _ (of_unexports (duplicate_unexport i j r e)) = unexports i j r.apart r.within r.same
+headers_kept conflicts m kept sets unexports modules _ (of_modules (module_redefinition r)) = subst AreDifferent (sym (texts_modules m.modules)) modules r.i r.j r.repeats.apart r.repeats.within r.repeats.same
 
 -- one more name that stands not among those of recipes
 pub apart_more : (ns : List Name) (rs : List (Recipe UnresolvedDependency)) (n : ℕ) (name : Name) (v : List ℕ) (found : Option ℕ) → slice_get ns n ≡ Some name → v ≡ text_of_name name → IsLast (names_of rs) (length (names_of rs)) v found → found ≡ None

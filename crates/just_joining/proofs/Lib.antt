@@ -2,6 +2,7 @@ pub mod Alike
 pub mod BareOutlines
 pub mod Defining
 pub mod Edges
+pub mod Excluded
 pub mod FilePlaces
 pub mod Signatures
 pub mod Holding

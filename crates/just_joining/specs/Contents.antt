@@ -4,17 +4,19 @@ use Rattle.just_names.specs.Modulepath.{Text}
 use Rattle.just_names.specs.Name.{text_of_name}
 use Rattle.just_names.specs.declared.name.Name.{Name}
 use Rattle.just_records.specs.declared.function_definition.FunctionDefinition.{FunctionDefinition}
+use Rattle.just_records.specs.declared.setting.Set.{Set}
 use Rattle.just_errors.specs.declared.error.Definition.{Definition}
 use Rattle.just_errors.specs.declared.error.Definition.TheVariants as definition
 use Rattle.just_parts.specs.declared.layers.ast.UnresolvedDependency.{UnresolvedDependency}
 use Rattle.just_parts.specs.declared.recipe.Recipe.{Recipe}
 
--- The recipes and the functions of a module, and the names of the modules that it declares and of the variables that it unexports, in the order of its files and then of their texts.
+-- The recipes and the functions of a module, the names of the modules that it declares and of the variables that it unexports, and what it sets, in the order of its files and then of their texts.
 pub record Contents : Type 0 where
   pub recipes : List (Recipe UnresolvedDependency)
   pub functions : List FunctionDefinition
   pub modules : List Name
   pub unexports : List Name
+  pub sets : List Set
 
 -- the texts of names
 abbrev pub texts_of_names : List Name → List Text
@@ -35,9 +37,9 @@ signatures = map signature
 abbrev pub function_names : List Signature → List Name
 function_names = map (λ s. s.name)
 
--- what the names of modules alone tell of a module
-abbrev pub of_names : List Name → Contents
-of_names names = record { recipes = []; functions = []; modules = names; unexports = [] }
+-- of a module without files
+abbrev pub no_contents : Contents
+no_contents = record { recipes = []; functions = []; modules = []; unexports = []; sets = [] }
 
 -- What is defined, and its name.
 pub record Defined : Type 0 where

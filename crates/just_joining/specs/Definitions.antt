@@ -1,9 +1,10 @@
--- A module's recipes, functions and names.
+-- A module's recipes, functions, names and settings.
 use Rattle.std.specs.Prelude.{List}
 use Rattle.just_joining.specs.declared.definitions.Definitions.{Definitions}
 use Rattle.just_parts.specs.declared.layers.ast.UnresolvedDependency.{UnresolvedDependency}
 use Rattle.just_parts.specs.declared.recipe.Recipe.{Recipe}
 use Rattle.just_records.specs.declared.function_definition.FunctionDefinition.{FunctionDefinition}
+use Rattle.just_records.specs.declared.setting.Set.{Set}
 use Rattle.just_joining.specs.Contents.{Contents}
 use Rattle.just_joining.specs.Recipes.{lent}
 
@@ -13,5 +14,8 @@ recipes_in m = lent m.recipes.items
 abbrev pub functions_in : Definitions → List FunctionDefinition
 functions_in m = lent m.functions.items
 
+abbrev pub sets_in : Definitions → List Set
+sets_in m = lent m.sets.items
+
 abbrev pub contents_in : Definitions → Contents
-contents_in m = record { recipes = recipes_in m; functions = functions_in m; modules = m.modules.items; unexports = m.unexports.items }
+contents_in m = record { recipes = recipes_in m; functions = functions_in m; modules = m.modules.items; unexports = m.unexports.items; sets = sets_in m }

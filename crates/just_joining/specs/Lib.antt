@@ -2,6 +2,7 @@ pub mod Analyzable
 pub mod Contents
 pub mod Definitions
 pub mod Files
+pub mod Groups
 pub mod Index
 pub mod Joined
 pub mod Named
@@ -11,3 +12,4 @@ pub mod Recipes
 pub mod Resolved
 pub mod Rows
 pub mod Rules
+pub mod Settings

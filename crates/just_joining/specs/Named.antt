@@ -1,20 +1,19 @@
--- What files at places say: recipes, functions and names.
+-- What files at places say: recipes, functions, names and settings.
 use Rattle.std.specs.Prelude.{◌≡◌, ◌++◌, ℕ, Bool, List, [], ◌∷◌, flat_map, slice_get, Option, None, Some, if◌then◌else◌}
 use Rattle.just_parts.specs.Bare.{bare_item}
-use Rattle.just_errors.specs.Causes.{Cause, Keeps}
 use Rattle.just_parts.specs.declared.dependency.Dependency.{Dependency}
 use Rattle.just_parts.specs.Items.{Ast, Item}
 use Rattle.just_parts.specs.declared.layers.ast.Item.TheVariants as item
 use Rattle.just_parts.specs.declared.layers.ast.UnresolvedDependency.{UnresolvedDependency}
 use Rattle.just_names.specs.declared.name.Name.{Name}
 use Rattle.just_records.specs.declared.function_definition.FunctionDefinition.{FunctionDefinition}
+use Rattle.just_records.specs.declared.setting.Set.{Set}
 use Rattle.just_names.specs.declared.modulepath.Modulepath.{Modulepath}
 use Rattle.just_parts.specs.declared.recipe.Recipe.{Recipe}
 use Rattle.just_joining.specs.Files.{asts_in}
 use Rattle.just_joining.specs.Recipes.{recipes_of}
 use Rattle.just_joining.specs.Resolved.{AreResolved}
-use Rattle.just_joining.specs.Contents.{Contents, defined_in, signatures}
-use Rattle.just_joining.specs.Rules.{Bodies, Dependencies, Headers, Names}
+use Rattle.just_joining.specs.Contents.{Contents}
 use Rattle.just_joining.specs.declared.files.Files.{Files}
 
 -- the name of the module that an item declares
@@ -31,6 +30,11 @@ unexported_by _ = []
 abbrev pub function_by : Item → List FunctionDefinition
 function_by (item.Function f) = f ∷ []
 function_by _ = []
+
+-- what an item sets
+abbrev pub set_by : Item → List Set
+set_by (item.Setting s) = s ∷ []
+set_by _ = []
 
 -- what enabled items say, by what is read of each
 abbrev pub said : {A : Type 0} → (Item → List A) → (Item → Bool) → List Item → List A
@@ -59,21 +63,8 @@ contents_from enabled asts files = record {
   functions = said_from function_by enabled asts files;
   modules = said_from name_by enabled asts files;
   unexports = said_from unexported_by enabled asts files;
+  sets = said_from set_by enabled asts files;
 }
-
--- What is broken in a module: in its headers; where these are kept, in its names; where these are kept too, in its bodies; and where all these are kept, in its dependencies.
-pub data BreaksContents (m : Contents) : Cause → Type 0 where
-  in_headers : {c : Cause} → Headers m c → BreaksContents m c
-  in_names : {c : Cause} → Keeps (Headers m) → Names (signatures m.functions) c → BreaksContents m c
-  in_bodies : {c : Cause} → Keeps (Headers m) → Keeps (Names (signatures m.functions)) → Bodies (defined_in m) c → BreaksContents m c
-  in_dependencies : {c : Cause} → Keeps (Headers m) → Keeps (Names (signatures m.functions)) → Keeps (Bodies (defined_in m)) → Dependencies m.recipes c → BreaksContents m c
-
--- no rule is broken in it
-pub record KeepsContents (m : Contents) : Type 0 where
-  pub headers : Keeps (Headers m)
-  pub names : Keeps (Names (signatures m.functions))
-  pub bodies : Keeps (Bodies (defined_in m))
-  pub dependencies : Keeps (Dependencies m.recipes)
 
 -- What is made of the recipes of a module: resolved ones, that come after the old ones.
 pub record AreAdded (rs : List (Recipe UnresolvedDependency)) (path : Modulepath) (old new : List (Recipe Dependency)) : Type 0 where

@@ -7,11 +7,11 @@ use Rattle.just_parts.specs.Items.{Item}
 use Rattle.just_parts.specs.declared.layers.ast.UnresolvedDependency.{UnresolvedDependency}
 use Rattle.just_parts.specs.declared.recipe.Recipe.{Recipe}
 use Rattle.just_names.specs.declared.name.Name.{Name}
-use Rattle.just_joining.specs.Contents.{Contents, of_names, texts_of_names}
+use Rattle.just_joining.specs.Contents.{Contents, texts_of_names}
 use Rattle.just_joining.specs.Files.{asts_in}
 use Rattle.just_joining.specs.Index.{AreDifferent}
 use Rattle.just_joining.specs.Named.{contents_from, name_by, said_from, recipes_from}
-use Rattle.just_joining.specs.Rules.{Headers}
+use Rattle.just_joining.specs.Rules.{Modules}
 use Rattle.just_joining.specs.declared.files.Files.{Files}
 use Rattle.just_joining.specs.declared.joined.Joined.{Joined}
 
@@ -30,7 +30,7 @@ contents_of_place enabled files joined p = contents_from enabled (asts_in files)
 pub record RepeatsNames (enabled : Item → Bool) (files : Files) (joined : Joined) (order : List ℕ) (c : Cause) : Type 0 where
   pub at : ℕ
   pub there : at < length order
-  pub broken : Headers (of_names (names_of_place enabled files joined (slice_index order at))) c
+  pub broken : Modules (names_of_place enabled files joined (slice_index order at)) c
 
 -- the files of each module of an order have places
 abbrev pub HaveFiles : Files → Joined → List ℕ → Type 0

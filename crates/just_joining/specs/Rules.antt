@@ -1,5 +1,5 @@
 -- The rules of a module: each relates what is compiled to the errors that report where it is broken.
-use Rattle.std.specs.Prelude.{◌≡◌, ◌≢◌, ℕ, ◌+◌, ◌-◌, ◌<◌, ◌≤◌, ◌⊎◌, List, [], ◌∷◌, map, length, get_or, Some}
+use Rattle.std.specs.Prelude.{◌≡◌, ◌≢◌, ℕ, ◌+◌, ◌-◌, ◌<◌, ◌≤◌, ◌⊎◌, true, List, [], ◌∷◌, map, length, get_or, Option, Some, None}
 use Rattle.std.specs.List.{Contains, slice_get}
 use Rattle.just_errors.specs.Causes.{Cause, Broken}
 use Rattle.just_names.specs.Name.{text_of_name, texts_of_path}
@@ -9,10 +9,14 @@ use Rattle.just_errors.specs.declared.error.CompileErrorKind.{CompileErrorKind}
 use Rattle.just_errors.specs.declared.error.CompileErrorKind.TheVariants as kind
 use Rattle.just_errors.specs.declared.error.Definition.TheVariants as definition
 use Rattle.just_names.specs.declared.name.Name.{Name}
+use Rattle.just_records.specs.declared.setting.Set.{Set}
+use Rattle.just_records.specs.declared.settings.Settings.{Settings}
+use Rattle.just_errors.specs.declared.error.Fault.{Fault}
 use Rattle.just_parts.specs.declared.layers.ast.UnresolvedDependency.{UnresolvedDependency}
 use Rattle.just_parts.specs.declared.recipe.Recipe.{Recipe}
 use Rattle.just_joining.specs.Contents.{Contents, Defined, Signature, function_names, module_of_name, texts_of_defined, texts_of_names}
 use Rattle.just_joining.specs.Index.{Repeats}
+use Rattle.just_joining.specs.Settings.{Conflicts, are_incompatible, line_at, place_at, setting_at, setting_names}
 use Rattle.just_joining.specs.Recipes.{name_of, named_parameters, parameter_names, FollowsDefault, named_paths, least_of, most_of, recipe_at, DependsOn}
 
 -- A recipe has a parameter's name twice: those two that follow each other under that name; or a parameter whose group may not be empty follows one with a default, both given by their places. It is told at the later parameter.
@@ -42,11 +46,30 @@ pub record Redefines (ds : List Defined) (place : Place) (told : CompileErrorKin
   pub second_is : slice_get ds j ≡ Some second
   pub told_is : IsRedefinition first second place told
 
--- What is broken in the headers of a module: those of its recipes, a variable is unexported twice, which is told at the second place, or two modules that it declares have one name.
-pub data Headers (m : Contents) : Cause → Type 0 where
-  of_parameters : {c : Cause} → Parameters m.recipes c → Headers m c
-  duplicate_unexport : {second : Name} (i j : ℕ) → Repeats (texts_of_names m.unexports) i j → slice_get m.unexports j ≡ Some second → Headers m (Broken second.token (kind.DuplicateUnexport (text_of_name second)))
-  module_redefinition : {place : Place} {told : CompileErrorKind} → Redefines (map module_of_name m.modules) place told → Headers m (Broken place told)
+-- A setting is set twice: at those two places that follow each other under its name. It is told at the second.
+pub data SetTwice (sets : List Set) : Cause → Type 0 where
+  duplicate_set : (i j : ℕ) → Repeats (setting_names sets) i j → SetTwice sets (Broken (place_at sets j) (kind.DuplicateSet (setting_at sets j) (line_at sets i)))
+
+-- What is broken by settings: one is set twice, or two are set of which neither may be set beside the other, which is told at the second.
+pub data Sets (conflicts : Conflicts) (sets : List Set) : Cause → Type 0 where
+  set_twice : {c : Cause} → SetTwice sets c → Sets conflicts sets c
+  incompatible_settings : (i j : ℕ) → i < j → j < length sets → are_incompatible conflicts sets i j ≡ true
+      → Sets conflicts sets (Broken (place_at sets j) (kind.IncompatibleSettings (setting_at sets i) (line_at sets i) (setting_at sets j)))
+
+-- A variable is unexported twice. It is told at the second place.
+pub data Unexports (names : List Name) : Cause → Type 0 where
+  duplicate_unexport : {second : Name} (i j : ℕ) → Repeats (texts_of_names names) i j → slice_get names j ≡ Some second → Unexports names (Broken second.token (kind.DuplicateUnexport (text_of_name second)))
+
+-- Two modules have one name.
+pub data Modules (names : List Name) : Cause → Type 0 where
+  module_redefinition : {place : Place} {told : CompileErrorKind} → Redefines (map module_of_name names) place told → Modules names (Broken place told)
+
+-- What is broken in the headers of a module: those of its recipes, its settings, the names that it unexports, or those of its modules.
+pub data Headers (conflicts : Conflicts) (m : Contents) : Cause → Type 0 where
+  of_parameters : {c : Cause} → Parameters m.recipes c → Headers conflicts m c
+  of_sets : {c : Cause} → Sets conflicts m.sets c → Headers conflicts m c
+  of_unexports : {c : Cause} → Unexports m.unexports c → Headers conflicts m c
+  of_modules : {c : Cause} → Modules m.modules c → Headers conflicts m c
 
 -- A function has the name of a parameter twice: those two that follow each other under that name. It is told at the second.
 pub data RepeatsParameter (s : Signature) : Cause → Type 0 where
@@ -58,6 +81,10 @@ pub data Names (functions : List Signature) : Cause → Type 0 where
   function_redefinition : {first second : Name} (i j : ℕ) → Repeats (texts_of_names (function_names functions)) i j → slice_get (function_names functions) i ≡ Some first → slice_get (function_names functions) j ≡ Some second
       → Names functions (Broken second.token (kind.Redefinition definition.Function definition.Function (text_of_name second) first.token.line))
   of_function : {s : Signature} {c : Cause} (i : ℕ) → slice_get functions i ≡ Some s → RepeatsParameter s c → Names functions c
+
+-- The settings of a module have no value.
+pub data Constants (settings : Option Settings) : Cause → Type 0 where
+  settings_fault : {place : Place} {fault : Fault} → settings ≡ None → Constants settings (Broken place (kind.Evaluate fault))
 
 -- What is broken in the bodies of a module: two of its modules and recipes have one name.
 pub data Bodies (ds : List Defined) : Cause → Type 0 where

@@ -1,10 +1,10 @@
 ghost use Rattle.std.specs.Prelude.{◌≡◌, ◌<◌, IfOk, Some, length, slice_get};
 ghost use Rattle.just_joining.specs.Recipes.{recipes_of, recipe_at};
-ghost use Rattle.just_joining.specs.Definitions.{functions_in, recipes_in};
+ghost use Rattle.just_joining.specs.Definitions.{functions_in, recipes_in, sets_in};
 
 use crate::enabled::is_enabled;
 use just_parts::UnresolvedRecipe;
-use just_parts::layers::{FunctionDefinition, Item, Name, Syntax};
+use just_parts::layers::{FunctionDefinition, Item, Name, Set, Syntax};
 use std::alloc::{AllocError, Global};
 
 /// What the files of a module say of it, file after file, before its recipes are resolved.
@@ -18,23 +18,26 @@ pub struct Definitions<'src, 'a> {
     pub modules: Vec<Name<'src>>,
     /// The names of the variables that it unexports.
     pub unexports: Vec<Name<'src>>,
+    /// What it sets.
+    pub sets: Vec<&'a Set<'src>>,
 }
 
 impl<'a, 'src> Definitions<'src, 'a> {
     ghost use Rattle.std.specs.Prelude.{◌++◌, [], OnOk};
-    ghost use Rattle.just_joining.specs.Contents.{of_names};
-    ghost use Rattle.just_joining.specs.Definitions.{contents_in, functions_in, recipes_in};
-    ghost use Rattle.just_joining.specs.Named.{function_by, name_by, said, unexported_by};
+    ghost use Rattle.just_joining.specs.Contents.{no_contents};
+    ghost use Rattle.just_joining.specs.Definitions.{contents_in, functions_in, recipes_in, sets_in};
+    ghost use Rattle.just_joining.specs.Named.{function_by, name_by, said, set_by, unexported_by};
 
     /// Nothing.
     pub fn new(alloc: Global) -> Definitions<'src, 'a>
-        ensures { contents_in result ≡ of_names [] }
+        ensures { contents_in result ≡ no_contents }
     {
         Definitions {
             recipes: Vec::new(alloc),
             functions: Vec::new(alloc),
             modules: Vec::new(alloc),
             unexports: Vec::new(alloc),
+            sets: Vec::new(alloc),
         }
     }
 
@@ -44,6 +47,7 @@ impl<'a, 'src> Definitions<'src, 'a> {
         ensures functions { OnOk result (functions_in self.new ≡ functions_in self.old ++ said function_by (S.answers syntax.now).enabled items.now) }
         ensures modules { OnOk result (self.new.modules.items ≡ self.old.modules.items ++ said name_by (S.answers syntax.now).enabled items.now) }
         ensures unexports { OnOk result (self.new.unexports.items ≡ self.old.unexports.items ++ said unexported_by (S.answers syntax.now).enabled items.now) }
+        ensures sets { OnOk result (sets_in self.new ≡ sets_in self.old ++ said set_by (S.answers syntax.now).enabled items.now) }
     {
         for item in items {
             if !is_enabled(item, syntax) {
@@ -58,6 +62,7 @@ impl<'a, 'src> Definitions<'src, 'a> {
                     ..
                 } => self.modules.push(name.copied())?,
                 Item::Unexport { name } => self.unexports.push(name.copied())?,
+                Item::Setting(set) => self.sets.push(set)?,
                 _ => continue,
             }
         }
@@ -97,4 +102,12 @@ pub fn function_at<'b, 'a, 'src>(
     ensures { slice_get (functions_in definitions.now) place ≡ Some result.now }
 {
     &*definitions.functions[place]
+}
+
+/// What is set at a place.
+pub fn set_at<'b, 'a, 'src>(definitions: &'b Definitions<'src, 'a>, place: usize) -> &'b Set<'src>
+    requires { place < length definitions.now.sets.items }
+    ensures { slice_get (sets_in definitions.now) place ≡ Some result.now }
+{
+    &*definitions.sets[place]
 }

@@ -8,14 +8,15 @@ ghost use Rattle.just_joining.specs.Index.{AreApart, AreDifferent, IsIndex};
 ghost use Rattle.just_joining.specs.Recipes.{FollowsDefault, NoneFollows, is_defaulted, is_needed, names_of, parameter_names, recipe_at};
 ghost use Rattle.just_joining.specs.Definitions.{contents_in, recipes_in};
 ghost use Rattle.just_errors.specs.Causes.{Keeps, Reports};
-ghost use Rattle.just_joining.specs.Contents.{defined, defined_in, of_names, texts_of_names};
-ghost use Rattle.just_joining.specs.Rules.{Bodies, Headers, IsRedefinition, Parameters};
+ghost use Rattle.just_joining.specs.Contents.{defined, defined_in, texts_of_names};
+ghost use Rattle.just_joining.specs.Rules.{Bodies, Headers, IsRedefinition, Modules, Parameters, Unexports};
 
 use crate::definitions::{Definitions, recipe_at};
 use crate::names::{index_names, repeated_name};
+use crate::settings::check_sets;
 use just_data::BorrowedText;
 use just_parts::layers::error::Definition;
-use just_parts::layers::{CompileError, CompileErrorKind, Error, Name, Parameter};
+use just_parts::layers::{CompileError, CompileErrorKind, Error, Name, Parameter, Syntax};
 use std::alloc::{AllocError, Global};
 use std::collections::HashMap;
 
@@ -248,7 +249,7 @@ pub fn index_recipes<'a, 'src>(
 /// Checks that the names of a module's modules are different.
 pub fn check_modules<'src>(alloc: Global, names: &[Name<'src>]) -> Result<(), Error<'src>>
     ensures kept { OnOk result (AreDifferent (texts_of_names names.now)) }
-    ensures named { IfErr result (Reports (Headers (of_names names.now))) }
+    ensures named { IfErr result (Reports (Modules names.now)) }
 {
     match repeated_name(alloc, names)? {
         None => Ok(()),
@@ -267,7 +268,7 @@ fn check_unexports<'a, 'src>(
     definitions: &Definitions<'src, 'a>,
 ) -> Result<(), Error<'src>>
     ensures kept { OnOk result (AreDifferent (texts_of_names definitions.now.unexports.items)) }
-    ensures named { IfErr result (Reports (Headers (contents_in definitions.now))) }
+    ensures named { IfErr result (Reports (Unexports definitions.now.unexports.items)) }
 {
     let names = definitions.unexports.as_slice();
     match repeated_name(alloc, names)? {
@@ -284,16 +285,18 @@ fn check_unexports<'a, 'src>(
     }
 }
 
-/// Refuses a rule that is broken in the headers of a module whose modules have different names: of its recipes, or of
-/// what it unexports.
-pub fn check_headers<'a, 'src>(
+/// Refuses a rule that is broken in the headers of a module whose modules have different names: of its recipes, of what
+/// it sets, or of what it unexports.
+pub fn check_headers<'a, 'src, S: Syntax>(
     alloc: Global,
     definitions: &Definitions<'src, 'a>,
+    syntax: &S,
 ) -> Result<(), Error<'src>>
     requires { AreDifferent (texts_of_names definitions.now.modules.items) }
-    ensures kept { OnOk result (Keeps (Headers (contents_in definitions.now))) }
-    ensures named { IfErr result (Reports (Headers (contents_in definitions.now))) }
+    ensures kept { OnOk result (Keeps (Headers (S.answers syntax.now).conflicts (contents_in definitions.now))) }
+    ensures named { IfErr result (Reports (Headers (S.answers syntax.now).conflicts (contents_in definitions.now))) }
 {
     check_parameters(alloc, definitions)?;
+    check_sets(alloc, definitions, syntax)?;
     check_unexports(alloc, definitions)
 }

@@ -10,4 +10,5 @@ pub mod joined;
 pub mod module_names;
 pub mod names;
 pub mod recipe_resolver;
+mod settings;
 pub mod unresolved_recipe;

@@ -10,6 +10,7 @@ enum Part {
     OptionOrWord,
     Home,
     Root,
+    Conflicts,
     Word,
 }
 
@@ -20,6 +21,8 @@ pub struct Asked {
     pub config: Config,
     /// The path of the root, which may be one that is not clean.
     pub root: String,
+    /// Pairs of settings with a comma between the two, a blank after each: the second may not stand beside the first.
+    pub conflicts: String,
     /// The words, with their marks resolved.
     pub words: Vec<String>,
     next: Part,
@@ -31,6 +34,7 @@ impl Asked {
         Ok(Asked {
             config: Config::default(),
             root: String::from_str(alloc, "/justfile")?,
+            conflicts: String::new(alloc),
             words: Vec::new(alloc),
             next: Part::OptionOrWord,
         })
@@ -42,6 +46,7 @@ impl Asked {
             "--one" => self.config.one = true,
             "--home" => self.next = Part::Home,
             "--justfile" => self.next = Part::Root,
+            "--conflicts" => self.next = Part::Conflicts,
             _ => {
                 self.next = Part::Word;
                 self.words.push(unmarked(alloc, part)?)?;
@@ -56,6 +61,7 @@ impl Asked {
             Part::OptionOrWord => return self.take_option(alloc, part),
             Part::Home => self.config.home = Some(Text::from_str(alloc, part)?),
             Part::Root => self.root = unmarked(alloc, part)?,
+            Part::Conflicts => write!(self.conflicts, "{part} ")?,
             Part::Word => {
                 self.words.push(unmarked(alloc, part)?)?;
                 return Ok(());
@@ -66,7 +72,7 @@ impl Asked {
     }
 }
 
-/// What stands behind `$ just`: the options `--one`, `--home PATH` and `--justfile PATH`, then words.
+/// What stands behind `$ just`: the options `--one`, `--home PATH`, `--justfile PATH` and `--conflicts A,B`, then words.
 pub fn read_asked(alloc: Global, line: &str) -> Result<Asked, AllocError> {
     let mut asked = Asked::new(alloc)?;
     for part in line.split_whitespace() {

@@ -26,12 +26,24 @@ fn add_load(text: &mut String, error: &LoadError) -> Result<(), AllocError> {
 fn add_broken(text: &mut String, kind: &CompileErrorKind) -> Result<(), AllocError> {
     match kind {
         CompileErrorKind::Syntax => Ok(()),
+        CompileErrorKind::Evaluate(fault) => write!(text, ": {fault}"),
         CompileErrorKind::DuplicateParameter { recipe, parameter } => {
             write!(text, ": recipe {recipe}, parameter {parameter}")
         }
         CompileErrorKind::RequiredParameterFollowsDefaultParameter { parameter } => {
             write!(text, ": parameter {parameter}")
         }
+        CompileErrorKind::DuplicateSet { setting, first } => {
+            write!(text, ": setting {setting}, first {first}")
+        }
+        CompileErrorKind::IncompatibleSettings {
+            first,
+            first_line,
+            second,
+        } => write!(
+            text,
+            ": first {first}, first line {first_line}, second {second}"
+        ),
         CompileErrorKind::DuplicateUnexport { variable } => {
             write!(text, ": variable {variable}")
         }

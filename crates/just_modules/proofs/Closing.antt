@@ -30,6 +30,7 @@ use Rattle.just_joining.specs.Reading.{items_in}
 use Rattle.just_joining.specs.Resolved.{number_at, unresolved_numbers}
 use Rattle.just_modules.proofs.Keys.{each_found}
 use Rattle.just_modules.proofs.TableValues.{put_cases}
+use Rattle.just_parts.specs.Layers.{Layers}
 
 -- the start stands in what is joined
 module _ {X : Type 0} (same : X → X → Bool) (itself : (x : X) → same x x ≡ true) where
@@ -78,7 +79,7 @@ number_in rs n h =
 abbrev made_by : Built → List (Recipe Dependency)
 made_by b = b.1
 
-module _ (enabled : Item → Bool) (asts : AstKey → Option Ast) (loaded : List Text) (built : List Built) (recipes : List (Recipe Dependency)) (all : recipes ≡ flat_map (λ (b : Built). b.1) built) (resolved : All IsResolved recipes) where
+module _ (layers : Layers) (asts : AstKey → Option Ast) (loaded : List Text) (built : List Built) (recipes : List (Recipe Dependency)) (all : recipes ≡ flat_map (λ (b : Built). b.1) built) (resolved : All IsResolved recipes) where
   number_held : (b : Built) → Contains built b → (n : ℕ) → Contains (numbers b.1) n → IsSome (find_number recipes n)
   number_held b c n d =
       let r = from_map (λ (q : Recipe Dependency). q.number.0) n b.1 (is_in n (numbers b.1) d) in
@@ -86,12 +87,12 @@ module _ (enabled : Item → Bool) (asts : AstKey → Option Ast) (loaded : List
       let j : In r.0 recipes = subst (λ (rs : List (Recipe Dependency)). In r.0 rs) (sym all) i in
       number_found recipes n (subst (λ m. In m (numbers recipes)) (sym r.2) (in_map (λ (q : Recipe Dependency). q.number.0) r.0 recipes j))
 
-  module _ {m : Module} {inner : List Justfile} {made : List (Recipe Dependency)} {j : Justfile} (there : Contains built (m.heading.key, made)) (is : IsCompiled enabled asts loaded m inner made j) where
+  module _ {m : Module} {inner : List Justfile} {made : List (Recipe Dependency)} {j : Justfile} (there : Contains built (m.heading.key, made)) (is : IsCompiled layers asts loaded m inner made j) where
     abbrev rs : List (Recipe UnresolvedDependency)
-    rs = recipes_in enabled asts m.files
+    rs = recipes_in layers.syntax.enabled asts m.files
 
     abbrev own_rs : List (Recipe UnresolvedDependency)
-    own_rs = recipes_of enabled is.own.items
+    own_rs = recipes_of layers.syntax.enabled is.own.items
 
     place_held : (place : ℕ) → place < length rs → IsSome (find_number recipes (number_at rs place))
     place_held place h = number_held (m.heading.key, made) there (number_at rs place) (is.resolved.there place h)
@@ -103,7 +104,7 @@ module _ (enabled : Item → Bool) (asts : AstKey → Option Ast) (loaded : List
     own_held : (n : ℕ) → In n (unresolved_numbers own_rs) → IsSome (find_number recipes n)
     own_held n h =
         let q = from_map (λ (r : Recipe UnresolvedDependency). r.number.0) n own_rs h in
-        let i : In q.0 rs = in_flat (λ k. recipes_of enabled (items_in (asts k))) q.0 m.heading.key m.files (is_in m.heading.key m.files is.own_there) (subst (λ o. In q.0 (recipes_of enabled (items_in o))) (sym is.own_said) q.1) in
+        let i : In q.0 rs = in_flat (λ k. recipes_of layers.syntax.enabled (items_in (asts k))) q.0 m.heading.key m.files (is_in m.heading.key m.files is.own_there) (subst (λ o. In q.0 (recipes_of layers.syntax.enabled (items_in o))) (sym is.own_said) q.1) in
         let p = number_in rs n (subst (λ m. In m (unresolved_numbers rs)) (sym q.2) (in_map (λ (r : Recipe UnresolvedDependency). r.number.0) q.0 rs i)) in
         subst (λ m. IsSome (find_number recipes m)) p.2 (place_held p.0 p.1)
 
@@ -121,7 +122,7 @@ module _ (enabled : Item → Bool) (asts : AstKey → Option Ast) (loaded : List
     }
 
   -- the modules of a forest, with those in them
-  pub forest_closed : {f : Forest} {js : List Justfile} → AreCompiled enabled asts loaded built f js → (j : Justfile) → In j js → AreClosed recipes j
+  pub forest_closed : {f : Forest} {js : List Justfile} → AreCompiled layers asts loaded built f js → (j : Justfile) → In j js → AreClosed recipes j
   forest_closed none j h = absurd h
   forest_closed (one made there below is after) j (inl e) =
       subst (AreClosed recipes) (sym e) (all_closed (module_closed there is) (λ inner c. forest_closed below inner (named_in _ inner (subst (In inner) is.modules (is_in inner _ c)))))

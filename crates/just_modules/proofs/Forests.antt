@@ -22,7 +22,7 @@ use Rattle.just_joining.specs.Joined.{IsJoined}
 use Rattle.just_modules.specs.Justfiles.{AreCompiled, Built, IsCompiled, by_name, contents_in, labelled_as, none, one, recipes_in, with_name, with_names}
 use Rattle.just_modules.specs.Modules.{Empty, Forest, Heading, Module, Tree, heading_of, headings_in}
 use Rattle.just_joining.specs.Contents.{Contents}
-use Rattle.just_joining.specs.Named.{contents_from, function_by, name_by, said_from, said_in, recipes_by, recipes_from, unexported_by}
+use Rattle.just_joining.specs.Named.{contents_from, function_by, name_by, said_from, said_in, recipes_by, recipes_from, set_by, unexported_by}
 use Rattle.just_joining.specs.Recipes.{recipes_of}
 use Rattle.just_joining.specs.Reading.{Submodule, items_in}
 use Rattle.just_joining.specs.Resolved.{AreResolved}
@@ -37,6 +37,8 @@ use Rattle.just_modules.proofs.Closing.{own_joined}
 use Rattle.just_joining.proofs.FilePlaces.{says}
 use Rattle.just_modules.proofs.ModulePlaces.{TreeAt, file_inside, join_at, module_of, tree_at}
 use Rattle.just_modules.proofs.Ready.{names_are}
+use Rattle.just_parts.specs.Layers.{Layers}
+use Rattle.just_joining.specs.Groups.{settings_of}
 
 -- the justfiles at places, under the names of headings
 abbrev pub under_names : (ℕ → Justfile) → List Heading → List ℕ → List Justfile
@@ -67,12 +69,12 @@ module _ (cs : Contents) (own : List (Recipe UnresolvedDependency)) (ast : Ast) 
         working_directory = ap (λ x. x.working_directory) out ∙ is.working_directory;
       }
 
-module _ (enabled : Item → Bool) (entries : List (AstKey × Ast)) (d : AstKey) (files : Files) (placed : ArePlaced entries files) (rows : Rows) (are : AreRows enabled files rows)
+module _ (layers : Layers) (entries : List (AstKey × Ast)) (d : AstKey) (files : Files) (placed : ArePlaced entries files) (rows : Rows) (are : AreRows layers.syntax.enabled files rows)
     (paths : (k : AstKey) (a : Ast) → lookup (same_ast_key k) entries ≡ Some a → a.module_path ≡ k.0) (joined : Joined)
     (order : List ℕ) (below : (k : ℕ) → k < length order → slice_index order k < length (keys_of entries)) (joins : (k : ℕ) → k < length order → IsJoined rows joined (slice_index order k))
     (lists_first : ListsStepsFirst (HasEdge joined.modules.items) order) (loaded : List Text) (made : ℕ → List (Recipe Dependency)) (justfile : ℕ → Justfile)
-    (compiled : (k : ℕ) → k < length order → IsCompiledAt enabled files joined loaded (slice_index order k) (map justfile (targets joined.modules.items (slice_index order k))) (made (slice_index order k)) (justfile (slice_index order k)))
-    (many : (k : ℕ) → k < length order → length (names_of_place enabled files joined (slice_index order k)) ≡ length (targets joined.modules.items (slice_index order k))) where
+    (compiled : (k : ℕ) → k < length order → IsCompiledAt layers files joined loaded (slice_index order k) (map justfile (targets joined.modules.items (slice_index order k))) (made (slice_index order k)) (justfile (slice_index order k)))
+    (many : (k : ℕ) → k < length order → length (names_of_place layers.syntax.enabled files joined (slice_index order k)) ≡ length (targets joined.modules.items (slice_index order k))) where
   abbrev asts : AstKey → Option Ast
   asts k = lookup (same_ast_key k) entries
 
@@ -83,32 +85,32 @@ module _ (enabled : Item → Bool) (entries : List (AstKey × Ast)) (d : AstKey)
   key_at p = get_or (keys_of entries) p d
 
   abbrev the_module : (k : ℕ) → k < length order → Heading → Module
-  the_module = module_of enabled entries d files placed rows are paths joined order below joins lists_first
+  the_module = module_of layers.syntax.enabled entries d files placed rows are paths joined order below joins lists_first
 
   abbrev pub built : List Built
   built = map (λ q. (key_at q, made q)) order
 
   -- the recipes of files by their keys
-  recipes_here : (q : ℕ) → q < n → recipes_by enabled (slice_get (asts_in files) q) ≡ recipes_of enabled (items_in (asts (key_at q)))
+  recipes_here : (q : ℕ) → q < n → recipes_by layers.syntax.enabled (slice_get (asts_in files) q) ≡ recipes_of layers.syntax.enabled (items_in (asts (key_at q)))
   recipes_here q h =
-      let s = says enabled entries d files placed rows are paths q h in
-      ap (recipes_by enabled) s.listed ∙ ap (λ o. recipes_of enabled (items_in o)) (sym s.said)
+      let s = says layers.syntax.enabled entries d files placed rows are paths q h in
+      ap (recipes_by layers.syntax.enabled) s.listed ∙ ap (λ o. recipes_of layers.syntax.enabled (items_in o)) (sym s.said)
 
-  recipes_same : (xs : List ℕ) → ((q : ℕ) → In q xs → q < n) → recipes_from enabled (asts_in files) xs ≡ recipes_in enabled asts (map key_at xs)
+  recipes_same : (xs : List ℕ) → ((q : ℕ) → In q xs → q < n) → recipes_from layers.syntax.enabled (asts_in files) xs ≡ recipes_in layers.syntax.enabled asts (map key_at xs)
   recipes_same [] inside = refl
   recipes_same (q ∷ xs) inside = λ i. recipes_here q (inside q (inl refl)) i ++ recipes_same xs (λ r h. inside r (inr h)) i
 
-  said_here : {A : Type 0} (by : Item → List A) (q : ℕ) → q < n → said_in by enabled (slice_get (asts_in files) q) ≡ said_in by enabled (asts (key_at q))
+  said_here : {A : Type 0} (by : Item → List A) (q : ℕ) → q < n → said_in by layers.syntax.enabled (slice_get (asts_in files) q) ≡ said_in by layers.syntax.enabled (asts (key_at q))
   said_here by q h =
-      let s = says enabled entries d files placed rows are paths q h in
-      ap (said_in by enabled) (s.listed ∙ sym s.said)
+      let s = says layers.syntax.enabled entries d files placed rows are paths q h in
+      ap (said_in by layers.syntax.enabled) (s.listed ∙ sym s.said)
 
-  said_at : {A : Type 0} (by : Item → List A) (xs : List ℕ) → ((q : ℕ) → In q xs → q < n) → said_from by enabled (asts_in files) xs ≡ flat_map (λ k. said_in by enabled (asts k)) (map key_at xs)
+  said_at : {A : Type 0} (by : Item → List A) (xs : List ℕ) → ((q : ℕ) → In q xs → q < n) → said_from by layers.syntax.enabled (asts_in files) xs ≡ flat_map (λ k. said_in by layers.syntax.enabled (asts k)) (map key_at xs)
   said_at by [] inside = refl
   said_at by (q ∷ xs) inside = λ i. said_here by q (inside q (inl refl)) i ++ said_at by xs (λ r h. inside r (inr h)) i
 
-  contents_same : (xs : List ℕ) → ((q : ℕ) → In q xs → q < n) → contents_from enabled (asts_in files) xs ≡ contents_in enabled asts (map key_at xs)
-  contents_same xs inside = λ i. record { recipes = recipes_same xs inside i; functions = said_at function_by xs inside i; modules = said_at name_by xs inside i; unexports = said_at unexported_by xs inside i }
+  contents_same : (xs : List ℕ) → ((q : ℕ) → In q xs → q < n) → contents_from layers.syntax.enabled (asts_in files) xs ≡ contents_in layers.syntax.enabled asts (map key_at xs)
+  contents_same xs inside = λ i. record { recipes = recipes_same xs inside i; functions = said_at function_by xs inside i; modules = said_at name_by xs inside i; unexports = said_at unexported_by xs inside i; sets = said_at set_by xs inside i }
 
   module _ (k : ℕ) (l : k < length order) (h : Heading) (e : h.key ≡ key_at (slice_index order k)) where
     abbrev p : ℕ
@@ -117,12 +119,12 @@ module _ (enabled : Item → Bool) (entries : List (AstKey × Ast)) (d : AstKey)
     abbrev m : Module
     m = the_module k l h
 
-    abbrev at : IsCompiledAt enabled files joined loaded p (map justfile (targets joined.modules.items p)) (made p) (justfile p)
+    abbrev at : IsCompiledAt layers files joined loaded p (map justfile (targets joined.modules.items p)) (made p) (justfile p)
     at = compiled k l
 
     own_same : asts h.key ≡ Some at.own
     own_same =
-        let s = says enabled entries d files placed rows are paths p (below k l) in
+        let s = says layers.syntax.enabled entries d files placed rows are paths p (below k l) in
         ap asts e ∙ s.said ∙ sym s.listed ∙ at.own_said
 
     key_same : at.key ≡ h.key
@@ -132,30 +134,31 @@ module _ (enabled : Item → Bool) (entries : List (AstKey × Ast)) (d : AstKey)
     path_same : at.own.module_path ≡ h.key.0
     path_same = paths h.key at.own own_same
 
-    rs_same : recipes_of_place enabled files joined p ≡ recipes_in enabled asts m.files
-    rs_same = recipes_same (targets joined.files.items p) (file_inside enabled entries d files placed rows are paths joined p (below k l) (joins k l))
+    rs_same : recipes_of_place layers.syntax.enabled files joined p ≡ recipes_in layers.syntax.enabled asts m.files
+    rs_same = recipes_same (targets joined.files.items p) (file_inside layers.syntax.enabled entries d files placed rows are paths joined p (below k l) (joins k l))
 
-    cs_same : contents_of_place enabled files joined p ≡ contents_in enabled asts m.files
-    cs_same = contents_same (targets joined.files.items p) (file_inside enabled entries d files placed rows are paths joined p (below k l) (joins k l))
+    cs_same : contents_of_place layers.syntax.enabled files joined p ≡ contents_in layers.syntax.enabled asts m.files
+    cs_same = contents_same (targets joined.files.items p) (file_inside layers.syntax.enabled entries d files placed rows are paths joined p (below k l) (joins k l))
 
-    names_same : names_of_place enabled files joined p ≡ map (λ (s : Submodule). s.name) m.modules
-    names_same = names_are enabled entries d files placed rows are paths joined (targets joined.files.items p) (file_inside enabled entries d files placed rows are paths joined p (below k l) (joins k l))
+    names_same : names_of_place layers.syntax.enabled files joined p ≡ map (λ (s : Submodule). s.name) m.modules
+    names_same = names_are layers.syntax.enabled entries d files placed rows are paths joined (targets joined.files.items p) (file_inside layers.syntax.enabled entries d files placed rows are paths joined p (below k l) (joins k l))
 
-    inner_same : with_names (map justfile (targets joined.modules.items p)) (names_of_place enabled files joined p) ≡ under_names justfile (headings_in m) (targets joined.modules.items p)
+    inner_same : with_names (map justfile (targets joined.modules.items p)) (names_of_place layers.syntax.enabled files joined p) ≡ under_names justfile (headings_in m) (targets joined.modules.items p)
     inner_same =
         ap (with_names (map justfile (targets joined.modules.items p))) names_same
         ∙ names_under justfile m.modules (targets joined.modules.items p) (sym (length-map m.modules (λ (s : Submodule). s.name)) ∙ ap length (sym names_same) ∙ many k l)
 
-    pub is_compiled : IsCompiled enabled asts loaded m (under_names justfile (headings_in m) (targets joined.modules.items p)) (made p) (labelled_as h.label (justfile p))
+    pub is_compiled : IsCompiled layers asts loaded m (under_names justfile (headings_in m) (targets joined.modules.items p)) (made p) (labelled_as h.label (justfile p))
     is_compiled =
         let out = out-roll-Justfile (record (out-Justfile (justfile p)) { name = h.label.name; doc = h.label.doc; groups = h.label.groups; private = h.label.private }) in
         record {
           own = at.own;
           own_said = own_same;
-          own_there = subst (λ k. Contains m.files k) (sym e) (own_joined same_ast_key keys_equivalent.refl _ (key_at p) m.files (join_at enabled entries d files placed rows are paths joined p (below k l) (joins k l)));
-          resolved = subst (λ path. AreResolved (recipes_in enabled asts m.files) path (made p)) path_same (subst (λ rs. AreResolved rs at.own.module_path (made p)) rs_same at.resolved);
-          fields = labelled_is_of (contents_in enabled asts m.files) (recipes_of enabled at.own.items) at.own loaded h.key.1 h.label (justfile p)
-              (subst (λ cs. IsOf cs (recipes_of enabled at.own.items) at.own loaded h.key.1 (justfile p)) cs_same (subst (λ (x : AstKey). IsOf (contents_of_place enabled files joined p) (recipes_of enabled at.own.items) at.own loaded x.1 (justfile p)) key_same at.fields));
+          own_there = subst (λ k. Contains m.files k) (sym e) (own_joined same_ast_key keys_equivalent.refl _ (key_at p) m.files (join_at layers.syntax.enabled entries d files placed rows are paths joined p (below k l) (joins k l)));
+          resolved = subst (λ path. AreResolved (recipes_in layers.syntax.enabled asts m.files) path (made p)) path_same (subst (λ rs. AreResolved rs at.own.module_path (made p)) rs_same at.resolved);
+          settings = ap (settings_of layers.evaluator) (sym cs_same) ∙ at.settings ∙ ap (λ x. Some x.settings) (sym out);
+          fields = labelled_is_of (contents_in layers.syntax.enabled asts m.files) (recipes_of layers.syntax.enabled at.own.items) at.own loaded h.key.1 h.label (justfile p)
+              (subst (λ cs. IsOf cs (recipes_of layers.syntax.enabled at.own.items) at.own loaded h.key.1 (justfile p)) cs_same (subst (λ (x : AstKey). IsOf (contents_of_place layers.syntax.enabled files joined p) (recipes_of layers.syntax.enabled at.own.items) at.own loaded x.1 (justfile p)) key_same at.fields));
           label = ap (λ x. let label : Label = record { name = x.name; doc = x.doc; groups = x.groups; private = x.private } in label) out;
           modules = ap (λ x. x.modules) out ∙ at.modules ∙ ap by_name inner_same;
         }
@@ -166,13 +169,13 @@ module _ (enabled : Item → Bool) (entries : List (AstKey × Ast)) (d : AstKey)
         (contained (key_at p, made p) built (in_map (λ q. (key_at q, made q)) p order (is_in p order (k, l, get_or_default order k p 0 l))))
 
   abbrev Compiled : Forest → List Heading → List ℕ → Type 0
-  Compiled f hs row = AreCompiled enabled asts loaded built f (under_names justfile hs row)
+  Compiled f hs row = AreCompiled layers asts loaded built f (under_names justfile hs row)
 
   -- each module is compiled to the justfile at its place, under its name
-  pub forest_at : (k : ℕ) (l : k < length order) (h : Heading) → h.key ≡ key_at (slice_index order k) → TreeAt enabled entries d files placed rows are paths joined order below joins lists_first Compiled none
+  pub forest_at : (k : ℕ) (l : k < length order) (h : Heading) → h.key ≡ key_at (slice_index order k) → TreeAt layers.syntax.enabled entries d files placed rows are paths joined order below joins lists_first Compiled none
       (λ k l h inside after hs row e a b. one (made (slice_index order k)) (is_built k l h e) a (is_compiled k l h e) b) k l h
-  forest_at = tree_at enabled entries d files placed rows are paths joined order below joins lists_first Compiled none (λ k l h inside after hs row e a b. one (made (slice_index order k)) (is_built k l h e) a (is_compiled k l h e) b)
+  forest_at = tree_at layers.syntax.enabled entries d files placed rows are paths joined order below joins lists_first Compiled none (λ k l h inside after hs row e a b. one (made (slice_index order k)) (is_built k l h e) a (is_compiled k l h e) b)
 
   -- so is the module of a heading itself
-  pub tree_compiled : (k : ℕ) (l : k < length order) (h : Heading) (e : h.key ≡ key_at (slice_index order k)) → AreCompiled enabled asts loaded built (Tree (the_module k l h) (forest_at k l h e).inside Empty) (labelled_as h.label (justfile (slice_index order k)) ∷ [])
+  pub tree_compiled : (k : ℕ) (l : k < length order) (h : Heading) (e : h.key ≡ key_at (slice_index order k)) → AreCompiled layers asts loaded built (Tree (the_module k l h) (forest_at k l h e).inside Empty) (labelled_as h.label (justfile (slice_index order k)) ∷ [])
   tree_compiled k l h e = one (made (slice_index order k)) (is_built k l h e) (forest_at k l h e).holds (is_compiled k l h e) none

@@ -3,7 +3,9 @@ pub mod Analyzing
 pub mod Closing
 pub mod Compilable
 pub mod Defaults
+pub mod Evaluating
 pub mod Forests
+pub mod Grounds
 pub mod Headed
 pub mod Held
 pub mod Keeping

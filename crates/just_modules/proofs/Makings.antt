@@ -18,7 +18,8 @@ use Rattle.just_names.specs.declared.number.Number.{Number}
 use Rattle.just_running.specs.Recipes.{numbers}
 use Rattle.just_invoke.specs.declared.justfile.Justfile.{Justfile, out-Justfile}
 use Rattle.just_invoke.specs.declared.justfile.RecipeKey.{RecipeKey}
-use Rattle.just_modules.specs.Analysis.{AreKeysOf, HasKeysOf, IsDefaultOf, IsOf, by_function_name, put_all}
+use Rattle.just_modules.specs.Analysis.{AreKeysOf, HasKeysOf, IsDefaultOf, IsOf}
+use Rattle.just_joining.specs.Groups.{functions_under}
 use Rattle.just_joining.specs.Contents.{Contents}
 use Rattle.just_joining.specs.Resolved.{AreMadeOf, AreResolved, unresolved_numbers}
 
@@ -38,7 +39,7 @@ resolved_numbers rs path made so n c = contained n (unresolved_numbers rs) (made
 
 -- a justfile, by its parts
 pub is_of : (m : Contents) (own : List (Recipe UnresolvedDependency)) (ast : Ast) (loaded : List (List ℕ)) (source : List ℕ) (j : Justfile) (count : ℕ) (keys : List (List ℕ × RecipeKey)) (default : Option Number)
-    → length m.recipes ≡ count → (out-Justfile j).recipes ≡ keys → (out-Justfile j).default ≡ default → AreKeysOf m.recipes count keys → HasKeysOf m.recipes count keys → IsDefaultOf own default → (out-Justfile j).functions ≡ by_function_name m.functions → (out-Justfile j).unexports ≡ m.unexports
+    → length m.recipes ≡ count → (out-Justfile j).recipes ≡ keys → (out-Justfile j).default ≡ default → AreKeysOf m.recipes count keys → HasKeysOf m.recipes count keys → IsDefaultOf own default → (out-Justfile j).functions ≡ functions_under m.functions → (out-Justfile j).unexports ≡ m.unexports
     → (out-Justfile j).loaded ≡ loaded → (out-Justfile j).source ≡ source → (out-Justfile j).module_path ≡ ast.module_path → (out-Justfile j).working_directory ≡ ast.working_directory → IsOf m own ast loaded source j
 is_of m own ast loaded source j count keys default many keys_are default_is all held d functions unexports loaded_is source_is path folder = record {
   keys = subst (AreKeysOf m.recipes (length m.recipes)) (sym keys_are) (subst (λ n. AreKeysOf m.recipes n keys) (sym many) all);
@@ -51,18 +52,6 @@ is_of m own ast loaded source j count keys default many keys_are default_is all 
   module_path = path;
   working_directory = folder;
 }
-
--- one more value under its key
-put_more : {A : Type 0} (key : A → Text) (held : List (Text × A)) (xs : List A) (x : A) → put_all key held (xs ++ x ∷ []) ≡ put (key x) x (put_all key held xs)
-put_more key held [] x = refl
-put_more key held (y ∷ ys) x = put_more key (put (key y) y held) ys x
-
--- one more function under its name
-pub function_put : (fs : List FunctionDefinition) (held more : List (Text × FunctionDefinition)) (i : ℕ) (f copy : FunctionDefinition) → held ≡ by_function_name (take i fs) → slice_get fs i ≡ Some f → copy ≡ f → more ≡ put (text_of_name copy.name) copy held
-    → more ≡ by_function_name (take (i + 1) fs)
-function_put fs held more i f copy so at is e =
-    e ∙ (ap (λ g. put (text_of_name g.name) g held) is ∙ (ap (put (text_of_name f.name) f) so ∙ (sym (put_more (λ (g : FunctionDefinition). text_of_name g.name) [] (take i fs) f)
-    ∙ ap by_function_name (ap (λ y. take i fs ++ y ∷ []) (sym (get_or_from_slice_get fs i f f at)) ∙ sym (take_more fs i f (slice_get_within fs i f at))))))
 
 -- the same of equal contents, lists and paths
 pub is_of_same : (m n : Contents) (own own' : List (Recipe UnresolvedDependency)) (ast : Ast) (loaded loaded' : List (List ℕ)) (source source' : List ℕ) (j : Justfile) → m ≡ n → own ≡ own' → loaded ≡ loaded' → source ≡ source' → IsOf m own ast loaded source j → IsOf n own' ast loaded' source' j

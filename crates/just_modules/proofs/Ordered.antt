@@ -17,13 +17,15 @@ use Rattle.just_parts.specs.declared.recipe.Recipe.{Recipe}
 use Rattle.just_running.specs.Recipes.{numbers}
 use Rattle.just_invoke.specs.declared.justfile.Justfile.{Justfile, roll-Justfile}
 use Rattle.just_modules.specs.Justfiles.{slot}
-use Rattle.just_joining.specs.Named.{BreaksContents}
+use Rattle.just_joining.specs.Groups.{BreaksContents}
 use Rattle.just_joining.specs.Resolved.{unresolved_numbers}
 use Rattle.just_joining.specs.OfPlaces.{contents_of_place, recipes_of_place}
 use Rattle.just_modules.specs.Steps.{BreaksInOrder, CanCompileAll, CompilesPlace, HaveCompiled, IsCompiledAt}
 use Rattle.just_joining.specs.declared.files.Files.{Files}
 use Rattle.just_joining.specs.declared.joined.Joined.{Joined}
 use Rattle.just_modules.proofs.Makings.{made_numbers}
+use Rattle.just_parts.specs.Layers.{Layers}
+use Rattle.just_records.specs.declared.settings.Settings.{Settings}
 
 -- a function that is changed at a place
 abbrev put_at : {A : Type 0} → ℕ → A → (ℕ → A) → ℕ → A
@@ -51,8 +53,8 @@ flat_end : {A : Type 0} (f : ℕ → List A) (xs : List ℕ) (x : ℕ) → flat_
 flat_end f [] x = append-nil (f x)
 flat_end f (y ∷ xs) x = ap (λ ys. f y ++ ys) (flat_end f xs x) ∙ sym (append_assoc (f y) (flat_map f xs) (f x))
 
-module _ (enabled : Item → Bool) (files : Files) (joined : Joined) (loaded : List Text) (order : List ℕ) (can : CanCompileAll enabled files joined order) (n : ℕ) (h : n < length order)
-    (slots : List (Option Justfile)) (recipes : List (Recipe Dependency)) (so : HaveCompiled enabled files joined loaded order n slots recipes) where
+module _ (layers : Layers) (files : Files) (joined : Joined) (loaded : List Text) (order : List ℕ) (can : CanCompileAll layers.syntax.enabled files joined order) (n : ℕ) (h : n < length order)
+    (slots : List (Option Justfile)) (recipes : List (Recipe Dependency)) (so : HaveCompiled layers files joined loaded order n slots recipes) where
   abbrev p : ℕ
   p = slice_index order n
 
@@ -85,17 +87,17 @@ module _ (enabled : Item → Bool) (files : Files) (joined : Joined) (loaded : L
   inner_there = map_map Some so.justfile (row p) ∙ map_same (λ q. Some (so.justfile q)) (slot slots) (row p) (λ q i. sym (inner_held q i))
 
   -- their numbers are not those of the next
-  pub numbers_apart : (m : ℕ) → Contains (numbers recipes) m → Contains (unresolved_numbers (recipes_of_place enabled files joined p)) m → ⊥
+  pub numbers_apart : (m : ℕ) → Contains (numbers recipes) m → Contains (unresolved_numbers (recipes_of_place layers.syntax.enabled files joined p)) m → ⊥
   numbers_apart m a b =
       let r = from_map (λ (x : Recipe Dependency). x.number.0) m recipes (is_in m (numbers recipes) a) in
       let q = from_flat so.made r.0 (take n order) (subst (In r.0) so.all r.1) in
       let k = in_take order n q.0 (omega (arith, h)) (contained q.0 (take n order) q.1) in
       let at = so.each k.0 k.1 in
       let made : In m (numbers (so.made (place k.0))) = subst (λ y. In m (numbers (so.made y))) (sym k.2) (subst (λ y. In y (numbers (so.made q.0))) (sym r.2) (in_map (λ (x : Recipe Dependency). x.number.0) r.0 (so.made q.0) q.2)) in
-      let known = made_numbers (recipes_of_place enabled files joined (place k.0)) at.own.module_path at.resolved.order (so.made (place k.0)) at.resolved.made_of m made in
-      can.apart k.0 n m k.1 h (contained m (unresolved_numbers (recipes_of_place enabled files joined (place k.0))) known) b
+      let known = made_numbers (recipes_of_place layers.syntax.enabled files joined (place k.0)) at.own.module_path at.resolved.order (so.made (place k.0)) at.resolved.made_of m made in
+      can.apart k.0 n m k.1 h (contained m (unresolved_numbers (recipes_of_place layers.syntax.enabled files joined (place k.0))) known) b
 
-  module _ (new : List (Option Justfile)) (after : List (Recipe Dependency)) (step : CompilesPlace enabled files joined loaded p slots new recipes after) where
+  module _ (new : List (Option Justfile)) (after : List (Recipe Dependency)) (step : CompilesPlace layers files joined loaded p slots new recipes after) where
     abbrev made : ℕ → List (Recipe Dependency)
     made = put_at p step.made so.made
 
@@ -113,28 +115,28 @@ module _ (enabled : Item → Bool) (files : Files) (joined : Joined) (loaded : L
     inner_same : (k : ℕ) → k < n + 1 → map so.justfile (row (place k)) ≡ map justfile (row (place k))
     inner_same k l = map_same so.justfile justfile (row (place k)) (λ q i. sym (put_there p q step.justfile so.justfile (inner_apart k l q i)))
 
-    each_before : (k : ℕ) → k < n → IsCompiledAt enabled files joined loaded (place k) (map justfile (row (place k))) (made (place k)) (justfile (place k))
+    each_before : (k : ℕ) → k < n → IsCompiledAt layers files joined loaded (place k) (map justfile (row (place k))) (made (place k)) (justfile (place k))
     each_before k l =
         let ne : place k ≡ p → ⊥ = apart_from k l in
-        subst (λ js. IsCompiledAt enabled files joined loaded (place k) js (made (place k)) (justfile (place k))) (inner_same k (omega (arith, l)))
-        (subst (λ ms. IsCompiledAt enabled files joined loaded (place k) (map so.justfile (row (place k))) ms (justfile (place k))) (sym (put_there p (place k) step.made so.made ne))
-        (subst (λ j. IsCompiledAt enabled files joined loaded (place k) (map so.justfile (row (place k))) (so.made (place k)) j) (sym (put_there p (place k) step.justfile so.justfile ne)) (so.each k l)))
+        subst (λ js. IsCompiledAt layers files joined loaded (place k) js (made (place k)) (justfile (place k))) (inner_same k (omega (arith, l)))
+        (subst (λ ms. IsCompiledAt layers files joined loaded (place k) (map so.justfile (row (place k))) ms (justfile (place k))) (sym (put_there p (place k) step.made so.made ne))
+        (subst (λ j. IsCompiledAt layers files joined loaded (place k) (map so.justfile (row (place k))) (so.made (place k)) j) (sym (put_there p (place k) step.justfile so.justfile ne)) (so.each k l)))
 
-    each_here : IsCompiledAt enabled files joined loaded p (map justfile (row p)) (made p) (justfile p)
+    each_here : IsCompiledAt layers files joined loaded p (map justfile (row p)) (made p) (justfile p)
     each_here =
-        subst (λ js. IsCompiledAt enabled files joined loaded p js (made p) (justfile p)) (inner_same n (omega arith))
-        (subst (λ ms. IsCompiledAt enabled files joined loaded p (map so.justfile (row p)) ms (justfile p)) (sym (put_here p step.made so.made))
-        (subst (λ j. IsCompiledAt enabled files joined loaded p (map so.justfile (row p)) step.made j) (sym (put_here p step.justfile so.justfile)) (step.compiled (map so.justfile (row p)) inner_there)))
+        subst (λ js. IsCompiledAt layers files joined loaded p js (made p) (justfile p)) (inner_same n (omega arith))
+        (subst (λ ms. IsCompiledAt layers files joined loaded p (map so.justfile (row p)) ms (justfile p)) (sym (put_here p step.made so.made))
+        (subst (λ j. IsCompiledAt layers files joined loaded p (map so.justfile (row p)) step.made j) (sym (put_here p step.justfile so.justfile)) (step.compiled (map so.justfile (row p)) inner_there)))
 
     -- one more is compiled
-    pub compiled_more : HaveCompiled enabled files joined loaded order (n + 1) new after
+    pub compiled_more : HaveCompiled layers files joined loaded order (n + 1) new after
     compiled_more = record {
       made = made;
       justfile = justfile;
       all = all;
       each = λ k l. elim (cases_lt k n) [
         | inl b ↦ each_before k b
-        | inr b ↦ let same : n ≡ k = omega (arith, l, b) in subst (λ i. IsCompiledAt enabled files joined loaded (place i) (map justfile (row (place i))) (made (place i)) (justfile (place i))) same each_here
+        | inr b ↦ let same : n ≡ k = omega (arith, l, b) in subst (λ i. IsCompiledAt layers files joined loaded (place i) (map justfile (row (place i))) (made (place i)) (justfile (place i))) same each_here
       ];
       held = λ k l free. elim (cases_lt k n) [
         | inl b ↦
@@ -147,13 +149,31 @@ module _ (enabled : Item → Bool) (files : Files) (joined : Joined) (loaded : L
       room = step.room ∙ so.room;
     }
 
+no_settings : Settings
+no_settings = record {
+  allow_duplicate_recipes = false;
+  allow_duplicate_variables = false;
+  default_script = false;
+  export = false;
+  ignore_comments = false;
+  lazy = false;
+  lists = false;
+  no_cd = false;
+  no_exit_message = false;
+  positional_arguments = false;
+  quiet = false;
+  script_interpreter = None;
+  shell = None;
+  unstable = false;
+}
+
 no_justfile : Justfile
-no_justfile = roll-Justfile (record { default = None; doc = None; functions = []; groups = []; loaded = []; module_path = record { components = []; spaced = false }; modules = []; name = None; private = false; recipes = []; source = []; unexports = []; working_directory = [] })
+no_justfile = roll-Justfile (record { default = None; doc = None; functions = []; groups = []; loaded = []; module_path = record { components = []; spaced = false }; modules = []; name = None; private = false; recipes = []; settings = no_settings; source = []; unexports = []; working_directory = [] })
 
 -- none is compiled
-pub compiled_none : (enabled : Item → Bool) (files : Files) (joined : Joined) (loaded : List Text) (order : List ℕ) (slots : List (Option Justfile)) (recipes : List (Recipe Dependency)) → length slots ≡ length files.asts.items → recipes ≡ []
-    → HaveCompiled enabled files joined loaded order 0 slots recipes
-compiled_none enabled files joined loaded order slots recipes room none = record {
+pub compiled_none : (layers : Layers) (files : Files) (joined : Joined) (loaded : List Text) (order : List ℕ) (slots : List (Option Justfile)) (recipes : List (Recipe Dependency)) → length slots ≡ length files.asts.items → recipes ≡ []
+    → HaveCompiled layers files joined loaded order 0 slots recipes
+compiled_none layers files joined loaded order slots recipes room none = record {
   made = λ q. [];
   justfile = λ q. no_justfile;
   all = none;
@@ -163,8 +183,8 @@ compiled_none enabled files joined loaded order slots recipes room none = record
 }
 
 -- what the next breaks
-pub breaks_next : (enabled : Item → Bool) (files : Files) (joined : Joined) (loaded : List Text) (order : List ℕ) (n : ℕ) → n < length order → (slots : List (Option Justfile)) (recipes : List (Recipe Dependency)) → HaveCompiled enabled files joined loaded order n slots recipes
-    → (e : Error) → Reports (BreaksContents (contents_of_place enabled files joined (slice_index order n))) e → Reports (BreaksInOrder enabled files joined order) e
-breaks_next enabled files joined loaded order n h slots recipes so e r =
-    reports_by (BreaksContents (contents_of_place enabled files joined (slice_index order n))) (BreaksInOrder enabled files joined order)
+pub breaks_next : (layers : Layers) (files : Files) (joined : Joined) (loaded : List Text) (order : List ℕ) (n : ℕ) → n < length order → (slots : List (Option Justfile)) (recipes : List (Recipe Dependency)) → HaveCompiled layers files joined loaded order n slots recipes
+    → (e : Error) → Reports (BreaksContents layers (contents_of_place layers.syntax.enabled files joined (slice_index order n))) e → Reports (BreaksInOrder layers files joined order) e
+breaks_next layers files joined loaded order n h slots recipes so e r =
+    reports_by (BreaksContents layers (contents_of_place layers.syntax.enabled files joined (slice_index order n))) (BreaksInOrder layers files joined order)
     (λ c b. record { at = n; there = h; before = λ k l. (so.each k l).kept; broken = b }) e r

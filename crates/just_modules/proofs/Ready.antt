@@ -12,7 +12,7 @@ use Rattle.just_graph.specs.Graph.{HasEdge, targets}
 use Rattle.just_graph.specs.Steps.{Reached, from_member, from_start}
 use Rattle.just_graph.proofs.Members.{In, contained, from_flat, is_in}
 use Rattle.just_parts.specs.Asts.{AstKey, same_ast_key}
-use Rattle.just_parts.specs.Bare.{bare_function_parameter, bare_item}
+use Rattle.just_parts.specs.Bare.{bare_function, bare_function_parameter, bare_item}
 use Rattle.just_parts.specs.Located.{located_item}
 use Rattle.just_parts.specs.Items.{Ast, Item}
 use Rattle.just_parts.specs.declared.layers.ast.Item.TheVariants as item
@@ -21,10 +21,9 @@ use Rattle.just_names.specs.declared.name.Name.{Name}
 use Rattle.just_names.specs.declared.modulepath.Modulepath.{Modulepath}
 use Rattle.just_parts.specs.declared.recipe.Recipe.{Recipe}
 use Rattle.just_records.specs.declared.function_definition.FunctionParameter.{FunctionParameter}
-use Rattle.just_joining.specs.Contents.{signature, signatures}
 use Rattle.just_joining.specs.Files.{ArePlaced, AreRows, asts_in}
 use Rattle.just_joining.specs.Joined.{AreJoined, IsJoined}
-use Rattle.just_joining.specs.Named.{function_by, name_by, said, said_from, said_in, recipes_by, recipes_from, unexported_by}
+use Rattle.just_joining.specs.Named.{function_by, name_by, said, said_from, said_in, recipes_by, recipes_from, set_by, unexported_by}
 use Rattle.just_joining.specs.Recipes.{recipes_of, recipes_said}
 use Rattle.just_joining.specs.Reading.{Reading, Submodule, declared, enabled_items, items_in, located_ast, reading_of, submodules_of}
 use Rattle.just_joining.specs.declared.files.Files.{Files}
@@ -60,12 +59,16 @@ unexport_located : (i : Item) → unexported_by (located_item i) ≡ unexported_
 unexport_located (item.Unexport name) = refl
 unexport_located _ = refl
 
-parameters_bare : (ps : List FunctionParameter) → map (λ (p : FunctionParameter). p.name) (map bare_function_parameter ps) ≡ map (λ (p : FunctionParameter). p.name) ps
-parameters_bare [] = refl
-parameters_bare (p ∷ ps) = ap (λ (ns : List Name). p.name ∷ ns) (parameters_bare ps)
+set_located : (i : Item) → set_by (located_item i) ≡ set_by i
+set_located (item.Setting s) = refl
+set_located _ = refl
 
-function_located : (i : Item) → signatures (function_by (located_item i)) ≡ signatures (function_by i)
-function_located (item.Function f) = λ i. record { name = f.name; parameters = parameters_bare f.parameters i } ∷ []
+bare_twice : (ps : List FunctionParameter) → map bare_function_parameter (map bare_function_parameter ps) ≡ map bare_function_parameter ps
+bare_twice [] = refl
+bare_twice (p ∷ ps) = ap (λ (qs : List FunctionParameter). bare_function_parameter p ∷ qs) (bare_twice ps)
+
+function_located : (i : Item) → map bare_function (function_by (located_item i)) ≡ map bare_function (function_by i)
+function_located (item.Function f) = λ i. record f { parameters = bare_twice f.parameters i } ∷ []
 function_located _ = refl
 
 module _ {A B : Type 0} (by : Item → List A) (f : A → B) (located : (i : Item) → map f (by (located_item i)) ≡ map f (by i)) (enabled : Item → Bool) where
@@ -157,15 +160,23 @@ module _ (enabled : Item → Bool) (entries : List (AstKey × Ast)) (d : AstKey)
         ∙ (λ i. said_here q (inside q (inl refl)) i ++ said_are xs (λ r h. inside r (inr h)) i)
         ∙ sym (ap (map f) (flat_map-append by (unwrap_or (R (key_at q)) no_ast).items rest) ∙ map-append f (flat_map by (unwrap_or (R (key_at q)) no_ast).items) (flat_map by rest))
 
+  module _ {A : Type 0} (by : Item → List A) (located : (i : Item) → by (located_item i) ≡ by i) where
+    -- what has no numbers
+    same_are : (xs : List ℕ) → ((q : ℕ) → In q xs → q < n) → said_from by enabled (asts_in files) xs ≡ flat_map by (items_of (map (λ k. unwrap_or (R k) no_ast) (map key_at xs)))
+    same_are xs inside =
+        sym (map-id (said_from by enabled (asts_in files) xs)) ∙ said_are by (λ n. n) (λ i. ap (map (λ n. n)) (located i)) xs inside ∙ map-id (flat_map by (items_of (map (λ k. unwrap_or (R k) no_ast) (map key_at xs))))
+
   -- what a module unexports
   pub unexports_are : (xs : List ℕ) → ((q : ℕ) → In q xs → q < n) → said_from unexported_by enabled (asts_in files) xs ≡ flat_map unexported_by (items_of (map (λ k. unwrap_or (R k) no_ast) (map key_at xs)))
-  unexports_are xs inside =
-      sym (map-id (said_from unexported_by enabled (asts_in files) xs)) ∙ said_are unexported_by (λ n. n) (λ i. ap (map (λ n. n)) (unexport_located i)) xs inside
-      ∙ map-id (flat_map unexported_by (items_of (map (λ k. unwrap_or (R k) no_ast) (map key_at xs))))
+  unexports_are = same_are unexported_by unexport_located
 
-  -- the signatures of its functions
-  pub functions_are : (xs : List ℕ) → ((q : ℕ) → In q xs → q < n) → signatures (said_from function_by enabled (asts_in files) xs) ≡ signatures (flat_map function_by (items_of (map (λ k. unwrap_or (R k) no_ast) (map key_at xs))))
-  functions_are xs inside = said_are function_by signature function_located xs inside
+  -- what it sets
+  pub sets_are : (xs : List ℕ) → ((q : ℕ) → In q xs → q < n) → said_from set_by enabled (asts_in files) xs ≡ flat_map set_by (items_of (map (λ k. unwrap_or (R k) no_ast) (map key_at xs)))
+  sets_are = same_are set_by set_located
+
+  -- its functions, without numbers
+  pub functions_are : (xs : List ℕ) → ((q : ℕ) → In q xs → q < n) → map bare_function (said_from function_by enabled (asts_in files) xs) ≡ map bare_function (flat_map function_by (items_of (map (λ k. unwrap_or (R k) no_ast) (map key_at xs))))
+  functions_are xs inside = said_are function_by bare_function function_located xs inside
 
   module _ (aj : AreJoined rows n joined) where
     -- what has modules in it is joined

@@ -1,11 +1,11 @@
 -- What a module's recipes are compiled to.
-use Rattle.std.specs.Prelude.{◌≡◌, ◌≢◌, ℕ, ◌<◌, ◌≤◌, Bool, List, [], ◌∷◌, length, slice_get, Option, Some, None}
+use Rattle.std.specs.Prelude.{◌≡◌, ◌≢◌, ℕ, ◌<◌, ◌≤◌, Bool, List, [], length, slice_get, Option, Some, None}
 use Rattle.std.specs.Cmp.Lexicographic.{slice_cmp}
 use Rattle.std.specs.List.{AllByRecursion}
 use Rattle.std.specs.Option.{option_map}
 use Rattle.std.specs.Ordering.{nat_cmp}
 use Rattle.std.specs.declared.cmp.Ordering.TheVariants.{Less}
-use Rattle.just_table.specs.Entries.{find, put}
+use Rattle.just_table.specs.Entries.{find}
 use Rattle.just_names.specs.Name.{text_of_name}
 use Rattle.just_names.specs.Modulepath.{Text}
 use Rattle.just_parts.specs.Items.{Ast, Item}
@@ -13,14 +13,17 @@ use Rattle.just_names.specs.declared.number.Number.{Number}
 use Rattle.just_invoke.specs.declared.justfile.Justfile.{Justfile, out-Justfile}
 use Rattle.just_parts.specs.declared.layers.ast.UnresolvedDependency.{UnresolvedDependency}
 use Rattle.just_parts.specs.declared.recipe.Recipe.{Recipe}
-use Rattle.just_records.specs.declared.function_definition.FunctionDefinition.{FunctionDefinition}
+use Rattle.just_errors.specs.Causes.{Cause, Keeps}
+use Rattle.just_parts.specs.Layers.{Layers}
 use Rattle.just_invoke.specs.declared.justfile.RecipeKey.{RecipeKey}
-use Rattle.just_joining.specs.Contents.{Contents}
+use Rattle.just_joining.specs.Contents.{Contents, defined_in}
 use Rattle.just_joining.specs.Files.{asts_in}
+use Rattle.just_joining.specs.Groups.{BreaksContents, KeepsContents, functions_under, settings_of}
 use Rattle.just_joining.specs.Named.{contents_from, recipes_by}
 use Rattle.just_joining.specs.declared.files.Files.{Files}
 use Rattle.just_joining.specs.Recipes.{name_of, line_of, recipe_at}
 use Rattle.just_joining.specs.Resolved.{number_at}
+use Rattle.just_joining.specs.Rules.{Bodies, Dependencies}
 
 -- a key has the number and the name of one of the first n recipes, as it stands there
 abbrev pub IsKeyOf : List (Recipe UnresolvedDependency) → ℕ → RecipeKey → Type 0
@@ -49,20 +52,11 @@ abbrev pub IsDefaultOf : List (Recipe UnresolvedDependency) → Option Number �
 IsDefaultOf recipes None = recipes ≡ []
 IsDefaultOf recipes (Some number) = (place : ℕ) × IsDefault recipes place × (number_at recipes place ≡ number.0)
 
--- values under their keys, one after another
-abbrev pub put_all : {A : Type 0} → (A → Text) → List (Text × A) → List A → List (Text × A)
-put_all key held [] = held
-put_all key held (x ∷ xs) = put_all key (put (key x) x held) xs
-
--- functions by their names
-abbrev pub by_function_name : List FunctionDefinition → List (Text × FunctionDefinition)
-by_function_name = put_all (λ f. text_of_name f.name) []
-
 -- A module has the keys of its recipes, the default of those of its own file, its functions, the names that it unexports, the paths that it was given, and what its own file says.
 pub record IsOf (m : Contents) (own : List (Recipe UnresolvedDependency)) (ast : Ast) (loaded : List (List ℕ)) (source : List ℕ) (justfile : Justfile) : Type 0 where
   pub keys : AreKeysOf m.recipes (length m.recipes) (out-Justfile justfile).recipes
   pub held : HasKeysOf m.recipes (length m.recipes) (out-Justfile justfile).recipes
-  pub functions_are : (out-Justfile justfile).functions ≡ by_function_name m.functions
+  pub functions_are : (out-Justfile justfile).functions ≡ functions_under m.functions
   pub unexports_are : (out-Justfile justfile).unexports ≡ m.unexports
   pub default : IsDefaultOf own (out-Justfile justfile).default
   pub loaded_is : (out-Justfile justfile).loaded ≡ loaded
@@ -74,3 +68,22 @@ pub record IsOf (m : Contents) (own : List (Recipe UnresolvedDependency)) (ast :
 abbrev pub IsOfFiles : (Item → Bool) → Files → ℕ → List ℕ → List Text → Text → Justfile → Type 0
 IsOfFiles enabled files own places loaded source j = (ast : Ast) → slice_get (asts_in files) own ≡ Some ast
     → IsOf (contents_from enabled (asts_in files) places) (recipes_by enabled (Some ast)) ast loaded source j
+
+-- it has its settings as they are evaluated
+abbrev pub HasSettings : Layers → Contents → Justfile → Type 0
+HasSettings layers m j = settings_of layers.evaluator m ≡ Some (out-Justfile j).settings
+
+abbrev pub HasSettingsOf : Layers → Files → List ℕ → Justfile → Type 0
+HasSettingsOf layers files places = HasSettings layers (contents_from layers.syntax.enabled (asts_in files) places)
+
+-- all groups of a module of these files are kept, or a rule of one is broken
+abbrev pub KeepsFiles : Layers → Files → List ℕ → Type 0
+KeepsFiles layers files places = KeepsContents layers (contents_from layers.syntax.enabled (asts_in files) places)
+
+abbrev pub BreaksFiles : Layers → Files → List ℕ → Cause → Type 0
+BreaksFiles layers files places = BreaksContents layers (contents_from layers.syntax.enabled (asts_in files) places)
+
+-- What is broken of recipes: in their bodies, or where these are kept in their dependencies.
+pub data BreaksRecipes (m : Contents) : Cause → Type 0 where
+  in_bodies : {c : Cause} → Bodies (defined_in m) c → BreaksRecipes m c
+  in_dependencies : {c : Cause} → Keeps (Bodies (defined_in m)) → Dependencies m.recipes c → BreaksRecipes m c

@@ -6,17 +6,18 @@ use Rattle.just_table.specs.Entries.{put}
 use Rattle.just_names.specs.Modulepath.{Text}
 use Rattle.just_parts.specs.declared.dependency.Dependency.{Dependency}
 use Rattle.just_parts.specs.Items.{Ast, Item}
+use Rattle.just_parts.specs.Layers.{Layers}
 use Rattle.just_parts.specs.declared.layers.ast.UnresolvedDependency.{UnresolvedDependency}
 use Rattle.just_names.specs.declared.name.Name.{Name}
 use Rattle.just_parts.specs.declared.recipe.Recipe.{Recipe}
 use Rattle.std.specs.List.{Contains}
 use Rattle.just_invoke.specs.Module.{module_name}
 use Rattle.just_invoke.specs.declared.justfile.Justfile.{Justfile, out-Justfile, roll-Justfile}
-use Rattle.just_modules.specs.Analysis.{IsOf}
+use Rattle.just_modules.specs.Analysis.{HasSettings, IsOf}
 use Rattle.just_modules.specs.Modules.{Module, Forest, Empty, Tree, label_of}
 use Rattle.just_modules.specs.declared.inner.Label.{Label}
 use Rattle.just_joining.specs.Contents.{Contents}
-use Rattle.just_joining.specs.Named.{function_by, name_by, said_in, unexported_by}
+use Rattle.just_joining.specs.Named.{function_by, name_by, said_in, set_by, unexported_by}
 use Rattle.just_joining.specs.Recipes.{recipes_of}
 use Rattle.just_joining.specs.Reading.{items_in}
 use Rattle.just_joining.specs.Resolved.{AreResolved}
@@ -32,6 +33,7 @@ contents_in enabled asts files = record {
   functions = flat_map (λ k. said_in function_by enabled (asts k)) files;
   modules = flat_map (λ k. said_in name_by enabled (asts k)) files;
   unexports = flat_map (λ k. said_in unexported_by enabled (asts k)) files;
+  sets = flat_map (λ k. said_in set_by enabled (asts k)) files;
 }
 
 -- modules under their names, one after another
@@ -52,20 +54,21 @@ abbrev pub Built : Type 0
 Built = AstKey × List (Recipe Dependency)
 
 -- What a module is compiled to: its recipes, each once, resolved and after those that it depends on, and its justfile, with the modules in it.
-pub record IsCompiled (enabled : Item → Bool) (asts : AstKey → Option Ast) (loaded : List Text) (m : Module) (inner : List Justfile) (made : List (Recipe Dependency)) (j : Justfile) : Type 0 where
+pub record IsCompiled (layers : Layers) (asts : AstKey → Option Ast) (loaded : List Text) (m : Module) (inner : List Justfile) (made : List (Recipe Dependency)) (j : Justfile) : Type 0 where
   pub own : Ast
   pub own_said : asts m.heading.key ≡ Some own
   pub own_there : Contains m.files m.heading.key
-  pub resolved : AreResolved (recipes_in enabled asts m.files) m.heading.key.0 made
-  pub fields : IsOf (contents_in enabled asts m.files) (recipes_of enabled own.items) own loaded m.heading.key.1 j
+  pub resolved : AreResolved (recipes_in layers.syntax.enabled asts m.files) m.heading.key.0 made
+  pub settings : HasSettings layers (contents_in layers.syntax.enabled asts m.files) j
+  pub fields : IsOf (contents_in layers.syntax.enabled asts m.files) (recipes_of layers.syntax.enabled own.items) own loaded m.heading.key.1 j
   pub label : label_in j ≡ m.heading.label
   pub modules : (out-Justfile j).modules ≡ by_name inner
 
 -- The modules of a forest are compiled to justfiles, one by one.
-pub data AreCompiled (enabled : Item → Bool) (asts : AstKey → Option Ast) (loaded : List Text) (built : List Built) : Forest → List Justfile → Type 0 where
-  none : AreCompiled enabled asts loaded built Empty []
-  one : {m : Module} {inside after : Forest} {inner js : List Justfile} {j : Justfile} (made : List (Recipe Dependency)) → Contains built (m.heading.key, made) → AreCompiled enabled asts loaded built inside inner
-      → IsCompiled enabled asts loaded m inner made j → AreCompiled enabled asts loaded built after js → AreCompiled enabled asts loaded built (Tree m inside after) (j ∷ js)
+pub data AreCompiled (layers : Layers) (asts : AstKey → Option Ast) (loaded : List Text) (built : List Built) : Forest → List Justfile → Type 0 where
+  none : AreCompiled layers asts loaded built Empty []
+  one : {m : Module} {inside after : Forest} {inner js : List Justfile} {j : Justfile} (made : List (Recipe Dependency)) → Contains built (m.heading.key, made) → AreCompiled layers asts loaded built inside inner
+      → IsCompiled layers asts loaded m inner made j → AreCompiled layers asts loaded built after js → AreCompiled layers asts loaded built (Tree m inside after) (j ∷ js)
 
 -- a justfile under a label
 abbrev pub labelled_as : Label → Justfile → Justfile

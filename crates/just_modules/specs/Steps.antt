@@ -8,17 +8,18 @@ use Rattle.just_graph.specs.Steps.{IsOnce, ListsStepsFirst}
 use Rattle.just_parts.specs.Asts.{AstKey}
 use Rattle.just_errors.specs.Causes.{Cause}
 use Rattle.just_names.specs.Modulepath.{Text}
-use Rattle.just_parts.specs.Syntax.{SyntaxAnswers}
+use Rattle.just_parts.specs.Layers.{Layers}
 use Rattle.just_parts.specs.declared.dependency.Dependency.{Dependency}
 use Rattle.just_parts.specs.Items.{Ast, Item}
 use Rattle.just_parts.specs.declared.recipe.Recipe.{Recipe}
 use Rattle.just_invoke.specs.declared.justfile.Justfile.{Justfile, out-Justfile}
-use Rattle.just_modules.specs.Analysis.{IsOf}
+use Rattle.just_modules.specs.Analysis.{HasSettings, IsOf}
 use Rattle.just_joining.specs.Contents.{texts_of_names}
 use Rattle.just_joining.specs.Files.{asts_in, keys_in}
 use Rattle.just_joining.specs.Index.{AreDifferent}
 use Rattle.just_modules.specs.Justfiles.{by_name, slot, with_names}
-use Rattle.just_joining.specs.Named.{BreaksContents, KeepsContents, recipes_by}
+use Rattle.just_joining.specs.Groups.{BreaksContents, KeepsContents}
+use Rattle.just_joining.specs.Named.{recipes_by}
 use Rattle.just_joining.specs.Resolved.{AreResolved, HasPriors, unresolved_numbers}
 use Rattle.just_joining.specs.OfPlaces.{contents_of_place, names_of_place, recipes_of_place}
 use Rattle.just_joining.specs.declared.files.Files.{Files}
@@ -36,28 +37,29 @@ pub record CanCompile (enabled : Item → Bool) (files : Files) (joined : Joined
   pub different : AreDifferent (texts_of_names (names_of_place enabled files joined p))
 
 -- What the module at a place is compiled to, from the justfiles of the modules in it; it has no label yet.
-pub record IsCompiledAt (enabled : Item → Bool) (files : Files) (joined : Joined) (loaded : List Text) (p : ℕ) (inner : List Justfile) (made : List (Recipe Dependency)) (j : Justfile) : Type 0 where
+pub record IsCompiledAt (layers : Layers) (files : Files) (joined : Joined) (loaded : List Text) (p : ℕ) (inner : List Justfile) (made : List (Recipe Dependency)) (j : Justfile) : Type 0 where
   pub own : Ast
   pub own_said : slice_get (asts_in files) p ≡ Some own
   pub key : AstKey
   pub key_is : slice_get (keys_in files) p ≡ Some key
-  pub kept : KeepsContents (contents_of_place enabled files joined p)
-  pub resolved : AreResolved (recipes_of_place enabled files joined p) own.module_path made
-  pub fields : IsOf (contents_of_place enabled files joined p) (recipes_by enabled (Some own)) own loaded key.1 j
-  pub modules : (out-Justfile j).modules ≡ by_name (with_names inner (names_of_place enabled files joined p))
+  pub kept : KeepsContents layers (contents_of_place layers.syntax.enabled files joined p)
+  pub resolved : AreResolved (recipes_of_place layers.syntax.enabled files joined p) own.module_path made
+  pub settings : HasSettings layers (contents_of_place layers.syntax.enabled files joined p) j
+  pub fields : IsOf (contents_of_place layers.syntax.enabled files joined p) (recipes_by layers.syntax.enabled (Some own)) own loaded key.1 j
+  pub modules : (out-Justfile j).modules ≡ by_name (with_names inner (names_of_place layers.syntax.enabled files joined p))
 
 -- One more module is compiled, from those that are held at the places of the modules in it.
-pub record CompilesPlace (enabled : Item → Bool) (files : Files) (joined : Joined) (loaded : List Text) (p : ℕ) (old new : List (Option Justfile)) (before after : List (Recipe Dependency)) : Type 0 where
+pub record CompilesPlace (layers : Layers) (files : Files) (joined : Joined) (loaded : List Text) (p : ℕ) (old new : List (Option Justfile)) (before after : List (Recipe Dependency)) : Type 0 where
   pub made : List (Recipe Dependency)
   pub justfile : Justfile
   pub appended : after ≡ before ++ made
-  pub compiled : (inner : List Justfile) → map Some inner ≡ map (slot old) (targets joined.modules.items p) → IsCompiledAt enabled files joined loaded p inner made justfile
+  pub compiled : (inner : List Justfile) → map Some inner ≡ map (slot old) (targets joined.modules.items p) → IsCompiledAt layers files joined loaded p inner made justfile
   pub here : slot new p ≡ Some justfile
   pub others : (q : ℕ) → (q ≡ p → ⊥) → (Contains (targets joined.modules.items p) q → ⊥) → slot new q ≡ slot old q
   pub room : length new ≡ length old
 
-abbrev pub CompilesAt : SyntaxAnswers → Files → Joined → List Text → ℕ → Vec (Option Justfile) Global → Vec (Option Justfile) Global → List (Recipe Dependency) → List (Recipe Dependency) → Type 0
-CompilesAt answers files joined loaded p old new before after = CompilesPlace answers.enabled files joined loaded p old.items new.items before after
+abbrev pub CompilesAt : Layers → Files → Joined → List Text → ℕ → Vec (Option Justfile) Global → Vec (Option Justfile) Global → List (Recipe Dependency) → List (Recipe Dependency) → Type 0
+CompilesAt layers files joined loaded p old new before after = CompilesPlace layers files joined loaded p old.items new.items before after
 
 -- Modules that can be compiled in this order: each place once, after those of the modules in it, each of which stands in one module, and no number of a recipe in two modules.
 pub record CanCompileAll (enabled : Item → Bool) (files : Files) (joined : Joined) (order : List ℕ) : Type 0 where
@@ -72,20 +74,20 @@ pub record CanCompileAll (enabled : Item → Bool) (files : Files) (joined : Joi
       → Contains (unresolved_numbers (recipes_of_place enabled files joined (slice_index order k))) m → ⊥
 
 -- The first n modules of an order are compiled: the recipes of each, one module after another, and its justfile, which is held until a module takes it.
-pub record HaveCompiled (enabled : Item → Bool) (files : Files) (joined : Joined) (loaded : List Text) (order : List ℕ) (n : ℕ) (slots : List (Option Justfile)) (recipes : List (Recipe Dependency)) : Type 0 where
+pub record HaveCompiled (layers : Layers) (files : Files) (joined : Joined) (loaded : List Text) (order : List ℕ) (n : ℕ) (slots : List (Option Justfile)) (recipes : List (Recipe Dependency)) : Type 0 where
   pub made : ℕ → List (Recipe Dependency)
   pub justfile : ℕ → Justfile
   pub all : recipes ≡ flat_map made (take n order)
-  pub each : (k : ℕ) → k < n → IsCompiledAt enabled files joined loaded (slice_index order k) (map justfile (targets joined.modules.items (slice_index order k))) (made (slice_index order k)) (justfile (slice_index order k))
+  pub each : (k : ℕ) → k < n → IsCompiledAt layers files joined loaded (slice_index order k) (map justfile (targets joined.modules.items (slice_index order k))) (made (slice_index order k)) (justfile (slice_index order k))
   pub held : (k : ℕ) → k < n → ((i : ℕ) → i < n → HasEdge joined.modules.items (slice_index order i) (slice_index order k) → ⊥) → slot slots (slice_index order k) ≡ Some (justfile (slice_index order k))
   pub room : length slots ≡ length files.asts.items
 
-abbrev pub HaveCompiledAll : (Item → Bool) → Files → Joined → List Text → List ℕ → Vec (Option Justfile) Global × List (Recipe Dependency) → Type 0
-HaveCompiledAll enabled files joined loaded order made = HaveCompiled enabled files joined loaded order (length order) made.0.items made.1
+abbrev pub HaveCompiledAll : Layers → Files → Joined → List Text → List ℕ → Vec (Option Justfile) Global × List (Recipe Dependency) → Type 0
+HaveCompiledAll layers files joined loaded order made = HaveCompiled layers files joined loaded order (length order) made.0.items made.1
 
 -- A rule is broken in the module at a place of an order, and none is in those before it.
-pub record BreaksInOrder (enabled : Item → Bool) (files : Files) (joined : Joined) (order : List ℕ) (c : Cause) : Type 0 where
+pub record BreaksInOrder (layers : Layers) (files : Files) (joined : Joined) (order : List ℕ) (c : Cause) : Type 0 where
   pub at : ℕ
   pub there : at < length order
-  pub before : (k : ℕ) → k < at → KeepsContents (contents_of_place enabled files joined (slice_index order k))
-  pub broken : BreaksContents (contents_of_place enabled files joined (slice_index order at)) c
+  pub before : (k : ℕ) → k < at → KeepsContents layers (contents_of_place layers.syntax.enabled files joined (slice_index order k))
+  pub broken : BreaksContents layers (contents_of_place layers.syntax.enabled files joined (slice_index order at)) c

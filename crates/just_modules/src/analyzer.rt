@@ -5,21 +5,25 @@ ghost use Rattle.std.specs.HashMap.{get};
 ghost use Rattle.std.specs.List.{All, Contains};
 ghost use Rattle.just_graph.specs.Steps.{IsOnce};
 ghost use Rattle.just_parts.specs.Asts.{same_ast_key};
-ghost use Rattle.just_errors.specs.Causes.{Reports};
+ghost use Rattle.just_errors.specs.Causes.{Keeps, Reports};
 ghost use Rattle.just_running.specs.Recipes.{numbers};
 ghost use Rattle.just_invoke.specs.declared.justfile.Justfile.{Justfile, out-Justfile};
 ghost use Rattle.just_joining.specs.Analyzable.{AreAnalyzable};
 ghost use Rattle.just_modules.specs.Analyzed.{Analyzes, NamesAnalyzed};
-ghost use Rattle.just_joining.specs.Definitions.{contents_in, recipes_in};
+ghost use Rattle.just_joining.specs.Definitions.{contents_in, functions_in, recipes_in};
 ghost use Rattle.just_joining.specs.Files.{asts_in};
-ghost use Rattle.just_modules.specs.Analysis.{IsOfFiles};
-ghost use Rattle.just_joining.specs.Named.{AreAddedAt, BreaksContents, KeepsContents, contents_from, name_by, said_from, recipes_from};
-ghost use Rattle.just_joining.specs.Contents.{texts_of_names};
+ghost use Rattle.just_modules.specs.Analysis.{BreaksFiles, BreaksRecipes, HasSettingsOf, IsOfFiles, KeepsFiles};
+ghost use Rattle.just_joining.specs.Named.{AreAddedAt, contents_from, name_by, said_from, recipes_from};
+ghost use Rattle.just_joining.specs.Groups.{BreaksContents, KeepsBefore, OfBodies, functions_under, settings_of};
+ghost use Rattle.just_joining.specs.Rules.{Bodies, Dependencies};
+ghost use Rattle.just_parts.specs.Layers.{layers_of};
+ghost use Rattle.just_joining.specs.Contents.{defined_in, texts_of_names};
 ghost use Rattle.just_joining.specs.Index.{AreDifferent};
 ghost use Rattle.just_joining.specs.Recipes.{names_of};
 ghost use Rattle.just_joining.specs.Resolved.{AreNew, AreResolved, HasPriors, unresolved_numbers};
 
 use crate::compiling::compile_in_order;
+use crate::constants::{Evaluated, evaluate};
 use crate::inner::{Label, labelled, take_at};
 use crate::making::{Surroundings, make_justfile};
 use just_data::{Sequence, Shared, Text};
@@ -53,8 +57,27 @@ fn definitions_at<'b, 'a, 'src, S: Syntax>(
     Ok(definitions)
 }
 
+// What is evaluated of a module that keeps the rules of headers, of names and of what is evaluated.
+fn check_module<'src, 'a, S: Syntax, E: Evaluation>(
+    alloc: Global,
+    definitions: &Definitions<'src, 'a>,
+    syntax: &S,
+    evaluation: &E,
+) -> Result<Evaluated<'src>, Error<'src>>
+    requires { AreDifferent (texts_of_names definitions.now.modules.items) }
+    ensures kept { IfOk result (λ _. KeepsBefore (layers_of (S.answers syntax.now) (E.answers evaluation.now)) OfBodies (contents_in definitions.now)) }
+    ensures functions { IfOk result (λ it. it.functions ≡ functions_under (functions_in definitions.now)) }
+    ensures settings { IfOk result (λ it. settings_of (E.answers evaluation.now) (contents_in definitions.now) ≡ Some it.settings) }
+    ensures named { IfErr result (Reports (BreaksContents (layers_of (S.answers syntax.now) (E.answers evaluation.now)) (contents_in definitions.now))) }
+{
+    check_headers(alloc, definitions, syntax)?;
+    check_functions(alloc, definitions)?;
+    let evaluated = evaluate(alloc, definitions, evaluation)?;
+    Ok(evaluated)
+}
+
 // The recipes of the module at a path, resolved, each after those that it depends on. An error names a rule that is
-// broken in the module.
+// broken in its bodies, or where these are kept in its dependencies.
 fn resolve_recipes<'src, 'a>(
     alloc: Global,
     definitions: &Definitions<'src, 'a>,
@@ -63,25 +86,25 @@ fn resolve_recipes<'src, 'a>(
     requires once { IsOnce (unresolved_numbers (recipes_in definitions.now)) }
     requires priors { All HasPriors (recipes_in definitions.now) }
     requires modules { AreDifferent (texts_of_names definitions.now.modules.items) }
-    ensures kept { IfOk result (λ _. KeepsContents (contents_in definitions.now)) }
+    ensures bodies { IfOk result (λ _. Keeps (Bodies (defined_in (contents_in definitions.now)))) }
+    ensures dependencies { IfOk result (λ _. Keeps (Dependencies (recipes_in definitions.now))) }
     ensures different { IfOk result (λ _. AreDifferent (names_of (recipes_in definitions.now))) }
     ensures resolved { IfOk result (AreResolved (recipes_in definitions.now) path.now) }
-    ensures named { IfErr result (Reports (BreaksContents (contents_in definitions.now))) }
+    ensures named { IfErr result (Reports (BreaksRecipes (contents_in definitions.now))) }
 {
-    check_headers(alloc, definitions)?;
-    check_functions(alloc, definitions)?;
     let index = index_recipes(alloc, definitions)?;
     let (rows, order) = order_recipes(alloc, definitions, &index)?;
     let made = resolve_in_order(alloc, definitions, rows.as_slice(), order.as_slice(), path)?;
     Ok(made)
 }
 
-/// Analyzes the module of these files, whose own stands at `own`: checks what they say, resolves its recipes, and adds
-/// them to the others. An error names a rule that is broken.
-pub fn analyze_module<'a, 'src, S: Syntax>(
+/// Analyzes the module of these files, whose own stands at `own`: checks what they say, evaluates what it sets, resolves
+/// its recipes, and adds them to the others. An error names a rule that is broken.
+pub fn analyze_module<'a, 'src, S: Syntax, E: Evaluation>(
     alloc: Global,
     files: &Files<'src, 'a>,
     syntax: &S,
+    evaluation: &E,
     places: &[usize],
     own: usize,
     surroundings: Surroundings<'src>,
@@ -93,19 +116,28 @@ pub fn analyze_module<'a, 'src, S: Syntax>(
     requires priors { All HasPriors (recipes_from (S.answers syntax.now).enabled (asts_in files.now) places.now) }
     requires apart { AreNew recipes.old (recipes_from (S.answers syntax.now).enabled (asts_in files.now) places.now) }
     requires modules { AreDifferent (texts_of_names (said_from name_by (S.answers syntax.now).enabled (asts_in files.now) places.now)) }
-    ensures kept { IfOk result (λ _. KeepsContents (contents_from (S.answers syntax.now).enabled (asts_in files.now) places.now)) }
+    ensures kept { IfOk result (λ _. KeepsFiles (layers_of (S.answers syntax.now) (E.answers evaluation.now)) files.now places.now) }
     ensures added { IfOk result (λ _. AreAddedAt (S.answers syntax.now).enabled files.now own places.now recipes.old recipes.new) }
     ensures fields { IfOk result (IsOfFiles (S.answers syntax.now).enabled files.now own places.now surroundings.entry.loaded surroundings.entry.source) }
+    ensures settings { IfOk result (HasSettingsOf (layers_of (S.answers syntax.now) (E.answers evaluation.now)) files.now places.now) }
     ensures modules { IfOk result (λ j. (out-Justfile j).modules ≡ surroundings.entry.modules) }
-    ensures named { IfErr result (Reports (BreaksContents (contents_from (S.answers syntax.now).enabled (asts_in files.now) places.now))) }
+    ensures named { IfErr result (Reports (BreaksFiles (layers_of (S.answers syntax.now) (E.answers evaluation.now)) files.now places.now)) }
 {
     let definitions = definitions_at(alloc, files, syntax, places)?;
     let ast = ast_at(files, own);
+    let evaluated = check_module(alloc, &definitions, syntax, evaluation)?;
     let mut made = resolve_recipes(alloc, &definitions, &ast.module_path)?;
     let mut own_definitions = Definitions::new(alloc);
     own_definitions.add(ast.items.as_slice(), syntax)?;
     recipes.append(&mut made)?;
-    let justfile = make_justfile(alloc, &definitions, &own_definitions, ast, surroundings)?;
+    let justfile = make_justfile(
+        alloc,
+        &definitions,
+        &own_definitions,
+        ast,
+        evaluated,
+        surroundings,
+    )?;
     Ok(justfile)
 }
 
@@ -124,10 +156,11 @@ fn literals<'src>(
 }
 
 // The justfile of the module of a key, under a label, and the recipes of it and of the modules in it.
-fn analyze_modules<'src, S: Syntax>(
+fn analyze_modules<'src, S: Syntax, E: Evaluation>(
     alloc: Global,
     asts: &HashMap<(Modulepath, Text), Ast<'src>>,
     syntax: &S,
+    evaluation: &E,
     loaded: &Shared<Sequence<Text>>,
     module_path: &Modulepath,
     root: &str,
@@ -135,8 +168,8 @@ fn analyze_modules<'src, S: Syntax>(
 ) -> Result<(Justfile<'src>, Recipes<'src>), Error<'src>>
     requires held { IsSome (get same_ast_key asts.now (module_path.now, root.now)) }
     requires asts { AreAnalyzable (S.answers syntax.now).enabled (get same_ast_key asts.now) }
-    ensures analyzed { IfOk result (Analyzes (S.answers syntax.now) asts.now loaded.now module_path.now root.now label.entry) }
-    ensures named { IfErr result (NamesAnalyzed (S.answers syntax.now) asts.now module_path.now root.now label.entry) }
+    ensures analyzed { IfOk result (Analyzes (layers_of (S.answers syntax.now) (E.answers evaluation.now)) asts.now loaded.now module_path.now root.now label.entry) }
+    ensures named { IfErr result (NamesAnalyzed (layers_of (S.answers syntax.now) (E.answers evaluation.now)) asts.now module_path.now root.now label.entry) }
 {
     let files = place_files(alloc, asts)?;
     let rows = file_rows(alloc, &files, syntax)?;
@@ -147,6 +180,7 @@ fn analyze_modules<'src, S: Syntax>(
         alloc,
         &files,
         syntax,
+        evaluation,
         &joined,
         loaded,
         order.as_slice(),
@@ -166,13 +200,14 @@ impl Analyzer {
     ghost use Rattle.just_joining.specs.Analyzable.{AreAnalyzable, HavePaths};
     ghost use Rattle.just_modules.specs.Analyzed.{Analyzes, NamesAnalyzed};
     ghost use Rattle.just_modules.specs.Modules.{label};
+    ghost use Rattle.just_parts.specs.Layers.{layers_of};
 
     /// The justfile of the module at `module_path`, whose own file is `root`, with the label that it is given (`name`,
     /// `doc`, `groups`, `private`), and the recipes of it and of the modules in it, those of a module after those of the
     /// modules in it. An error names a rule that one of them breaks.
     ///
-    /// `paths` leads from the clean path of each file to the one that is shown. Neither `config`, nor `paths`, nor the
-    /// evaluation is asked anything yet, and `overrides` stays as it is.
+    /// `paths` leads from the clean path of each file to the one that is shown. Neither `config` nor `paths` is asked
+    /// anything yet, and `overrides` stays as it is.
     pub fn analyze<'src, S: Syntax, E: Evaluation>(
         alloc: Global,
         asts: &HashMap<(Modulepath, Text), Ast<'src>>,
@@ -192,8 +227,8 @@ impl Analyzer {
         requires held { IsSome (get same_ast_key asts.now (module_path.now, root.now)) }
         requires asts { AreAnalyzable (S.answers syntax.now).enabled (get same_ast_key asts.now) }
         requires paths { HavePaths (get same_ast_key asts.now) (get bytes_eq paths.now) }
-        ensures made { IfOk result (Analyzes (S.answers syntax.now) asts.now loaded.now module_path.now root.now (label name.entry doc groups.now private)) }
-        ensures named { IfErr result (NamesAnalyzed (S.answers syntax.now) asts.now module_path.now root.now (label name.entry doc groups.now private)) }
+        ensures made { IfOk result (Analyzes (layers_of (S.answers syntax.now) (E.answers evaluation.now)) asts.now loaded.now module_path.now root.now (label name.entry doc groups.now private)) }
+        ensures named { IfErr result (NamesAnalyzed (layers_of (S.answers syntax.now) (E.answers evaluation.now)) asts.now module_path.now root.now (label name.entry doc groups.now private)) }
         ensures overrides { overrides.new ≡ overrides.old }
     {
         let groups = literals(alloc, groups)?;
@@ -203,6 +238,15 @@ impl Analyzer {
             groups,
             private,
         };
-        analyze_modules(alloc, asts, syntax, loaded, module_path, root, label)
+        analyze_modules(
+            alloc,
+            asts,
+            syntax,
+            evaluation,
+            loaded,
+            module_path,
+            root,
+            label,
+        )
     }
 }

@@ -5,9 +5,10 @@ ghost use Rattle.just_graph.specs.Graph.{targets};
 ghost use Rattle.just_errors.specs.Causes.{Reports};
 ghost use Rattle.just_invoke.specs.declared.justfile.Justfile.{Justfile};
 ghost use Rattle.just_modules.specs.Justfiles.{slot};
-ghost use Rattle.just_joining.specs.Named.{BreaksContents};
+ghost use Rattle.just_parts.specs.Layers.{layers_of};
+ghost use Rattle.just_modules.specs.Analysis.{BreaksFiles};
 ghost use Rattle.just_joining.specs.Resolved.{AreNew};
-ghost use Rattle.just_joining.specs.OfPlaces.{contents_of_place, recipes_of_place};
+ghost use Rattle.just_joining.specs.OfPlaces.{recipes_of_place};
 ghost use Rattle.just_modules.specs.Steps.{BreaksInOrder, CanCompile, CanCompileAll, CompilesAt, HaveCompiledAll};
 
 use crate::analyzer::analyze_module;
@@ -18,14 +19,15 @@ use just_invoke::{Justfile, Recipes};
 use just_joining::files::Files;
 use just_joining::joined::Joined;
 use just_joining::module_names::module_names;
-use just_parts::layers::{Error, Syntax};
+use just_parts::layers::{Error, Evaluation, Syntax};
 use std::alloc::{AllocError, Global};
 
 // Compiles the module whose own file stands at a place, from those in it.
-fn compile_place<'a, 'src, S: Syntax>(
+fn compile_place<'a, 'src, S: Syntax, E: Evaluation>(
     alloc: Global,
     files: &Files<'src, 'a>,
     syntax: &S,
+    evaluation: &E,
     joined: &Joined,
     loaded: &Shared<Sequence<Text>>,
     place: usize,
@@ -39,8 +41,8 @@ fn compile_place<'a, 'src, S: Syntax>(
     requires ready { CanCompile (S.answers syntax.now).enabled files.now joined.now place }
     requires inner { (js : List Justfile) × (map Some js ≡ map (slot slots.old.items) (targets joined.now.modules.items place)) }
     requires apart { AreNew recipes.old (recipes_of_place (S.answers syntax.now).enabled files.now joined.now place) }
-    ensures compiled { OnOk result (CompilesAt (S.answers syntax.now) files.now joined.now loaded.now place slots.old slots.new recipes.old recipes.new) }
-    ensures named { IfErr result (Reports (BreaksContents (contents_of_place (S.answers syntax.now).enabled files.now joined.now place))) }
+    ensures compiled { OnOk result (CompilesAt (layers_of (S.answers syntax.now) (E.answers evaluation.now)) files.now joined.now loaded.now place slots.old slots.new recipes.old recipes.new) }
+    ensures named { IfErr result (Reports (BreaksFiles (layers_of (S.answers syntax.now) (E.answers evaluation.now)) files.now (targets joined.now.files.items place))) }
 {
     let row = joined.files[place].as_slice();
     let names = module_names(alloc, files, syntax, row)?;
@@ -55,7 +57,16 @@ fn compile_place<'a, 'src, S: Syntax>(
         modules,
         source: Text::from_str(alloc, files.keys[place].1.as_str())?,
     };
-    let justfile = analyze_module(alloc, files, syntax, row, place, surroundings, recipes)?;
+    let justfile = analyze_module(
+        alloc,
+        files,
+        syntax,
+        evaluation,
+        row,
+        place,
+        surroundings,
+        recipes,
+    )?;
     slots[place] = Some(justfile);
     Ok(())
 }
@@ -73,17 +84,18 @@ fn no_slots<'src>(alloc: Global, count: usize) -> Result<Vec<Option<Justfile<'sr
 
 /// Compiles the modules whose own files stand at the places of an order: the justfiles of those that stand in no other,
 /// without a name, and the recipes of all, one module after another.
-pub fn compile_in_order<'a, 'src, S: Syntax>(
+pub fn compile_in_order<'a, 'src, S: Syntax, E: Evaluation>(
     alloc: Global,
     files: &Files<'src, 'a>,
     syntax: &S,
+    evaluation: &E,
     joined: &Joined,
     loaded: &Shared<Sequence<Text>>,
     order: &[usize],
 ) -> Result<(Vec<Option<Justfile<'src>>>, Recipes<'src>), Error<'src>>
     requires { CanCompileAll (S.answers syntax.now).enabled files.now joined.now order.now }
-    ensures compiled { IfOk result (HaveCompiledAll (S.answers syntax.now).enabled files.now joined.now loaded.now order.now) }
-    ensures named { IfErr result (Reports (BreaksInOrder (S.answers syntax.now).enabled files.now joined.now order.now)) }
+    ensures compiled { IfOk result (HaveCompiledAll (layers_of (S.answers syntax.now) (E.answers evaluation.now)) files.now joined.now loaded.now order.now) }
+    ensures named { IfErr result (Reports (BreaksInOrder (layers_of (S.answers syntax.now) (E.answers evaluation.now)) files.now joined.now order.now)) }
 {
     let mut slots = no_slots(alloc, files.asts.len())?;
     let mut recipes = Recipes::new(alloc);
@@ -92,6 +104,7 @@ pub fn compile_in_order<'a, 'src, S: Syntax>(
             alloc,
             files,
             syntax,
+            evaluation,
             joined,
             loaded,
             *place,

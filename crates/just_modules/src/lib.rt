@@ -3,6 +3,7 @@
 
 mod analyzer;
 mod compiling;
+mod constants;
 mod inner;
 mod making;
 

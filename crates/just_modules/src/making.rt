@@ -2,16 +2,18 @@
 
 ghost use Rattle.std.specs.Prelude.{◌≡◌, ◌<◌, ℕ, [], false, IsTrue, IfOk, IfSome, IfNone, length};
 ghost use Rattle.just_invoke.specs.declared.justfile.Justfile.{out-Justfile};
-ghost use Rattle.just_modules.specs.Analysis.{AreKeysOf, HasKeysOf, IsBefore, IsDefault, IsOf, by_function_name};
+ghost use Rattle.just_modules.specs.Analysis.{AreKeysOf, HasKeysOf, IsBefore, IsDefault, IsOf};
+ghost use Rattle.just_joining.specs.Groups.{functions_under};
 ghost use Rattle.just_joining.specs.Definitions.{contents_in, functions_in, recipes_in};
 ghost use Rattle.just_joining.specs.Index.{AreDifferent};
 ghost use Rattle.just_joining.specs.Recipes.{names_of};
 
+use crate::constants::Evaluated;
 use just_data::{Sequence, Shared, Text};
 use just_invoke::{Justfile, RecipeKey};
-use just_joining::definitions::{Definitions, function_at, recipe_at};
+use just_joining::definitions::{Definitions, recipe_at};
 use just_parts::UnresolvedRecipe;
-use just_parts::layers::{Ast, FunctionDefinition, Name};
+use just_parts::layers::{Ast, Name};
 use just_table::Table;
 use std::alloc::{AllocError, Global};
 
@@ -65,20 +67,6 @@ fn default_place<'a, 'src>(definitions: &Definitions<'src, 'a>) -> Option<usize>
     Some(best)
 }
 
-// The functions, under their names.
-fn function_table<'a, 'src>(
-    alloc: Global,
-    definitions: &Definitions<'src, 'a>,
-) -> Result<Table<'src, FunctionDefinition<'src>>, AllocError>
-    ensures { IfOk result (λ functions. functions ≡ by_function_name (functions_in definitions.now)) }
-{
-    let mut functions = Table::new(alloc);
-    for place in 0..definitions.functions.len() {
-        functions.insert(function_at(definitions, place).clone()?)?;
-    }
-    Ok(functions)
-}
-
 // The names once more.
 fn copied_names<'src>(
     alloc: Global,
@@ -104,16 +92,20 @@ pub struct Surroundings<'src> {
     pub source: Text,
 }
 
-/// The justfile of a module with these recipes, of which its own file says `own`. It has no label.
+/// The justfile of a module with these recipes, of which its own file says `own`, and with what is evaluated of it. It
+/// has no label.
 pub fn make_justfile<'a, 'src>(
     alloc: Global,
     definitions: &Definitions<'src, 'a>,
     own: &Definitions<'src, 'a>,
     ast: &Ast<'src>,
+    evaluated: Evaluated<'src>,
     surroundings: Surroundings<'src>,
 ) -> Result<Justfile<'src>, AllocError>
-    requires { AreDifferent (names_of (recipes_in definitions.now)) }
+    requires names { AreDifferent (names_of (recipes_in definitions.now)) }
+    requires functions { evaluated.functions ≡ functions_under (functions_in definitions.now) }
     ensures fields { IfOk result (λ j. IsOf (contents_in definitions.now) (recipes_in own.now) ast.now surroundings.entry.loaded surroundings.entry.source j) }
+    ensures settings { IfOk result (λ j. (out-Justfile j).settings ≡ evaluated.entry.settings) }
     ensures modules { IfOk result (λ j. (out-Justfile j).modules ≡ surroundings.entry.modules) }
 {
     let default = match default_place(own) {
@@ -125,10 +117,14 @@ pub fn make_justfile<'a, 'src>(
         modules,
         source,
     } = surroundings;
+    let Evaluated {
+        functions,
+        settings,
+    } = evaluated;
     Ok(Justfile {
         default,
         doc: None,
-        functions: function_table(alloc, definitions)?,
+        functions,
         groups: Sequence::new(alloc),
         loaded,
         module_path: ast.module_path.clone()?,
@@ -136,6 +132,7 @@ pub fn make_justfile<'a, 'src>(
         name: None,
         private: false,
         recipes: recipe_keys(alloc, definitions)?,
+        settings,
         source,
         unexports: copied_names(alloc, definitions.unexports.as_slice())?,
         working_directory: ast.working_directory.clone()?,

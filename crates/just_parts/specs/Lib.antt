@@ -2,8 +2,10 @@ pub mod Asts
 pub mod Bare
 pub mod Edge
 pub mod Evaluation
+pub mod Evaluator
 pub mod Host
 pub mod Items
+pub mod Layers
 pub mod Located
 pub mod Resolved
 pub mod Script

@@ -14,15 +14,15 @@ pub use edge::Edge;
 pub use evaluation::Evaluation;
 pub use host::{Entry, Groups, Host};
 pub use just_errors::{
-    CompileError, CompileErrorKind, Error, Halt, InvocationError, LoadError, RunError, SourceError,
-    error,
+    CompileError, CompileErrorKind, Error, Fault, Halt, InvocationError, LoadError, RunError,
+    SourceError, error,
 };
 pub use just_names::{Exhausted, Name, Namepath, Number, Numerator, Token};
 pub use just_records::{
-    ArgumentAttribute, ArgumentProperty, Assignment, Attribute, CacheAttribute,
+    ArgumentAttribute, ArgumentProperty, Assignment, Attribute, Binding, CacheAttribute,
     ConditionalOperator, EnvironmentAttribute, Expression, Fragment, FunctionDefinition,
     FunctionParameter, Interpreter, Keyword, Line, ListFeature, ListUse, NamedAttribute, Parameter,
-    ParameterKind, Pattern, Set, Setting, Settings, Shape, Sigil, Signal, StringLiteral,
+    ParameterKind, Pattern, Scope, Set, Setting, Settings, Shape, Sigil, Signal, StringLiteral,
     UnstableFeature, Warning,
 };
 pub use output::{Output, WriteFailed};

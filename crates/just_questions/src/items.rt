@@ -111,8 +111,8 @@ fn keyword(alloc: Global, name: &str) -> Result<Keyword, AllocError> {
     })
 }
 
-// Pairs of settings, each written with a comma between the two.
-fn read_pairs(alloc: Global, text: &str) -> Result<Vec<(Keyword, Keyword)>, AllocError> {
+/// Pairs of settings, each written with a comma between the two.
+pub fn read_pairs(alloc: Global, text: &str) -> Result<Vec<(Keyword, Keyword)>, AllocError> {
     let mut pairs = Vec::new(alloc);
     for pair in text.split_whitespace() {
         let (first, second) = pair.split_once(',').unwrap_or((pair, ""));

@@ -5,7 +5,6 @@ use Rattle.std.proofs.lemmas.Option.{slice_get_read}
 use Rattle.just_names.specs.Name.{text_of_name}
 use Rattle.just_names.specs.declared.name.Name.{Name}
 use Rattle.just_joining.specs.Contents.{texts_of_names}
-use Rattle.just_joining.specs.Definitions.{contents_in}
 use Rattle.just_joining.specs.Index.{Repeats}
 use Rattle.just_joining.proofs.Defining.{unexported_twice}
 use Rattle.just_joining.proofs.headers.check_unexports.Goals as goal
@@ -18,6 +17,6 @@ returns-in-Some-clause-named c =
     let repeats : Repeats (texts_of_names lent) c.in-Some.field-0-0 second = rw c.in-Some.is at c.in_ok-repeated_name.ensures.repeated in
     let inside : second < length lent = omega (arith, repeats.within, length-map lent text_of_name) in
     let at : slice_get lent second ≡ Some told = slice_get_read lent (length lent) second told refl inside c.index-names-second.is in
-    unexported_twice (contents_in c.args.definitions.now) c.in-Some.field-0-0 second told c.copied.result c.new.result
+    unexported_twice c.args.definitions.now.unexports.items c.in-Some.field-0-0 second told c.copied.result c.new.result
     (subst (λ (ns : List Name). Repeats (texts_of_names ns) c.in-Some.field-0-0 second) c.as_slice-names.ensures.value repeats)
     (subst (λ (ns : List Name). slice_get ns second ≡ Some told) c.as_slice-names.ensures.value at) c.copied.ensures (c.new.ensures ∙ c.lexeme.ensures)

@@ -6,11 +6,11 @@ use Rattle.just_errors.specs.Causes.{Reports}
 use Rattle.just_names.specs.Name.{text_of_name}
 use Rattle.just_names.specs.declared.name.Name.{Name}
 use Rattle.just_errors.proofs.Lifts.{reports_by}
-use Rattle.just_joining.specs.Contents.{of_names, texts_of_names}
+use Rattle.just_joining.specs.Contents.{texts_of_names}
 use Rattle.just_joining.specs.Files.{asts_in}
 use Rattle.just_joining.specs.Index.{AreDifferent}
 use Rattle.just_joining.specs.Named.{name_by, said_from}
-use Rattle.just_joining.specs.Rules.{Headers}
+use Rattle.just_joining.specs.Rules.{Modules}
 use Rattle.just_joining.specs.OfPlaces.{RepeatsNames, names_of_place}
 use Rattle.just_joining.proofs.Joining.{row_lent}
 use Rattle.just_joining.proofs.module_names.check_module_names.Goals as goal
@@ -27,9 +27,9 @@ returns-in_err-check_modules-clause-named g c =
     let inside : slice_index c.args.order.now c.loop-place.place-index < length c.args.joined.now.files.items = c.requires.places c.loop-place.place-index 0 (omega arith) in
     let row = row_lent c.args.joined.now.files.items (slice_index c.args.order.now c.loop-place.place-index) c.index.result.now c.as_slice-row.result.now inside c.index.ensures c.as_slice-row.ensures.value in
     let names = c.as_slice.ensures.value ∙ c.in_ok-names.ensures ∙ ap (said_from name_by enabled (asts_in c.args.files.now)) row in
-    IfErr-weaker c.from_residual-in_err-check_modules.result (Reports (Headers (of_names c.as_slice.result.now))) _
-    (λ e h. reports_by (Headers (of_names (names_of_place enabled c.args.files.now c.args.joined.now (slice_index c.args.order.now c.loop-place.place-index)))) (RepeatsNames enabled c.args.files.now c.args.joined.now c.args.order.now)
-    (λ x b. record { at = c.loop-place.place-index; there = omega arith; broken = b }) e (subst (λ (ns : List Name). Reports (Headers (of_names ns)) e) names h))
+    IfErr-weaker c.from_residual-in_err-check_modules.result (Reports (Modules c.as_slice.result.now)) _
+    (λ e h. reports_by (Modules (names_of_place enabled c.args.files.now c.args.joined.now (slice_index c.args.order.now c.loop-place.place-index))) (RepeatsNames enabled c.args.files.now c.args.joined.now c.args.order.now)
+    (λ x b. record { at = c.loop-place.place-index; there = omega arith; broken = b }) e (subst (λ (ns : List Name). Reports (Modules ns) e) names h))
     (search rules)
 
 pub loop-place-preserved : goal.loop-place-preserved

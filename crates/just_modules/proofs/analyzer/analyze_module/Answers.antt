@@ -1,4 +1,4 @@
-use Rattle.std.proofs.Common.{◌≡◌, ◌∙◌, sym, subst, rules}
+use Rattle.std.proofs.Common.{◌≡◌, ◌∙◌, Some, ap, sym, subst, rules}
 use Rattle.std.specs.List.{All}
 use Rattle.std.proofs.lemmas.Result.{IfErr-weaker}
 use Rattle.just_graph.specs.Steps.{IsOnce}
@@ -9,7 +9,12 @@ use Rattle.just_joining.specs.Contents.{Contents, texts_of_names}
 use Rattle.just_joining.specs.Definitions.{contents_in}
 use Rattle.just_joining.specs.Index.{AreDifferent}
 use Rattle.just_joining.specs.Files.{asts_in}
-use Rattle.just_joining.specs.Named.{BreaksContents, KeepsContents, recipes_from}
+use Rattle.just_joining.specs.Groups.{BreaksContents, KeepsContents, settings_of}
+use Rattle.just_joining.specs.Named.{recipes_from}
+use Rattle.just_parts.specs.Layers.{layers_of}
+use Rattle.just_errors.proofs.Lifts.{reports_by}
+use Rattle.just_modules.specs.Analysis.{BreaksRecipes}
+use Rattle.just_modules.proofs.Grounds.{all_kept, recipes_broken}
 use Rattle.just_joining.specs.Resolved.{AreResolved, HasPriors, unresolved_numbers}
 use Rattle.just_modules.proofs.Makings.{resolved_numbers}
 use Rattle.just_modules.proofs.analyzer.analyze_module.Goals as goal
@@ -23,10 +28,21 @@ resolve_recipes-requires-clause-priors g c = subst (λ (m : Contents). All HasPr
 pub resolve_recipes-requires-clause-modules : goal.resolve_recipes-requires-clause-modules
 resolve_recipes-requires-clause-modules g c = subst (λ (m : Contents). AreDifferent (texts_of_names m.modules)) (sym c.in_ok-definitions.ensures) c.requires.modules
 
+pub check_module-requires : goal.check_module-requires
+check_module-requires g c = subst (λ (m : Contents). AreDifferent (texts_of_names m.modules)) (sym c.in_ok-definitions.ensures) c.requires.modules
+
+pub returns-in_err-evaluated-clause-named : goal.returns-in_err-evaluated-clause-named
+returns-in_err-evaluated-clause-named g c =
+    let layers = layers_of (g.S.Syntax.answers c.args.syntax.now) (g.E.Evaluation.answers c.args.evaluation.now) in
+    IfErr-weaker c.from_residual-in_err-evaluated.result (Reports (BreaksContents layers (contents_in c.in_ok-definitions.definitions))) _
+    (λ e h. subst (λ m. Reports (BreaksContents layers m) e) c.in_ok-definitions.ensures h) (search rules)
+
 pub returns-in_err-made-clause-named : goal.returns-in_err-made-clause-named
 returns-in_err-made-clause-named g c =
-    IfErr-weaker c.from_residual-in_err-made.result (Reports (BreaksContents (contents_in c.in_ok-definitions.definitions))) _
-    (λ e h. subst (λ m. Reports (BreaksContents m) e) c.in_ok-definitions.ensures h) (search rules)
+    let layers = layers_of (g.S.Syntax.answers c.args.syntax.now) (g.E.Evaluation.answers c.args.evaluation.now) in
+    let m = contents_in c.in_ok-definitions.definitions in
+    IfErr-weaker c.from_residual-in_err-made.result (Reports (BreaksRecipes m)) _
+    (λ e h. subst (λ n. Reports (BreaksContents layers n) e) c.in_ok-definitions.ensures (reports_by (BreaksRecipes m) (BreaksContents layers m) (recipes_broken layers m c.in_ok-evaluated.ensures.kept) e h)) (search rules)
 
 pub append-requires : goal.append-requires
 append-requires g c = λ number a b.
@@ -35,7 +51,14 @@ append-requires g c = λ number a b.
     (subst (λ (m : Contents). AreResolved m.recipes c.ast_at-ast.result.now.module_path c.in_ok-made.made) c.in_ok-definitions.ensures c.in_ok-made.ensures.resolved) number b)
 
 pub returns-clause-kept : goal.returns-clause-kept
-returns-clause-kept g c = subst KeepsContents c.in_ok-definitions.ensures c.in_ok-made.ensures.kept
+returns-clause-kept g c =
+    let layers = layers_of (g.S.Syntax.answers c.args.syntax.now) (g.E.Evaluation.answers c.args.evaluation.now) in
+    let m = contents_in c.in_ok-definitions.definitions in
+    subst (KeepsContents layers) c.in_ok-definitions.ensures (all_kept layers m c.in_ok-evaluated.ensures.kept c.in_ok-made.ensures.bodies c.in_ok-made.ensures.dependencies)
+
+pub returns-clause-settings : goal.returns-clause-settings
+returns-clause-settings g c =
+    ap (settings_of (g.E.Evaluation.answers c.args.evaluation.now)) (sym c.in_ok-definitions.ensures) ∙ c.in_ok-evaluated.ensures.settings ∙ ap (λ s. Some s) (sym c.in_ok-justfile.ensures.settings)
 
 pub returns-clause-added : goal.returns-clause-added
 returns-clause-added g c = λ own e.

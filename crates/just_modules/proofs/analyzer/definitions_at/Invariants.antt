@@ -8,4 +8,4 @@ abbrev pub invariant-loop-place : goal.invariant-loop-place
 invariant-loop-place g l =
     let said = contents_from (g.S.Syntax.answers l.syntax).enabled (asts_in l.files) (take l.place-index l.places) in
     let now = contents_in l.definitions in
-    (now.recipes ≡ said.recipes) × (now.functions ≡ said.functions) × (now.modules ≡ said.modules) × (now.unexports ≡ said.unexports)
+    (now.recipes ≡ said.recipes) × (now.functions ≡ said.functions) × (now.modules ≡ said.modules) × (now.unexports ≡ said.unexports) × (now.sets ≡ said.sets)

@@ -12,8 +12,10 @@ use Rattle.just_joining.specs.Files.{asts_in, keys_in}
 use Rattle.just_modules.specs.Justfiles.{by_name, slot, with_names}
 use Rattle.just_joining.specs.Contents.{texts_of_names}
 use Rattle.just_joining.specs.Index.{AreDifferent}
-use Rattle.just_joining.specs.Named.{AreAdded, BreaksContents, KeepsContents, contents_from, name_by, said_from, recipes_by, recipes_from}
+use Rattle.just_joining.specs.Named.{AreAdded, contents_from, name_by, said_from, recipes_by, recipes_from}
 use Rattle.just_joining.specs.Resolved.{HasPriors, unresolved_numbers}
+use Rattle.just_parts.specs.Layers.{layers_of}
+use Rattle.just_modules.specs.Analysis.{BreaksFiles, HasSettingsOf, KeepsFiles}
 use Rattle.just_modules.proofs.Makings.{is_of_same}
 use Rattle.just_joining.proofs.Joining.{row_lent, some_at}
 use Rattle.just_modules.proofs.compiling.compile_place.Goals as goal
@@ -72,8 +74,8 @@ analyze_module-requires-clause-modules g c =
 pub returns-in_err-justfile-clause-named : goal.returns-in_err-justfile-clause-named
 returns-in_err-justfile-clause-named g c =
     let row = row_lent c.args.joined.now.files.items c.args.place c.index.result.now c.as_slice-row.result.now (omega (arith, c.requires.ready.there, c.requires.files)) c.index.ensures c.as_slice-row.ensures.value in
-    IfErr-weaker c.from_residual-in_err-justfile.result (Reports (BreaksContents (contents_from (g.S.Syntax.answers c.args.syntax.now).enabled (asts_in c.args.files.now) c.as_slice-row.result.now))) _
-    (λ e h. subst (λ (xs : List ℕ). Reports (BreaksContents (contents_from (g.S.Syntax.answers c.args.syntax.now).enabled (asts_in c.args.files.now) xs)) e) row h) (search rules)
+    IfErr-weaker c.from_residual-in_err-justfile.result (Reports (BreaksFiles (layers_of (g.S.Syntax.answers c.args.syntax.now) (g.E.Evaluation.answers c.args.evaluation.now)) c.args.files.now c.as_slice-row.result.now)) _
+    (λ e h. subst (λ (xs : List ℕ). Reports (BreaksFiles (layers_of (g.S.Syntax.answers c.args.syntax.now) (g.E.Evaluation.answers c.args.evaluation.now)) c.args.files.now xs) e) row h) (search rules)
 
 pub returns-clause-compiled : goal.returns-clause-compiled
 returns-clause-compiled g c =
@@ -95,7 +97,8 @@ returns-clause-compiled g c =
         own_said = own.1;
         key = c.index-3.result.now.now;
         key_is = key;
-        kept = subst (λ (xs : List ℕ). KeepsContents (contents_from enabled asts xs)) row c.in_ok-justfile.ensures.kept;
+        kept = subst (λ (xs : List ℕ). KeepsFiles (layers_of (g.S.Syntax.answers c.args.syntax.now) (g.E.Evaluation.answers c.args.evaluation.now)) c.args.files.now xs) row c.in_ok-justfile.ensures.kept;
+        settings = subst (λ (xs : List ℕ). HasSettingsOf (layers_of (g.S.Syntax.answers c.args.syntax.now) (g.E.Evaluation.answers c.args.evaluation.now)) c.args.files.now xs c.in_ok-justfile.justfile) row c.in_ok-justfile.ensures.settings;
         resolved = added.resolved;
         fields = is_of_same (contents_from enabled asts c.as_slice-row.result.now) _ (recipes_by enabled (Some own.0)) (recipes_by enabled (Some own.0)) own.0 c.in_ok-clone.field-0 c.args.loaded.now c.in_ok-from_str.field-0 c.index-3.result.now.now.1 c.in_ok-justfile.justfile
             (ap (contents_from enabled asts) row) refl c.in_ok-clone.ensures.cases (c.in_ok-from_str.ensures ∙ c.as_str.ensures) (c.in_ok-justfile.ensures.fields own.0 own.1);

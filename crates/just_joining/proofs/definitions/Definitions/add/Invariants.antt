@@ -1,6 +1,6 @@
 use Rattle.std.proofs.Common.{◌≡◌, ◌++◌, drop}
-use Rattle.just_joining.specs.Definitions.{functions_in, recipes_in}
-use Rattle.just_joining.specs.Named.{function_by, name_by, said, unexported_by}
+use Rattle.just_joining.specs.Definitions.{functions_in, recipes_in, sets_in}
+use Rattle.just_joining.specs.Named.{function_by, name_by, said, set_by, unexported_by}
 use Rattle.just_joining.specs.Recipes.{recipes_of}
 use Rattle.just_joining.proofs.definitions.Definitions.add.Given as goal
 
@@ -12,3 +12,4 @@ invariant-loop-item g l =
     × (functions_in l.initial.self ++ said function_by enabled l.items ≡ functions_in l.self ++ said function_by enabled left)
     × (l.initial.self.modules.items ++ said name_by enabled l.items ≡ l.self.modules.items ++ said name_by enabled left)
     × (l.initial.self.unexports.items ++ said unexported_by enabled l.items ≡ l.self.unexports.items ++ said unexported_by enabled left)
+    × (sets_in l.initial.self ++ said set_by enabled l.items ≡ sets_in l.self ++ said set_by enabled left)

@@ -3,9 +3,9 @@ use Rattle.std.proofs.lemmas.List.{take_all}
 use Rattle.std.proofs.lemmas.Grind.{common_steps}
 use Rattle.just_joining.specs.Definitions.{functions_in}
 use Rattle.just_joining.proofs.RecipePlaces.{length-lent}
-use Rattle.just_modules.specs.Analysis.{by_function_name}
-use Rattle.just_modules.proofs.Makings.{function_put}
-use Rattle.just_modules.proofs.making.function_table.Goals as goal
+use Rattle.just_joining.specs.Groups.{functions_under}
+use Rattle.just_modules.proofs.Evaluating.{function_put}
+use Rattle.just_modules.proofs.constants.function_table.Goals as goal
 
 pub loop-place-preserved : goal.loop-place-preserved
 loop-place-preserved c =
@@ -17,4 +17,4 @@ pub returns : goal.returns
 returns c =
     let long : length (functions_in c.args.definitions.now) ≡ length c.args.definitions.now.functions.items = length-lent c.args.definitions.now.functions.items in
     let count : c.len-place-end.result ≡ length c.args.definitions.now.functions.items = grind (arith, common_steps) in
-    c.loop-place.invariant ∙ ap by_function_name (take_all c.loop-place.place (functions_in c.args.definitions.now) (omega arith))
+    c.loop-place.invariant ∙ ap functions_under (take_all c.loop-place.place (functions_in c.args.definitions.now) (omega arith))

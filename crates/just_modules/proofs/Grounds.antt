@@ -1,0 +1,56 @@
+-- The groups of rules that are kept before another.
+use Rattle.std.proofs.Common.{◌≡◌, ◌<◌, Option, None, Some, arith}
+use Rattle.just_records.specs.declared.settings.Settings.{Settings}
+use Rattle.just_errors.specs.Causes.{Cause, Keeps}
+use Rattle.just_parts.specs.Layers.{Layers}
+use Rattle.just_joining.specs.Contents.{Contents}
+use Rattle.just_joining.specs.Groups.{Breaks, BreaksContents, Group, KeepsBefore, KeepsContents, OfBodies, OfConstants, OfDependencies, OfHeaders, OfNames}
+use Rattle.just_joining.specs.Rules.{Constants, settings_fault}
+use Rattle.just_modules.specs.Analysis.{BreaksRecipes, in_bodies, in_dependencies}
+
+-- settings that have a value
+pub constants_kept : (o : Option Settings) (s : Settings) → o ≡ Some s → Keeps (Constants o)
+constants_kept o s is _ (settings_fault none) = cc
+
+module _ (layers : Layers) (m : Contents) where
+  pub before_names : Keeps (Breaks layers OfHeaders m) → KeepsBefore layers OfNames m
+  before_names headers OfHeaders lt = headers
+  before_names headers OfNames lt = absurd (omega (arith, lt))
+  before_names headers OfConstants lt = absurd (omega (arith, lt))
+  before_names headers OfBodies lt = absurd (omega (arith, lt))
+  before_names headers OfDependencies lt = absurd (omega (arith, lt))
+
+  pub before_constants : Keeps (Breaks layers OfHeaders m) → Keeps (Breaks layers OfNames m) → KeepsBefore layers OfConstants m
+  before_constants headers names OfHeaders lt = headers
+  before_constants headers names OfNames lt = names
+  before_constants headers names OfConstants lt = absurd (omega (arith, lt))
+  before_constants headers names OfBodies lt = absurd (omega (arith, lt))
+  before_constants headers names OfDependencies lt = absurd (omega (arith, lt))
+
+  pub before_bodies : Keeps (Breaks layers OfHeaders m) → Keeps (Breaks layers OfNames m) → Keeps (Breaks layers OfConstants m) → KeepsBefore layers OfBodies m
+  before_bodies headers names constants OfHeaders lt = headers
+  before_bodies headers names constants OfNames lt = names
+  before_bodies headers names constants OfConstants lt = constants
+  before_bodies headers names constants OfBodies lt = absurd (omega (arith, lt))
+  before_bodies headers names constants OfDependencies lt = absurd (omega (arith, lt))
+
+  module _ (earlier : KeepsBefore layers OfBodies m) where
+    before_dependencies : Keeps (Breaks layers OfBodies m) → KeepsBefore layers OfDependencies m
+    before_dependencies bodies OfBodies lt = bodies
+    before_dependencies bodies OfHeaders lt = earlier OfHeaders (omega arith)
+    before_dependencies bodies OfNames lt = earlier OfNames (omega arith)
+    before_dependencies bodies OfConstants lt = earlier OfConstants (omega arith)
+    before_dependencies bodies OfDependencies lt = absurd (omega (arith, lt))
+
+    -- what is broken of recipes is broken of the module
+    pub recipes_broken : (c : Cause) → BreaksRecipes m c → BreaksContents layers m c
+    recipes_broken c (in_bodies b) = record { group = OfBodies; earlier = earlier; broken = b }
+    recipes_broken c (in_dependencies bodies b) = record { group = OfDependencies; earlier = before_dependencies bodies; broken = b }
+
+    -- all groups are kept
+    pub all_kept : Keeps (Breaks layers OfBodies m) → Keeps (Breaks layers OfDependencies m) → KeepsContents layers m
+    all_kept bodies dependencies OfHeaders = earlier OfHeaders (omega arith)
+    all_kept bodies dependencies OfNames = earlier OfNames (omega arith)
+    all_kept bodies dependencies OfConstants = earlier OfConstants (omega arith)
+    all_kept bodies dependencies OfBodies = bodies
+    all_kept bodies dependencies OfDependencies = dependencies

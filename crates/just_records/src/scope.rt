@@ -1,0 +1,36 @@
+use just_data::{Exact, Sequence, Text};
+use just_names::{Name, Number};
+
+/// A name and its value.
+#[derive(Clone, Debug, PartialEq, Eq, Drop)]
+pub struct Binding<'src> {
+    /// The name.
+    pub name: Name<'src>,
+    /// What it is told apart by, as every definition.
+    pub number: Number,
+    /// Its value, which is a list of texts.
+    pub value: Sequence<Text>,
+    /// Whether recipes have it in their environment.
+    pub export: bool,
+    /// Whether it is left out of listings.
+    pub private: bool,
+}
+
+impl<'src> Exact for Binding<'src> {
+    ghost use Rattle.std.proofs.Common.{rules};
+
+    ghost exact = { Prim.search rules };
+}
+
+/// The values of names.
+#[derive(Clone, Debug, PartialEq, Eq, Drop)]
+pub struct Scope<'src> {
+    /// The names and their values.
+    pub bindings: Sequence<Binding<'src>>,
+}
+
+impl<'src> Exact for Scope<'src> {
+    ghost use Rattle.std.proofs.Common.{rules};
+
+    ghost exact = { Prim.search rules };
+}
