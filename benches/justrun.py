@@ -2,10 +2,11 @@
 """Makes large bundles, and reports the time and the peak memory that justrun takes for each.
 
     cd crates/justrun && rt run -- /justfile a < stdin && cd ../..     builds the program
-    python3 benches/justrun.py [PROGRAM]
+    python3 benches/justrun.py [PROGRAM] [WORD ..]
 
-Nothing is asserted. A line has the input's name, its size in bytes, the status, the lines printed, the seconds of wall
-time, the peak resident memory in MiB and the first line of the error output.
+The words choose the inputs whose names have one of them. Nothing is asserted. A line has the input's name, its size in
+bytes, the status, the lines printed, the seconds of wall time, the peak resident memory in MiB and the first line of the
+error output, of the fastest of three runs.
 """
 import os
 import resource
@@ -110,6 +111,18 @@ def function_parameters(count):
     return bundle("f(" + ", ".join(f"x{n}" for n in range(count)) + ") := x0", "a:"), ["a"]
 
 
+def settings(count):
+    """Many modules, each of which sets all settings that compiling can judge."""
+    names = ("allow-duplicate-variables", "export", "ignore-comments", "lazy", "positional-arguments", "quiet")
+    text = "".join(f"set {name}\n" for name in names) + "b:"
+    return listed([f"mod m{n}" for n in range(count)] + ["a:"], [(f"/m{n}.just", text) for n in range(count)]), ["a"]
+
+
+def settings_twice(count):
+    """A setting that is set many times, which is refused."""
+    return bundle(*("set quiet" for _ in range(count)), "a:"), ["a"]
+
+
 def parentheses(count):
     """A variable whose value stands in so many parentheses."""
     return bundle("x := " + "(" * count + "'a'" + ")" * count), ["a"]
@@ -151,6 +164,8 @@ INPUTS = {
     "10,000 invocations": words(10_000),
     "100,000 functions of two parameters": functions(100_000),
     "function of 100,000 parameters": function_parameters(100_000),
+    "2,000 modules that set six settings each": settings(2_000),
+    "a setting that is set 100,000 times": settings_twice(100_000),
     "parentheses 10,000 deep": parentheses(10_000),
     "list of 100,000 elements": elements(100_000),
     "sum of 10,000 parts": parts(10_000),
@@ -185,9 +200,13 @@ def main():
     program = sys.argv[1] if len(sys.argv) > 1 else PROGRAM
     if not os.path.exists(program):
         sys.exit(f"{program} is not there: build it first (see the head of this file)")
+    words = sys.argv[2:]
     for name, (text, arguments) in INPUTS.items():
+        if words and not any(word in name for word in words):
+            continue
         stack = 1 << 26 if "stack of 64 MiB" in name else None
-        status, printed, seconds, peak, told = measure(program, text, ["/justfile", *arguments], stack)
+        runs = [measure(program, text, ["/justfile", *arguments], stack) for _ in range(3)]
+        status, printed, seconds, peak, told = min(runs, key=lambda run: run[2])
         print(f"{name}: {len(text)} bytes, status {status}, {printed} lines, {seconds:.2f} s, {peak:.0f} MiB {told}", flush=True)
 
 
