@@ -12,7 +12,7 @@ ghost use Rattle.just_joining.specs.Settings.{are_incompatible, excludes, settin
 use crate::definitions::{Definitions, set_at};
 use just_data::{BorrowedText, Text};
 use just_parts::layers::{CompileError, CompileErrorKind, Error, Keyword, Syntax};
-use std::alloc::{AllocError, Global};
+use std::alloc::Global;
 use std::collections::HashMap;
 
 // The place of the name of each setting. One that is set twice is refused.
