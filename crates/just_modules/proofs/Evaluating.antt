@@ -74,9 +74,13 @@ bare_parameters : (ps : List FunctionParameter) → map bare_function_parameter 
 bare_parameters [] = refl
 bare_parameters (p ∷ ps) = ap (λ (qs : List FunctionParameter). bare_function_parameter p ∷ qs) (bare_parameters ps)
 
+-- a function without numbers has none to lose
+pub function_bare : (f : FunctionDefinition) → bare_function (bare_function f) ≡ bare_function f
+function_bare f = λ i. record f { parameters = bare_parameters f.parameters i }
+
 bare_again : (o : Option FunctionDefinition) → option_map bare_function (option_map bare_function o) ≡ option_map bare_function o
 bare_again None = refl
-bare_again (Some f) = λ i. Some (record f { parameters = bare_parameters f.parameters i })
+bare_again (Some f) = ap (λ (g : FunctionDefinition). Some g) (function_bare f)
 
 -- functions by their names, with and without numbers
 by_name : (fs : List FunctionDefinition) (name : Text) → functions_by_name (functions_under fs) name ≡ functions_by_name (functions_under (map bare_function fs)) name

@@ -12,7 +12,7 @@ use Rattle.just_graph.specs.Graph.{HasEdge, targets}
 use Rattle.just_graph.specs.Steps.{Reached, from_member, from_start}
 use Rattle.just_graph.proofs.Members.{In, contained, from_flat, is_in}
 use Rattle.just_parts.specs.Asts.{AstKey, same_ast_key}
-use Rattle.just_parts.specs.Bare.{bare_function, bare_function_parameter, bare_item}
+use Rattle.just_parts.specs.Bare.{bare_function, bare_item}
 use Rattle.just_parts.specs.Located.{located_item}
 use Rattle.just_parts.specs.Items.{Ast, Item}
 use Rattle.just_parts.specs.declared.layers.ast.Item.TheVariants as item
@@ -20,7 +20,7 @@ use Rattle.just_parts.specs.declared.layers.ast.UnresolvedDependency.{Unresolved
 use Rattle.just_names.specs.declared.name.Name.{Name}
 use Rattle.just_names.specs.declared.modulepath.Modulepath.{Modulepath}
 use Rattle.just_parts.specs.declared.recipe.Recipe.{Recipe}
-use Rattle.just_records.specs.declared.function_definition.FunctionParameter.{FunctionParameter}
+use Rattle.just_records.specs.declared.function_definition.FunctionDefinition.{FunctionDefinition}
 use Rattle.just_joining.specs.Files.{ArePlaced, AreRows, asts_in}
 use Rattle.just_joining.specs.Joined.{AreJoined, IsJoined}
 use Rattle.just_joining.specs.Named.{function_by, name_by, said, said_from, said_in, recipes_by, recipes_from, set_by, unexported_by}
@@ -33,6 +33,7 @@ use Rattle.just_joining.proofs.Alike.{AreAlike, outline_of, outlines_of}
 use Rattle.just_joining.proofs.BareOutlines.{outline_located}
 use Rattle.just_joining.proofs.FilePlaces.{are_graphs, says}
 use Rattle.just_modules.specs.Modules.{items_of}
+use Rattle.just_modules.proofs.Evaluating.{function_bare}
 use Rattle.just_modules.proofs.ModulePlaces.{no_ast}
 
 abbrev name_of : Submodule → Name
@@ -63,12 +64,8 @@ set_located : (i : Item) → set_by (located_item i) ≡ set_by i
 set_located (item.Setting s) = refl
 set_located _ = refl
 
-bare_twice : (ps : List FunctionParameter) → map bare_function_parameter (map bare_function_parameter ps) ≡ map bare_function_parameter ps
-bare_twice [] = refl
-bare_twice (p ∷ ps) = ap (λ (qs : List FunctionParameter). bare_function_parameter p ∷ qs) (bare_twice ps)
-
 function_located : (i : Item) → map bare_function (function_by (located_item i)) ≡ map bare_function (function_by i)
-function_located (item.Function f) = λ i. record f { parameters = bare_twice f.parameters i } ∷ []
+function_located (item.Function f) = ap (λ (g : FunctionDefinition). g ∷ []) (function_bare f)
 function_located _ = refl
 
 module _ {A B : Type 0} (by : Item → List A) (f : A → B) (located : (i : Item) → map f (by (located_item i)) ≡ map f (by i)) (enabled : Item → Bool) where
