@@ -113,7 +113,7 @@ def function_parameters(count):
 
 def settings(count):
     """Many modules, each of which sets all settings that compiling can judge."""
-    names = ("allow-duplicate-variables", "export", "ignore-comments", "lazy", "positional-arguments", "quiet")
+    names = ("allow-duplicate-recipes", "allow-duplicate-variables", "export", "ignore-comments", "lazy", "positional-arguments", "quiet")
     text = "".join(f"set {name}\n" for name in names) + "b:"
     return listed([f"mod m{n}" for n in range(count)] + ["a:"], [(f"/m{n}.just", text) for n in range(count)]), ["a"]
 
@@ -121,6 +121,29 @@ def settings(count):
 def settings_twice(count):
     """A setting that is set many times, which is refused."""
     return bundle(*("set quiet" for _ in range(count)), "a:"), ["a"]
+
+
+def variables(count):
+    """Many variables. Nothing is run where there are variables, so the program refuses the word."""
+    return bundle(*(f"v{n} := '{n}'" for n in range(count)), "a:"), ["a"]
+
+
+def variable_twice(count):
+    """One variable, assigned many times in one file, as its setting allows."""
+    return bundle("set allow-duplicate-variables", *(f"v := '{n}'" for n in range(count)), "a:"), ["a"]
+
+
+def duplicates(count, width=100):
+    """Recipes of which each stands in every one of some files, as their setting allows."""
+    text = "\n".join(f"r{n}:" for n in range(count // width))
+    root = ["set allow-duplicate-recipes", *(f"import 'f{n}'" for n in range(width)), "a: r0"]
+    return listed(root, [(f"/f{n}", text) for n in range(width)]), ["a"]
+
+
+def one_name(count, width=100):
+    """One recipe, many times in every one of some files, as their setting allows."""
+    root = ["set allow-duplicate-recipes", *(f"import 'f{n}'" for n in range(width))]
+    return listed(root, [(f"/f{n}", "\n".join(["a:"] * (count // width))) for n in range(width)]), ["a"]
 
 
 def parentheses(count):
@@ -164,8 +187,12 @@ INPUTS = {
     "10,000 invocations": words(10_000),
     "100,000 functions of two parameters": functions(100_000),
     "function of 100,000 parameters": function_parameters(100_000),
-    "2,000 modules that set six settings each": settings(2_000),
+    "2,000 modules that set seven settings each": settings(2_000),
     "a setting that is set 100,000 times": settings_twice(100_000),
+    "20,000 variables": variables(20_000),
+    "a variable that is assigned 100,000 times": variable_twice(100_000),
+    "1,000 recipes, each in every one of 100 files": duplicates(100_000),
+    "a recipe that is defined 100,000 times over 100 files": one_name(100_000),
     "parentheses 10,000 deep": parentheses(10_000),
     "list of 100,000 elements": elements(100_000),
     "sum of 10,000 parts": parts(10_000),

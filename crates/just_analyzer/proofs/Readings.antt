@@ -6,9 +6,10 @@ use Rattle.std.specs.Option.{option_map}
 use Rattle.std.proofs.lemmas.Bool.{false_from_ne_true}
 use Rattle.just_graph.specs.Steps.{IsOnce}
 use Rattle.just_graph.proofs.Leveling.{is_once}
+use Rattle.just_graph.proofs.Index.{some_same}
 use Rattle.just_graph.proofs.Members.{In, contained, is_in}
 use Rattle.just_parts.specs.Asts.{AstKey, same_ast_key}
-use Rattle.just_parts.specs.Bare.{ast_of_items, bare_item}
+use Rattle.just_parts.specs.Bare.{bare_item}
 use Rattle.just_names.specs.Clean.{folder_of}
 use Rattle.just_parts.specs.Edge.{absolute_of}
 use Rattle.just_parts.specs.Located.{located_item, with_depth}
@@ -26,10 +27,10 @@ use Rattle.just_loader.proofs.HeldKeys.{closed, held_key, held_path, key_held, p
 use Rattle.just_joining.specs.Analyzable.{AreAnalyzable}
 use Rattle.just_joining.specs.Files.{led}
 use Rattle.just_joining.specs.Recipes.{recipes_of}
-use Rattle.just_joining.specs.Reading.{Reading, enabled_items, located_ast, reading_of}
+use Rattle.just_joining.specs.Reading.{Reading, ast_of_both, enabled_items, located_ast, reading_of}
 use Rattle.just_joining.specs.Resolved.{unresolved_numbers}
 use Rattle.just_modules.proofs.Agreeing.{Holds}
-use Rattle.just_analyzer.specs.Readings.{IsReadingOf, items_read}
+use Rattle.just_analyzer.specs.Readings.{IsReadingOf, items_read, lists_at, lists_in}
 use Rattle.just_analyzer.proofs.Numbers.{once_recipes, recipe_number_in, recipe_priors}
 
 -- an item that leads to a key has the path of its file
@@ -96,6 +97,14 @@ module _ (w : World) (asts : AstKey → Option Ast) (loaded : List Text) (is : I
     priors = λ k ast e. recipe_priors enabled ast.items (is.priors k ast e);
   }
 
+  -- where what is held needs lists
+  lists_said : (k : AstKey) (ast : Ast) → asts k ≡ Some ast → ast.list_features ≡ lists_at w k.1
+  lists_said k ast e =
+      let n = is.only k ast e in
+      let h = is.held n.0 n.1 in
+      let same : h.0 ≡ ast = some_same (sym h.1 ∙ ap asts n.2 ∙ e) in
+      ap (λ (a : Ast). a.list_features) (sym same ∙ h.2.rest) ∙ sym (ap lists_in h.2.said) ∙ ap (λ (x : AstKey). lists_at w x.1) n.2
+
   pub is_reading : IsReadingOf w (reading_of enabled asts)
   is_reading k depth least =
       let a = key_held w asts loaded is k (depth, least.0) in
@@ -105,7 +114,8 @@ module _ (w : World) (asts : AstKey → Option Ast) (loaded : List Text) (is : I
       let same : s.0 ≡ depth = omega (arith, below, above) in
       let items : map located_item (enabled_items enabled a.0.items) ≡ items_read w k s.0 =
       counted_alike enabled located_item (λ i. with_depth s.0 (with_path w (folder_of k.node) i)) located_bare (read_bare w (folder_of k.node) s.0) a.0.items (items_at w k.node) s.2 in
-      ap (option_map (located_ast enabled)) a.1 ∙ ap (λ is. Some (ast_of_items is)) items ∙ ap (λ d. Some (ast_of_items (items_read w k d))) same
+      let lists : a.0.list_features ≡ lists_at w k.node = lists_said (ast_key k) a.0 a.1 in
+      ap (option_map (located_ast enabled)) a.1 ∙ (λ i. Some (ast_of_both (items i) (lists i))) ∙ ap (λ d. Some (ast_of_both (items_read w k d) (lists_at w k.node))) same
 
   -- each reading says the same where something is held
   pub readings_agree : (R : Reading) → IsReadingOf w R → (k : AstKey) → Holds enabled asts are_analyzable k → R k ≡ reading_of enabled asts k

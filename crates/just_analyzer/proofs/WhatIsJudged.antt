@@ -22,7 +22,7 @@ pub all_judged_bare : (is : List Item) → list_all is_judged (map bare_item is)
 all_judged_bare is = all-mapped is_judged bare_item judged_bare is
 
 pub whole_bare : (ast : Ast) → is_whole (bare_ast ast) ≡ is_whole ast
-whole_bare ast = ap (λ b. is_empty ast.list_features && b) (all_judged_bare ast.items)
+whole_bare ast = all_judged_bare ast.items
 
 -- what is judged of a text that was read
 pub judged_whole : (answers : SyntaxAnswers) (relative text : List ℕ) (ast : Ast) → answers.parsed relative text ≡ Some (bare_ast ast) → is_whole ast ≡ true

@@ -24,9 +24,8 @@ is_placed p = not (is_option p)
 abbrev pub is_heading : Recipe UnresolvedDependency → Bool
 is_heading r = (is_empty r.attributes && is_empty r.body) && list_all is_placed r.parameters
 
--- the rules that a setting changes are built: it needs no lists, names no program, and allows no recipe twice
+-- the rules that a setting changes are built: it needs no lists and names no program
 abbrev pub is_judged_setting : Setting → Bool
-is_judged_setting (setting.AllowDuplicateRecipes on) = not on
 is_judged_setting (setting.Lists on) = not on
 is_judged_setting (setting.ScriptInterpreter i) = false
 is_judged_setting (setting.Shell i) = false
@@ -39,14 +38,14 @@ is_judged (item.Module name relative absolute attributes doc optional) = is_empt
 is_judged (item.Import relative absolute optional) = true
 is_judged (item.Unexport name) = true
 is_judged (item.Function f) = true
+is_judged (item.Assignment a) = true
 is_judged (item.Setting s) = is_judged_setting s.value
 is_judged (item.Comment token) = true
 is_judged item.Newline = true
-is_judged _ = false
 
--- so are the rules of all items of a text, and it needs no lists
+-- so are the rules of all items of a text
 abbrev pub is_whole : Ast → Bool
-is_whole ast = is_empty ast.list_features && list_all is_judged ast.items
+is_whole ast = list_all is_judged ast.items
 
 -- what a text says, if compiling can judge all of it
 abbrev pub judged_ast : Option Ast → Option Ast

@@ -1,23 +1,32 @@
 -- What the files of a source map say, as the modules that they belong to see it.
-use Rattle.std.specs.Prelude.{◌≡◌, false, ℕ, List, [], map, None, Some}
+use Rattle.std.specs.Prelude.{◌≡◌, false, ℕ, List, [], map, Option, None, Some}
 use Rattle.just_parts.specs.Asts.{root_ast_key}
-use Rattle.just_parts.specs.Bare.{ast_of_items}
 use Rattle.just_names.specs.Clean.{folder_of}
+use Rattle.just_names.specs.Modulepath.{Text}
 use Rattle.just_parts.specs.Located.{with_depth}
-use Rattle.just_parts.specs.Items.{Item}
+use Rattle.just_parts.specs.Items.{Ast, Item}
+use Rattle.just_records.specs.declared.list_use.ListUse.{ListUse}
 use Rattle.just_loader.specs.Keys.{FileKey, IsLeastFileDepth, ast_key, items_at}
 use Rattle.just_loader.specs.Loaded.{with_path}
-use Rattle.just_loader.specs.Reached.{World}
+use Rattle.just_loader.specs.Reached.{World, ast_of}
 use Rattle.just_modules.specs.Modules.{Heading, heading, label}
-use Rattle.just_joining.specs.Reading.{Reading, enabled_items}
+use Rattle.just_joining.specs.Reading.{Reading, ast_of_both, enabled_items}
 
 -- the items of a file that count, at a depth, with the paths of the files to which they lead
 abbrev pub items_read : World → FileKey → ℕ → List Item
 items_read w k depth = map (λ i. with_depth depth (with_path w (folder_of k.node) i)) (enabled_items w.answers.enabled (items_at w k.node))
 
+-- where the file at a path needs lists
+abbrev pub lists_in : Option Ast → List ListUse
+lists_in None = []
+lists_in (Some ast) = ast.list_features
+
+abbrev pub lists_at : World → Text → List ListUse
+lists_at w f = lists_in (ast_of w f)
+
 -- Each file is read under the path of its module and its own, at the least depth of that key.
 abbrev pub IsReadingOf : World → Reading → Type 0
-IsReadingOf w R = (k : FileKey) (depth : ℕ) → IsLeastFileDepth w k depth → R (ast_key k) ≡ Some (ast_of_items (items_read w k depth))
+IsReadingOf w R = (k : FileKey) (depth : ℕ) → IsLeastFileDepth w k depth → R (ast_key k) ≡ Some (ast_of_both (items_read w k depth) (lists_at w k.node))
 
 -- the root's module, which no item declares
 abbrev pub root_heading : World → Heading

@@ -59,8 +59,8 @@ impl Compiler {
 
     /// Compiles the file at `root` and those that it reaches, or names a rule that is broken. Where it succeeds no rule
     /// is broken, and each recipe that the compilation names is held, after those that it depends on. A text with what
-    /// compiling cannot judge yet (variables, attributes, options, bodies, lists, recipes of one name, programs that run
-    /// lines) is refused as one that does not follow the grammar.
+    /// compiling cannot judge yet (attributes, options, bodies, that values are lists, programs that run lines) is refused
+    /// as one that does not follow the grammar. Of a variable its name is judged, and not what its value reads.
     ///
     /// The evaluation is asked for the settings of each module.
     pub fn compile<'src, S: Syntax, E: Evaluation>(

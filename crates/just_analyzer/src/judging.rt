@@ -40,7 +40,7 @@ fn is_judged_setting(setting: &Setting) -> bool
     ensures { result ≡ is_judged_setting setting.now }
 {
     match setting {
-        Setting::AllowDuplicateRecipes(on) | Setting::Lists(on) => !*on,
+        Setting::Lists(on) => !*on,
         Setting::ScriptInterpreter(_) | Setting::Shell(_) => false,
         _ => true,
     }
@@ -54,6 +54,7 @@ fn fault_of<'src>(item: &Item<'src>) -> Option<Token<'src>>
         Item::Import { .. }
         | Item::Unexport { .. }
         | Item::Function(_)
+        | Item::Assignment(_)
         | Item::Comment(_)
         | Item::Newline => None,
         Item::Module {
@@ -74,7 +75,6 @@ fn fault_of<'src>(item: &Item<'src>) -> Option<Token<'src>>
                 Some(recipe.name.token.copied())
             }
         }
-        Item::Assignment(assignment) => Some(assignment.name.token.copied()),
         Item::Setting(set) => {
             if is_judged_setting(&set.value) {
                 None
@@ -85,9 +85,9 @@ fn fault_of<'src>(item: &Item<'src>) -> Option<Token<'src>>
     }
 }
 
-// The first of them in a text.
-fn first_item<'src>(ast: &Ast<'src>) -> Option<Token<'src>>
-    ensures { is_none result ≡ list_all is_judged ast.now.items }
+// Where a text is told whose rules are not built: at the first such item.
+fn first_fault<'src>(ast: &Ast<'src>) -> Option<Token<'src>>
+    ensures { is_none result ≡ is_whole ast.now }
 {
     for item in ast.items.as_slice() {
         if let Some(token) = fault_of(item) {
@@ -95,19 +95,6 @@ fn first_item<'src>(ast: &Ast<'src>) -> Option<Token<'src>>
         }
     }
     None
-}
-
-// Where a text is told whose rules are not built: at such an item, or at the first place that needs lists.
-fn first_fault<'src>(ast: &Ast<'src>) -> Option<Token<'src>>
-    ensures { is_none result ≡ is_whole ast.now }
-{
-    if let Some(token) = first_item(ast) {
-        return Some(token);
-    }
-    match ast.list_features.as_slice().first() {
-        Some(used) => Some(used.token.copied()),
-        None => None,
-    }
 }
 
 impl<'a, S: Syntax> Syntax for Judging<'a, S> {

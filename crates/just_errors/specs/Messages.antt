@@ -1,5 +1,6 @@
 -- The names of errors, and what they say.
 use Rattle.std.specs.Prelude.{ℕ, ◌==◌, false, List, length, ◌++◌, codes, decimal, if◌then◌else◌}
+use Rattle.just_names.specs.ListFeature.{feature_text}
 use Rattle.just_names.specs.Modulepath.{joined, text_of}
 use Rattle.just_names.specs.Name.{texts_of_path}
 use Rattle.just_errors.specs.Wording.{arguments_text, takes_text, place_text, at_text}
@@ -35,7 +36,10 @@ kind_name (kind.RequiredParameterFollowsDefaultParameter parameter) = codes "Req
 kind_name (kind.DuplicateSet setting first) = codes "DuplicateSet"
 kind_name (kind.IncompatibleSettings first first_line second) = codes "IncompatibleSettings"
 kind_name (kind.DuplicateUnexport variable) = codes "DuplicateUnexport"
+kind_name (kind.DuplicateVariable variable) = codes "DuplicateVariable"
+kind_name (kind.ExportUnexported variable) = codes "ExportUnexported"
 kind_name (kind.DuplicateFunctionParameter function parameter) = codes "DuplicateFunctionParameter"
+kind_name (kind.ListFeature feature) = codes "ListFeature"
 kind_name (kind.Redefinition first_type second_type name first) = codes "Redefinition"
 kind_name (kind.UnknownDependency recipe unknown) = codes "UnknownDependency"
 kind_name (kind.CircularRecipeDependency recipe circle) = codes "CircularRecipeDependency"
@@ -92,7 +96,10 @@ kind_text (kind.DuplicateSet setting first) =
 kind_text (kind.IncompatibleSettings first first_line second) =
     codes "Setting `" ++ (second ++ (codes "` may not be set beside `" ++ (first ++ (codes "`, which is set on line " ++ (place_text first_line ++ codes " of this file or of another one of its module")))))
 kind_text (kind.DuplicateUnexport variable) = codes "Variable `" ++ (variable ++ codes "` is unexported multiple times")
+kind_text (kind.DuplicateVariable variable) = codes "Variable `" ++ (variable ++ codes "` has multiple definitions")
+kind_text (kind.ExportUnexported variable) = codes "Variable `" ++ (variable ++ codes "` is both assigned and unexported")
 kind_text (kind.DuplicateFunctionParameter function parameter) = codes "Function `" ++ (function ++ (codes "` has duplicate parameter `" ++ (parameter ++ codes "`")))
+kind_text (kind.ListFeature feature) = feature_text feature ++ codes " needs the setting `lists`, which is off"
 kind_text (kind.Redefinition first_type second_type name first) =
     codes "`" ++ (name ++ (codes "` is redefined as " ++ (definition_text second_type ++ (codes "; its first definition is a " ++ (definition_text first_type ++ (codes " on line " ++ (place_text first ++ codes " of this file or of another one of its module")))))))
 kind_text (kind.UnknownDependency recipe unknown) = codes "Recipe `" ++ (recipe ++ (codes "` has unknown dependency `" ++ (path_text unknown ++ codes "`")))

@@ -6,7 +6,7 @@ ghost use Rattle.just_errors.specs.Messages.{load_name, kind_name, invocation_na
 
 use crate::wording::{Arguments, At, Listed, Takes, noun};
 use just_data::{BorrowedText, Sequence, Text};
-use just_names::{Exhausted, Name, Namepath, Token};
+use just_names::{Exhausted, ListFeature, Name, Namepath, Token};
 use std::alloc::{AllocError, AllocFailed};
 use std::fmt;
 use thiserror::Error;
@@ -136,10 +136,22 @@ pub enum CompileErrorKind<'src> {
     DuplicateUnexport {
         variable: BorrowedText<'src>,
     },
+    /// A variable is assigned twice, and no setting allows it.
+    DuplicateVariable {
+        variable: BorrowedText<'src>,
+    },
+    /// A variable is assigned and unexported.
+    ExportUnexported {
+        variable: BorrowedText<'src>,
+    },
     /// A function has two parameters of one name.
     DuplicateFunctionParameter {
         function: BorrowedText<'src>,
         parameter: BorrowedText<'src>,
+    },
+    /// Something needs lists, and no setting says that values are lists.
+    ListFeature {
+        feature: ListFeature,
     },
     /// A name is defined twice. `first` is the line of the first definition, which counts from 0.
     Redefinition {
@@ -183,7 +195,10 @@ impl<'src> CompileErrorKind<'src> {
             CompileErrorKind::DuplicateSet { .. } => "DuplicateSet",
             CompileErrorKind::IncompatibleSettings { .. } => "IncompatibleSettings",
             CompileErrorKind::DuplicateUnexport { .. } => "DuplicateUnexport",
+            CompileErrorKind::DuplicateVariable { .. } => "DuplicateVariable",
+            CompileErrorKind::ExportUnexported { .. } => "ExportUnexported",
             CompileErrorKind::DuplicateFunctionParameter { .. } => "DuplicateFunctionParameter",
+            CompileErrorKind::ListFeature { .. } => "ListFeature",
             CompileErrorKind::Redefinition { .. } => "Redefinition",
             CompileErrorKind::UnknownDependency { .. } => "UnknownDependency",
             CompileErrorKind::CircularRecipeDependency { .. } => "CircularRecipeDependency",
@@ -276,6 +291,12 @@ impl<'src> fmt::Display for CompileErrorKind<'src> {
             CompileErrorKind::DuplicateUnexport { variable } => {
                 write!(f, "Variable `{variable}` is unexported multiple times")
             }
+            CompileErrorKind::DuplicateVariable { variable } => {
+                write!(f, "Variable `{variable}` has multiple definitions")
+            }
+            CompileErrorKind::ExportUnexported { variable } => {
+                write!(f, "Variable `{variable}` is both assigned and unexported")
+            }
             CompileErrorKind::DuplicateFunctionParameter {
                 function,
                 parameter,
@@ -284,6 +305,9 @@ impl<'src> fmt::Display for CompileErrorKind<'src> {
                     f,
                     "Function `{function}` has duplicate parameter `{parameter}`"
                 )
+            }
+            CompileErrorKind::ListFeature { feature } => {
+                write!(f, "{feature} needs the setting `lists`, which is off")
             }
             CompileErrorKind::Redefinition {
                 first_type,

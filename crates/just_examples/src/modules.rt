@@ -10,6 +10,7 @@ use std::collections::HashSet;
 struct Lines {
     modules: String,
     settings: String,
+    variables: String,
     recipes: String,
     entrances: String,
     numbers: HashSet<u64>,
@@ -65,6 +66,7 @@ fn add_settings(module: &Justfile, text: &mut String) -> Result<(), AllocError> 
     text.push_str(module.source.as_str())?;
     let settings = &module.settings;
     let flags = [
+        ("allow-duplicate-recipes", settings.allow_duplicate_recipes),
         (
             "allow-duplicate-variables",
             settings.allow_duplicate_variables,
@@ -79,6 +81,20 @@ fn add_settings(module: &Justfile, text: &mut String) -> Result<(), AllocError> 
         if *on {
             write!(text, " {name}")?;
         }
+    }
+    Ok(())
+}
+
+// Adds the variables of a module with the depths of their files and their values, behind its own file.
+fn add_variables(module: &Justfile, text: &mut String) -> Result<(), AllocError> {
+    text.push_str(next(text))?;
+    text.push_str(module.source.as_str())?;
+    for variable in module.assignments.values() {
+        write!(
+            text,
+            " {}@{} {}",
+            variable.name, variable.file_depth, variable.value.text
+        )?;
     }
     Ok(())
 }
@@ -103,6 +119,7 @@ fn lines_of(compilation: &Compilation, alloc: Global) -> Result<Lines, AllocErro
     let mut lines = Lines {
         modules: String::new(alloc),
         settings: String::new(alloc),
+        variables: String::new(alloc),
         recipes: String::new(alloc),
         entrances: String::new(alloc),
         numbers: HashSet::new(alloc),
@@ -116,6 +133,7 @@ fn lines_of(compilation: &Compilation, alloc: Global) -> Result<Lines, AllocErro
         };
         add_module(module, &mut lines)?;
         add_settings(module, &mut lines.settings)?;
+        add_variables(module, &mut lines.variables)?;
         add_recipes(compilation, module, alloc, &mut lines)?;
         for inner in module.modules.as_slice().iter().rev() {
             left.push(inner)?;
@@ -137,6 +155,7 @@ pub fn add_compilation(
     let lines = lines_of(compilation, alloc)?;
     writeln!(text, "modules{}", lines.modules)?;
     writeln!(text, "settings{}", lines.settings)?;
+    writeln!(text, "variables{}", lines.variables)?;
     writeln!(text, "recipes{}", lines.recipes)?;
     writeln!(text, "entrances{}", lines.entrances)?;
     writeln!(text, "numbers {} of {}", lines.numbers.len(), lines.count)

@@ -18,7 +18,7 @@ use Rattle.just_records.specs.declared.expression.Expression.{Expression}
 use Rattle.just_records.specs.declared.function_definition.FunctionDefinition.{FunctionDefinition}
 use Rattle.just_records.specs.declared.function_definition.FunctionParameter.{FunctionParameter}
 use Rattle.just_records.specs.declared.line.Line.{Line}
-use Rattle.just_records.specs.declared.list_feature.ListUse.{ListUse}
+use Rattle.just_records.specs.declared.list_use.ListUse.{ListUse}
 use Rattle.just_records.specs.declared.setting.Set.{Set}
 use Rattle.just_records.specs.declared.string_literal.StringLiteral.{StringLiteral}
 use Rattle.just_lexer.specs.declared.lexer.Lexeme.{Lexeme}

@@ -21,8 +21,9 @@ use Rattle.just_running.specs.Unready.{IsUnready, AreReady}
 use Rattle.just_invoke.specs.declared.justfile.Justfile.{Justfile}
 use Rattle.just_invoke.specs.Cause as cause
 use Rattle.just_invoke.specs.Going.{TasksComeTo, IsHindered}
-use Rattle.just_invoke.specs.Outcome.{tops, Refuses, fault, excess, not_yet, memory, MayRun, IsOutcome, refused, ran}
+use Rattle.just_invoke.specs.Outcome.{tops, Refuses, fault, excess, variables, not_yet, memory, MayRun, IsOutcome, refused, ran}
 use Rattle.just_invoke.specs.Split.{Invoked, IsSplit, IsFault}
+use Rattle.just_invoke.specs.Variables.{HasVariables, IsHeldBack}
 use Rattle.just_invoke.proofs.Faults.{split_no_fault}
 use Rattle.just_invoke.proofs.Unique.{split_once}
 
@@ -72,14 +73,34 @@ module _ (root : Justfile) (recipes : List (Recipe Dependency)) (words : List (L
   not-ready : (invoked : List Invoked) (name : List ℕ) → IsUnready recipes (tops recipes invoked) name → AreReady recipes (tops recipes invoked) → ⊥
   not-ready invoked name (place, recipe, led, at, unready, is) ready = true≢false (sym unready ∙ ready place recipe led at)
 
-  module _ (p : Inquiry → Option Answer) (q : Entry → Option Answer) (invoked : List Invoked) (split : IsSplit root recipes words invoked) (few : config.one ≡ true → length invoked ≤ 1) (old new : List Entry) (result : Result Report Error) where
+  -- where there is a variable
+  module _ (invoked : List Invoked) (split : IsSplit root recipes words invoked) (few : config.one ≡ true → length invoked ≤ 1) (old : List Entry) where
+    held-back : (e : Error) → IsHeldBack root invoked e → Refuses root recipes words config.one e
+    held-back e (inl is) = subst (Refuses root recipes words config.one) (sym is) memory
+    held-back e (inr (first, rest, are, is, has)) =
+        subst (Refuses root recipes words config.one) (sym is)
+        (variables first rest (subst (IsSplit root recipes words) are split) (subst (λ invoked. config.one ≡ true → length invoked ≤ 1) are few) has)
+
+    pub held-outcome : (e : Error) → IsHeldBack root invoked e → (r : Result Report Error) → IsErrAnd r (λ y. y ≡ e) → IsOutcome root recipes words config old old r
+    held-outcome e held r is = refused e (answered r e is) (held-back e held) refl
+
+    held-expected : (e : Error) → IsHeldBack root invoked e → (p : Inquiry → Option Answer) (q : Entry → Option Answer) (others : List Invoked) → MayRun root recipes words config.one others → IsSo p q recipes others old old (Err e)
+    held-expected e (inl is) p q others may = subst (λ e. IsSo p q recipes others old old (Err e)) (sym is) (out p q others old)
+    held-expected e (inr (first, rest, are, is, has)) p q others may = absurd (may.plain has)
+
+    pub held-so : (e : Error) → IsHeldBack root invoked e → (r : Result Report Error) → IsErrAnd r (λ y. y ≡ e) → (p : Inquiry → Option Answer) (q : Entry → Option Answer) (others : List Invoked) →
+        MayRun root recipes words config.one others → IsSo p q recipes others old old r
+    held-so e held r is p q others may = subst (λ r. IsSo p q recipes others old old r) (sym (answered r e is)) (held-expected e held p q others may)
+
+  module _ (p : Inquiry → Option Answer) (q : Entry → Option Answer) (invoked : List Invoked) (split : IsSplit root recipes words invoked) (few : config.one ≡ true → length invoked ≤ 1) (plain : HasVariables root → ⊥)
+      (old new : List Entry) (result : Result Report Error) where
     stopped : (e : Error) → IsHindered recipes (tops recipes invoked) e → Refuses root recipes words config.one e
     stopped e (inl is) = subst (Refuses root recipes words config.one) (sym is) memory
     stopped e (inr (name, is, unready)) = subst (Refuses root recipes words config.one) (sym is) (not_yet name invoked split few unready)
 
     pub went : TasksComeTo p q recipes (tops recipes invoked) old new result → IsOutcome root recipes words config old new result
     went (inl (e, is, stops, same)) = refused e is (stopped e stops) same
-    went (inr (ready, ended, is, run, expected)) = ran invoked ended (record { split = split; few = few; ready = ready }) is run
+    went (inr (ready, ended, is, run, expected)) = ran invoked ended (record { split = split; few = few; plain = plain; ready = ready }) is run
 
     stopped-expected : (e : Error) → IsHindered recipes (tops recipes invoked) e → AreReady recipes (tops recipes invoked) → result ≡ Err e → new ≡ old → IsSo p q recipes invoked old new result
     stopped-expected e (inl is) ready answer same =

@@ -1,5 +1,5 @@
 -- Invocations, one after another.
-use Rattle.std.proofs.Common.{◌≡◌, inl, inr, ℕ, ◌+◌, ◌<◌, ◌≤◌, true, false, List, [], ◌∷◌, ◌++◌, Option, Some, None, length, get_or, take, drop, map, sym, ap, ◌∙◌, subst, IfSome}
+use Rattle.std.proofs.Common.{◌≡◌, inl, inr, ℕ, ◌+◌, ◌<◌, ◌≤◌, true, false, List, [], ◌∷◌, ◌++◌, Option, Some, None, length, get_or, take, drop, map, sym, ap, ◌∙◌, subst, IfSome, arith}
 use Rattle.std.proofs.lemmas.List.{append_assoc, take-append-drop, drop-drop, append-nil, map-append, length-map, length-take-le, drop_all}
 use Rattle.std.specs.Borrow.{Bor}
 use Rattle.just_names.specs.Modulepath.{Text, texts}
@@ -15,7 +15,7 @@ use Rattle.std.specs.List.{All}
 use Rattle.std.proofs.lemmas.List.Elements.{All-push}
 use Rattle.just_invoke.specs.Closed.{IsHeld}
 use Rattle.just_invoke.specs.declared.invocation.Invocation.{Invocation}
-use Rattle.just_invoke.specs.Split.{Invoked, invoked_of, Invokes, Chain, Stops, IsFault}
+use Rattle.just_invoke.specs.Split.{Invoked, invoked_of, Invokes, Chain, IsSplit, Stops, IsFault}
 use Rattle.just_invoke.proofs.HeadLemmas.{texts_back}
 
 texts_cut : (n : ℕ) (words : List (Bor Text)) → texts words ≡ texts (take n words) ++ texts (drop n words)
@@ -107,3 +107,9 @@ pub held_more : (recipes : Held) (old new : List Invocation) (i : Invocation) �
     All (λ i. IsHeld recipes i.recipe.now) old → IsHeld recipes i.recipe.now → All (λ i. IsHeld recipes i.recipe.now) new
 held_more recipes old new i pushed all here =
     subst (All (λ i. IsHeld recipes i.recipe.now)) (sym pushed) (All-push (λ i. IsHeld recipes i.recipe.now) old i all here)
+
+-- words are at least one invocation
+pub split_some : (root : Justfile) (recipes : Held) (words : Words) (is : List Invoked) → IsSplit root recipes words is → 0 < length is
+split_some root recipes [] is split = omega (arith, ap length split.1)
+split_some root recipes (w ∷ ws) [] split = absurd (let e : w ∷ ws ≡ [] = split in let f : ⊥ = (cc) in f)
+split_some root recipes (w ∷ ws) (i ∷ is) split = omega arith

@@ -6,3 +6,4 @@ pub mod Module
 pub mod Outcome
 pub mod Split
 pub mod Tail
+pub mod Variables

@@ -1,5 +1,5 @@
 -- What a run of command words comes to.
-use Rattle.std.specs.Prelude.{◌≡◌, ◌<◌, ◌≤◌, ℕ, Bool, true, false, List, map, length, Option, Result, Err}
+use Rattle.std.specs.Prelude.{◌≡◌, ◌<◌, ◌≤◌, ℕ, Bool, true, false, List, ◌∷◌, map, length, Option, Result, Err}
 use Rattle.just_parts.specs.declared.dependency.Dependency.{Dependency}
 use Rattle.just_parts.specs.declared.layers.config.Config.{Config}
 use Rattle.just_errors.specs.declared.error.Error.{Error}
@@ -20,7 +20,9 @@ use Rattle.just_running.specs.Unready.{IsUnready, AreReady}
 use Rattle.just_invoke.specs.declared.invocation.Invocation as parsed
 use Rattle.just_invoke.specs.declared.justfile.Justfile.{Justfile}
 use Rattle.just_invoke.specs.Cause.{cause_of_fault}
+use Rattle.just_invoke.specs.Head.{name_of}
 use Rattle.just_invoke.specs.Split.{Invoked, invoked_of, IsSplit, IsFault}
+use Rattle.just_invoke.specs.Variables.{HasVariables}
 
 -- the task of what is invoked: it does not run as a dependency
 abbrev pub top : List (Recipe Dependency) → Invoked → Task
@@ -33,20 +35,24 @@ tops recipes invoked = map (top recipes) invoked
 abbrev pub tops_of : List (Recipe Dependency) → List parsed.Invocation → List Task
 tops_of recipes invocations = tops recipes (map invoked_of invocations)
 
--- Why words are not run, where one invocation alone is allowed or not: they have a fault; they are several; they lead to a recipe that cannot
--- be run yet; or memory is refused.
+-- Why words are not run, where one invocation alone is allowed or not: they have a fault; they are several; the root or a module in it has a
+-- variable, of which the first recipe's name tells; they lead to a recipe that cannot be run yet; or memory is refused.
 pub data Refuses (root : Justfile) (recipes : List (Recipe Dependency)) (words : List (List ℕ)) (one : Bool) : Error → Type 0 where
   fault : (e : InvocationError) → IsFault root recipes words (cause_of_fault e) → Refuses root recipes words one (Invocation e)
   excess : (invoked : List Invoked) → IsSplit root recipes words invoked → one ≡ true → 1 < length invoked →
       Refuses root recipes words one (Run (ExcessInvocations (length invoked)))
+  variables : (first : Invoked) (rest : List Invoked) → IsSplit root recipes words (first ∷ rest) → (one ≡ true → length (first ∷ rest) ≤ 1) →
+      HasVariables root → Refuses root recipes words one (Run (NotYet (name_of first.recipe)))
   not_yet : (name : List ℕ) (invoked : List Invoked) → IsSplit root recipes words invoked → (one ≡ true → length invoked ≤ 1) →
       IsUnready recipes (tops recipes invoked) name → Refuses root recipes words one (Run (NotYet name))
   memory : Refuses root recipes words one Memory
 
--- words that may be run: they are these invocations, one where one alone is allowed, and what they lead to can be run
+-- words that may be run: they are these invocations, one where one alone is allowed, neither the root nor a module in it has a variable, and
+-- what they lead to can be run
 pub record MayRun (root : Justfile) (recipes : List (Recipe Dependency)) (words : List (List ℕ)) (one : Bool) (invoked : List Invoked) : Type 0 where
   pub split : IsSplit root recipes words invoked
   pub few : one ≡ true → length invoked ≤ 1
+  pub plain : HasVariables root → ⊥
   pub ready : AreReady recipes (tops recipes invoked)
 
 -- The words are refused, and the host is as it was; or they may be run, and are.

@@ -1,11 +1,12 @@
 //! Compiled modules, and their run.
 use crate::invocation_parser::InvocationParser;
 use crate::running::run_invocations;
+use crate::variables::check_variables;
 use just_data::{Exact, Sequence, Shared, Text};
 use just_names::Modulepath;
 use just_parts::layers::{
-    Config, Error, Evaluation, FunctionDefinition, Host, Name, Number, Output, RunError, Settings,
-    StringLiteral, Syntax,
+    Assignment, Config, Error, Evaluation, FunctionDefinition, Host, Name, Number, Output,
+    RunError, Settings, StringLiteral, Syntax,
 };
 use just_running::{Recipes, Report};
 use just_table::{Keyed, Table};
@@ -40,6 +41,8 @@ impl<'src> Exact for RecipeKey<'src> {
 /// A compiled module.
 #[derive(Drop)]
 pub struct Justfile<'src> {
+    /// The variables of the module, by their names: of several of one name the one that is kept.
+    pub assignments: Table<'src, Assignment<'src>>,
     /// The recipe that is run without words.
     pub default: Option<Number>,
     /// What a listing says of it.
@@ -113,8 +116,12 @@ impl<'src> Justfile<'src> {
 
     /// Runs what the words mean: each invocation in turn under one once table, where a recipe with equal arguments runs
     /// once, its prior dependencies before it, and its subsequent ones after it under a table of their own. The run ends
-    /// at the first step that fails, with its error. Where the words are refused, or a recipe that they lead to can't be
-    /// run yet, the host is left as it was.
+    /// at the first step that fails, with its error. Where the words are refused, or can't be run yet, the host is left as
+    /// it was.
+    ///
+    /// `NotYet` comes where the module or one in it has a variable, with the name of the first recipe that the words mean,
+    /// and where they lead to a recipe with a parameter that is more than a name, with that recipe's name. It comes after
+    /// `ExcessInvocations`.
     ///
     /// The writer and the layers that evaluate are asked nothing yet.
     pub fn run<S: Syntax, E: Evaluation, H: Host, W: Output>(
@@ -153,6 +160,7 @@ impl<'src> Justfile<'src> {
                 invocations: invocations.len(),
             }));
         }
+        check_variables(alloc, self, invocations.as_slice())?;
         run_invocations(alloc, recipes, evaluation, host, invocations.as_slice())
     }
 }

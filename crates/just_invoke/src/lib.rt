@@ -7,6 +7,7 @@ pub mod justfile;
 pub mod laws;
 mod naming;
 mod running;
+mod variables;
 
 pub use invocation::Invocation;
 pub use invocation_parser::InvocationParser;

@@ -1,30 +1,38 @@
 -- Recipes that are alike in what the rules read break the same rules.
-use Rattle.std.proofs.Common.{◌≡◌, ℕ, zero, suc, ◌+◌, ◌<◌, Bool, false, List, [], ◌∷◌, ◌++◌, map, length, get_or, Option, None, Some, refl, sym, ◌∙◌, ap, subst}
+use Rattle.std.proofs.Common.{◌≡◌, ℕ, zero, suc, ◌+◌, ◌<◌, Bool, true, false, List, [], ◌∷◌, ◌++◌, map, length, get_or, Option, None, Some, refl, sym, ◌∙◌, ap, subst}
+use Rattle.std.specs.Prelude.{if◌then◌else◌}
 use Rattle.std.specs.List.{Contains, slice_get}
 use Rattle.std.proofs.lemmas.List.{length-map}
 use Rattle.just_errors.specs.Causes.{Cause, Keeps}
 use Rattle.just_names.specs.Token.{Place, lexeme}
+use Rattle.just_records.specs.declared.assignment.Assignment.{Assignment}
 use Rattle.just_records.specs.declared.function_definition.FunctionDefinition.{FunctionDefinition}
 use Rattle.just_records.specs.declared.function_definition.FunctionParameter.{FunctionParameter}
+use Rattle.just_records.specs.declared.list_use.ListUse.{ListUse}
 use Rattle.just_records.specs.declared.setting.Set.{Set}
 use Rattle.just_records.specs.declared.settings.Settings.{Settings}
 use Rattle.just_parts.specs.Bare.{bare_function, bare_function_parameter}
 use Rattle.just_parts.specs.Evaluator.{functions_by_name}
 use Rattle.just_parts.specs.Layers.{Layers}
+use Rattle.just_parts.specs.Located.{located_assignment}
 use Rattle.just_parts.specs.declared.layers.ast.UnresolvedDependency.{UnresolvedDependency}
 use Rattle.just_parts.specs.declared.recipe.Recipe.{Recipe}
 use Rattle.just_names.specs.declared.name.Name.{Name}
 use Rattle.just_names.specs.declared.name.Namepath.{Namepath}
 use Rattle.just_errors.specs.declared.error.Definition.TheVariants as definition
-use Rattle.just_joining.specs.Contents.{Contents, Defined, Signature, all_defined, defined, defined_in, defined_recipe, module_of_name, signature, signatures}
+use Rattle.just_joining.specs.Contents.{Contents, Defined, Signature, all_defined, defined, defined_in, defined_recipe, function_names, module_of_name, signature, signatures, texts_of_names, variable_names}
 use Rattle.just_joining.specs.Groups.{Breaks, Group, OfBodies, OfConstants, OfDependencies, OfHeaders, OfNames, functions_under, settings_of}
 use Rattle.just_joining.specs.Index.{Repeats}
+use Rattle.just_joining.specs.Kept.{claim_of_recipe, gives_way, kept_recipes, left_of}
+use Rattle.just_joining.specs.Settings.{allows_variables}
+use Rattle.just_joining.specs.declared.kept.Claim.{Claim}
 use Rattle.just_joining.specs.Recipes.{name_of, token_of, named_parameters, parameter_names, is_defaulted, is_needed, FollowsDefault, named_paths, dependency_paths, least_of, most_of, no_recipe, recipe_at, Depends, DependsOn}
-use Rattle.just_joining.specs.Rules.{Bodies, Constants, Dependencies, Headers, IsCircleOf, Modules, Names, Parameters, Sets, Unexports, argument_count, circular, duplicate_parameter, of_modules, of_parameters, of_sets, of_unexports, required_after_default, unknown_dependency}
+use Rattle.just_joining.specs.Rules.{Bodies, BodiesUnder, Constants, Dependencies, Functions, Headers, IsCircleOf, Lists, Modules, Names, Parameters, Redefined, Sets, Unexports, Variables, argument_count, circular, duplicate_parameter, of_defined, of_functions, of_lists, of_modules, of_parameters, of_sets, of_unexports, of_variables, required_after_default, unknown_dependency}
 
 -- What the rules read of a recipe.
 pub record Outline : Type 0 where
   pub token : Place
+  pub depth : ℕ
   pub named : List Name
   pub parameters : List (List ℕ)
   pub defaulted : List Bool
@@ -37,6 +45,7 @@ pub record Outline : Type 0 where
 abbrev pub outline_of : Recipe UnresolvedDependency → Outline
 outline_of recipe = record {
   token = token_of recipe;
+  depth = recipe.file_depth;
   named = named_parameters recipe;
   parameters = parameter_names recipe;
   defaulted = map is_defaulted recipe.parameters;
@@ -144,13 +153,15 @@ module _ (rs qs : List (Recipe UnresolvedDependency)) (alike : AreAlike rs qs) w
       argument_count i j (inside i h) (inside j l) (named i dependency c) (is ∙ ap (λ n. n ∷ []) (name j)) none
       (ap (λ (o : Outline). o.least) (sym (at j)) ∙ least) (ap (λ (o : Outline). o.most) (sym (at j)) ∙ most) wrong
 
--- Contents that are alike: so are their recipes, and their functions without numbers, their names and what they set are the same.
+-- Contents that are alike: so are their recipes, and their functions and variables without numbers, their names, what they set and where they need lists are the same.
 pub record AreAlikeContents (m n : Contents) : Type 0 where
   pub recipes : AreAlike m.recipes n.recipes
   pub functions : map bare_function m.functions ≡ map bare_function n.functions
+  pub variables : map located_assignment m.variables ≡ map located_assignment n.variables
   pub modules : m.modules ≡ n.modules
   pub unexports : m.unexports ≡ n.unexports
   pub sets : m.sets ≡ n.sets
+  pub lists : m.lists ≡ n.lists
 
 signature_bare : (f : FunctionDefinition) → signature (bare_function f) ≡ signature f
 signature_bare f = λ i. record { name = f.name; parameters = names_bare f.parameters i }
@@ -162,6 +173,33 @@ signature_bare f = λ i. record { name = f.name; parameters = names_bare f.param
 signatures_bare : (fs : List FunctionDefinition) → signatures (map bare_function fs) ≡ signatures fs
 signatures_bare [] = refl
 signatures_bare (f ∷ fs) = λ i. signature_bare f i ∷ signatures_bare fs i
+
+variables_located : (vs : List Assignment) → variable_names (map located_assignment vs) ≡ variable_names vs
+variables_located [] = refl
+variables_located (v ∷ vs) = ap (λ (ns : List Name). v.name ∷ ns) (variables_located vs)
+
+-- recipes that are kept are told by their outlines
+abbrev claim_by : Outline → Claim
+claim_by o = record { name = lexeme o.token; depth = o.depth }
+
+claims_read : (rs : List (Recipe UnresolvedDependency)) → map claim_of_recipe rs ≡ map claim_by (outlines_of rs)
+claims_read [] = refl
+claims_read (r ∷ rs) = ap (λ (cs : List Claim). claim_of_recipe r ∷ cs) (claims_read rs)
+
+module _ (all xs : List (Recipe UnresolvedDependency)) (x : Recipe UnresolvedDependency) where
+  outline_if : (b : Bool) → outlines_of (left_of claim_of_recipe all xs) ≡ left_of claim_by (outlines_of all) (outlines_of xs)
+      → outlines_of (if b then left_of claim_of_recipe all xs else x ∷ left_of claim_of_recipe all xs) ≡ (if b then left_of claim_by (outlines_of all) (outlines_of xs) else outline_of x ∷ left_of claim_by (outlines_of all) (outlines_of xs))
+  outline_if true rest = rest
+  outline_if false rest = ap (λ (os : List Outline). outline_of x ∷ os) rest
+
+outlines_left : (all xs : List (Recipe UnresolvedDependency)) → outlines_of (left_of claim_of_recipe all xs) ≡ left_of claim_by (outlines_of all) (outlines_of xs)
+outlines_left all [] = refl
+outlines_left all (x ∷ xs) =
+    outline_if all xs x (gives_way (map claim_of_recipe all) (map claim_of_recipe xs) (claim_of_recipe x)) (outlines_left all xs)
+    ∙ ap (λ b. if b then left_of claim_by (outlines_of all) (outlines_of xs) else outline_of x ∷ left_of claim_by (outlines_of all) (outlines_of xs)) (λ i. gives_way (claims_read all i) (claims_read xs i) (claim_of_recipe x))
+
+kept_alike_recipes : (rs qs : List (Recipe UnresolvedDependency)) → AreAlike rs qs → AreAlike (kept_recipes rs) (kept_recipes qs)
+kept_alike_recipes rs qs alike = outlines_left rs rs ∙ (λ i. left_of claim_by (alike i) (alike i)) ∙ sym (outlines_left qs qs)
 
 -- they break the same rules
 module _ (layers : Layers) (m n : Contents) (alike : AreAlikeContents m n) where
@@ -180,15 +218,40 @@ module _ (layers : Layers) (m n : Contents) (alike : AreAlikeContents m n) where
   pub settings_alike : settings_of layers.evaluator m ≡ settings_of layers.evaluator n
   settings_alike = λ i. layers.evaluator.settings (functions_by_name (functions_under (alike.functions i))) (λ _. None) (alike.sets i)
 
+  variables_alike : variable_names m.variables ≡ variable_names n.variables
+  variables_alike = sym (variables_located m.variables) ∙ ap variable_names alike.variables ∙ variables_located n.variables
+
+  names_alike : (c : Cause) → Names m c → Names n c
+  names_alike c (of_variables b) = of_variables (subst (λ (ns : List Name). Variables (allows_variables n.sets) (variable_names n.variables) ns c) alike.unexports
+      (subst (λ (ns : List Name). Variables (allows_variables n.sets) ns m.unexports c) variables_alike (subst (λ (ss : List Set). Variables (allows_variables ss) (variable_names m.variables) m.unexports c) alike.sets b)))
+  names_alike c (of_functions b) = of_functions (subst (λ (ss : List Signature). Functions ss c) signed_alike b)
+
+  bodies_alike : (s : Settings) (c : Cause) → Bodies s m c → Bodies s n c
+  bodies_alike s c (of_lists b) = of_lists (subst (λ (us : List ListUse). Lists s.lists (texts_of_names (function_names (signatures n.functions))) us c) alike.lists
+      (subst (λ (ss : List Signature). Lists s.lists (texts_of_names (function_names ss)) m.lists c) signed_alike b))
+  bodies_alike s c (of_defined b) = of_defined (subst (λ ds. Redefined s.allow_duplicate_recipes ds c) defined_same b)
+
+  under_alike : (o : Option Settings) (c : Cause) → BodiesUnder o m c → BodiesUnder o n c
+  under_alike None c b = b
+  under_alike (Some s) c b = bodies_alike s c b
+
   pub breaks_alike : (g : Group) (c : Cause) → Breaks layers g m c → Breaks layers g n c
   breaks_alike OfHeaders c b = headers_alike c b
-  breaks_alike OfNames c b = subst (λ (ss : List Signature). Names ss c) signed_alike b
+  breaks_alike OfNames c b = names_alike c b
   breaks_alike OfConstants c b = subst (λ (o : Option Settings). Constants o c) settings_alike b
-  breaks_alike OfBodies c b = subst (λ ds. Bodies ds c) defined_same b
-  breaks_alike OfDependencies c b = dependencies_alike m.recipes n.recipes alike.recipes c b
+  breaks_alike OfBodies c b = under_alike (settings_of layers.evaluator n) c (subst (λ (o : Option Settings). BodiesUnder o m c) settings_alike b)
+  breaks_alike OfDependencies c b = dependencies_alike (kept_recipes m.recipes) (kept_recipes n.recipes) (kept_alike_recipes m.recipes n.recipes alike.recipes) c b
 
 pub alike_back : (m n : Contents) → AreAlikeContents m n → AreAlikeContents n m
-alike_back m n alike = record { recipes = sym alike.recipes; functions = sym alike.functions; modules = sym alike.modules; unexports = sym alike.unexports; sets = sym alike.sets }
+alike_back m n alike = record {
+  recipes = sym alike.recipes;
+  functions = sym alike.functions;
+  variables = sym alike.variables;
+  modules = sym alike.modules;
+  unexports = sym alike.unexports;
+  sets = sym alike.sets;
+  lists = sym alike.lists;
+}
 
 -- and keep the same
 pub kept_alike : (layers : Layers) (m n : Contents) → AreAlikeContents m n → (g : Group) → Keeps (Breaks layers g m) → Keeps (Breaks layers g n)

@@ -3,7 +3,7 @@ use Rattle.std.proofs.Common.{◌≡◌, ℕ, ◌+◌, cond, List, [], ◌∷◌
 use Rattle.std.specs.Prelude.{if◌then◌else◌}
 use Rattle.std.specs.List.{list_any, fold}
 use Rattle.std.proofs.lemmas.List.{length-map}
-use Rattle.just_parts.specs.Bare.{bare_parameter, bare_recipe}
+use Rattle.just_parts.specs.Bare.{bare_parameter}
 use Rattle.just_parts.specs.Located.{located_recipe}
 use Rattle.just_names.specs.Name.{text_of_name}
 use Rattle.just_names.specs.declared.name.Name.{Name}
@@ -44,9 +44,10 @@ count_from n (p ∷ ps) = count_from (n + cond (is_required p) 1 0) ps
 least_bare : (ps : List Parameter) → least_arguments (map bare_parameter ps) ≡ least_arguments ps
 least_bare ps = count_from 0 ps
 
-pub outline_bare : (r : Recipe UnresolvedDependency) → outline_of (bare_recipe r) ≡ outline_of r
-outline_bare r = λ i. record {
+pub outline_located : (r : Recipe UnresolvedDependency) → outline_of (located_recipe r) ≡ outline_of r
+outline_located r = λ i. record {
   token = r.name.token;
+  depth = r.file_depth;
   named = named_bare r.parameters i;
   parameters = names_bare r.parameters i;
   defaulted = defaulted_bare r.parameters i;
@@ -56,6 +57,3 @@ outline_bare r = λ i. record {
   least = least_bare r.parameters i;
   most = most_bare r.parameters i;
 }
-
-pub outline_located : (r : Recipe UnresolvedDependency) → outline_of (located_recipe r) ≡ outline_of r
-outline_located r = outline_bare r

@@ -1,5 +1,6 @@
 pub mod Alike
 pub mod BareOutlines
+pub mod Claims
 pub mod Defining
 pub mod Edges
 pub mod Excluded
@@ -8,6 +9,9 @@ pub mod Signatures
 pub mod Holding
 pub mod Indexing
 pub mod Joining
+pub mod Keeping
+pub mod Leave
+pub mod Mapping
 pub mod Numbers
 pub mod Placing
 pub mod RecipeCircles

@@ -3,20 +3,24 @@ use Rattle.std.specs.Prelude.{List, [], ◌++◌, map}
 use Rattle.just_names.specs.Modulepath.{Text}
 use Rattle.just_names.specs.Name.{text_of_name}
 use Rattle.just_names.specs.declared.name.Name.{Name}
+use Rattle.just_records.specs.declared.assignment.Assignment.{Assignment}
 use Rattle.just_records.specs.declared.function_definition.FunctionDefinition.{FunctionDefinition}
+use Rattle.just_records.specs.declared.list_use.ListUse.{ListUse}
 use Rattle.just_records.specs.declared.setting.Set.{Set}
 use Rattle.just_errors.specs.declared.error.Definition.{Definition}
 use Rattle.just_errors.specs.declared.error.Definition.TheVariants as definition
 use Rattle.just_parts.specs.declared.layers.ast.UnresolvedDependency.{UnresolvedDependency}
 use Rattle.just_parts.specs.declared.recipe.Recipe.{Recipe}
 
--- The recipes and the functions of a module, the names of the modules that it declares and of the variables that it unexports, and what it sets, in the order of its files and then of their texts.
+-- The recipes, the functions and the variables of a module, the names of the modules that it declares and of the variables that it unexports, what it sets, and where it needs lists, in the order of its files and then of their texts.
 pub record Contents : Type 0 where
   pub recipes : List (Recipe UnresolvedDependency)
   pub functions : List FunctionDefinition
+  pub variables : List Assignment
   pub modules : List Name
   pub unexports : List Name
   pub sets : List Set
+  pub lists : List ListUse
 
 -- the texts of names
 abbrev pub texts_of_names : List Name → List Text
@@ -37,9 +41,17 @@ signatures = map signature
 abbrev pub function_names : List Signature → List Name
 function_names = map (λ s. s.name)
 
+-- the names of variables
+abbrev pub variable_names : List Assignment → List Name
+variable_names = map (λ (a : Assignment). a.name)
+
+-- the same contents, with more that needs lists
+abbrev pub with_lists : Contents → List ListUse → Contents
+with_lists m uses = record m { lists = m.lists ++ uses }
+
 -- of a module without files
 abbrev pub no_contents : Contents
-no_contents = record { recipes = []; functions = []; modules = []; unexports = []; sets = [] }
+no_contents = record { recipes = []; functions = []; variables = []; modules = []; unexports = []; sets = []; lists = [] }
 
 -- What is defined, and its name.
 pub record Defined : Type 0 where

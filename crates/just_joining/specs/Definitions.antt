@@ -1,9 +1,11 @@
--- A module's recipes, functions, names and settings.
+-- A module's recipes, functions, variables, names and settings, and where it needs lists.
 use Rattle.std.specs.Prelude.{List}
 use Rattle.just_joining.specs.declared.definitions.Definitions.{Definitions}
 use Rattle.just_parts.specs.declared.layers.ast.UnresolvedDependency.{UnresolvedDependency}
 use Rattle.just_parts.specs.declared.recipe.Recipe.{Recipe}
+use Rattle.just_records.specs.declared.assignment.Assignment.{Assignment}
 use Rattle.just_records.specs.declared.function_definition.FunctionDefinition.{FunctionDefinition}
+use Rattle.just_records.specs.declared.list_use.ListUse.{ListUse}
 use Rattle.just_records.specs.declared.setting.Set.{Set}
 use Rattle.just_joining.specs.Contents.{Contents}
 use Rattle.just_joining.specs.Recipes.{lent}
@@ -14,8 +16,22 @@ recipes_in m = lent m.recipes.items
 abbrev pub functions_in : Definitions → List FunctionDefinition
 functions_in m = lent m.functions.items
 
+abbrev pub variables_in : Definitions → List Assignment
+variables_in m = lent m.variables.items
+
+abbrev pub lists_in : Definitions → List ListUse
+lists_in m = lent m.lists.items
+
 abbrev pub sets_in : Definitions → List Set
 sets_in m = lent m.sets.items
 
 abbrev pub contents_in : Definitions → Contents
-contents_in m = record { recipes = recipes_in m; functions = functions_in m; modules = m.modules.items; unexports = m.unexports.items; sets = sets_in m }
+contents_in m = record {
+  recipes = recipes_in m;
+  functions = functions_in m;
+  variables = variables_in m;
+  modules = m.modules.items;
+  unexports = m.unexports.items;
+  sets = sets_in m;
+  lists = lists_in m;
+}

@@ -9,8 +9,9 @@ use Rattle.just_errors.specs.Causes.{Cause, Keeps}
 use Rattle.just_parts.specs.Bare.{bare_function}
 use Rattle.just_parts.specs.Evaluator.{Evaluator, functions_by_name}
 use Rattle.just_parts.specs.Layers.{Layers}
-use Rattle.just_joining.specs.Contents.{Contents, defined_in, signatures}
-use Rattle.just_joining.specs.Rules.{Bodies, Constants, Dependencies, Headers, Names}
+use Rattle.just_joining.specs.Contents.{Contents}
+use Rattle.just_joining.specs.Kept.{kept_recipes}
+use Rattle.just_joining.specs.Rules.{BodiesUnder, Constants, Dependencies, Headers, Names}
 
 -- functions under their names
 abbrev pub functions_under : List FunctionDefinition → List (Text × FunctionDefinition)
@@ -38,10 +39,10 @@ rank OfDependencies = 4
 -- what is broken of a group
 abbrev pub Breaks : Layers → Group → Contents → Cause → Type 0
 Breaks layers OfHeaders m = Headers layers.syntax.conflicts m
-Breaks layers OfNames m = Names (signatures m.functions)
+Breaks layers OfNames m = Names m
 Breaks layers OfConstants m = Constants (settings_of layers.evaluator m)
-Breaks layers OfBodies m = Bodies (defined_in m)
-Breaks layers OfDependencies m = Dependencies m.recipes
+Breaks layers OfBodies m = BodiesUnder (settings_of layers.evaluator m) m
+Breaks layers OfDependencies m = Dependencies (kept_recipes m.recipes)
 
 -- all groups are kept
 abbrev pub KeepsContents : Layers → Contents → Type 0

@@ -11,6 +11,10 @@ pub record Repeats (names : List (List ℕ)) (i j : ℕ) : Type 0 where
   pub same : name_at names i ≡ name_at names j
   pub next : (k : ℕ) → i < k → k < j → name_at names k ≢ name_at names j
 
+-- no place among the first n repeats the name of one below a bound
+abbrev pub NoneRepeats : List (List ℕ) → ℕ → ℕ → Type 0
+NoneRepeats names n bound = (i j : ℕ) → Repeats names i j → j < n → i < bound → ⊥
+
 -- no name stands at two places
 abbrev pub AreDifferent : List (List ℕ) → Type 0
 AreDifferent names = (i j : ℕ) → i < j → j < length names → name_at names i ≢ name_at names j

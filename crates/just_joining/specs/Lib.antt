@@ -5,6 +5,7 @@ pub mod Files
 pub mod Groups
 pub mod Index
 pub mod Joined
+pub mod Kept
 pub mod Named
 pub mod OfPlaces
 pub mod Reading

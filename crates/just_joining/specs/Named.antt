@@ -1,4 +1,4 @@
--- What files at places say: recipes, functions, names and settings.
+-- What files at places say: recipes, functions, variables, names and settings, and where they need lists.
 use Rattle.std.specs.Prelude.{◌≡◌, ◌++◌, ℕ, Bool, List, [], ◌∷◌, flat_map, slice_get, Option, None, Some, if◌then◌else◌}
 use Rattle.just_parts.specs.Bare.{bare_item}
 use Rattle.just_parts.specs.declared.dependency.Dependency.{Dependency}
@@ -6,11 +6,14 @@ use Rattle.just_parts.specs.Items.{Ast, Item}
 use Rattle.just_parts.specs.declared.layers.ast.Item.TheVariants as item
 use Rattle.just_parts.specs.declared.layers.ast.UnresolvedDependency.{UnresolvedDependency}
 use Rattle.just_names.specs.declared.name.Name.{Name}
+use Rattle.just_records.specs.declared.assignment.Assignment.{Assignment}
 use Rattle.just_records.specs.declared.function_definition.FunctionDefinition.{FunctionDefinition}
+use Rattle.just_records.specs.declared.list_use.ListUse.{ListUse}
 use Rattle.just_records.specs.declared.setting.Set.{Set}
 use Rattle.just_names.specs.declared.modulepath.Modulepath.{Modulepath}
 use Rattle.just_parts.specs.declared.recipe.Recipe.{Recipe}
 use Rattle.just_joining.specs.Files.{asts_in}
+use Rattle.just_joining.specs.Kept.{kept_recipes}
 use Rattle.just_joining.specs.Recipes.{recipes_of}
 use Rattle.just_joining.specs.Resolved.{AreResolved}
 use Rattle.just_joining.specs.Contents.{Contents}
@@ -31,6 +34,11 @@ abbrev pub function_by : Item → List FunctionDefinition
 function_by (item.Function f) = f ∷ []
 function_by _ = []
 
+-- the variable that an item assigns
+abbrev pub variable_by : Item → List Assignment
+variable_by (item.Assignment a) = a ∷ []
+variable_by _ = []
+
 -- what an item sets
 abbrev pub set_by : Item → List Set
 set_by (item.Setting s) = s ∷ []
@@ -48,6 +56,15 @@ said_in by enabled (Some ast) = said by enabled ast.items
 abbrev pub said_from : {A : Type 0} → (Item → List A) → (Item → Bool) → List Ast → List ℕ → List A
 said_from by enabled asts files = flat_map (λ p. said_in by enabled (slice_get asts p)) files
 
+-- where a file needs lists
+abbrev pub lists_by : Option Ast → List ListUse
+lists_by None = []
+lists_by (Some ast) = ast.list_features
+
+-- where files need them, file after file
+abbrev pub lists_from : List Ast → List ℕ → List ListUse
+lists_from asts files = flat_map (λ p. lists_by (slice_get asts p)) files
+
 abbrev pub recipes_by : (Item → Bool) → Option Ast → List (Recipe UnresolvedDependency)
 recipes_by enabled None = []
 recipes_by enabled (Some ast) = recipes_of enabled ast.items
@@ -61,9 +78,11 @@ abbrev pub contents_from : (Item → Bool) → List Ast → List ℕ → Content
 contents_from enabled asts files = record {
   recipes = recipes_from enabled asts files;
   functions = said_from function_by enabled asts files;
+  variables = said_from variable_by enabled asts files;
   modules = said_from name_by enabled asts files;
   unexports = said_from unexported_by enabled asts files;
   sets = said_from set_by enabled asts files;
+  lists = lists_from asts files;
 }
 
 -- What is made of the recipes of a module: resolved ones, that come after the old ones.
@@ -72,6 +91,6 @@ pub record AreAdded (rs : List (Recipe UnresolvedDependency)) (path : Modulepath
   pub appended : new ≡ old ++ made
   pub resolved : AreResolved rs path made
 
--- the same of files, of which one is the module's own
+-- the same of the recipes of files that are kept, of which one is the module's own
 abbrev pub AreAddedAt : (Item → Bool) → Files → ℕ → List ℕ → List (Recipe Dependency) → List (Recipe Dependency) → Type 0
-AreAddedAt enabled files own places old new = (ast : Ast) → slice_get (asts_in files) own ≡ Some ast → AreAdded (recipes_from enabled (asts_in files) places) ast.module_path old new
+AreAddedAt enabled files own places old new = (ast : Ast) → slice_get (asts_in files) own ≡ Some ast → AreAdded (kept_recipes (recipes_from enabled (asts_in files) places)) ast.module_path old new

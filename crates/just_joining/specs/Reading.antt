@@ -9,6 +9,7 @@ use Rattle.just_parts.specs.Items.{Ast, Item}
 use Rattle.just_parts.specs.declared.layers.ast.Item.TheVariants as item
 use Rattle.just_names.specs.declared.name.Name.{Name}
 use Rattle.just_names.specs.declared.modulepath.Modulepath.{Modulepath}
+use Rattle.just_records.specs.declared.list_use.ListUse.{ListUse}
 use Rattle.just_joining.specs.Resolved.{path_to}
 
 abbrev pub Reading : Type 0
@@ -18,9 +19,13 @@ Reading = AstKey → Option Ast
 abbrev pub enabled_items : (Item → Bool) → List Item → List Item
 enabled_items enabled items = filter (λ i. enabled (bare_item i)) items
 
+-- items, and where lists are needed
+abbrev pub ast_of_both : List Item → List ListUse → Ast
+ast_of_both items lists = record (ast_of_items items) { list_features = lists }
+
 -- without numbers
 abbrev pub located_ast : (Item → Bool) → Ast → Ast
-located_ast enabled ast = ast_of_items (map located_item (enabled_items enabled ast.items))
+located_ast enabled ast = ast_of_both (map located_item (enabled_items enabled ast.items)) ast.list_features
 
 -- what is read in asts
 abbrev pub reading_of : (Item → Bool) → (AstKey → Option Ast) → Reading

@@ -1,22 +1,25 @@
 -- The rules of a module: each relates what is compiled to the errors that report where it is broken.
-use Rattle.std.specs.Prelude.{◌≡◌, ◌≢◌, ℕ, ◌+◌, ◌-◌, ◌<◌, ◌≤◌, ◌⊎◌, true, List, [], ◌∷◌, map, length, get_or, Option, Some, None}
+use Rattle.std.specs.Prelude.{◌≡◌, ◌≢◌, ℕ, ◌+◌, ◌-◌, ◌<◌, ◌≤◌, ◌⊎◌, Bool, true, false, List, [], ◌∷◌, map, length, get_or, Option, Some, None}
 use Rattle.std.specs.List.{Contains, slice_get}
 use Rattle.just_errors.specs.Causes.{Cause, Broken}
+use Rattle.just_names.specs.ListFeature.{is_function}
+use Rattle.just_names.specs.Modulepath.{Text}
 use Rattle.just_names.specs.Name.{text_of_name, texts_of_path}
-use Rattle.just_names.specs.Token.{Place}
+use Rattle.just_names.specs.Token.{Place, lexeme}
 use Rattle.just_names.specs.declared.name.Namepath.{Namepath}
 use Rattle.just_errors.specs.declared.error.CompileErrorKind.{CompileErrorKind}
 use Rattle.just_errors.specs.declared.error.CompileErrorKind.TheVariants as kind
 use Rattle.just_errors.specs.declared.error.Definition.TheVariants as definition
 use Rattle.just_names.specs.declared.name.Name.{Name}
+use Rattle.just_records.specs.declared.list_use.ListUse.{ListUse}
 use Rattle.just_records.specs.declared.setting.Set.{Set}
 use Rattle.just_records.specs.declared.settings.Settings.{Settings}
 use Rattle.just_errors.specs.declared.error.Fault.{Fault}
 use Rattle.just_parts.specs.declared.layers.ast.UnresolvedDependency.{UnresolvedDependency}
 use Rattle.just_parts.specs.declared.recipe.Recipe.{Recipe}
-use Rattle.just_joining.specs.Contents.{Contents, Defined, Signature, function_names, module_of_name, texts_of_defined, texts_of_names}
-use Rattle.just_joining.specs.Index.{Repeats}
-use Rattle.just_joining.specs.Settings.{Conflicts, are_incompatible, line_at, place_at, setting_at, setting_names}
+use Rattle.just_joining.specs.Contents.{Contents, Defined, Signature, defined_in, function_names, module_of_name, signatures, texts_of_defined, texts_of_names, variable_names}
+use Rattle.just_joining.specs.Index.{Repeats, name_at}
+use Rattle.just_joining.specs.Settings.{Conflicts, allows_variables, are_incompatible, line_at, place_at, setting_at, setting_names}
 use Rattle.just_joining.specs.Recipes.{name_of, named_parameters, parameter_names, FollowsDefault, named_paths, least_of, most_of, recipe_at, DependsOn}
 
 -- A recipe has a parameter's name twice: those two that follow each other under that name; or a parameter whose group may not be empty follows one with a default, both given by their places. It is told at the later parameter.
@@ -76,19 +79,59 @@ pub data RepeatsParameter (s : Signature) : Cause → Type 0 where
   duplicate_function_parameter : {second : Name} (p q : ℕ) → Repeats (texts_of_names s.parameters) p q → slice_get s.parameters q ≡ Some second
       → RepeatsParameter s (Broken second.token (kind.DuplicateFunctionParameter (text_of_name s.name) (text_of_name second)))
 
--- What is broken in the names of a module: two functions have one name, those two that follow each other under it, and it is told at the second; or one has the name of a parameter twice.
-pub data Names (functions : List Signature) : Cause → Type 0 where
+-- What is broken of functions: two have one name, those two that follow each other under it, and it is told at the second; or one has the name of a parameter twice.
+pub data Functions (functions : List Signature) : Cause → Type 0 where
   function_redefinition : {first second : Name} (i j : ℕ) → Repeats (texts_of_names (function_names functions)) i j → slice_get (function_names functions) i ≡ Some first → slice_get (function_names functions) j ≡ Some second
-      → Names functions (Broken second.token (kind.Redefinition definition.Function definition.Function (text_of_name second) first.token.line))
-  of_function : {s : Signature} {c : Cause} (i : ℕ) → slice_get functions i ≡ Some s → RepeatsParameter s c → Names functions c
+      → Functions functions (Broken second.token (kind.Redefinition definition.Function definition.Function (text_of_name second) first.token.line))
+  of_function : {s : Signature} {c : Cause} (i : ℕ) → slice_get functions i ≡ Some s → RepeatsParameter s c → Functions functions c
+
+-- A variable is assigned twice: at those two places that follow each other under its name. It is told at the second.
+pub data AssignedTwice (names : List Name) : Cause → Type 0 where
+  duplicate_variable : {second : Name} (i j : ℕ) → Repeats (texts_of_names names) i j → slice_get names j ≡ Some second → AssignedTwice names (Broken second.token (kind.DuplicateVariable (text_of_name second)))
+
+-- A variable is assigned and unexported. It is told where it is assigned.
+pub data Unexported (names unexports : List Name) : Cause → Type 0 where
+  export_unexported : {name : Name} (i j : ℕ) → slice_get names i ≡ Some name → j < length (texts_of_names unexports) → name_at (texts_of_names unexports) j ≡ text_of_name name
+      → Unexported names unexports (Broken name.token (kind.ExportUnexported (text_of_name name)))
+
+-- What is broken of variables: one is assigned twice, though no setting allows it, or one is unexported.
+pub data Variables (allowed : Bool) (names unexports : List Name) : Cause → Type 0 where
+  assigned_twice : {c : Cause} → allowed ≡ false → AssignedTwice names c → Variables allowed names unexports c
+  unexported : {c : Cause} → Unexported names unexports c → Variables allowed names unexports c
+
+-- What is broken in the names of a module: those of its variables, or of its functions.
+pub data Names (m : Contents) : Cause → Type 0 where
+  of_variables : {c : Cause} → Variables (allows_variables m.sets) (variable_names m.variables) m.unexports c → Names m c
+  of_functions : {c : Cause} → Functions (signatures m.functions) c → Names m c
 
 -- The settings of a module have no value.
 pub data Constants (settings : Option Settings) : Cause → Type 0 where
   settings_fault : {place : Place} {fault : Fault} → settings ≡ None → Constants settings (Broken place (kind.Evaluate fault))
 
--- What is broken in the bodies of a module: two of its modules and recipes have one name.
-pub data Bodies (ds : List Defined) : Cause → Type 0 where
-  redefinition : {place : Place} {told : CompileErrorKind} → Redefines ds place told → Bodies ds (Broken place told)
+-- Two of these definitions have one name, and they are not two recipes that may have it.
+pub data Redefined (allowed : Bool) (ds : List Defined) : Cause → Type 0 where
+  redefinition : {place : Place} {told : CompileErrorKind} (r : Redefines ds place told) → (allowed ≡ true → r.first.sort ≡ definition.Module) → Redefined allowed ds (Broken place told)
+
+-- a function of one of these names stands for what needs lists
+pub record StandsFor (names : List Text) (used : ListUse) : Type 0 where
+  pub may : is_function used.feature ≡ true
+  pub at : ℕ
+  pub there : at < length names
+  pub named : name_at names at ≡ lexeme used.token
+
+-- Something needs lists, which are off, and no function of the module stands for it.
+pub data Lists (on : Bool) (names : List Text) (uses : List ListUse) : Cause → Type 0 where
+  list_feature : {used : ListUse} (i : ℕ) → on ≡ false → slice_get uses i ≡ Some used → (StandsFor names used → ⊥) → Lists on names uses (Broken used.token (kind.ListFeature used.feature))
+
+-- What is broken in the bodies of a module under its settings: something needs lists, or two of its modules and recipes have one name.
+pub data Bodies (settings : Settings) (m : Contents) : Cause → Type 0 where
+  of_lists : {c : Cause} → Lists settings.lists (texts_of_names (function_names (signatures m.functions))) m.lists c → Bodies settings m c
+  of_defined : {c : Cause} → Redefined settings.allow_duplicate_recipes (defined_in m) c → Bodies settings m c
+
+-- the same, where the settings have a value
+abbrev pub BodiesUnder : Option Settings → Contents → Cause → Type 0
+BodiesUnder None m c = ⊥
+BodiesUnder (Some settings) m c = Bodies settings m c
 
 -- A circle of names: it begins and ends with one name, each recipe depends on the next, and `recipe` is the last that does.
 pub record IsCircleOf (recipes : List (Recipe UnresolvedDependency)) (recipe : List ℕ) (circle : List (List ℕ)) : Type 0 where

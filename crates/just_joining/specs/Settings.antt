@@ -10,9 +10,21 @@ use Rattle.just_records.specs.declared.setting.Set.{Set}
 use Rattle.just_records.specs.declared.setting.Setting.{Setting}
 use Rattle.just_records.specs.declared.setting.Setting.TheVariants as setting
 
+-- a setting lets variables be assigned twice
+abbrev pub allows : Setting → Bool
+allows (setting.AllowDuplicateVariables on) = on
+allows _ = false
+
 -- the settings that may not be set beside one
 abbrev pub Conflicts : Type 0
 Conflicts = Setting → List Keyword
+
+-- variables may be assigned twice
+abbrev pub is_allowing : Set → Bool
+is_allowing s = allows s.value
+
+abbrev pub allows_variables : List Set → Bool
+allows_variables = list_any is_allowing
 
 -- the names of settings
 abbrev pub setting_names : List Set → List Text

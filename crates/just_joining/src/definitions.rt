@@ -1,10 +1,10 @@
 ghost use Rattle.std.specs.Prelude.{◌≡◌, ◌<◌, IfOk, Some, length, slice_get};
 ghost use Rattle.just_joining.specs.Recipes.{recipes_of, recipe_at};
-ghost use Rattle.just_joining.specs.Definitions.{functions_in, recipes_in, sets_in};
+ghost use Rattle.just_joining.specs.Definitions.{functions_in, lists_in, recipes_in, sets_in, variables_in};
 
 use crate::enabled::is_enabled;
 use just_parts::UnresolvedRecipe;
-use just_parts::layers::{FunctionDefinition, Item, Name, Set, Syntax};
+use just_parts::layers::{Assignment, FunctionDefinition, Item, ListUse, Name, Set, Syntax};
 use std::alloc::{AllocError, Global};
 
 /// What the files of a module say of it, file after file, before its recipes are resolved.
@@ -14,19 +14,23 @@ pub struct Definitions<'src, 'a> {
     pub recipes: Vec<&'a UnresolvedRecipe<'src>>,
     /// The functions.
     pub functions: Vec<&'a FunctionDefinition<'src>>,
+    /// The variables.
+    pub variables: Vec<&'a Assignment<'src>>,
     /// The names of the modules in it.
     pub modules: Vec<Name<'src>>,
     /// The names of the variables that it unexports.
     pub unexports: Vec<Name<'src>>,
     /// What it sets.
     pub sets: Vec<&'a Set<'src>>,
+    /// Where it needs lists.
+    pub lists: Vec<&'a ListUse<'src>>,
 }
 
 impl<'a, 'src> Definitions<'src, 'a> {
     ghost use Rattle.std.specs.Prelude.{◌++◌, [], OnOk};
-    ghost use Rattle.just_joining.specs.Contents.{no_contents};
-    ghost use Rattle.just_joining.specs.Definitions.{contents_in, functions_in, recipes_in, sets_in};
-    ghost use Rattle.just_joining.specs.Named.{function_by, name_by, said, set_by, unexported_by};
+    ghost use Rattle.just_joining.specs.Contents.{no_contents, with_lists};
+    ghost use Rattle.just_joining.specs.Definitions.{contents_in, functions_in, lists_in, recipes_in, sets_in, variables_in};
+    ghost use Rattle.just_joining.specs.Named.{function_by, name_by, said, set_by, unexported_by, variable_by};
 
     /// Nothing.
     pub fn new(alloc: Global) -> Definitions<'src, 'a>
@@ -35,9 +39,11 @@ impl<'a, 'src> Definitions<'src, 'a> {
         Definitions {
             recipes: Vec::new(alloc),
             functions: Vec::new(alloc),
+            variables: Vec::new(alloc),
             modules: Vec::new(alloc),
             unexports: Vec::new(alloc),
             sets: Vec::new(alloc),
+            lists: Vec::new(alloc),
         }
     }
 
@@ -45,9 +51,11 @@ impl<'a, 'src> Definitions<'src, 'a> {
     pub fn add<S: Syntax>(&mut self, items: &'a [Item<'src>], syntax: &S) -> Result<(), AllocError>
         ensures recipes { OnOk result (recipes_in self.new ≡ recipes_in self.old ++ recipes_of (S.answers syntax.now).enabled items.now) }
         ensures functions { OnOk result (functions_in self.new ≡ functions_in self.old ++ said function_by (S.answers syntax.now).enabled items.now) }
+        ensures variables { OnOk result (variables_in self.new ≡ variables_in self.old ++ said variable_by (S.answers syntax.now).enabled items.now) }
         ensures modules { OnOk result (self.new.modules.items ≡ self.old.modules.items ++ said name_by (S.answers syntax.now).enabled items.now) }
         ensures unexports { OnOk result (self.new.unexports.items ≡ self.old.unexports.items ++ said unexported_by (S.answers syntax.now).enabled items.now) }
         ensures sets { OnOk result (sets_in self.new ≡ sets_in self.old ++ said set_by (S.answers syntax.now).enabled items.now) }
+        ensures lists { OnOk result (lists_in self.new ≡ lists_in self.old) }
     {
         for item in items {
             if !is_enabled(item, syntax) {
@@ -56,6 +64,7 @@ impl<'a, 'src> Definitions<'src, 'a> {
             match item {
                 Item::Recipe(recipe) => self.recipes.push(recipe)?,
                 Item::Function(function) => self.functions.push(function)?,
+                Item::Assignment(variable) => self.variables.push(variable)?,
                 Item::Module {
                     name,
                     absolute: Some(_),
@@ -65,6 +74,16 @@ impl<'a, 'src> Definitions<'src, 'a> {
                 Item::Setting(set) => self.sets.push(set)?,
                 _ => continue,
             }
+        }
+        Ok(())
+    }
+
+    /// Adds where a file needs lists.
+    pub fn add_lists(&mut self, uses: &'a [ListUse<'src>]) -> Result<(), AllocError>
+        ensures { OnOk result (contents_in self.new ≡ with_lists (contents_in self.old) uses.now) }
+    {
+        for used in uses {
+            self.lists.push(used)?;
         }
         Ok(())
     }
@@ -110,4 +129,26 @@ pub fn set_at<'b, 'a, 'src>(definitions: &'b Definitions<'src, 'a>, place: usize
     ensures { slice_get (sets_in definitions.now) place ≡ Some result.now }
 {
     &*definitions.sets[place]
+}
+
+/// The variable at a place.
+pub fn variable_at<'b, 'a, 'src>(
+    definitions: &'b Definitions<'src, 'a>,
+    place: usize,
+) -> &'b Assignment<'src>
+    requires { place < length definitions.now.variables.items }
+    ensures { slice_get (variables_in definitions.now) place ≡ Some result.now }
+{
+    &*definitions.variables[place]
+}
+
+/// What needs lists at a place.
+pub fn list_at<'b, 'a, 'src>(
+    definitions: &'b Definitions<'src, 'a>,
+    place: usize,
+) -> &'b ListUse<'src>
+    requires { place < length definitions.now.lists.items }
+    ensures { slice_get (lists_in definitions.now) place ≡ Some result.now }
+{
+    &*definitions.lists[place]
 }

@@ -6,7 +6,7 @@ ghost use Rattle.just_records.specs.declared.function_definition.FunctionDefinit
 ghost use Rattle.just_joining.specs.Contents.{function_names, signature, signatures, texts_of_names};
 ghost use Rattle.just_joining.specs.Definitions.{functions_in};
 ghost use Rattle.just_joining.specs.Index.{AreDifferent};
-ghost use Rattle.just_joining.specs.Rules.{Names, RepeatsParameter};
+ghost use Rattle.just_joining.specs.Rules.{Functions, RepeatsParameter};
 
 use crate::definitions::{Definitions, function_at};
 use crate::headers::told;
@@ -54,8 +54,8 @@ fn check_function<'src>(
     }
 }
 
-// The names of the functions.
-fn names_of<'a, 'src>(
+/// The names of the functions.
+pub(crate) fn names_of<'a, 'src>(
     alloc: Global,
     definitions: &Definitions<'src, 'a>,
 ) -> Result<Vec<Name<'src>>, AllocError>
@@ -74,7 +74,7 @@ fn check_different<'a, 'src>(
     definitions: &Definitions<'src, 'a>,
 ) -> Result<(), Error<'src>>
     ensures kept { OnOk result (AreDifferent (texts_of_names (function_names (signatures (functions_in definitions.now))))) }
-    ensures named { IfErr result (Reports (Names (signatures (functions_in definitions.now)))) }
+    ensures named { IfErr result (Reports (Functions (signatures (functions_in definitions.now)))) }
 {
     let names = names_of(alloc, definitions)?;
     match repeated_name(alloc, names.as_slice())? {
@@ -93,8 +93,8 @@ pub fn check_functions<'a, 'src>(
     alloc: Global,
     definitions: &Definitions<'src, 'a>,
 ) -> Result<(), Error<'src>>
-    ensures kept { OnOk result (Keeps (Names (signatures (functions_in definitions.now)))) }
-    ensures named { IfErr result (Reports (Names (signatures (functions_in definitions.now)))) }
+    ensures kept { OnOk result (Keeps (Functions (signatures (functions_in definitions.now)))) }
+    ensures named { IfErr result (Reports (Functions (signatures (functions_in definitions.now)))) }
 {
     check_different(alloc, definitions)?;
     for place in 0..definitions.functions.len() {

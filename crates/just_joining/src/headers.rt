@@ -1,15 +1,13 @@
 ghost use Rattle.std.specs.Prelude.{◌≡◌, ◌<◌, ℕ, length, IfOk, IfErr, IfNone, IfSome, OnOk, map};
-ghost use Rattle.std.specs.Str.{bytes_eq};
-ghost use Rattle.std.specs.HashMap.{get};
 ghost use Rattle.just_names.specs.Name.{text_of_name};
 ghost use Rattle.just_records.specs.declared.parameter.Parameter.{Parameter};
 ghost use Rattle.just_errors.specs.declared.error.CompileErrorKind.TheVariants as kind;
-ghost use Rattle.just_joining.specs.Index.{AreApart, AreDifferent, IsIndex};
-ghost use Rattle.just_joining.specs.Recipes.{FollowsDefault, NoneFollows, is_defaulted, is_needed, names_of, parameter_names, recipe_at};
+ghost use Rattle.just_joining.specs.Index.{AreDifferent};
+ghost use Rattle.just_joining.specs.Recipes.{FollowsDefault, NoneFollows, is_defaulted, is_needed, parameter_names, recipe_at};
 ghost use Rattle.just_joining.specs.Definitions.{contents_in, recipes_in};
 ghost use Rattle.just_errors.specs.Causes.{Keeps, Reports};
-ghost use Rattle.just_joining.specs.Contents.{defined, defined_in, texts_of_names};
-ghost use Rattle.just_joining.specs.Rules.{Bodies, Headers, IsRedefinition, Modules, Parameters, Unexports};
+ghost use Rattle.just_joining.specs.Contents.{defined, texts_of_names};
+ghost use Rattle.just_joining.specs.Rules.{Headers, IsRedefinition, Modules, Parameters, Unexports};
 
 use crate::definitions::{Definitions, recipe_at};
 use crate::names::{index_names, repeated_name};
@@ -18,20 +16,6 @@ use just_data::BorrowedText;
 use just_parts::layers::error::Definition;
 use just_parts::layers::{CompileError, CompileErrorKind, Error, Name, Parameter, Syntax};
 use std::alloc::{AllocError, Global};
-use std::collections::HashMap;
-
-fn recipe_names<'a, 'src>(
-    alloc: Global,
-    definitions: &Definitions<'src, 'a>,
-) -> Result<Vec<BorrowedText<'src>>, AllocError>
-    ensures { IfOk result (λ names. names.items ≡ names_of (recipes_in definitions.now)) }
-{
-    let mut names = Vec::new(alloc);
-    for place in 0..definitions.recipes.len() {
-        names.push(BorrowedText::new(recipe_at(definitions, place).name.lexeme()))?;
-    }
-    Ok(names)
-}
 
 fn parameter_names<'src>(
     alloc: Global,
@@ -167,8 +151,8 @@ pub(crate) fn told<'src>(
     }
 }
 
-// The error of two definitions of one name, in the order in which they are met: the one on the smaller line is the first.
-fn redefinition<'src>(
+/// The error of two definitions of one name, in the order in which they are met: the one on the smaller line is the first.
+pub(crate) fn redefinition<'src>(
     first: Definition,
     first_name: &Name<'src>,
     second: Definition,
@@ -180,70 +164,6 @@ fn redefinition<'src>(
         return told(second, second_name, first, first_name);
     }
     told(first, first_name, second, second_name)
-}
-
-// The place of each recipe's name. Two recipes of one name are refused.
-fn index_alone<'a, 'src>(
-    alloc: Global,
-    definitions: &Definitions<'src, 'a>,
-) -> Result<HashMap<BorrowedText<'src>, usize>, Error<'src>>
-    ensures different { IfOk result (λ _. AreDifferent (names_of (recipes_in definitions.now))) }
-    ensures index { IfOk result (λ index. IsIndex (names_of (recipes_in definitions.now)) (get bytes_eq index)) }
-    ensures named { IfErr result (Reports (Bodies (defined_in (contents_in definitions.now)))) }
-{
-    let names = recipe_names(alloc, definitions)?;
-    match index_names(alloc, names.as_slice())? {
-        Ok(index) => Ok(index),
-        Err((first, second)) => Err(Error::Compile(redefinition(
-            Definition::Recipe,
-            &recipe_at(definitions, first).name,
-            Definition::Recipe,
-            &recipe_at(definitions, second).name,
-        ))),
-    }
-}
-
-// Refuses the first module that has the name of a recipe.
-fn check_shared<'a, 'src>(
-    definitions: &Definitions<'src, 'a>,
-    index: &HashMap<BorrowedText<'src>, usize>,
-) -> Result<(), Error<'src>>
-    requires modules { AreDifferent (texts_of_names definitions.now.modules.items) }
-    requires recipes { AreDifferent (names_of (recipes_in definitions.now)) }
-    requires index { IsIndex (names_of (recipes_in definitions.now)) (get bytes_eq index.now) }
-    ensures apart { OnOk result (AreApart (texts_of_names definitions.now.modules.items) (names_of (recipes_in definitions.now))) }
-    ensures named { IfErr result (Reports (Bodies (defined_in (contents_in definitions.now)))) }
-{
-    for name in &definitions.modules {
-        match index.get(&BorrowedText::new(name.lexeme())) {
-            None => continue,
-            Some(place) => {
-                return Err(Error::Compile(redefinition(
-                    Definition::Module,
-                    name,
-                    Definition::Recipe,
-                    &recipe_at(definitions, *place).name,
-                )));
-            }
-        }
-    }
-    Ok(())
-}
-
-/// The place of each recipe's name. Two recipes of one name are refused, and a recipe that has the name of a module.
-pub fn index_recipes<'a, 'src>(
-    alloc: Global,
-    definitions: &Definitions<'src, 'a>,
-) -> Result<HashMap<BorrowedText<'src>, usize>, Error<'src>>
-    requires { AreDifferent (texts_of_names definitions.now.modules.items) }
-    ensures kept { IfOk result (λ _. Keeps (Bodies (defined_in (contents_in definitions.now)))) }
-    ensures different { IfOk result (λ _. AreDifferent (names_of (recipes_in definitions.now))) }
-    ensures index { IfOk result (λ index. IsIndex (names_of (recipes_in definitions.now)) (get bytes_eq index)) }
-    ensures named { IfErr result (Reports (Bodies (defined_in (contents_in definitions.now)))) }
-{
-    let index = index_alone(alloc, definitions)?;
-    check_shared(definitions, &index)?;
-    Ok(index)
 }
 
 /// Checks that the names of a module's modules are different.

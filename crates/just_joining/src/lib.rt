@@ -1,14 +1,17 @@
 //! The files of modules, joined, the rules of their headers and recipes, and the recipes resolved.
 #![tactic(auto)]
 
+pub mod bodies;
 pub mod definitions;
 pub mod enabled;
 pub mod files;
 pub mod functions;
 pub mod headers;
 pub mod joined;
+pub mod kept;
 pub mod module_names;
 pub mod names;
 pub mod recipe_resolver;
 mod settings;
 pub mod unresolved_recipe;
+pub mod variables;

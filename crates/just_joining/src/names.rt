@@ -1,8 +1,8 @@
-ghost use Rattle.std.specs.Prelude.{◌≡◌, IfOk, IfErr, IfSome, IfNone};
+ghost use Rattle.std.specs.Prelude.{◌≡◌, ◌<◌, IfOk, IfErr, IfSome, IfNone, length};
 ghost use Rattle.std.specs.Str.{bytes_eq};
 ghost use Rattle.std.specs.HashMap.{get};
 ghost use Rattle.just_joining.specs.Contents.{texts_of_names};
-ghost use Rattle.just_joining.specs.Index.{Repeats, AreDifferent, IsIndex};
+ghost use Rattle.just_joining.specs.Index.{Repeats, AreDifferent, IsIndex, NoneRepeats};
 
 use just_data::BorrowedText;
 use just_parts::layers::Name;
@@ -28,8 +28,46 @@ pub fn index_names<'src>(
     Ok(Ok(index))
 }
 
-// The texts of names.
-fn texts_of<'src>(
+/// The last place of each name.
+pub fn index_last<'src>(
+    alloc: Global,
+    names: &[BorrowedText<'src>],
+) -> Result<HashMap<BorrowedText<'src>, usize>, AllocError>
+    ensures { IfOk result (λ index. IsIndex names.now (get bytes_eq index)) }
+{
+    let mut index = HashMap::new(alloc);
+    for place in 0..names.len() {
+        index.insert(names[place].copied(), place)?;
+    }
+    Ok(index)
+}
+
+/// The first place whose name stood before, last at a place below a bound; with that place.
+pub fn repeated_below<'src>(
+    alloc: Global,
+    names: &[BorrowedText<'src>],
+    bound: usize,
+) -> Result<Option<(usize, usize)>, AllocError>
+    ensures repeated { IfOk result (λ places. IfSome places (λ two. Repeats names.now two.0 two.1)) }
+    ensures below { IfOk result (λ places. IfSome places (λ two. two.0 < bound)) }
+    ensures none { IfOk result (λ places. IfNone places (NoneRepeats names.now (length names.now) bound)) }
+{
+    let mut index = HashMap::new(alloc);
+    for place in 0..names.len() {
+        match index.insert(names[place].copied(), place)? {
+            None => continue,
+            Some(before) => {
+                if before < bound {
+                    return Ok(Some((before, place)));
+                }
+            }
+        }
+    }
+    Ok(None)
+}
+
+/// The texts of names.
+pub fn texts_of<'src>(
     alloc: Global,
     names: &[Name<'src>],
 ) -> Result<Vec<BorrowedText<'src>>, AllocError>

@@ -44,9 +44,12 @@ fn add_broken(text: &mut String, kind: &CompileErrorKind) -> Result<(), AllocErr
             text,
             ": first {first}, first line {first_line}, second {second}"
         ),
-        CompileErrorKind::DuplicateUnexport { variable } => {
+        CompileErrorKind::DuplicateUnexport { variable }
+        | CompileErrorKind::DuplicateVariable { variable }
+        | CompileErrorKind::ExportUnexported { variable } => {
             write!(text, ": variable {variable}")
         }
+        CompileErrorKind::ListFeature { feature } => write!(text, ": {feature}"),
         CompileErrorKind::DuplicateFunctionParameter {
             function,
             parameter,

@@ -5,14 +5,13 @@ use Rattle.std.specs.List.{All, Contains}
 use Rattle.std.specs.Map.{values_of}
 use Rattle.std.proofs.lemmas.Bool.Decides.{eqb_tells}
 use Rattle.std.proofs.lemmas.List.{get_or_default, length-map}
-use Rattle.std.proofs.lemmas.List.Elements.{Contains-get_or}
 use Rattle.just_graph.specs.Levels.{AreLevels, before, level}
 use Rattle.just_graph.proofs.Members.{In, contained, from_map, in_cases, in_flat, in_left, in_map, in_right, is_in}
 use Rattle.just_parts.specs.Asts.{AstKey}
 use Rattle.just_table.specs.Entries.{find, put}
 use Rattle.just_names.specs.Modulepath.{Text}
 use Rattle.just_parts.specs.declared.dependency.Dependency.{Dependency}
-use Rattle.just_parts.specs.Items.{Ast, Item}
+use Rattle.just_parts.specs.Items.{Ast}
 use Rattle.just_parts.specs.declared.layers.ast.UnresolvedDependency.{UnresolvedDependency}
 use Rattle.just_names.specs.declared.number.Number.{Number}
 use Rattle.just_parts.specs.declared.recipe.Recipe.{Recipe}
@@ -25,8 +24,8 @@ use Rattle.just_invoke.specs.declared.justfile.RecipeKey.{RecipeKey}
 use Rattle.just_modules.specs.Analysis.{IsDefaultOf, IsKeyOf}
 use Rattle.just_modules.specs.Justfiles.{AreCompiled, Built, IsCompiled, by_name, held_by_name, none, one, recipes_in}
 use Rattle.just_modules.specs.Modules.{Forest, Module}
+use Rattle.just_joining.specs.Kept.{kept_recipes}
 use Rattle.just_joining.specs.Recipes.{recipes_of}
-use Rattle.just_joining.specs.Reading.{items_in}
 use Rattle.just_joining.specs.Resolved.{number_at, unresolved_numbers}
 use Rattle.just_modules.proofs.Keys.{each_found}
 use Rattle.just_modules.proofs.TableValues.{put_cases}
@@ -89,7 +88,7 @@ module _ (layers : Layers) (asts : AstKey → Option Ast) (loaded : List Text) (
 
   module _ {m : Module} {inner : List Justfile} {made : List (Recipe Dependency)} {j : Justfile} (there : Contains built (m.heading.key, made)) (is : IsCompiled layers asts loaded m inner made j) where
     abbrev rs : List (Recipe UnresolvedDependency)
-    rs = recipes_in layers.syntax.enabled asts m.files
+    rs = kept_recipes (recipes_in layers.syntax.enabled asts m.files)
 
     abbrev own_rs : List (Recipe UnresolvedDependency)
     own_rs = recipes_of layers.syntax.enabled is.own.items
@@ -101,23 +100,16 @@ module _ (layers : Layers) (asts : AstKey → Option Ast) (loaded : List Text) (
     key_held None f some = some
     key_held (Some key) f some = let at = f key refl in subst (λ n. IsSome (find_number recipes n)) at.2 (place_held at.0 at.1)
 
-    own_held : (n : ℕ) → In n (unresolved_numbers own_rs) → IsSome (find_number recipes n)
-    own_held n h =
-        let q = from_map (λ (r : Recipe UnresolvedDependency). r.number.0) n own_rs h in
-        let i : In q.0 rs = in_flat (λ k. recipes_of layers.syntax.enabled (items_in (asts k))) q.0 m.heading.key m.files (is_in m.heading.key m.files is.own_there) (subst (λ o. In q.0 (recipes_of layers.syntax.enabled (items_in o))) (sym is.own_said) q.1) in
-        let p = number_in rs n (subst (λ m. In m (unresolved_numbers rs)) (sym q.2) (in_map (λ (r : Recipe UnresolvedDependency). r.number.0) q.0 rs i)) in
-        subst (λ m. IsSome (find_number recipes m)) p.2 (place_held p.0 p.1)
-
-    default_held : (o : Option Number) → IsDefaultOf own_rs o → IsSome o → IsSome (recipe_of_number recipes o)
+    default_held : (o : Option Number) → IsDefaultOf (unresolved_numbers rs) own_rs o → IsSome o → IsSome (recipe_of_number recipes o)
     default_held None d some = some
     default_held (Some number) d some =
-        let h : d.0 < length (unresolved_numbers own_rs) = omega (arith, d.1.there, length-map own_rs (λ (r : Recipe UnresolvedDependency). r.number.0)) in
-        own_held number.0 (subst (λ m. In m (unresolved_numbers own_rs)) d.2 (is_in (number_at own_rs d.0) (unresolved_numbers own_rs) (Contains-get_or (unresolved_numbers own_rs) d.0 0 h)))
+        let p = number_in rs (number_at own_rs d.0) (is_in (number_at own_rs d.0) (unresolved_numbers rs) d.1.is_resolved) in
+        subst (λ n. IsSome (find_number recipes n)) (p.2 ∙ d.2) (place_held p.0 p.1)
 
     module_closed : IsClosed j recipes
     module_closed = record {
       named = λ name some. key_held (find name (out-Justfile j).recipes) (λ key e. each_found (IsKeyOf rs (length rs)) name key (out-Justfile j).recipes is.fields.keys e) some;
-      default = default_held (out-Justfile j).default is.fields.default;
+      default = default_held (out-Justfile j).default is.default;
       resolved = resolved;
     }
 

@@ -1,15 +1,21 @@
 -- Which of two recipes is the default before the other.
-use Rattle.std.proofs.Common.{◌≡◌, ◌≢◌, ℕ, ◌<◌, Bool, false, IsTrue, List, refl, sym, ap, subst, ◌∙◌, arith, is_lt, inl, inr, ◌+◌}
+use Rattle.std.proofs.Common.{◌≡◌, ◌≢◌, ◌==◌, ℕ, zero, suc, ◌<◌, Bool, true, false, IsTrue, List, [], ◌∷◌, length, get_or, Option, None, Some, Bor, refl, sym, ap, subst, ◌∙◌, arith, is_lt, inl, inr, ◌+◌}
+use Rattle.std.specs.List.{Contains}
+use Rattle.std.specs.Option.{is_some, option_copied}
 use Rattle.std.specs.Cmp.Lexicographic.{slice_cmp}
 use Rattle.std.specs.Ordering.{nat_cmp, ordering_reverse}
 use Rattle.std.specs.declared.cmp.Ordering.{Ordering}
 use Rattle.std.specs.declared.cmp.Ordering.TheVariants.{Less, Equal, Greater}
-use Rattle.std.proofs.lemmas.Bool.{cases_lt, false≢true}
+use Rattle.std.proofs.lemmas.Bool.{cases_Bool, cases_lt, eq-eqb, false≢true}
 use Rattle.std.proofs.lemmas.Cmp.{nat_list_cmp_total, tied_itself}
+use Rattle.just_parts.specs.declared.dependency.Dependency.{Dependency}
 use Rattle.just_parts.specs.declared.layers.ast.UnresolvedDependency.{UnresolvedDependency}
 use Rattle.just_parts.specs.declared.recipe.Recipe.{Recipe}
-use Rattle.just_modules.specs.Analysis.{IsBefore}
+use Rattle.just_running.specs.Recipes.{find_number, numbers}
+use Rattle.just_running.proofs.Places.{found-number}
+use Rattle.just_modules.specs.Analysis.{IsBefore, IsBetter, IsDefault, IsDefaultPlace}
 use Rattle.just_joining.specs.Recipes.{name_of, line_of, recipe_at}
+use Rattle.just_joining.specs.Resolved.{number_at}
 
 abbrev cmp : List ℕ → List ℕ → Ordering
 cmp = slice_cmp nat_cmp
@@ -59,19 +65,61 @@ not_less_by Greater b e f = λ l. cc
 pub by_no_less : (a b : Recipe UnresolvedDependency) → line_of a ≡ line_of b → cmp (name_of a) (name_of b) ≢ Less → IsBefore a b
 by_no_less a b e n = record { line = omega (arith, e); name = λ _. n }
 
--- one more recipe, which is before none of the others or before them all
-module _ (rs : List (Recipe UnresolvedDependency)) (best place : ℕ) (least : (k : ℕ) → k < place → IsBefore (recipe_at rs best) (recipe_at rs k)) (k : ℕ) (h : k < place + 1) where
-  pub stays_best : IsBefore (recipe_at rs best) (recipe_at rs place) → IsBefore (recipe_at rs best) (recipe_at rs k)
-  stays_best is = elim (cases_lt k place) [
-    | inl l ↦ least k l
-    | inr l ↦ (let same : place ≡ k = omega (arith, h, l) in subst (λ x. IsBefore (recipe_at rs best) (recipe_at rs x)) same is)
+-- one more recipe, which is resolved or is not
+module _ (ns : List ℕ) (rs : List (Recipe UnresolvedDependency)) (n : ℕ) where
+  -- one that is not
+  pub passes_by : (o : Option ℕ) → (Contains ns (number_at rs n) → ⊥) → IsDefaultPlace ns rs n o → IsDefaultPlace ns rs (n + 1) o
+  passes_by None out so = λ k h c. elim (cases_lt k n) [
+    | inl l ↦ so k l c
+    | inr l ↦ (let same : k ≡ n = omega (arith, h, l) in out (subst (λ i. Contains ns (number_at rs i)) same c))
   ]
+  passes_by (Some best) out so = record {
+    there = omega (arith, so.there);
+    is_resolved = so.is_resolved;
+    least = λ k h c. elim (cases_lt k n) [
+      | inl l ↦ so.least k l c
+      | inr l ↦ (let same : k ≡ n = omega (arith, h, l) in absurd (out (subst (λ i. Contains ns (number_at rs i)) same c)))
+    ];
+  }
 
-  pub becomes_best : IsBefore (recipe_at rs place) (recipe_at rs best) → IsBefore (recipe_at rs place) (recipe_at rs k)
-  becomes_best is = elim (cases_lt k place) [
-    | inl l ↦ by_two (recipe_at rs place) (recipe_at rs best) (recipe_at rs k) is (least k l)
-    | inr l ↦ (let same : place ≡ k = omega (arith, h, l) in subst (λ x. IsBefore (recipe_at rs place) (recipe_at rs x)) same (itself (recipe_at rs place)))
-  ]
+  -- one that is, against the best so far
+  pub takes_better : (o : Option ℕ) (next : ℕ) → Contains ns (number_at rs n) → IsBetter rs o n next → IsDefaultPlace ns rs n o → IsDefault ns rs (n + 1) next
+  takes_better None next here is so =
+      subst (IsDefault ns rs (n + 1)) (sym is) (record {
+        there = omega arith;
+        is_resolved = here;
+        least = λ k h c. elim (cases_lt k n) [
+          | inl l ↦ absurd (so k l c)
+          | inr l ↦ (let same : n ≡ k = omega (arith, h, l) in subst (λ i. IsBefore (recipe_at rs n) (recipe_at rs i)) same (itself (recipe_at rs n)))
+        ];
+      })
+  takes_better (Some best) next here is so = record {
+    there = elim is.0 [ inl e ↦ omega (arith, e, so.there) | inr e ↦ omega (arith, e) ];
+    is_resolved = elim is.0 [ inl e ↦ subst (λ i. Contains ns (number_at rs i)) (sym e) so.is_resolved | inr e ↦ subst (λ i. Contains ns (number_at rs i)) (sym e) here ];
+    least = λ k h c. elim (cases_lt k n) [
+      | inl l ↦ by_two (recipe_at rs next) (recipe_at rs best) (recipe_at rs k) is.1 (so.least k l c)
+      | inr l ↦ (let same : n ≡ k = omega (arith, h, l) in subst (λ i. IsBefore (recipe_at rs next) (recipe_at rs i)) same is.2)
+    ];
+  }
 
 pub read_before : (a b c d : Recipe UnresolvedDependency) → a ≡ c → b ≡ d → IsBefore a b → IsBefore c d
 read_before a b c d p q is = subst (λ x. IsBefore x d) p (subst (IsBefore a) q is)
+
+-- a number that stands among those of recipes is found
+missed_at : (rs : List (Recipe Dependency)) (n k : ℕ) → k < length (numbers rs) → get_or (numbers rs) k n ≡ n → find_number rs n ≢ None
+missed_at [] n k l e = absurd (omega (arith, l))
+missed_at (r ∷ rs) n zero l e = rw (eq-eqb r.number.0 n e) (λ f. cc)
+missed_at (r ∷ rs) n (suc k) l e = elim (cases_Bool (r.number.0 == n)) [
+  | inl h ↦ rw h (λ f. cc)
+  | inr h ↦ rw h (missed_at rs n k (omega (arith, l)) e)
+]
+
+-- whether a recipe is resolved, as it is looked up
+module _ (rs : List (Recipe Dependency)) (n : ℕ) where
+  pub is_resolved : (o : Option (Bor (Recipe Dependency))) → option_copied o ≡ find_number rs n → is_some o ≡ true → Contains (numbers rs) n
+  is_resolved None e h = cc
+  is_resolved (Some r) e h = found-number rs n r.now (sym e)
+
+  pub is_not : (o : Option (Bor (Recipe Dependency))) → option_copied o ≡ find_number rs n → is_some o ≡ false → Contains (numbers rs) n → ⊥
+  is_not None e h c = missed_at rs n c.0 c.1 c.2 (sym e)
+  is_not (Some r) e h c = cc

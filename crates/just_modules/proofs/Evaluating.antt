@@ -36,12 +36,11 @@ put_more : {A : Type 0} (key : A → Text) (held : List (Text × A)) (xs : List 
 put_more key held [] x = refl
 put_more key held (y ∷ ys) x = put_more key (put (key y) y held) ys x
 
--- one more function under its name
-pub function_put : (fs : List FunctionDefinition) (held more : List (Text × FunctionDefinition)) (i : ℕ) (f copy : FunctionDefinition) → held ≡ functions_under (take i fs) → slice_get fs i ≡ Some f → copy ≡ f → more ≡ put (text_of_name copy.name) copy held
-    → more ≡ functions_under (take (i + 1) fs)
-function_put fs held more i f copy so at is e =
-    e ∙ (ap (λ g. put (text_of_name g.name) g held) is ∙ (ap (put (text_of_name f.name) f) so ∙ (sym (put_more (λ (g : FunctionDefinition). text_of_name g.name) [] (take i fs) f)
-    ∙ ap functions_under (ap (λ y. take i fs ++ y ∷ []) (sym (get_or_from_slice_get fs i f f at)) ∙ sym (take_more fs i f (slice_get_within fs i f at))))))
+-- one more value of a list under its name
+pub one_put : {A : Type 0} (key : A → Text) (xs : List A) (held more : List (Text × A)) (i : ℕ) (x copy : A) → held ≡ put_all key [] (take i xs) → slice_get xs i ≡ Some x → copy ≡ x → more ≡ put (key copy) copy held → more ≡ put_all key [] (take (i + 1) xs)
+one_put key xs held more i x copy so at is e =
+    e ∙ (ap (λ y. put (key y) y held) is ∙ (ap (put (key x) x) so ∙ (sym (put_more key [] (take i xs) x)
+    ∙ ap (put_all key []) (ap (λ y. take i xs ++ y ∷ []) (sym (get_or_from_slice_get xs i x x at)) ∙ sym (take_more xs i x (slice_get_within xs i x at))))))
 
 -- values that are changed, under the same keys
 abbrev changed : {A : Type 0} → (A → A) → List (Text × A) → List (Text × A)

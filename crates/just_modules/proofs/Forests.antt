@@ -1,5 +1,5 @@
 -- The modules of headings are compiled to the justfiles at their places.
-use Rattle.std.proofs.Common.{◌≡◌, ◌<◌, ℕ, Bool, List, [], ◌∷◌, ◌++◌, map, length, get_or, slice_index, Option, Some, refl, sym, ap, subst, ◌∙◌, inl, inr, arith}
+use Rattle.std.proofs.Common.{◌≡◌, ◌<◌, ℕ, List, [], ◌∷◌, ◌++◌, map, length, get_or, slice_index, Option, Some, refl, sym, ap, subst, ◌∙◌, inl, inr, arith}
 use Rattle.std.specs.Prelude.{flat_map, slice_get}
 use Rattle.std.specs.List.{Contains}
 use Rattle.std.specs.Map.{keys_of, lookup}
@@ -13,19 +13,19 @@ use Rattle.just_parts.specs.Asts.{AstKey, same_ast_key}
 use Rattle.just_names.specs.Modulepath.{Text}
 use Rattle.just_parts.specs.declared.dependency.Dependency.{Dependency}
 use Rattle.just_parts.specs.Items.{Ast, Item}
-use Rattle.just_parts.specs.declared.layers.ast.UnresolvedDependency.{UnresolvedDependency}
 use Rattle.just_parts.specs.declared.recipe.Recipe.{Recipe}
 use Rattle.just_invoke.specs.declared.justfile.Justfile.{Justfile, out-Justfile, out-roll-Justfile}
-use Rattle.just_modules.specs.Analysis.{AreKeysOf, HasKeysOf, IsDefaultOf, IsOf}
+use Rattle.just_modules.specs.Analysis.{AreKeysOf, HasDefault, HasKeysOf, IsDefaultOf, IsOf}
 use Rattle.just_joining.specs.Files.{ArePlaced, AreRows, asts_in}
 use Rattle.just_joining.specs.Joined.{IsJoined}
 use Rattle.just_modules.specs.Justfiles.{AreCompiled, Built, IsCompiled, by_name, contents_in, labelled_as, none, one, recipes_in, with_name, with_names}
 use Rattle.just_modules.specs.Modules.{Empty, Forest, Heading, Module, Tree, heading_of, headings_in}
 use Rattle.just_joining.specs.Contents.{Contents}
-use Rattle.just_joining.specs.Named.{contents_from, function_by, name_by, said_from, said_in, recipes_by, recipes_from, set_by, unexported_by}
+use Rattle.just_joining.specs.Kept.{kept_recipes}
+use Rattle.just_joining.specs.Named.{contents_from, function_by, lists_by, lists_from, name_by, said_from, said_in, recipes_by, recipes_from, set_by, unexported_by, variable_by}
 use Rattle.just_joining.specs.Recipes.{recipes_of}
 use Rattle.just_joining.specs.Reading.{Submodule, items_in}
-use Rattle.just_joining.specs.Resolved.{AreResolved}
+use Rattle.just_joining.specs.Resolved.{AreResolved, unresolved_numbers}
 use Rattle.just_joining.specs.OfPlaces.{contents_of_place, names_of_place, recipes_of_place}
 use Rattle.just_modules.specs.Steps.{IsCompiledAt}
 use Rattle.just_joining.specs.declared.files.Files.{Files}
@@ -53,16 +53,16 @@ names_under justfile (s ∷ subs) [] e = cc
 names_under justfile (s ∷ subs) (q ∷ row) e = ap (λ js. with_name s.name (justfile q) ∷ js) (names_under justfile subs row (omega (arith, e)))
 
 -- a label changes nothing else
-module _ (cs : Contents) (own : List (Recipe UnresolvedDependency)) (ast : Ast) (loaded : List Text) (source : Text) (label : Label) (j : Justfile) (is : IsOf cs own ast loaded source j) where
-  pub labelled_is_of : IsOf cs own ast loaded source (labelled_as label j)
+module _ (cs : Contents) (ast : Ast) (loaded : List Text) (source : Text) (label : Label) (j : Justfile) (is : IsOf cs ast loaded source j) where
+  pub labelled_is_of : IsOf cs ast loaded source (labelled_as label j)
   labelled_is_of =
       let out = out-roll-Justfile (record (out-Justfile j) { name = label.name; doc = label.doc; groups = label.groups; private = label.private }) in
       record {
-        keys = subst (λ x. AreKeysOf cs.recipes (length cs.recipes) x.recipes) (sym out) is.keys;
-        held = subst (λ x. HasKeysOf cs.recipes (length cs.recipes) x.recipes) (sym out) is.held;
+        keys = subst (λ x. AreKeysOf (kept_recipes cs.recipes) (length (kept_recipes cs.recipes)) x.recipes) (sym out) is.keys;
+        held = subst (λ x. HasKeysOf (kept_recipes cs.recipes) (length (kept_recipes cs.recipes)) x.recipes) (sym out) is.held;
         functions_are = ap (λ x. x.functions) out ∙ is.functions_are;
+        variables_are = ap (λ x. x.assignments) out ∙ is.variables_are;
         unexports_are = ap (λ x. x.unexports) out ∙ is.unexports_are;
-        default = subst (λ x. IsDefaultOf own x.default) (sym out) is.default;
         loaded_is = ap (λ x. x.loaded) out ∙ is.loaded_is;
         source_is = ap (λ x. x.source) out ∙ is.source_is;
         module_path = ap (λ x. x.module_path) out ∙ is.module_path;
@@ -109,8 +109,22 @@ module _ (layers : Layers) (entries : List (AstKey × Ast)) (d : AstKey) (files 
   said_at by [] inside = refl
   said_at by (q ∷ xs) inside = λ i. said_here by q (inside q (inl refl)) i ++ said_at by xs (λ r h. inside r (inr h)) i
 
+  lists_at : (xs : List ℕ) → ((q : ℕ) → In q xs → q < n) → lists_from (asts_in files) xs ≡ flat_map (λ k. lists_by (asts k)) (map key_at xs)
+  lists_at [] inside = refl
+  lists_at (q ∷ xs) inside =
+      let s = says layers.syntax.enabled entries d files placed rows are paths q (inside q (inl refl)) in
+      λ i. lists_by ((s.listed ∙ sym s.said) i) ++ lists_at xs (λ r h. inside r (inr h)) i
+
   contents_same : (xs : List ℕ) → ((q : ℕ) → In q xs → q < n) → contents_from layers.syntax.enabled (asts_in files) xs ≡ contents_in layers.syntax.enabled asts (map key_at xs)
-  contents_same xs inside = λ i. record { recipes = recipes_same xs inside i; functions = said_at function_by xs inside i; modules = said_at name_by xs inside i; unexports = said_at unexported_by xs inside i; sets = said_at set_by xs inside i }
+  contents_same xs inside = λ i. record {
+    recipes = recipes_same xs inside i;
+    functions = said_at function_by xs inside i;
+    variables = said_at variable_by xs inside i;
+    modules = said_at name_by xs inside i;
+    unexports = said_at unexported_by xs inside i;
+    sets = said_at set_by xs inside i;
+    lists = lists_at xs inside i;
+  }
 
   module _ (k : ℕ) (l : k < length order) (h : Heading) (e : h.key ≡ key_at (slice_index order k)) where
     abbrev p : ℕ
@@ -155,10 +169,12 @@ module _ (layers : Layers) (entries : List (AstKey × Ast)) (d : AstKey) (files 
           own = at.own;
           own_said = own_same;
           own_there = subst (λ k. Contains m.files k) (sym e) (own_joined same_ast_key keys_equivalent.refl _ (key_at p) m.files (join_at layers.syntax.enabled entries d files placed rows are paths joined p (below k l) (joins k l)));
-          resolved = subst (λ path. AreResolved (recipes_in layers.syntax.enabled asts m.files) path (made p)) path_same (subst (λ rs. AreResolved rs at.own.module_path (made p)) rs_same at.resolved);
+          resolved = subst (λ path. AreResolved (kept_recipes (recipes_in layers.syntax.enabled asts m.files)) path (made p)) path_same (subst (λ rs. AreResolved (kept_recipes rs) at.own.module_path (made p)) rs_same at.resolved);
           settings = ap (settings_of layers.evaluator) (sym cs_same) ∙ at.settings ∙ ap (λ x. Some x.settings) (sym out);
-          fields = labelled_is_of (contents_in layers.syntax.enabled asts m.files) (recipes_of layers.syntax.enabled at.own.items) at.own loaded h.key.1 h.label (justfile p)
-              (subst (λ cs. IsOf cs (recipes_of layers.syntax.enabled at.own.items) at.own loaded h.key.1 (justfile p)) cs_same (subst (λ (x : AstKey). IsOf (contents_of_place layers.syntax.enabled files joined p) (recipes_of layers.syntax.enabled at.own.items) at.own loaded x.1 (justfile p)) key_same at.fields));
+          default = subst (λ x. IsDefaultOf (unresolved_numbers (kept_recipes (recipes_in layers.syntax.enabled asts m.files))) (recipes_of layers.syntax.enabled at.own.items) x.default) (sym out)
+              (subst (λ cs. HasDefault cs (recipes_of layers.syntax.enabled at.own.items) (justfile p)) cs_same at.default);
+          fields = labelled_is_of (contents_in layers.syntax.enabled asts m.files) at.own loaded h.key.1 h.label (justfile p)
+              (subst (λ cs. IsOf cs at.own loaded h.key.1 (justfile p)) cs_same (subst (λ (x : AstKey). IsOf (contents_of_place layers.syntax.enabled files joined p) at.own loaded x.1 (justfile p)) key_same at.fields));
           label = ap (λ x. let label : Label = record { name = x.name; doc = x.doc; groups = x.groups; private = x.private } in label) out;
           modules = ap (λ x. x.modules) out ∙ at.modules ∙ ap by_name inner_same;
         }

@@ -1,16 +1,26 @@
 -- The groups of rules that are kept before another.
-use Rattle.std.proofs.Common.{◌≡◌, ◌<◌, Option, None, Some, arith}
+use Rattle.std.proofs.Common.{◌≡◌, Option, None, Some, arith, subst, sym}
+use Rattle.just_graph.proofs.Index.{some_same}
 use Rattle.just_records.specs.declared.settings.Settings.{Settings}
 use Rattle.just_errors.specs.Causes.{Cause, Keeps}
 use Rattle.just_parts.specs.Layers.{Layers}
 use Rattle.just_joining.specs.Contents.{Contents}
-use Rattle.just_joining.specs.Groups.{Breaks, BreaksContents, Group, KeepsBefore, KeepsContents, OfBodies, OfConstants, OfDependencies, OfHeaders, OfNames}
-use Rattle.just_joining.specs.Rules.{Constants, settings_fault}
+use Rattle.just_joining.specs.Groups.{Breaks, BreaksContents, KeepsBefore, KeepsContents, OfBodies, OfConstants, OfDependencies, OfHeaders, OfNames, settings_of}
+use Rattle.just_joining.specs.Rules.{Bodies, BodiesUnder, Constants, settings_fault}
 use Rattle.just_modules.specs.Analysis.{BreaksRecipes, in_bodies, in_dependencies}
 
 -- settings that have a value
 pub constants_kept : (o : Option Settings) (s : Settings) → o ≡ Some s → Keeps (Constants o)
 constants_kept o s is _ (settings_fault none) = cc
+
+-- bodies that are kept under settings
+pub bodies_under : (o : Option Settings) (s : Settings) (m : Contents) → o ≡ Some s → Keeps (Bodies s m) → Keeps (BodiesUnder o m)
+bodies_under None s m is kept c b = b
+bodies_under (Some t) s m is kept c b = kept c (subst (λ (x : Settings). Bodies x m c) (some_same is) b)
+
+under_broken : (o : Option Settings) (s : Settings) (m : Contents) (c : Cause) → o ≡ Some s → Bodies s m c → BodiesUnder o m c
+under_broken None s m c is b = cc
+under_broken (Some t) s m c is b = subst (λ (x : Settings). Bodies x m c) (sym (some_same is)) b
 
 module _ (layers : Layers) (m : Contents) where
   pub before_names : Keeps (Breaks layers OfHeaders m) → KeepsBefore layers OfNames m
@@ -43,9 +53,9 @@ module _ (layers : Layers) (m : Contents) where
     before_dependencies bodies OfDependencies lt = absurd (omega (arith, lt))
 
     -- what is broken of recipes is broken of the module
-    pub recipes_broken : (c : Cause) → BreaksRecipes m c → BreaksContents layers m c
-    recipes_broken c (in_bodies b) = record { group = OfBodies; earlier = earlier; broken = b }
-    recipes_broken c (in_dependencies bodies b) = record { group = OfDependencies; earlier = before_dependencies bodies; broken = b }
+    pub recipes_broken : (s : Settings) → settings_of layers.evaluator m ≡ Some s → (c : Cause) → BreaksRecipes s m c → BreaksContents layers m c
+    recipes_broken s is c (in_bodies b) = record { group = OfBodies; earlier = earlier; broken = under_broken (settings_of layers.evaluator m) s m c is b }
+    recipes_broken s is c (in_dependencies bodies b) = record { group = OfDependencies; earlier = before_dependencies (bodies_under (settings_of layers.evaluator m) s m is bodies); broken = b }
 
     -- all groups are kept
     pub all_kept : Keeps (Breaks layers OfBodies m) → Keeps (Breaks layers OfDependencies m) → KeepsContents layers m

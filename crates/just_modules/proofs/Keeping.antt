@@ -21,7 +21,7 @@ use Rattle.just_joining.specs.declared.files.Rows.{Rows}
 use Rattle.just_joining.specs.declared.joined.Joined.{Joined}
 use Rattle.just_joining.proofs.Alike.{AreAlikeContents, breaks_alike, kept_alike}
 use Rattle.just_modules.proofs.ModulePlaces.{IsListed, TreeAt, file_inside, module_of, tree_at}
-use Rattle.just_modules.proofs.Ready.{functions_are, names_are, recipes_are, sets_are, unexports_are}
+use Rattle.just_modules.proofs.Ready.{functions_are, lists_are, names_are, recipes_are, sets_are, unexports_are, variables_are}
 
 module _ (layers : Layers) (entries : List (AstKey × Ast)) (d : AstKey) (files : Files) (placed : ArePlaced entries files) (rows : Rows) (are : AreRows layers.syntax.enabled files rows)
     (paths : (k : AstKey) (a : Ast) → lookup (same_ast_key k) entries ≡ Some a → a.module_path ≡ k.0) (joined : Joined)
@@ -46,6 +46,8 @@ module _ (layers : Layers) (entries : List (AstKey × Ast)) (d : AstKey) (files 
       let in_files = file_inside layers.syntax.enabled entries d files placed rows are paths joined (slice_index order k) (below k l) (joins k l) in
       record {
         functions = functions_are layers.syntax.enabled entries d files placed rows are paths joined row in_files;
+        variables = variables_are layers.syntax.enabled entries d files placed rows are paths joined row in_files;
+        lists = lists_are layers.syntax.enabled entries d files placed rows are paths joined row in_files;
         recipes = recipes_are layers.syntax.enabled entries d files placed rows are paths joined row in_files;
         modules = names_are layers.syntax.enabled entries d files placed rows are paths joined row in_files;
         unexports = unexports_are layers.syntax.enabled entries d files placed rows are paths joined row in_files;

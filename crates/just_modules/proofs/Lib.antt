@@ -1,3 +1,4 @@
+pub mod Adding
 pub mod Agreeing
 pub mod Analyzing
 pub mod Closing

@@ -1,12 +1,9 @@
 -- What is made of recipes: resolved ones, with their numbers, and a justfile.
-use Rattle.std.proofs.Common.{◌≡◌, ◌∙◌, ℕ, ◌+◌, List, [], ◌∷◌, ◌++◌, ap, inl, inr, length, Option, Some, refl, subst, sym, take}
-use Rattle.std.specs.List.{Contains, slice_get}
-use Rattle.std.proofs.lemmas.List.{take_more}
-use Rattle.std.proofs.lemmas.Option.{get_or_from_slice_get, slice_get_within}
-use Rattle.just_table.specs.Entries.{put}
-use Rattle.just_names.specs.Name.{text_of_name}
+use Rattle.std.proofs.Common.{◌≡◌, ◌∙◌, ℕ, List, [], ◌∷◌, ap, inl, inr, length, Option, None, Some, subst, sym, arith}
+use Rattle.std.specs.List.{Contains}
+use Rattle.std.proofs.lemmas.List.{get_or_default, length-map}
 use Rattle.just_names.specs.Modulepath.{Text}
-use Rattle.just_records.specs.declared.function_definition.FunctionDefinition.{FunctionDefinition}
+use Rattle.just_records.specs.declared.assignment.Assignment.{Assignment}
 use Rattle.just_graph.proofs.Index.{got_in}
 use Rattle.just_graph.proofs.Members.{In, contained, in_map, is_in}
 use Rattle.just_parts.specs.declared.dependency.Dependency.{Dependency}
@@ -18,10 +15,11 @@ use Rattle.just_names.specs.declared.number.Number.{Number}
 use Rattle.just_running.specs.Recipes.{numbers}
 use Rattle.just_invoke.specs.declared.justfile.Justfile.{Justfile, out-Justfile}
 use Rattle.just_invoke.specs.declared.justfile.RecipeKey.{RecipeKey}
-use Rattle.just_modules.specs.Analysis.{AreKeysOf, HasKeysOf, IsDefaultOf, IsOf}
+use Rattle.just_modules.specs.Analysis.{AreKeysOf, HasKeysOf, IsDefaultOf, IsOf, variables_under}
 use Rattle.just_joining.specs.Groups.{functions_under}
 use Rattle.just_joining.specs.Contents.{Contents}
-use Rattle.just_joining.specs.Resolved.{AreMadeOf, AreResolved, unresolved_numbers}
+use Rattle.just_joining.specs.Kept.{kept_recipes}
+use Rattle.just_joining.specs.Resolved.{AreMadeOf, AreResolved, number_at, unresolved_numbers}
 
 -- recipes that are resolved have numbers of the source
 pub made_numbers : (rs : List (Recipe UnresolvedDependency)) (path : Modulepath) (order : List ℕ) (made : List (Recipe Dependency)) → AreMadeOf rs path order made → (n : ℕ) → In n (numbers made) → In n (unresolved_numbers rs)
@@ -38,14 +36,17 @@ pub resolved_numbers : (rs : List (Recipe UnresolvedDependency)) (path : Modulep
 resolved_numbers rs path made so n c = contained n (unresolved_numbers rs) (made_numbers rs path so.order made so.made_of n (is_in n (numbers made) c))
 
 -- a justfile, by its parts
-pub is_of : (m : Contents) (own : List (Recipe UnresolvedDependency)) (ast : Ast) (loaded : List (List ℕ)) (source : List ℕ) (j : Justfile) (count : ℕ) (keys : List (List ℕ × RecipeKey)) (default : Option Number)
-    → length m.recipes ≡ count → (out-Justfile j).recipes ≡ keys → (out-Justfile j).default ≡ default → AreKeysOf m.recipes count keys → HasKeysOf m.recipes count keys → IsDefaultOf own default → (out-Justfile j).functions ≡ functions_under m.functions → (out-Justfile j).unexports ≡ m.unexports
-    → (out-Justfile j).loaded ≡ loaded → (out-Justfile j).source ≡ source → (out-Justfile j).module_path ≡ ast.module_path → (out-Justfile j).working_directory ≡ ast.working_directory → IsOf m own ast loaded source j
-is_of m own ast loaded source j count keys default many keys_are default_is all held d functions unexports loaded_is source_is path folder = record {
-  keys = subst (AreKeysOf m.recipes (length m.recipes)) (sym keys_are) (subst (λ n. AreKeysOf m.recipes n keys) (sym many) all);
-  held = subst (HasKeysOf m.recipes (length m.recipes)) (sym keys_are) (subst (λ n. HasKeysOf m.recipes n keys) (sym many) held);
-  default = subst (IsDefaultOf own) (sym default_is) d;
+pub is_of : (m : Contents) (rs : List (Recipe UnresolvedDependency)) (ast : Ast) (loaded : List (List ℕ)) (source : List ℕ) (j : Justfile)
+    → (count : ℕ) (keys : List (List ℕ × RecipeKey)) (variables : List (Text × Assignment)) → rs ≡ kept_recipes m.recipes → length rs ≡ count
+    → (out-Justfile j).recipes ≡ keys → AreKeysOf rs count keys → HasKeysOf rs count keys → (out-Justfile j).functions ≡ functions_under m.functions
+    → (out-Justfile j).assignments ≡ variables → variables ≡ variables_under m.variables → (out-Justfile j).unexports ≡ m.unexports
+    → (out-Justfile j).loaded ≡ loaded → (out-Justfile j).source ≡ source → (out-Justfile j).module_path ≡ ast.module_path
+    → (out-Justfile j).working_directory ≡ ast.working_directory → IsOf m ast loaded source j
+is_of m rs ast loaded source j count keys variables kept many keys_are all held functions variables_are under unexports loaded_is source_is path folder = record {
+  keys = subst (λ (qs : List (Recipe UnresolvedDependency)). AreKeysOf qs (length qs) (out-Justfile j).recipes) kept (subst (AreKeysOf rs (length rs)) (sym keys_are) (subst (λ n. AreKeysOf rs n keys) (sym many) all));
+  held = subst (λ (qs : List (Recipe UnresolvedDependency)). HasKeysOf qs (length qs) (out-Justfile j).recipes) kept (subst (HasKeysOf rs (length rs)) (sym keys_are) (subst (λ n. HasKeysOf rs n keys) (sym many) held));
   functions_are = functions;
+  variables_are = variables_are ∙ under;
   unexports_are = unexports;
   loaded_is = loaded_is;
   source_is = source_is;
@@ -54,8 +55,17 @@ is_of m own ast loaded source j count keys default many keys_are default_is all 
 }
 
 -- the same of equal contents, lists and paths
-pub is_of_same : (m n : Contents) (own own' : List (Recipe UnresolvedDependency)) (ast : Ast) (loaded loaded' : List (List ℕ)) (source source' : List ℕ) (j : Justfile) → m ≡ n → own ≡ own' → loaded ≡ loaded' → source ≡ source' → IsOf m own ast loaded source j → IsOf n own' ast loaded' source' j
-is_of_same m n own own' ast loaded loaded' source source' j same owns lists paths is =
-    subst (λ (c : Contents). IsOf c own' ast loaded' source' j) same
-    (subst (λ (xs : List (Recipe UnresolvedDependency)). IsOf m xs ast loaded' source' j) owns
-    (subst (λ l. IsOf m own ast l source' j) lists (subst (λ s. IsOf m own ast loaded s j) paths is)))
+pub is_of_same : (m n : Contents) (ast : Ast) (loaded loaded' : List (List ℕ)) (source source' : List ℕ) (j : Justfile) → m ≡ n → loaded ≡ loaded' → source ≡ source' → IsOf m ast loaded source j → IsOf n ast loaded' source' j
+is_of_same m n ast loaded loaded' source source' j same lists paths is =
+    subst (λ (c : Contents). IsOf c ast loaded' source' j) same (subst (λ l. IsOf m ast l source' j) lists (subst (λ s. IsOf m ast loaded s j) paths is))
+
+-- a default of numbers is one of the same numbers
+pub default_of_same : (ns ms : List ℕ) (own : List (Recipe UnresolvedDependency)) (default : Option Number) → ((n : ℕ) → Contains ns n → Contains ms n) → ((n : ℕ) → Contains ms n → Contains ns n) → IsDefaultOf ns own default → IsDefaultOf ms own default
+default_of_same ns ms own None into back d = λ k h c. d k h (back (number_at own k) c)
+default_of_same ns ms own (Some number) into back (place, is, at) = (place, record { there = is.there; is_resolved = into (number_at own place) is.is_resolved; least = λ k h c. is.least k h (back (number_at own k) c) }, at)
+
+-- the numbers of recipes that are resolved are those of the source
+pub default_resolved : (rs : List (Recipe UnresolvedDependency)) (path : Modulepath) (made : List (Recipe Dependency)) (own : List (Recipe UnresolvedDependency)) (default : Option Number) → AreResolved rs path made → IsDefaultOf (numbers made) own default → IsDefaultOf (unresolved_numbers rs) own default
+default_resolved rs path made own default so d = default_of_same (numbers made) (unresolved_numbers rs) own default (resolved_numbers rs path made so) (λ n c.
+    let count : length (unresolved_numbers rs) ≡ length rs = length-map rs (λ (r : Recipe UnresolvedDependency). r.number.0) in
+    subst (Contains (numbers made)) (get_or_default (unresolved_numbers rs) c.0 0 n c.1 ∙ c.2) (so.there c.0 (omega (arith, c.1, count)))) d

@@ -1,5 +1,5 @@
 -- Modules that are compiled in an order.
-use Rattle.std.proofs.Common.{◌≡◌, ◌<◌, ℕ, ◌+◌, nat_eq, Bool, false, cond, List, [], ◌∷◌, ◌++◌, map, take, length, slice_index, Option, Some, None, refl, sym, ap, subst, ◌∙◌, arith, inl, inr}
+use Rattle.std.proofs.Common.{◌≡◌, ◌<◌, ℕ, ◌+◌, nat_eq, false, cond, List, [], ◌∷◌, ◌++◌, map, take, length, slice_index, Option, Some, None, refl, sym, ap, subst, ◌∙◌, arith, inl, inr}
 use Rattle.std.specs.Prelude.{flat_map}
 use Rattle.std.specs.List.{Contains}
 use Rattle.std.proofs.lemmas.Bool.{cases_lt, eq-eqb, eqb-true, false_from_ne_true}
@@ -10,7 +10,6 @@ use Rattle.just_graph.proofs.Members.{In, contained, from_flat, from_map, in_map
 use Rattle.just_names.specs.Modulepath.{Text}
 use Rattle.just_parts.specs.declared.dependency.Dependency.{Dependency}
 use Rattle.just_errors.specs.Causes.{Reports}
-use Rattle.just_parts.specs.Items.{Item}
 use Rattle.just_errors.specs.declared.error.Error.{Error}
 use Rattle.just_errors.proofs.Lifts.{reports_by}
 use Rattle.just_parts.specs.declared.recipe.Recipe.{Recipe}
@@ -18,6 +17,8 @@ use Rattle.just_running.specs.Recipes.{numbers}
 use Rattle.just_invoke.specs.declared.justfile.Justfile.{Justfile, roll-Justfile}
 use Rattle.just_modules.specs.Justfiles.{slot}
 use Rattle.just_joining.specs.Groups.{BreaksContents}
+use Rattle.just_joining.specs.Kept.{kept_recipes}
+use Rattle.just_joining.proofs.Keeping.{kept_number}
 use Rattle.just_joining.specs.Resolved.{unresolved_numbers}
 use Rattle.just_joining.specs.OfPlaces.{contents_of_place, recipes_of_place}
 use Rattle.just_modules.specs.Steps.{BreaksInOrder, CanCompileAll, CompilesPlace, HaveCompiled, IsCompiledAt}
@@ -94,7 +95,7 @@ module _ (layers : Layers) (files : Files) (joined : Joined) (loaded : List Text
       let k = in_take order n q.0 (omega (arith, h)) (contained q.0 (take n order) q.1) in
       let at = so.each k.0 k.1 in
       let made : In m (numbers (so.made (place k.0))) = subst (λ y. In m (numbers (so.made y))) (sym k.2) (subst (λ y. In y (numbers (so.made q.0))) (sym r.2) (in_map (λ (x : Recipe Dependency). x.number.0) r.0 (so.made q.0) q.2)) in
-      let known = made_numbers (recipes_of_place layers.syntax.enabled files joined (place k.0)) at.own.module_path at.resolved.order (so.made (place k.0)) at.resolved.made_of m made in
+      let known = kept_number (recipes_of_place layers.syntax.enabled files joined (place k.0)) m (made_numbers (kept_recipes (recipes_of_place layers.syntax.enabled files joined (place k.0))) at.own.module_path at.resolved.order (so.made (place k.0)) at.resolved.made_of m made) in
       can.apart k.0 n m k.1 h (contained m (unresolved_numbers (recipes_of_place layers.syntax.enabled files joined (place k.0))) known) b
 
   module _ (new : List (Option Justfile)) (after : List (Recipe Dependency)) (step : CompilesPlace layers files joined loaded p slots new recipes after) where
@@ -168,7 +169,7 @@ no_settings = record {
 }
 
 no_justfile : Justfile
-no_justfile = roll-Justfile (record { default = None; doc = None; functions = []; groups = []; loaded = []; module_path = record { components = []; spaced = false }; modules = []; name = None; private = false; recipes = []; settings = no_settings; source = []; unexports = []; working_directory = [] })
+no_justfile = roll-Justfile (record { assignments = []; default = None; doc = None; functions = []; groups = []; loaded = []; module_path = record { components = []; spaced = false }; modules = []; name = None; private = false; recipes = []; settings = no_settings; source = []; unexports = []; working_directory = [] })
 
 -- none is compiled
 pub compiled_none : (layers : Layers) (files : Files) (joined : Joined) (loaded : List Text) (order : List ℕ) (slots : List (Option Justfile)) (recipes : List (Recipe Dependency)) → length slots ≡ length files.asts.items → recipes ≡ []

@@ -13,7 +13,7 @@ use Rattle.just_graph.specs.Steps.{Reached, from_member, from_start}
 use Rattle.just_graph.proofs.Members.{In, contained, from_flat, is_in}
 use Rattle.just_parts.specs.Asts.{AstKey, same_ast_key}
 use Rattle.just_parts.specs.Bare.{bare_function, bare_item}
-use Rattle.just_parts.specs.Located.{located_item}
+use Rattle.just_parts.specs.Located.{located_assignment, located_item}
 use Rattle.just_parts.specs.Items.{Ast, Item}
 use Rattle.just_parts.specs.declared.layers.ast.Item.TheVariants as item
 use Rattle.just_parts.specs.declared.layers.ast.UnresolvedDependency.{UnresolvedDependency}
@@ -23,7 +23,7 @@ use Rattle.just_parts.specs.declared.recipe.Recipe.{Recipe}
 use Rattle.just_records.specs.declared.function_definition.FunctionDefinition.{FunctionDefinition}
 use Rattle.just_joining.specs.Files.{ArePlaced, AreRows, asts_in}
 use Rattle.just_joining.specs.Joined.{AreJoined, IsJoined}
-use Rattle.just_joining.specs.Named.{function_by, name_by, said, said_from, said_in, recipes_by, recipes_from, set_by, unexported_by}
+use Rattle.just_joining.specs.Named.{function_by, lists_by, lists_from, name_by, said, said_from, said_in, recipes_by, recipes_from, set_by, unexported_by, variable_by}
 use Rattle.just_joining.specs.Recipes.{recipes_of, recipes_said}
 use Rattle.just_joining.specs.Reading.{Reading, Submodule, declared, enabled_items, items_in, located_ast, reading_of, submodules_of}
 use Rattle.just_joining.specs.declared.files.Files.{Files}
@@ -67,6 +67,10 @@ set_located _ = refl
 function_located : (i : Item) → map bare_function (function_by (located_item i)) ≡ map bare_function (function_by i)
 function_located (item.Function f) = ap (λ (g : FunctionDefinition). g ∷ []) (function_bare f)
 function_located _ = refl
+
+variable_located : (i : Item) → map located_assignment (variable_by (located_item i)) ≡ map located_assignment (variable_by i)
+variable_located (item.Assignment a) = refl
+variable_located _ = refl
 
 module _ {A B : Type 0} (by : Item → List A) (f : A → B) (located : (i : Item) → map f (by (located_item i)) ≡ map f (by i)) (enabled : Item → Bool) where
   one_said : (b : Bool) (i : Item) (items : List Item)
@@ -174,6 +178,18 @@ module _ (enabled : Item → Bool) (entries : List (AstKey × Ast)) (d : AstKey)
   -- its functions, without numbers
   pub functions_are : (xs : List ℕ) → ((q : ℕ) → In q xs → q < n) → map bare_function (said_from function_by enabled (asts_in files) xs) ≡ map bare_function (flat_map function_by (items_of (map (λ k. unwrap_or (R k) no_ast) (map key_at xs))))
   functions_are xs inside = said_are function_by bare_function function_located xs inside
+
+  -- its variables, without numbers
+  pub variables_are : (xs : List ℕ) → ((q : ℕ) → In q xs → q < n) → map located_assignment (said_from variable_by enabled (asts_in files) xs) ≡ map located_assignment (flat_map variable_by (items_of (map (λ k. unwrap_or (R k) no_ast) (map key_at xs))))
+  variables_are xs inside = said_are variable_by located_assignment variable_located xs inside
+
+  -- where it needs lists
+  pub lists_are : (xs : List ℕ) → ((q : ℕ) → In q xs → q < n) → lists_from (asts_in files) xs ≡ flat_map (λ (ast : Ast). ast.list_features) (map (λ k. unwrap_or (R k) no_ast) (map key_at xs))
+  lists_are [] inside = refl
+  lists_are (q ∷ xs) inside =
+      let s = says enabled entries d files placed rows are paths q (inside q (inl refl)) in
+      let here : lists_by (slice_get (asts_in files) q) ≡ (unwrap_or (R (key_at q)) no_ast).list_features = ap lists_by s.listed ∙ ap (λ o. (unwrap_or (option_map (located_ast enabled) o) no_ast).list_features) (sym s.said) in
+      λ i. here i ++ lists_are xs (λ r h. inside r (inr h)) i
 
   module _ (aj : AreJoined rows n joined) where
     -- what has modules in it is joined

@@ -1,13 +1,15 @@
 -- What a module's recipes are compiled to.
-use Rattle.std.specs.Prelude.{◌≡◌, ◌≢◌, ℕ, ◌<◌, ◌≤◌, Bool, List, [], length, slice_get, Option, Some, None}
+use Rattle.std.specs.Prelude.{◌≡◌, ◌≢◌, ◌⊎◌, ℕ, ◌<◌, ◌≤◌, Bool, List, [], length, slice_get, Option, Some, None}
 use Rattle.std.specs.Cmp.Lexicographic.{slice_cmp}
-use Rattle.std.specs.List.{AllByRecursion}
+use Rattle.std.specs.List.{AllByRecursion, Contains}
 use Rattle.std.specs.Option.{option_map}
 use Rattle.std.specs.Ordering.{nat_cmp}
 use Rattle.std.specs.declared.cmp.Ordering.TheVariants.{Less}
-use Rattle.just_table.specs.Entries.{find}
+use Rattle.just_table.specs.Entries.{find, put_all}
 use Rattle.just_names.specs.Name.{text_of_name}
 use Rattle.just_names.specs.Modulepath.{Text}
+use Rattle.just_records.specs.declared.assignment.Assignment.{Assignment}
+use Rattle.just_records.specs.declared.settings.Settings.{Settings}
 use Rattle.just_parts.specs.Items.{Ast, Item}
 use Rattle.just_names.specs.declared.number.Number.{Number}
 use Rattle.just_invoke.specs.declared.justfile.Justfile.{Justfile, out-Justfile}
@@ -16,13 +18,14 @@ use Rattle.just_parts.specs.declared.recipe.Recipe.{Recipe}
 use Rattle.just_errors.specs.Causes.{Cause, Keeps}
 use Rattle.just_parts.specs.Layers.{Layers}
 use Rattle.just_invoke.specs.declared.justfile.RecipeKey.{RecipeKey}
-use Rattle.just_joining.specs.Contents.{Contents, defined_in}
+use Rattle.just_joining.specs.Contents.{Contents}
 use Rattle.just_joining.specs.Files.{asts_in}
 use Rattle.just_joining.specs.Groups.{BreaksContents, KeepsContents, functions_under, settings_of}
 use Rattle.just_joining.specs.Named.{contents_from, recipes_by}
 use Rattle.just_joining.specs.declared.files.Files.{Files}
 use Rattle.just_joining.specs.Recipes.{name_of, line_of, recipe_at}
-use Rattle.just_joining.specs.Resolved.{number_at}
+use Rattle.just_joining.specs.Kept.{kept_recipes, kept_variables}
+use Rattle.just_joining.specs.Resolved.{number_at, unresolved_numbers}
 use Rattle.just_joining.specs.Rules.{Bodies, Dependencies}
 
 -- a key has the number and the name of one of the first n recipes, as it stands there
@@ -42,23 +45,43 @@ pub record IsBefore (a b : Recipe UnresolvedDependency) : Type 0 where
   pub line : line_of a ≤ line_of b
   pub name : line_of a ≡ line_of b → slice_cmp nat_cmp (name_of a) (name_of b) ≢ Less
 
--- no recipe stands on a smaller line, and none on the same line has a greater name
-pub record IsDefault (recipes : List (Recipe UnresolvedDependency)) (place : ℕ) : Type 0 where
-  pub there : place < length recipes
-  pub least : (k : ℕ) → k < length recipes → IsBefore (recipe_at recipes place) (recipe_at recipes k)
+-- of two recipes by their places, or of one, the default
+abbrev pub IsBetter : List (Recipe UnresolvedDependency) → Option ℕ → ℕ → ℕ → Type 0
+IsBetter own None place result = result ≡ place
+IsBetter own (Some best) place result = ((result ≡ best) ⊎ (result ≡ place)) × IsBefore (recipe_at own result) (recipe_at own best) × IsBefore (recipe_at own result) (recipe_at own place)
 
--- the default: none where there are no recipes, else the recipe on the least line
-abbrev pub IsDefaultOf : List (Recipe UnresolvedDependency) → Option Number → Type 0
-IsDefaultOf recipes None = recipes ≡ []
-IsDefaultOf recipes (Some number) = (place : ℕ) × IsDefault recipes place × (number_at recipes place ≡ number.0)
+-- Of the first n recipes of the own file those that are resolved: none stands on a smaller line than the one at a place, and none on the same line has a greater name.
+pub record IsDefault (resolved : List ℕ) (own : List (Recipe UnresolvedDependency)) (n place : ℕ) : Type 0 where
+  pub there : place < n
+  pub is_resolved : Contains resolved (number_at own place)
+  pub least : (k : ℕ) → k < n → Contains resolved (number_at own k) → IsBefore (recipe_at own place) (recipe_at own k)
 
--- A module has the keys of its recipes, the default of those of its own file, its functions, the names that it unexports, the paths that it was given, and what its own file says.
-pub record IsOf (m : Contents) (own : List (Recipe UnresolvedDependency)) (ast : Ast) (loaded : List (List ℕ)) (source : List ℕ) (justfile : Justfile) : Type 0 where
-  pub keys : AreKeysOf m.recipes (length m.recipes) (out-Justfile justfile).recipes
-  pub held : HasKeysOf m.recipes (length m.recipes) (out-Justfile justfile).recipes
+-- the place of the default; none where no recipe of the own file is resolved
+abbrev pub IsDefaultPlace : List ℕ → List (Recipe UnresolvedDependency) → ℕ → Option ℕ → Type 0
+IsDefaultPlace resolved own n None = (k : ℕ) → k < n → Contains resolved (number_at own k) → ⊥
+IsDefaultPlace resolved own n (Some place) = IsDefault resolved own n place
+
+-- the default, by its number
+abbrev pub IsDefaultOf : List ℕ → List (Recipe UnresolvedDependency) → Option Number → Type 0
+IsDefaultOf resolved own None = IsDefaultPlace resolved own (length own) None
+IsDefaultOf resolved own (Some number) = (place : ℕ) × IsDefault resolved own (length own) place × (number_at own place ≡ number.0)
+
+-- a module's default is a recipe of its own file, of those that are kept
+abbrev pub HasDefault : Contents → List (Recipe UnresolvedDependency) → Justfile → Type 0
+HasDefault m own j = IsDefaultOf (unresolved_numbers (kept_recipes m.recipes)) own (out-Justfile j).default
+
+-- variables under their names: of those of one name the one that is kept
+abbrev pub variables_under : List Assignment → List (Text × Assignment)
+variables_under assignments = put_all (λ (a : Assignment). text_of_name a.name) [] (kept_variables assignments)
+
+-- A module has the keys of its recipes, those that are kept, its functions and variables, the names that it unexports, the paths that it was
+-- given, and what its own file says.
+pub record IsOf (m : Contents) (ast : Ast) (loaded : List (List ℕ)) (source : List ℕ) (justfile : Justfile) : Type 0 where
+  pub keys : AreKeysOf (kept_recipes m.recipes) (length (kept_recipes m.recipes)) (out-Justfile justfile).recipes
+  pub held : HasKeysOf (kept_recipes m.recipes) (length (kept_recipes m.recipes)) (out-Justfile justfile).recipes
   pub functions_are : (out-Justfile justfile).functions ≡ functions_under m.functions
+  pub variables_are : (out-Justfile justfile).assignments ≡ variables_under m.variables
   pub unexports_are : (out-Justfile justfile).unexports ≡ m.unexports
-  pub default : IsDefaultOf own (out-Justfile justfile).default
   pub loaded_is : (out-Justfile justfile).loaded ≡ loaded
   pub source_is : (out-Justfile justfile).source ≡ source
   pub module_path : (out-Justfile justfile).module_path ≡ ast.module_path
@@ -67,7 +90,12 @@ pub record IsOf (m : Contents) (own : List (Recipe UnresolvedDependency)) (ast :
 -- a module has what these files say, of which one is its own
 abbrev pub IsOfFiles : (Item → Bool) → Files → ℕ → List ℕ → List Text → Text → Justfile → Type 0
 IsOfFiles enabled files own places loaded source j = (ast : Ast) → slice_get (asts_in files) own ≡ Some ast
-    → IsOf (contents_from enabled (asts_in files) places) (recipes_by enabled (Some ast)) ast loaded source j
+    → IsOf (contents_from enabled (asts_in files) places) ast loaded source j
+
+-- its default is one of its own file
+abbrev pub HasDefaultOf : (Item → Bool) → Files → ℕ → List ℕ → Justfile → Type 0
+HasDefaultOf enabled files own places j = (ast : Ast) → slice_get (asts_in files) own ≡ Some ast
+    → HasDefault (contents_from enabled (asts_in files) places) (recipes_by enabled (Some ast)) j
 
 -- it has its settings as they are evaluated
 abbrev pub HasSettings : Layers → Contents → Justfile → Type 0
@@ -83,7 +111,7 @@ KeepsFiles layers files places = KeepsContents layers (contents_from layers.synt
 abbrev pub BreaksFiles : Layers → Files → List ℕ → Cause → Type 0
 BreaksFiles layers files places = BreaksContents layers (contents_from layers.syntax.enabled (asts_in files) places)
 
--- What is broken of recipes: in their bodies, or where these are kept in their dependencies.
-pub data BreaksRecipes (m : Contents) : Cause → Type 0 where
-  in_bodies : {c : Cause} → Bodies (defined_in m) c → BreaksRecipes m c
-  in_dependencies : {c : Cause} → Keeps (Bodies (defined_in m)) → Dependencies m.recipes c → BreaksRecipes m c
+-- What is broken of recipes under settings: in their bodies, or where these are kept in their dependencies.
+pub data BreaksRecipes (settings : Settings) (m : Contents) : Cause → Type 0 where
+  in_bodies : {c : Cause} → Bodies settings m c → BreaksRecipes settings m c
+  in_dependencies : {c : Cause} → Keeps (Bodies settings m) → Dependencies (kept_recipes m.recipes) c → BreaksRecipes settings m c

@@ -13,11 +13,12 @@ use Rattle.just_parts.specs.declared.recipe.Recipe.{Recipe}
 use Rattle.std.specs.List.{Contains}
 use Rattle.just_invoke.specs.Module.{module_name}
 use Rattle.just_invoke.specs.declared.justfile.Justfile.{Justfile, out-Justfile, roll-Justfile}
-use Rattle.just_modules.specs.Analysis.{HasSettings, IsOf}
+use Rattle.just_modules.specs.Analysis.{HasDefault, HasSettings, IsOf}
 use Rattle.just_modules.specs.Modules.{Module, Forest, Empty, Tree, label_of}
 use Rattle.just_modules.specs.declared.inner.Label.{Label}
 use Rattle.just_joining.specs.Contents.{Contents}
-use Rattle.just_joining.specs.Named.{function_by, name_by, said_in, set_by, unexported_by}
+use Rattle.just_joining.specs.Kept.{kept_recipes}
+use Rattle.just_joining.specs.Named.{function_by, lists_by, name_by, said_in, set_by, unexported_by, variable_by}
 use Rattle.just_joining.specs.Recipes.{recipes_of}
 use Rattle.just_joining.specs.Reading.{items_in}
 use Rattle.just_joining.specs.Resolved.{AreResolved}
@@ -31,9 +32,11 @@ abbrev pub contents_in : (Item → Bool) → (AstKey → Option Ast) → List As
 contents_in enabled asts files = record {
   recipes = recipes_in enabled asts files;
   functions = flat_map (λ k. said_in function_by enabled (asts k)) files;
+  variables = flat_map (λ k. said_in variable_by enabled (asts k)) files;
   modules = flat_map (λ k. said_in name_by enabled (asts k)) files;
   unexports = flat_map (λ k. said_in unexported_by enabled (asts k)) files;
   sets = flat_map (λ k. said_in set_by enabled (asts k)) files;
+  lists = flat_map (λ k. lists_by (asts k)) files;
 }
 
 -- modules under their names, one after another
@@ -53,14 +56,15 @@ label_in j = record { name = (out-Justfile j).name; doc = (out-Justfile j).doc; 
 abbrev pub Built : Type 0
 Built = AstKey × List (Recipe Dependency)
 
--- What a module is compiled to: its recipes, each once, resolved and after those that it depends on, and its justfile, with the modules in it.
+-- What a module is compiled to: its recipes, those that are kept, each once, resolved and after those that it depends on, and its justfile, with the modules in it.
 pub record IsCompiled (layers : Layers) (asts : AstKey → Option Ast) (loaded : List Text) (m : Module) (inner : List Justfile) (made : List (Recipe Dependency)) (j : Justfile) : Type 0 where
   pub own : Ast
   pub own_said : asts m.heading.key ≡ Some own
   pub own_there : Contains m.files m.heading.key
-  pub resolved : AreResolved (recipes_in layers.syntax.enabled asts m.files) m.heading.key.0 made
+  pub resolved : AreResolved (kept_recipes (recipes_in layers.syntax.enabled asts m.files)) m.heading.key.0 made
   pub settings : HasSettings layers (contents_in layers.syntax.enabled asts m.files) j
-  pub fields : IsOf (contents_in layers.syntax.enabled asts m.files) (recipes_of layers.syntax.enabled own.items) own loaded m.heading.key.1 j
+  pub default : HasDefault (contents_in layers.syntax.enabled asts m.files) (recipes_of layers.syntax.enabled own.items) j
+  pub fields : IsOf (contents_in layers.syntax.enabled asts m.files) own loaded m.heading.key.1 j
   pub label : label_in j ≡ m.heading.label
   pub modules : (out-Justfile j).modules ≡ by_name inner
 

@@ -8,7 +8,7 @@ use Rattle.just_parts.specs.Items.{Ast, Item}
 use Rattle.just_records.specs.declared.string_literal.StringLiteral.{StringLiteral}
 use Rattle.just_names.specs.declared.name.Name.{Name}
 use Rattle.just_joining.specs.Contents.{Contents}
-use Rattle.just_joining.specs.Named.{function_by, set_by, unexported_by}
+use Rattle.just_joining.specs.Named.{function_by, set_by, unexported_by, variable_by}
 use Rattle.just_joining.specs.Recipes.{recipes_said}
 use Rattle.just_joining.specs.Reading.{Reading, Submodule, imports_of, submodules_of}
 use Rattle.just_modules.specs.declared.inner.Label.{Label}
@@ -51,9 +51,11 @@ abbrev pub contents_of : Module → Contents
 contents_of m = record {
   recipes = recipes_said (items_of m.asts);
   functions = flat_map function_by (items_of m.asts);
+  variables = flat_map variable_by (items_of m.asts);
   modules = map (λ (s : Submodule). s.name) m.modules;
   unexports = flat_map unexported_by (items_of m.asts);
   sets = flat_map set_by (items_of m.asts);
+  lists = flat_map (λ (ast : Ast). ast.list_features) m.asts;
 }
 
 -- the module of a heading

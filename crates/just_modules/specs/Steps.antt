@@ -13,12 +13,13 @@ use Rattle.just_parts.specs.declared.dependency.Dependency.{Dependency}
 use Rattle.just_parts.specs.Items.{Ast, Item}
 use Rattle.just_parts.specs.declared.recipe.Recipe.{Recipe}
 use Rattle.just_invoke.specs.declared.justfile.Justfile.{Justfile, out-Justfile}
-use Rattle.just_modules.specs.Analysis.{HasSettings, IsOf}
+use Rattle.just_modules.specs.Analysis.{HasDefault, HasSettings, IsOf}
 use Rattle.just_joining.specs.Contents.{texts_of_names}
 use Rattle.just_joining.specs.Files.{asts_in, keys_in}
 use Rattle.just_joining.specs.Index.{AreDifferent}
 use Rattle.just_modules.specs.Justfiles.{by_name, slot, with_names}
 use Rattle.just_joining.specs.Groups.{BreaksContents, KeepsContents}
+use Rattle.just_joining.specs.Kept.{kept_recipes}
 use Rattle.just_joining.specs.Named.{recipes_by}
 use Rattle.just_joining.specs.Resolved.{AreResolved, HasPriors, unresolved_numbers}
 use Rattle.just_joining.specs.OfPlaces.{contents_of_place, names_of_place, recipes_of_place}
@@ -43,9 +44,10 @@ pub record IsCompiledAt (layers : Layers) (files : Files) (joined : Joined) (loa
   pub key : AstKey
   pub key_is : slice_get (keys_in files) p ≡ Some key
   pub kept : KeepsContents layers (contents_of_place layers.syntax.enabled files joined p)
-  pub resolved : AreResolved (recipes_of_place layers.syntax.enabled files joined p) own.module_path made
+  pub resolved : AreResolved (kept_recipes (recipes_of_place layers.syntax.enabled files joined p)) own.module_path made
   pub settings : HasSettings layers (contents_of_place layers.syntax.enabled files joined p) j
-  pub fields : IsOf (contents_of_place layers.syntax.enabled files joined p) (recipes_by layers.syntax.enabled (Some own)) own loaded key.1 j
+  pub default : HasDefault (contents_of_place layers.syntax.enabled files joined p) (recipes_by layers.syntax.enabled (Some own)) j
+  pub fields : IsOf (contents_of_place layers.syntax.enabled files joined p) own loaded key.1 j
   pub modules : (out-Justfile j).modules ≡ by_name (with_names inner (names_of_place layers.syntax.enabled files joined p))
 
 -- One more module is compiled, from those that are held at the places of the modules in it.

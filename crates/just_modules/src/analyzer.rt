@@ -10,33 +10,37 @@ ghost use Rattle.just_running.specs.Recipes.{numbers};
 ghost use Rattle.just_invoke.specs.declared.justfile.Justfile.{Justfile, out-Justfile};
 ghost use Rattle.just_joining.specs.Analyzable.{AreAnalyzable};
 ghost use Rattle.just_modules.specs.Analyzed.{Analyzes, NamesAnalyzed};
-ghost use Rattle.just_joining.specs.Definitions.{contents_in, functions_in, recipes_in};
+ghost use Rattle.just_joining.specs.Definitions.{contents_in, functions_in, recipes_in, variables_in};
 ghost use Rattle.just_joining.specs.Files.{asts_in};
-ghost use Rattle.just_modules.specs.Analysis.{BreaksFiles, BreaksRecipes, HasSettingsOf, IsOfFiles, KeepsFiles};
+ghost use Rattle.just_modules.specs.Analysis.{BreaksFiles, BreaksRecipes, HasDefaultOf, HasSettingsOf, IsOfFiles, KeepsFiles};
 ghost use Rattle.just_joining.specs.Named.{AreAddedAt, contents_from, name_by, said_from, recipes_from};
 ghost use Rattle.just_joining.specs.Groups.{BreaksContents, KeepsBefore, OfBodies, functions_under, settings_of};
 ghost use Rattle.just_joining.specs.Rules.{Bodies, Dependencies};
 ghost use Rattle.just_parts.specs.Layers.{layers_of};
-ghost use Rattle.just_joining.specs.Contents.{defined_in, texts_of_names};
+ghost use Rattle.just_joining.specs.Contents.{texts_of_names};
 ghost use Rattle.just_joining.specs.Index.{AreDifferent};
-ghost use Rattle.just_joining.specs.Recipes.{names_of};
+ghost use Rattle.just_joining.specs.Kept.{kept_recipes, kept_variables};
 ghost use Rattle.just_joining.specs.Resolved.{AreNew, AreResolved, HasPriors, unresolved_numbers};
 
 use crate::compiling::compile_in_order;
 use crate::constants::{Evaluated, evaluate};
 use crate::inner::{Label, labelled, take_at};
-use crate::making::{Surroundings, make_justfile};
+use crate::making::{Surroundings, default_of, make_justfile};
 use just_data::{Sequence, Shared, Text};
 use just_invoke::{Justfile, Recipes};
+use just_joining::bodies::{check_bodies, index_recipes};
 use just_joining::definitions::Definitions;
 use just_joining::files::{Files, ast_at, file_rows, place_files, place_of};
-use just_joining::functions::check_functions;
-use just_joining::headers::{check_headers, index_recipes};
+use just_joining::headers::check_headers;
 use just_joining::joined::arrange;
+use just_joining::kept::kept_definitions;
 use just_joining::module_names::check_module_names;
 use just_joining::recipe_resolver::{order_recipes, resolve_in_order};
+use just_joining::variables::check_names;
 use just_names::Modulepath;
-use just_parts::layers::{Ast, Config, Error, Evaluation, Name, Number, StringLiteral, Syntax};
+use just_parts::layers::{
+    Ast, Config, Error, Evaluation, Name, Number, Settings, StringLiteral, Syntax,
+};
 use std::alloc::{AllocError, Global};
 use std::collections::HashMap;
 
@@ -52,7 +56,9 @@ fn definitions_at<'b, 'a, 'src, S: Syntax>(
 {
     let mut definitions = Definitions::new(alloc);
     for place in places {
-        definitions.add(ast_at(files, *place).items.as_slice(), syntax)?;
+        let ast = ast_at(files, *place);
+        definitions.add(ast.items.as_slice(), syntax)?;
+        definitions.add_lists(ast.list_features.as_slice())?;
     }
     Ok(definitions)
 }
@@ -71,31 +77,34 @@ fn check_module<'src, 'a, S: Syntax, E: Evaluation>(
     ensures named { IfErr result (Reports (BreaksContents (layers_of (S.answers syntax.now) (E.answers evaluation.now)) (contents_in definitions.now))) }
 {
     check_headers(alloc, definitions, syntax)?;
-    check_functions(alloc, definitions)?;
+    check_names(alloc, definitions)?;
     let evaluated = evaluate(alloc, definitions, evaluation)?;
     Ok(evaluated)
 }
 
-// The recipes of the module at a path, resolved, each after those that it depends on. An error names a rule that is
-// broken in its bodies, or where these are kept in its dependencies.
+// The definitions of the module at a path that are kept, with these settings, and its recipes, resolved, each after those
+// that it depends on. An error names a rule that is broken in its bodies, or where these are kept in its dependencies.
 fn resolve_recipes<'src, 'a>(
     alloc: Global,
     definitions: &Definitions<'src, 'a>,
+    settings: &Settings,
     path: &Modulepath,
-) -> Result<Recipes<'src>, Error<'src>>
+) -> Result<(Definitions<'src, 'a>, Recipes<'src>), Error<'src>>
     requires once { IsOnce (unresolved_numbers (recipes_in definitions.now)) }
     requires priors { All HasPriors (recipes_in definitions.now) }
-    requires modules { AreDifferent (texts_of_names definitions.now.modules.items) }
-    ensures bodies { IfOk result (λ _. Keeps (Bodies (defined_in (contents_in definitions.now)))) }
-    ensures dependencies { IfOk result (λ _. Keeps (Dependencies (recipes_in definitions.now))) }
-    ensures different { IfOk result (λ _. AreDifferent (names_of (recipes_in definitions.now))) }
-    ensures resolved { IfOk result (AreResolved (recipes_in definitions.now) path.now) }
-    ensures named { IfErr result (Reports (BreaksRecipes (contents_in definitions.now))) }
+    ensures bodies { IfOk result (λ _. Keeps (Bodies settings.now (contents_in definitions.now))) }
+    ensures dependencies { IfOk result (λ _. Keeps (Dependencies (kept_recipes (recipes_in definitions.now)))) }
+    ensures recipes { IfOk result (λ made. recipes_in made.0 ≡ kept_recipes (recipes_in definitions.now)) }
+    ensures variables { IfOk result (λ made. variables_in made.0 ≡ kept_variables (variables_in definitions.now)) }
+    ensures resolved { IfOk result (λ made. AreResolved (kept_recipes (recipes_in definitions.now)) path.now made.1) }
+    ensures named { IfErr result (Reports (BreaksRecipes settings.now (contents_in definitions.now))) }
 {
-    let index = index_recipes(alloc, definitions)?;
-    let (rows, order) = order_recipes(alloc, definitions, &index)?;
-    let made = resolve_in_order(alloc, definitions, rows.as_slice(), order.as_slice(), path)?;
-    Ok(made)
+    check_bodies(alloc, definitions, settings)?;
+    let kept = kept_definitions(alloc, definitions)?;
+    let index = index_recipes(alloc, &kept)?;
+    let (rows, order) = order_recipes(alloc, &kept, &index)?;
+    let made = resolve_in_order(alloc, &kept, rows.as_slice(), order.as_slice(), path)?;
+    Ok((kept, made))
 }
 
 /// Analyzes the module of these files, whose own stands at `own`: checks what they say, evaluates what it sets, resolves
@@ -119,6 +128,7 @@ pub fn analyze_module<'a, 'src, S: Syntax, E: Evaluation>(
     ensures kept { IfOk result (λ _. KeepsFiles (layers_of (S.answers syntax.now) (E.answers evaluation.now)) files.now places.now) }
     ensures added { IfOk result (λ _. AreAddedAt (S.answers syntax.now).enabled files.now own places.now recipes.old recipes.new) }
     ensures fields { IfOk result (IsOfFiles (S.answers syntax.now).enabled files.now own places.now surroundings.entry.loaded surroundings.entry.source) }
+    ensures default { IfOk result (HasDefaultOf (S.answers syntax.now).enabled files.now own places.now) }
     ensures settings { IfOk result (HasSettingsOf (layers_of (S.answers syntax.now) (E.answers evaluation.now)) files.now places.now) }
     ensures modules { IfOk result (λ j. (out-Justfile j).modules ≡ surroundings.entry.modules) }
     ensures named { IfErr result (Reports (BreaksFiles (layers_of (S.answers syntax.now) (E.answers evaluation.now)) files.now places.now)) }
@@ -126,15 +136,20 @@ pub fn analyze_module<'a, 'src, S: Syntax, E: Evaluation>(
     let definitions = definitions_at(alloc, files, syntax, places)?;
     let ast = ast_at(files, own);
     let evaluated = check_module(alloc, &definitions, syntax, evaluation)?;
-    let mut made = resolve_recipes(alloc, &definitions, &ast.module_path)?;
-    let mut own_definitions = Definitions::new(alloc);
-    own_definitions.add(ast.items.as_slice(), syntax)?;
+    let (kept, mut made) = resolve_recipes(
+        alloc,
+        &definitions,
+        &evaluated.settings,
+        &ast.module_path,
+    )?;
+    let default = default_of(alloc, ast, syntax, &made)?;
     recipes.append(&mut made)?;
     let justfile = make_justfile(
         alloc,
         &definitions,
-        &own_definitions,
+        &kept,
         ast,
+        default,
         evaluated,
         surroundings,
     )?;

@@ -1,14 +1,16 @@
-//! What is evaluated of a module while compiling.
+//! What is evaluated of a module while compiling, and the tables of its definitions.
 
-ghost use Rattle.std.specs.Prelude.{◌≡◌, ◌<◌, IfOk, IfErr, Some, length};
+ghost use Rattle.std.specs.Prelude.{◌≡◌, [], IfOk, IfErr, Some};
 ghost use Rattle.just_errors.specs.Causes.{Reports};
-ghost use Rattle.just_joining.specs.Definitions.{contents_in, functions_in, sets_in};
+ghost use Rattle.just_names.specs.Name.{text_of_name};
+ghost use Rattle.just_table.specs.Entries.{put_all};
+ghost use Rattle.just_joining.specs.Definitions.{contents_in, functions_in, sets_in, variables_in};
 ghost use Rattle.just_joining.specs.Groups.{functions_under, settings_of};
 ghost use Rattle.just_joining.specs.Rules.{Constants};
 
 use just_data::{Exact, Sequence};
-use just_joining::definitions::{Definitions, function_at, set_at};
-use just_parts::layers::{Error, Evaluation, FunctionDefinition, Scope, Set, Settings};
+use just_joining::definitions::{Definitions, function_at, set_at, variable_at};
+use just_parts::layers::{Assignment, Error, Evaluation, FunctionDefinition, Scope, Set, Settings};
 use just_table::Table;
 use std::alloc::{AllocError, Global};
 
@@ -54,6 +56,20 @@ fn copied_sets<'a, 'src>(
         sets.push(copied(set_at(definitions, place))?)?;
     }
     Ok(sets)
+}
+
+/// The variables, under their names.
+pub fn variable_table<'a, 'src>(
+    alloc: Global,
+    definitions: &Definitions<'src, 'a>,
+) -> Result<Table<'src, Assignment<'src>>, AllocError>
+    ensures { IfOk result (λ variables. variables ≡ put_all (λ a. text_of_name a.name) [] (variables_in definitions.now)) }
+{
+    let mut variables = Table::new(alloc);
+    for place in 0..definitions.variables.len() {
+        variables.insert(copied(variable_at(definitions, place))?)?;
+    }
+    Ok(variables)
 }
 
 /// Evaluates what a module sets. An error is a fault of the evaluation.

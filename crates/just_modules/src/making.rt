@@ -1,19 +1,22 @@
 //! What a module's recipes are compiled to.
 
-ghost use Rattle.std.specs.Prelude.{◌≡◌, ◌<◌, ℕ, [], false, IsTrue, IfOk, IfSome, IfNone, length};
+ghost use Rattle.std.specs.Prelude.{◌≡◌, ◌<◌, false, IsTrue, IfOk, IfSome, Some, length};
+ghost use Rattle.just_running.specs.Recipes.{numbers};
 ghost use Rattle.just_invoke.specs.declared.justfile.Justfile.{out-Justfile};
-ghost use Rattle.just_modules.specs.Analysis.{AreKeysOf, HasKeysOf, IsBefore, IsDefault, IsOf};
+ghost use Rattle.just_modules.specs.Analysis.{AreKeysOf, HasKeysOf, IsBefore, IsBetter, IsDefaultOf, IsDefaultPlace, IsOf};
 ghost use Rattle.just_joining.specs.Groups.{functions_under};
-ghost use Rattle.just_joining.specs.Definitions.{contents_in, functions_in, recipes_in};
+ghost use Rattle.just_joining.specs.Definitions.{contents_in, functions_in, recipes_in, variables_in};
 ghost use Rattle.just_joining.specs.Index.{AreDifferent};
+ghost use Rattle.just_joining.specs.Kept.{kept_recipes, kept_variables};
+ghost use Rattle.just_joining.specs.Named.{recipes_by};
 ghost use Rattle.just_joining.specs.Recipes.{names_of};
 
-use crate::constants::Evaluated;
+use crate::constants::{Evaluated, variable_table};
 use just_data::{Sequence, Shared, Text};
-use just_invoke::{Justfile, RecipeKey};
+use just_invoke::{Justfile, RecipeKey, Recipes};
 use just_joining::definitions::{Definitions, recipe_at};
 use just_parts::UnresolvedRecipe;
-use just_parts::layers::{Ast, Name};
+use just_parts::layers::{Ast, Name, Number, Syntax};
 use just_table::Table;
 use std::alloc::{AllocError, Global};
 
@@ -49,22 +52,54 @@ fn comes_before<'src>(recipe: &UnresolvedRecipe<'src>, other: &UnresolvedRecipe<
     recipe.name.line() < other.name.line()
 }
 
-// The place of the recipe on the least line, and of those there of the greatest name.
-fn default_place<'a, 'src>(definitions: &Definitions<'src, 'a>) -> Option<usize>
-    ensures found { IfSome result (IsDefault (recipes_in definitions.now)) }
-    ensures missing { IfNone result (recipes_in definitions.now ≡ []) }
+// The place of the default of two: of the best one so far, where there is one, and of another.
+fn better<'a, 'src>(own: &Definitions<'src, 'a>, best: Option<usize>, place: usize) -> usize
+    requires best { IfSome best (λ b. b < length own.now.recipes.items) }
+    requires place { place < length own.now.recipes.items }
+    ensures { IsBetter (recipes_in own.now) best place result }
 {
-    if definitions.recipes.is_empty() {
-        return None;
+    match best {
+        None => place,
+        Some(best) => {
+            if comes_before(recipe_at(own, place), recipe_at(own, best)) {
+                place
+            } else {
+                best
+            }
+        }
     }
-    let mut best = 0;
-    for place in 0..definitions.recipes.len() {
-        if !comes_before(recipe_at(definitions, place), recipe_at(definitions, best)) {
+}
+
+// The place of the default among the recipes of a module's own file: of those that are resolved the one on the least
+// line, and of those there the one of the greatest name.
+fn default_place<'a, 'src>(own: &Definitions<'src, 'a>, resolved: &Recipes<'src>) -> Option<usize>
+    ensures { IsDefaultPlace (numbers resolved.now) (recipes_in own.now) (length own.now.recipes.items) result }
+{
+    let mut best = None;
+    for place in 0..own.recipes.len() {
+        if resolved.get(recipe_at(own, place).number).is_none() {
             continue;
         }
-        best = place;
+        best = Some(better(own, best, place));
     }
-    Some(best)
+    best
+}
+
+/// The number of the recipe that is run without words: one that the module's own file has, of those that are resolved.
+pub fn default_of<'src, S: Syntax>(
+    alloc: Global,
+    ast: &Ast<'src>,
+    syntax: &S,
+    resolved: &Recipes<'src>,
+) -> Result<Option<Number>, AllocError>
+    ensures { IfOk result (IsDefaultOf (numbers resolved.now) (recipes_by (S.answers syntax.now).enabled (Some ast.now))) }
+{
+    let mut own = Definitions::new(alloc);
+    own.add(ast.items.as_slice(), syntax)?;
+    match default_place(&own, resolved) {
+        None => Ok(None),
+        Some(place) => Ok(Some(recipe_at(&own, place).number)),
+    }
 }
 
 // The names once more.
@@ -92,26 +127,25 @@ pub struct Surroundings<'src> {
     pub source: Text,
 }
 
-/// The justfile of a module with these recipes, of which its own file says `own`, and with what is evaluated of it. It
-/// has no label.
+/// The justfile of a module with these definitions, of which some are kept, with a default, and with what is evaluated of
+/// it. It has no label.
 pub fn make_justfile<'a, 'src>(
     alloc: Global,
     definitions: &Definitions<'src, 'a>,
-    own: &Definitions<'src, 'a>,
+    kept: &Definitions<'src, 'a>,
     ast: &Ast<'src>,
+    default: Option<Number>,
     evaluated: Evaluated<'src>,
     surroundings: Surroundings<'src>,
 ) -> Result<Justfile<'src>, AllocError>
-    requires names { AreDifferent (names_of (recipes_in definitions.now)) }
+    requires recipes { recipes_in kept.now ≡ kept_recipes (recipes_in definitions.now) }
+    requires variables { variables_in kept.now ≡ kept_variables (variables_in definitions.now) }
     requires functions { evaluated.functions ≡ functions_under (functions_in definitions.now) }
-    ensures fields { IfOk result (λ j. IsOf (contents_in definitions.now) (recipes_in own.now) ast.now surroundings.entry.loaded surroundings.entry.source j) }
+    ensures fields { IfOk result (λ j. IsOf (contents_in definitions.now) ast.now surroundings.entry.loaded surroundings.entry.source j) }
+    ensures default { IfOk result (λ j. (out-Justfile j).default ≡ default) }
     ensures settings { IfOk result (λ j. (out-Justfile j).settings ≡ evaluated.entry.settings) }
     ensures modules { IfOk result (λ j. (out-Justfile j).modules ≡ surroundings.entry.modules) }
 {
-    let default = match default_place(own) {
-        Some(place) => Some(recipe_at(own, place).number),
-        None => None,
-    };
     let Surroundings {
         loaded,
         modules,
@@ -122,6 +156,7 @@ pub fn make_justfile<'a, 'src>(
         settings,
     } = evaluated;
     Ok(Justfile {
+        assignments: variable_table(alloc, kept)?,
         default,
         doc: None,
         functions,
@@ -131,7 +166,7 @@ pub fn make_justfile<'a, 'src>(
         modules,
         name: None,
         private: false,
-        recipes: recipe_keys(alloc, definitions)?,
+        recipes: recipe_keys(alloc, kept)?,
         settings,
         source,
         unexports: copied_names(alloc, definitions.unexports.as_slice())?,

@@ -17,11 +17,11 @@ pub use just_errors::{
     CompileError, CompileErrorKind, Error, Fault, Halt, InvocationError, LoadError, RunError,
     SourceError, error,
 };
-pub use just_names::{Exhausted, Name, Namepath, Number, Numerator, Token};
+pub use just_names::{Exhausted, ListFeature, Name, Namepath, Number, Numerator, Token};
 pub use just_records::{
     ArgumentAttribute, ArgumentProperty, Assignment, Attribute, Binding, CacheAttribute,
     ConditionalOperator, EnvironmentAttribute, Expression, Fragment, FunctionDefinition,
-    FunctionParameter, Interpreter, Keyword, Line, ListFeature, ListUse, NamedAttribute, Parameter,
+    FunctionParameter, Interpreter, Keyword, Line, ListUse, NamedAttribute, Parameter,
     ParameterKind, Pattern, Scope, Set, Setting, Settings, Shape, Sigil, Signal, StringLiteral,
     UnstableFeature, Warning,
 };

@@ -1,2 +1,1 @@
-pub mod ListFeature
 pub mod Parameter

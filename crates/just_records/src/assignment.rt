@@ -1,6 +1,7 @@
 use crate::expression::Expression;
 use just_data::Exact;
 use just_names::{Name, Number};
+use just_table::Keyed;
 
 /// A variable and its value.
 #[derive(Clone, Debug, PartialEq, Eq, Drop)]
@@ -25,4 +26,14 @@ impl<'src> Exact for Assignment<'src> {
     ghost use Rattle.std.proofs.Common.{rules};
 
     ghost exact = { Prim.search rules };
+}
+
+impl<'src> Keyed<'src> for Assignment<'src> {
+    ghost use Rattle.just_names.specs.Token.{lexeme};
+
+    ghost key_of = { λ assignment. lexeme assignment.name.token };
+
+    fn key(&self) -> &'src str {
+        self.name.lexeme()
+    }
 }

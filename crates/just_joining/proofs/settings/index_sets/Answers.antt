@@ -1,4 +1,4 @@
-use Rattle.std.proofs.Common.{◌≡◌, ◌∙◌, ◌<◌, ℕ, List, length, subst, sym, arith}
+use Rattle.std.proofs.Common.{◌≡◌, ◌∙◌, ◌<◌, length, subst, sym, arith}
 use Rattle.std.specs.Str.{bytes_eq}
 use Rattle.std.specs.HashMap.{get}
 use Rattle.std.proofs.lemmas.Grind.{common_steps}
@@ -6,7 +6,7 @@ use Rattle.std.proofs.lemmas.List.{length-map}
 use Rattle.just_names.specs.Name.{text_of_name}
 use Rattle.just_records.specs.declared.setting.Set.{Set}
 use Rattle.just_joining.specs.Definitions.{sets_in}
-use Rattle.just_joining.specs.Index.{IsIndex, IsLast, Repeats, name_at}
+use Rattle.just_joining.specs.Index.{IsLast, name_at}
 use Rattle.just_joining.specs.Settings.{setting_names}
 use Rattle.just_joining.proofs.Excluded.{name_there, set_twice_told}
 use Rattle.just_joining.proofs.Indexing.{different_more, index_more, repeats, texts_apart}

@@ -10,13 +10,16 @@ use Rattle.just_joining.specs.Definitions.{contents_in}
 use Rattle.just_joining.specs.Index.{AreDifferent}
 use Rattle.just_joining.specs.Files.{asts_in}
 use Rattle.just_joining.specs.Groups.{BreaksContents, KeepsContents, settings_of}
-use Rattle.just_joining.specs.Named.{recipes_from}
+use Rattle.just_joining.specs.Kept.{kept_recipes}
+use Rattle.just_joining.specs.Named.{recipes_by, recipes_from}
 use Rattle.just_parts.specs.Layers.{layers_of}
 use Rattle.just_errors.proofs.Lifts.{reports_by}
-use Rattle.just_modules.specs.Analysis.{BreaksRecipes}
-use Rattle.just_modules.proofs.Grounds.{all_kept, recipes_broken}
+use Rattle.just_graph.proofs.Members.{contained, is_in}
+use Rattle.just_joining.proofs.Keeping.{kept_number}
+use Rattle.just_modules.specs.Analysis.{BreaksRecipes, IsDefaultOf}
+use Rattle.just_modules.proofs.Grounds.{all_kept, bodies_under, recipes_broken}
 use Rattle.just_joining.specs.Resolved.{AreResolved, HasPriors, unresolved_numbers}
-use Rattle.just_modules.proofs.Makings.{resolved_numbers}
+use Rattle.just_modules.proofs.Makings.{default_resolved, resolved_numbers}
 use Rattle.just_modules.proofs.analyzer.analyze_module.Goals as goal
 
 pub resolve_recipes-requires-clause-once : goal.resolve_recipes-requires-clause-once
@@ -24,9 +27,6 @@ resolve_recipes-requires-clause-once g c = subst (λ (m : Contents). IsOnce (unr
 
 pub resolve_recipes-requires-clause-priors : goal.resolve_recipes-requires-clause-priors
 resolve_recipes-requires-clause-priors g c = subst (λ (m : Contents). All HasPriors m.recipes) (sym c.in_ok-definitions.ensures) c.requires.priors
-
-pub resolve_recipes-requires-clause-modules : goal.resolve_recipes-requires-clause-modules
-resolve_recipes-requires-clause-modules g c = subst (λ (m : Contents). AreDifferent (texts_of_names m.modules)) (sym c.in_ok-definitions.ensures) c.requires.modules
 
 pub check_module-requires : goal.check_module-requires
 check_module-requires g c = subst (λ (m : Contents). AreDifferent (texts_of_names m.modules)) (sym c.in_ok-definitions.ensures) c.requires.modules
@@ -37,24 +37,25 @@ returns-in_err-evaluated-clause-named g c =
     IfErr-weaker c.from_residual-in_err-evaluated.result (Reports (BreaksContents layers (contents_in c.in_ok-definitions.definitions))) _
     (λ e h. subst (λ m. Reports (BreaksContents layers m) e) c.in_ok-definitions.ensures h) (search rules)
 
-pub returns-in_err-made-clause-named : goal.returns-in_err-made-clause-named
-returns-in_err-made-clause-named g c =
+pub returns-in_err-kept-clause-named : goal.returns-in_err-kept-clause-named
+returns-in_err-kept-clause-named g c =
     let layers = layers_of (g.S.Syntax.answers c.args.syntax.now) (g.E.Evaluation.answers c.args.evaluation.now) in
     let m = contents_in c.in_ok-definitions.definitions in
-    IfErr-weaker c.from_residual-in_err-made.result (Reports (BreaksRecipes m)) _
-    (λ e h. subst (λ n. Reports (BreaksContents layers n) e) c.in_ok-definitions.ensures (reports_by (BreaksRecipes m) (BreaksContents layers m) (recipes_broken layers m c.in_ok-evaluated.ensures.kept) e h)) (search rules)
+    let s = c.in_ok-evaluated.evaluated.settings in
+    IfErr-weaker c.from_residual-in_err-kept.result (Reports (BreaksRecipes s m)) _
+    (λ e h. subst (λ n. Reports (BreaksContents layers n) e) c.in_ok-definitions.ensures (reports_by (BreaksRecipes s m) (BreaksContents layers m) (recipes_broken layers m c.in_ok-evaluated.ensures.kept s c.in_ok-evaluated.ensures.settings) e h)) (search rules)
 
 pub append-requires : goal.append-requires
 append-requires g c = λ number a b.
     let qs = recipes_from (g.S.Syntax.answers c.args.syntax.now).enabled (asts_in c.args.files.now) c.args.places.now in
-    c.requires.apart number a (resolved_numbers qs c.ast_at-ast.result.now.module_path c.in_ok-made.made
-    (subst (λ (m : Contents). AreResolved m.recipes c.ast_at-ast.result.now.module_path c.in_ok-made.made) c.in_ok-definitions.ensures c.in_ok-made.ensures.resolved) number b)
+    c.requires.apart number a (contained number (unresolved_numbers qs) (kept_number qs number (is_in number (unresolved_numbers (kept_recipes qs)) (resolved_numbers (kept_recipes qs) c.ast_at-ast.result.now.module_path c.in_ok-kept.made
+    (subst (λ (m : Contents). AreResolved (kept_recipes m.recipes) c.ast_at-ast.result.now.module_path c.in_ok-kept.made) c.in_ok-definitions.ensures c.in_ok-kept.ensures.resolved) number b))))
 
 pub returns-clause-kept : goal.returns-clause-kept
 returns-clause-kept g c =
     let layers = layers_of (g.S.Syntax.answers c.args.syntax.now) (g.E.Evaluation.answers c.args.evaluation.now) in
     let m = contents_in c.in_ok-definitions.definitions in
-    subst (KeepsContents layers) c.in_ok-definitions.ensures (all_kept layers m c.in_ok-evaluated.ensures.kept c.in_ok-made.ensures.bodies c.in_ok-made.ensures.dependencies)
+    subst (KeepsContents layers) c.in_ok-definitions.ensures (all_kept layers m c.in_ok-evaluated.ensures.kept (bodies_under (settings_of layers.evaluator m) c.in_ok-evaluated.evaluated.settings m c.in_ok-evaluated.ensures.settings c.in_ok-kept.ensures.bodies) c.in_ok-kept.ensures.dependencies)
 
 pub returns-clause-settings : goal.returns-clause-settings
 returns-clause-settings g c =
@@ -65,8 +66,19 @@ returns-clause-added g c = λ own e.
     let qs = recipes_from (g.S.Syntax.answers c.args.syntax.now).enabled (asts_in c.args.files.now) c.args.places.now in
     let same : c.ast_at-ast.result.now ≡ own = some_same (sym c.ast_at-ast.ensures ∙ e) in
     record {
-      made = c.in_ok-made.made;
+      made = c.in_ok-kept.made;
       appended = c.in_ok-append.ensures.ok;
-      resolved = subst (λ (ast : Ast). AreResolved qs ast.module_path c.in_ok-made.made) same
-          (subst (λ (m : Contents). AreResolved m.recipes c.ast_at-ast.result.now.module_path c.in_ok-made.made) c.in_ok-definitions.ensures c.in_ok-made.ensures.resolved);
+      resolved = subst (λ (ast : Ast). AreResolved (kept_recipes qs) ast.module_path c.in_ok-kept.made) same
+          (subst (λ (m : Contents). AreResolved (kept_recipes m.recipes) c.ast_at-ast.result.now.module_path c.in_ok-kept.made) c.in_ok-definitions.ensures c.in_ok-kept.ensures.resolved);
     }
+
+pub returns-clause-default : goal.returns-clause-default
+returns-clause-default g c = λ own e.
+    let enabled = (g.S.Syntax.answers c.args.syntax.now).enabled in
+    let qs = recipes_from enabled (asts_in c.args.files.now) c.args.places.now in
+    let path = c.ast_at-ast.result.now.module_path in
+    let same : c.ast_at-ast.result.now ≡ own = some_same (sym c.ast_at-ast.ensures ∙ e) in
+    let resolved = subst (λ (m : Contents). AreResolved (kept_recipes m.recipes) path c.in_ok-kept.made) c.in_ok-definitions.ensures c.in_ok-kept.ensures.resolved in
+    subst (IsDefaultOf (unresolved_numbers (kept_recipes qs)) (recipes_by enabled (Some own))) (sym c.in_ok-justfile.ensures.default)
+    (subst (λ (ast : Ast). IsDefaultOf (unresolved_numbers (kept_recipes qs)) (recipes_by enabled (Some ast)) c.in_ok-default.default) same
+    (default_resolved (kept_recipes qs) path c.in_ok-kept.made (recipes_by enabled (Some c.ast_at-ast.result.now)) c.in_ok-default.default resolved c.in_ok-default.ensures))

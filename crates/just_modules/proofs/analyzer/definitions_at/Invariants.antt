@@ -5,7 +5,4 @@ use Rattle.just_joining.specs.Named.{contents_from}
 use Rattle.just_modules.proofs.analyzer.definitions_at.Given as goal
 
 abbrev pub invariant-loop-place : goal.invariant-loop-place
-invariant-loop-place g l =
-    let said = contents_from (g.S.Syntax.answers l.syntax).enabled (asts_in l.files) (take l.place-index l.places) in
-    let now = contents_in l.definitions in
-    (now.recipes ≡ said.recipes) × (now.functions ≡ said.functions) × (now.modules ≡ said.modules) × (now.unexports ≡ said.unexports) × (now.sets ≡ said.sets)
+invariant-loop-place g l = contents_in l.definitions ≡ contents_from (g.S.Syntax.answers l.syntax).enabled (asts_in l.files) (take l.place-index l.places)

@@ -1,27 +1,49 @@
-use Rattle.std.proofs.Common.{length, subst, rules}
+use Rattle.std.proofs.Common.{length, List, subst, sym, rules}
+use Rattle.std.specs.List.{All}
 use Rattle.std.proofs.lemmas.Result.{IfErr-weaker}
-use Rattle.just_errors.specs.Causes.{Reports}
+use Rattle.just_graph.specs.Steps.{IsOnce}
+use Rattle.just_errors.specs.Causes.{Keeps, Reports}
 use Rattle.just_errors.proofs.Lifts.{reports_by}
-use Rattle.just_joining.specs.Contents.{defined_in}
+use Rattle.just_parts.specs.declared.layers.ast.UnresolvedDependency.{UnresolvedDependency}
+use Rattle.just_parts.specs.declared.recipe.Recipe.{Recipe}
 use Rattle.just_joining.specs.Definitions.{contents_in, recipes_in}
-use Rattle.just_joining.specs.Resolved.{Resolving}
+use Rattle.just_joining.specs.Index.{AreDifferent}
+use Rattle.just_joining.specs.Recipes.{names_of}
+use Rattle.just_joining.specs.Resolved.{AreResolved, HasPriors, Resolving, unresolved_numbers}
 use Rattle.just_joining.specs.Rules.{Bodies, Dependencies}
+use Rattle.just_joining.proofs.Keeping.{kept_all, kept_different, kept_once}
 use Rattle.just_joining.proofs.Resolving.{all_resolved}
 use Rattle.just_modules.specs.Analysis.{BreaksRecipes, in_bodies, in_dependencies}
 use Rattle.just_modules.proofs.analyzer.resolve_recipes.Goals as goal
 
-pub returns-in_err-index-clause-named : goal.returns-in_err-index-clause-named
-returns-in_err-index-clause-named c =
-    IfErr-weaker c.from_residual.result (Reports (Bodies (defined_in (contents_in c.args.definitions.now)))) _
-    (λ e h. reports_by (Bodies _) (BreaksRecipes _) (λ x k. in_bodies k) e h) (search rules)
+pub order_recipes-requires-clause-different : goal.order_recipes-requires-clause-different
+order_recipes-requires-clause-different c = subst (λ (rs : List (Recipe UnresolvedDependency)). AreDifferent (names_of rs)) (sym c.in_ok-kept.ensures.recipes) (kept_different (recipes_in c.args.definitions.now))
+
+pub resolve_in_order-requires-clause-different : goal.resolve_in_order-requires-clause-different
+resolve_in_order-requires-clause-different c = subst (λ (rs : List (Recipe UnresolvedDependency)). AreDifferent (names_of rs)) (sym c.in_ok-kept.ensures.recipes) (kept_different (recipes_in c.args.definitions.now))
+
+pub resolve_in_order-requires-clause-once : goal.resolve_in_order-requires-clause-once
+resolve_in_order-requires-clause-once c = subst (λ (rs : List (Recipe UnresolvedDependency)). IsOnce (unresolved_numbers rs)) (sym c.in_ok-kept.ensures.recipes) (kept_once (recipes_in c.args.definitions.now) c.requires.once)
+
+pub resolve_in_order-requires-clause-priors : goal.resolve_in_order-requires-clause-priors
+resolve_in_order-requires-clause-priors c = subst (λ (rs : List (Recipe UnresolvedDependency)). All HasPriors rs) (sym c.in_ok-kept.ensures.recipes) (kept_all HasPriors (recipes_in c.args.definitions.now) c.requires.priors)
+
+pub returns-in_err-check_bodies-clause-named : goal.returns-in_err-check_bodies-clause-named
+returns-in_err-check_bodies-clause-named c =
+    IfErr-weaker c.from_residual.result (Reports (Bodies c.args.settings.now (contents_in c.args.definitions.now))) _
+    (λ e h. reports_by (Bodies _ _) (BreaksRecipes _ _) (λ x k. in_bodies k) e h) (search rules)
 
 pub returns-in_err-rows-clause-named : goal.returns-in_err-rows-clause-named
 returns-in_err-rows-clause-named c =
-    IfErr-weaker c.from_residual-in_err-rows.result (Reports (Dependencies (recipes_in c.args.definitions.now))) _
-    (λ e h. reports_by (Dependencies _) (BreaksRecipes _) (λ x k. in_dependencies c.in_ok-index.ensures.kept k) e h) (search rules)
+    IfErr-weaker c.from_residual-in_err-rows.result (Reports (Dependencies (recipes_in c.in_ok-kept.kept))) _
+    (λ e h. reports_by (Dependencies (recipes_in c.in_ok-kept.kept)) (BreaksRecipes _ _) (λ x k. in_dependencies c.in_ok-check_bodies.ensures.kept (subst (λ (rs : List (Recipe UnresolvedDependency)). Dependencies rs x) c.in_ok-kept.ensures.recipes k)) e h) (search rules)
+
+pub returns-clause-dependencies : goal.returns-clause-dependencies
+returns-clause-dependencies c = subst (λ (rs : List (Recipe UnresolvedDependency)). Keeps (Dependencies rs)) c.in_ok-kept.ensures.recipes c.in_ok-rows.ensures.kept
 
 pub returns-clause-resolved : goal.returns-clause-resolved
 returns-clause-resolved c =
-    let rs = recipes_in c.args.definitions.now in
-    all_resolved rs c.args.path.now c.in_ok-rows.order.items c.in_ok-made.made c.in_ok-rows.ensures.ordered
-    (subst (λ os. Resolving rs c.args.path.now os (length os) c.in_ok-made.made) c.as_slice-2.ensures.value c.in_ok-made.ensures)
+    let rs = recipes_in c.in_ok-kept.kept in
+    subst (λ (qs : List (Recipe UnresolvedDependency)). AreResolved qs c.args.path.now c.in_ok-made.made) c.in_ok-kept.ensures.recipes
+    (all_resolved rs c.args.path.now c.in_ok-rows.order.items c.in_ok-made.made c.in_ok-rows.ensures.ordered
+    (subst (λ os. Resolving rs c.args.path.now os (length os) c.in_ok-made.made) c.as_slice-2.ensures.value c.in_ok-made.ensures))

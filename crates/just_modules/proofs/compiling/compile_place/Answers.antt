@@ -15,7 +15,8 @@ use Rattle.just_joining.specs.Index.{AreDifferent}
 use Rattle.just_joining.specs.Named.{AreAdded, contents_from, name_by, said_from, recipes_by, recipes_from}
 use Rattle.just_joining.specs.Resolved.{HasPriors, unresolved_numbers}
 use Rattle.just_parts.specs.Layers.{layers_of}
-use Rattle.just_modules.specs.Analysis.{BreaksFiles, HasSettingsOf, KeepsFiles}
+use Rattle.just_joining.specs.Kept.{kept_recipes}
+use Rattle.just_modules.specs.Analysis.{BreaksFiles, HasDefault, HasSettingsOf, KeepsFiles}
 use Rattle.just_modules.proofs.Makings.{is_of_same}
 use Rattle.just_joining.proofs.Joining.{row_lent, some_at}
 use Rattle.just_modules.proofs.compiling.compile_place.Goals as goal
@@ -87,7 +88,7 @@ returns-clause-compiled g c =
     let key : slice_get (keys_in c.args.files.now) c.args.place ≡ Some c.index-3.result.now.now =
     map_get (λ (k : Bor AstKey). k.now) c.args.files.now.keys.items c.args.place c.index-3.result.now (slice_get_read c.args.files.now.keys.items (length c.args.files.now.keys.items) c.args.place c.index-3.result.now refl (omega (arith, c.requires.ready.there, c.requires.keys)) c.index-3.ensures) in
     let room : c.args.place < length c.take_inner.new.slots.items = omega (arith, c.in_ok-modules.ensures.room, c.requires.room, c.requires.ready.there) in
-    let added = subst (λ (xs : List ℕ). AreAdded (recipes_from enabled asts xs) own.0.module_path c.args.recipes.now c.analyze_module.new.recipes) row (c.in_ok-justfile.ensures.added own.0 own.1) in
+    let added = subst (λ (xs : List ℕ). AreAdded (kept_recipes (recipes_from enabled asts xs)) own.0.module_path c.args.recipes.now c.analyze_module.new.recipes) row (c.in_ok-justfile.ensures.added own.0 own.1) in
     record {
       made = added.made;
       justfile = c.in_ok-justfile.justfile;
@@ -100,8 +101,9 @@ returns-clause-compiled g c =
         kept = subst (λ (xs : List ℕ). KeepsFiles (layers_of (g.S.Syntax.answers c.args.syntax.now) (g.E.Evaluation.answers c.args.evaluation.now)) c.args.files.now xs) row c.in_ok-justfile.ensures.kept;
         settings = subst (λ (xs : List ℕ). HasSettingsOf (layers_of (g.S.Syntax.answers c.args.syntax.now) (g.E.Evaluation.answers c.args.evaluation.now)) c.args.files.now xs c.in_ok-justfile.justfile) row c.in_ok-justfile.ensures.settings;
         resolved = added.resolved;
-        fields = is_of_same (contents_from enabled asts c.as_slice-row.result.now) _ (recipes_by enabled (Some own.0)) (recipes_by enabled (Some own.0)) own.0 c.in_ok-clone.field-0 c.args.loaded.now c.in_ok-from_str.field-0 c.index-3.result.now.now.1 c.in_ok-justfile.justfile
-            (ap (contents_from enabled asts) row) refl c.in_ok-clone.ensures.cases (c.in_ok-from_str.ensures ∙ c.as_str.ensures) (c.in_ok-justfile.ensures.fields own.0 own.1);
+        default = subst (λ (xs : List ℕ). HasDefault (contents_from enabled asts xs) (recipes_by enabled (Some own.0)) c.in_ok-justfile.justfile) row (c.in_ok-justfile.ensures.default own.0 own.1);
+        fields = is_of_same (contents_from enabled asts c.as_slice-row.result.now) _ own.0 c.in_ok-clone.field-0 c.args.loaded.now c.in_ok-from_str.field-0 c.index-3.result.now.now.1 c.in_ok-justfile.justfile
+            (ap (contents_from enabled asts) row) c.in_ok-clone.ensures.cases (c.in_ok-from_str.ensures ∙ c.as_str.ensures) (c.in_ok-justfile.ensures.fields own.0 own.1);
         modules = c.in_ok-justfile.ensures.modules ∙ c.modules.view_is ∙ c.in_ok-modules.ensures.modules inner (e ∙ ap (map (slot c.args.slots.now.items)) (sym inner_row))
             ∙ ap (λ names. by_name (with_names inner names)) (c.as_slice-2.ensures.value ∙ c.in_ok-names.ensures ∙ ap (said_from name_by enabled asts) row);
       };

@@ -1,7 +1,7 @@
-use Rattle.std.proofs.Common.{◌≡◌, ◌∙◌, ap, rules}
+use Rattle.std.proofs.Common.{◌∙◌, rules}
 use Rattle.std.proofs.lemmas.Result.{IfErr-weaker}
 use Rattle.just_parts.specs.Evaluator.{FaultsAt, functions_by_name, value_in}
-use Rattle.just_joining.specs.Definitions.{contents_in, functions_in}
+use Rattle.just_joining.specs.Definitions.{contents_in}
 use Rattle.just_modules.proofs.Evaluating.{faults_told, settings_asked}
 use Rattle.just_modules.proofs.constants.evaluate.Goals as goal
 

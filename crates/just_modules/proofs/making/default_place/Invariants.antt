@@ -1,11 +1,7 @@
-use Rattle.std.proofs.Common.{ℕ, ◌<◌, length}
-use Rattle.just_modules.specs.Analysis.{IsBefore}
+use Rattle.just_running.specs.Recipes.{numbers}
 use Rattle.just_joining.specs.Definitions.{recipes_in}
-use Rattle.just_joining.specs.Recipes.{recipe_at}
+use Rattle.just_modules.specs.Analysis.{IsDefaultPlace}
 use Rattle.just_modules.proofs.making.default_place.Given as goal
 
 abbrev pub invariant-loop-place : goal.invariant-loop-place
-invariant-loop-place l = record {
-  there : l.best < length l.definitions.recipes.items;
-  least : (k : ℕ) → k < l.place → IsBefore (recipe_at (recipes_in l.definitions) l.best) (recipe_at (recipes_in l.definitions) k);
-}
+invariant-loop-place l = IsDefaultPlace (numbers l.resolved) (recipes_in l.own) l.place l.best

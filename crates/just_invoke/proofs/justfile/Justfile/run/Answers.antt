@@ -1,10 +1,12 @@
-use Rattle.std.proofs.Common.{◌≡◌, ◌∙◌, ◌≤◌, true, map, length, refl, sym, subst, rules}
+use Rattle.std.proofs.Common.{◌≡◌, ◌∙◌, ◌≤◌, true, map, length, refl, sym, ap, subst, arith, rules}
 use Rattle.std.proofs.lemmas.List.{length-map}
 use Rattle.just_names.specs.Modulepath.{texts}
 use Rattle.just_invoke.specs.Going.{ComesTo}
 use Rattle.just_invoke.specs.Outcome.{refused}
 use Rattle.just_invoke.specs.Split.{invoked_of}
-use Rattle.just_invoke.proofs.Outcomes.{unread-outcome, unread-so, went, went-expected, many, many-not}
+use Rattle.just_invoke.specs.Variables.{IsHeldBack}
+use Rattle.just_invoke.proofs.Outcomes.{unread-outcome, unread-so, held-outcome, held-so, went, went-expected, many, many-not}
+use Rattle.just_invoke.proofs.SplitLemmas.{split_some}
 use Rattle.just_invoke.proofs.justfile.Justfile.run.Goals as goal
 use Rattle.just_invoke.proofs.justfile.Justfile.run.Goals.{else-config-via-then-config+else-len-gt1, else-config-via-else-config}
 
@@ -28,6 +30,32 @@ returns-then-len-gt1-clause-expected g c = λ is may.
     let count : c.len-then-len-gt1.result ≡ length c.in_ok-invocations.invocations.items = search rules in absurd (
     many-not c.args.self.now c.args.recipes.now (texts c.args.words.now) c.args.config.now (map invoked_of c.in_ok-invocations.invocations.items) c.in_ok-invocations.ensures.split (search rules) c.len-then-len-gt1.result (count ∙ sym (length-map c.in_ok-invocations.invocations.items invoked_of)) (search rules) is may)
 
+pub check_variables-requires : goal.check_variables-requires
+check_variables-requires g c =
+    let some = split_some c.args.self.now c.args.recipes.now (texts c.args.words.now) (map invoked_of c.in_ok-invocations.invocations.items) c.in_ok-invocations.ensures.split in
+    omega (arith, some, length-map c.in_ok-invocations.invocations.items invoked_of, ap length c.as_slice.ensures.value)
+
+pub returns-in_err-check_variables-clause-outcome : goal.returns-in_err-check_variables-clause-outcome
+returns-in_err-check_variables-clause-outcome g c =
+    let few : c.args.config.now.one ≡ true → length c.in_ok-invocations.invocations.items ≤ 1 = elim c.else-config.branch [
+      | else-config-via-then-config+else-len-gt1 w ↦ λ yes. (search rules)
+      | else-config-via-else-config w ↦ λ yes. (search rules)
+    ] in
+    held-outcome c.args.self.now c.args.recipes.now (texts c.args.words.now) c.args.config.now (map invoked_of c.in_ok-invocations.invocations.items) c.in_ok-invocations.ensures.split
+    (λ yes. subst (λ n. n ≤ 1) (sym (length-map c.in_ok-invocations.invocations.items invoked_of)) (few yes)) _ c.in_err-check_variables.field-0.0
+    (subst (λ is. IsHeldBack c.args.self.now (map invoked_of is) c.in_err-check_variables.field-0.0) c.as_slice.ensures.value c.in_err-check_variables.ensures.err) c.from_residual-in_err-check_variables.result (search rules)
+
+pub returns-in_err-check_variables-clause-expected : goal.returns-in_err-check_variables-clause-expected
+returns-in_err-check_variables-clause-expected g c =
+    let few : c.args.config.now.one ≡ true → length c.in_ok-invocations.invocations.items ≤ 1 = elim c.else-config.branch [
+      | else-config-via-then-config+else-len-gt1 w ↦ λ yes. (search rules)
+      | else-config-via-else-config w ↦ λ yes. (search rules)
+    ] in
+    held-so c.args.self.now c.args.recipes.now (texts c.args.words.now) c.args.config.now (map invoked_of c.in_ok-invocations.invocations.items) c.in_ok-invocations.ensures.split
+    (λ yes. subst (λ n. n ≤ 1) (sym (length-map c.in_ok-invocations.invocations.items invoked_of)) (few yes)) _ c.in_err-check_variables.field-0.0
+    (subst (λ is. IsHeldBack c.args.self.now (map invoked_of is) c.in_err-check_variables.field-0.0) c.as_slice.ensures.value c.in_err-check_variables.ensures.err) c.from_residual-in_err-check_variables.result (search rules)
+    (g.E.Evaluation.promised c.args.evaluation.now) (g.H.Host.promised c.args.host.now)
+
 pub returns-clause-outcome : goal.returns-clause-outcome
 returns-clause-outcome g c =
     let p = g.E.Evaluation.promised c.args.evaluation.now in
@@ -37,8 +65,8 @@ returns-clause-outcome g c =
       | else-config-via-else-config w ↦ λ yes. (search rules)
     ] in
     went c.args.self.now c.args.recipes.now (texts c.args.words.now) c.args.config.now p q (map invoked_of c.in_ok-invocations.invocations.items) c.in_ok-invocations.ensures.split
-    (λ yes. subst (λ n. n ≤ 1) (sym (length-map c.in_ok-invocations.invocations.items invoked_of)) (few yes)) _ _ c.run_invocations.result
-    (subst (λ is. ComesTo p q c.args.recipes.now is (g.H.Host.entries c.args.host.now) (g.H.Host.entries c.run_invocations.new.host) c.run_invocations.result) c.as_slice.ensures.value c.run_invocations.ensures.comes)
+    (λ yes. subst (λ n. n ≤ 1) (sym (length-map c.in_ok-invocations.invocations.items invoked_of)) (few yes)) c.in_ok-check_variables.ensures.ok _ _ c.run_invocations.result
+    (subst (λ is. ComesTo p q c.args.recipes.now is (g.H.Host.entries c.args.host.now) (g.H.Host.entries c.run_invocations.new.host) c.run_invocations.result) c.as_slice-2.ensures.value c.run_invocations.ensures.comes)
 
 pub returns-clause-expected : goal.returns-clause-expected
 returns-clause-expected g c =
@@ -49,5 +77,5 @@ returns-clause-expected g c =
       | else-config-via-else-config w ↦ λ yes. (search rules)
     ] in
     went-expected c.args.self.now c.args.recipes.now (texts c.args.words.now) c.args.config.now p q (map invoked_of c.in_ok-invocations.invocations.items) c.in_ok-invocations.ensures.split
-    (λ yes. subst (λ n. n ≤ 1) (sym (length-map c.in_ok-invocations.invocations.items invoked_of)) (few yes)) _ _ c.run_invocations.result
-    (subst (λ is. ComesTo p q c.args.recipes.now is (g.H.Host.entries c.args.host.now) (g.H.Host.entries c.run_invocations.new.host) c.run_invocations.result) c.as_slice.ensures.value c.run_invocations.ensures.comes)
+    (λ yes. subst (λ n. n ≤ 1) (sym (length-map c.in_ok-invocations.invocations.items invoked_of)) (few yes)) c.in_ok-check_variables.ensures.ok _ _ c.run_invocations.result
+    (subst (λ is. ComesTo p q c.args.recipes.now is (g.H.Host.entries c.args.host.now) (g.H.Host.entries c.run_invocations.new.host) c.run_invocations.result) c.as_slice-2.ensures.value c.run_invocations.ensures.comes)

@@ -1,0 +1,7 @@
+use Rattle.std.proofs.Common.{◌≢◌, ℕ, ◌<◌, length}
+use Rattle.just_joining.specs.Contents.{texts_of_names}
+use Rattle.just_joining.specs.Index.{name_at}
+use Rattle.just_joining.proofs.variables.check_unexported.Given as goal
+
+abbrev pub invariant-loop-name : goal.invariant-loop-name
+invariant-loop-name l = (i j : ℕ) → i < l.name-index → j < length (texts_of_names l.unexports) → name_at (texts_of_names l.names) i ≢ name_at (texts_of_names l.unexports) j
