@@ -162,8 +162,18 @@ def parts(count):
 
 
 def body(count):
-    """A recipe with a body of so many lines."""
-    return bundle("a:", *("    echo {{ 'a' }}" for _ in range(count))), ["a"]
+    """A recipe with a body of so many lines, beside the one that is run."""
+    return bundle("a:", "b:", *("    echo {{ 'a' }}" for _ in range(count))), ["a"]
+
+
+def bodies(count, width=10):
+    """Many recipes with some lines each, beside the one that is run."""
+    return bundle("a:", *(line for n in range(count) for line in (f"r{n}:", *["    echo"] * width))), ["a"]
+
+
+def attributes(count):
+    """A recipe with so many attributes, beside the one that is run."""
+    return bundle("a:", *["[group('g')]"] * count, "b:"), ["a"]
 
 
 INPUTS = {
@@ -198,6 +208,8 @@ INPUTS = {
     "sum of 10,000 parts": parts(10_000),
     "sum of 100,000 parts, with a stack of 64 MiB": parts(100_000),
     "body of 100,000 lines": body(100_000),
+    "10,000 recipes with ten lines each": bodies(10_000),
+    "recipe with 10,000 attributes": attributes(10_000),
 }
 
 

@@ -8,14 +8,14 @@ use Rattle.just_parts.specs.Items.{Ast, Item}
 use Rattle.just_errors.specs.declared.error.Error.{Error}
 use Rattle.just_errors.specs.declared.error.Error.TheVariants as error
 use Rattle.just_parts.specs.declared.layers.ast.Item.TheVariants as item
-use Rattle.just_analyzer.specs.Judged.{is_empty, is_judged, is_placed, is_whole, judged, judged_ast}
+use Rattle.just_analyzer.specs.Judged.{is_judged, is_of_recipe, is_placed, is_whole, judged, judged_ast}
 
 all-mapped : {A : Type 0} (test : A → Bool) (f : A → A) → ((x : A) → test (f x) ≡ test x) → (xs : List A) → list_all test (map f xs) ≡ list_all test xs
 all-mapped test f same [] = refl
 all-mapped test f same (x ∷ xs) = λ i. same x i && all-mapped test f same xs i
 
 pub judged_bare : (i : Item) → is_judged (bare_item i) ≡ is_judged i
-judged_bare (item.Recipe r) = ap (λ b. (is_empty r.attributes && is_empty r.body) && b) (all-mapped is_placed bare_parameter (λ p. refl) r.parameters)
+judged_bare (item.Recipe r) = ap (λ b. list_all is_of_recipe r.attributes && b) (all-mapped is_placed bare_parameter (λ p. refl) r.parameters)
 judged_bare _ = refl
 
 pub all_judged_bare : (is : List Item) → list_all is_judged (map bare_item is) ≡ list_all is_judged is

@@ -6,6 +6,10 @@ use Rattle.just_parts.specs.Items.{Ast, Item}
 use Rattle.just_parts.specs.declared.layers.ast.Item.TheVariants as item
 use Rattle.just_parts.specs.declared.layers.ast.UnresolvedDependency.{UnresolvedDependency}
 use Rattle.just_parts.specs.declared.recipe.Recipe.{Recipe}
+use Rattle.just_records.specs.declared.attribute.Attribute.{Attribute}
+use Rattle.just_records.specs.declared.attribute.Attribute.TheVariants as attribute
+use Rattle.just_records.specs.declared.attribute.NamedAttribute.{NamedAttribute}
+use Rattle.just_records.specs.declared.expression.Expression.{Expression}
 use Rattle.just_records.specs.declared.parameter.Parameter.{Parameter}
 use Rattle.just_records.specs.Parameter.{is_option}
 use Rattle.just_records.specs.declared.setting.Setting.{Setting}
@@ -16,13 +20,22 @@ abbrev pub is_empty : {A : Type 0} → List A → Bool
 is_empty [] = true
 is_empty (x ∷ xs) = false
 
+-- it says something of a parameter
+abbrev pub is_of_parameter : {E : Type 0} → Attribute E → Bool
+is_of_parameter (attribute.Arg a) = true
+is_of_parameter _ = false
+
 -- it is given by its place
 abbrev pub is_placed : Parameter → Bool
 is_placed p = not (is_option p)
 
--- a heading alone, without attributes and lines, whose parameters are given by their places
-abbrev pub is_heading : Recipe UnresolvedDependency → Bool
-is_heading r = (is_empty r.attributes && is_empty r.body) && list_all is_placed r.parameters
+-- it says nothing of a parameter
+abbrev pub is_of_recipe : NamedAttribute Expression → Bool
+is_of_recipe named = not (is_of_parameter named.attribute)
+
+-- its parameters are given by their places, and its attributes say nothing of them
+abbrev pub is_judged_recipe : Recipe UnresolvedDependency → Bool
+is_judged_recipe r = list_all is_of_recipe r.attributes && list_all is_placed r.parameters
 
 -- the rules that a setting changes are built: it needs no lists and names no program
 abbrev pub is_judged_setting : Setting → Bool
@@ -33,7 +46,7 @@ is_judged_setting _ = true
 
 -- the rules of the item are built
 abbrev pub is_judged : Item → Bool
-is_judged (item.Recipe r) = is_heading r
+is_judged (item.Recipe r) = is_judged_recipe r
 is_judged (item.Module name relative absolute attributes doc optional) = is_empty attributes
 is_judged (item.Import relative absolute optional) = true
 is_judged (item.Unexport name) = true

@@ -1,13 +1,13 @@
 //! What compiling can judge in this stage.
 ghost use Rattle.std.specs.Prelude.{◌≡◌, is_none};
 ghost use Rattle.std.specs.List.{list_all};
-ghost use Rattle.just_analyzer.specs.Judged.{is_heading, is_judged, is_judged_setting, is_placed, is_whole};
+ghost use Rattle.just_analyzer.specs.Judged.{is_judged, is_judged_recipe, is_judged_setting, is_of_recipe, is_placed, is_whole};
 
 use just_data::Sequence;
 use just_names::{Numerator, Token};
 use just_parts::layers::{
-    Ast, CompileError, CompileErrorKind, Error, Item, Keyword, Line, Parameter, Setting, Settings,
-    Sigil, Syntax,
+    Ast, Attribute, CompileError, CompileErrorKind, Error, Item, Keyword, Line, NamedAttribute,
+    Parameter, Setting, Settings, Sigil, Syntax,
 };
 use just_parts::{Source, UnresolvedRecipe};
 use std::alloc::{AllocError, Global};
@@ -25,14 +25,20 @@ fn are_placed(parameters: &[Parameter]) -> bool
     parameters.iter().all(|parameter| !parameter.is_option())
 }
 
-// Whether a recipe is a heading alone.
-fn is_heading(recipe: &UnresolvedRecipe) -> bool
-    ensures { result ≡ is_heading recipe.now }
+// Whether none of them says something of a parameter.
+fn are_of_recipe(attributes: &[NamedAttribute]) -> bool
+    ensures { result ≡ list_all is_of_recipe attributes.now }
 {
-    if !recipe.attributes.is_empty() || !recipe.body.is_empty() {
-        return false;
-    }
-    are_placed(recipe.parameters.as_slice())
+    attributes
+        .iter()
+        .all(|named| !matches!(named.attribute, Attribute::Arg(_)))
+}
+
+// Whether all parameters of a recipe are given by their places, and no attribute says something of one.
+fn is_judged_recipe(recipe: &UnresolvedRecipe) -> bool
+    ensures { result ≡ is_judged_recipe recipe.now }
+{
+    are_of_recipe(recipe.attributes.as_slice()) && are_placed(recipe.parameters.as_slice())
 }
 
 // Whether the rules that a setting changes are built.
@@ -69,7 +75,7 @@ fn fault_of<'src>(item: &Item<'src>) -> Option<Token<'src>>
             }
         }
         Item::Recipe(recipe) => {
-            if is_heading(recipe) {
+            if is_judged_recipe(recipe) {
                 None
             } else {
                 Some(recipe.name.token.copied())

@@ -41,9 +41,13 @@ kind_name (kind.ExportUnexported variable) = codes "ExportUnexported"
 kind_name (kind.DuplicateFunctionParameter function parameter) = codes "DuplicateFunctionParameter"
 kind_name (kind.ListFeature feature) = codes "ListFeature"
 kind_name (kind.Redefinition first_type second_type name first) = codes "Redefinition"
+kind_name kind.GuardAndInfallibleSigil = codes "GuardAndInfallibleSigil"
+kind_name kind.ExtraLeadingWhitespace = codes "ExtraLeadingWhitespace"
+kind_name (kind.InvalidShellRecipeAttribute recipe attribute) = codes "InvalidShellRecipeAttribute"
 kind_name (kind.UnknownDependency recipe unknown) = codes "UnknownDependency"
 kind_name (kind.CircularRecipeDependency recipe circle) = codes "CircularRecipeDependency"
 kind_name (kind.DependencyArgumentCountMismatch dependency found least most) = codes "DependencyArgumentCountMismatch"
+kind_name (kind.DuplicateDefault recipe) = codes "DuplicateDefault"
 
 abbrev pub invocation_name : InvocationError → List ℕ
 invocation_name (invocation.UnknownRecipe recipe) = codes "UnknownRecipe"
@@ -102,10 +106,14 @@ kind_text (kind.DuplicateFunctionParameter function parameter) = codes "Function
 kind_text (kind.ListFeature feature) = feature_text feature ++ codes " needs the setting `lists`, which is off"
 kind_text (kind.Redefinition first_type second_type name first) =
     codes "`" ++ (name ++ (codes "` is redefined as " ++ (definition_text second_type ++ (codes "; its first definition is a " ++ (definition_text first_type ++ (codes " on line " ++ (place_text first ++ codes " of this file or of another one of its module")))))))
+kind_text kind.GuardAndInfallibleSigil = codes "The sigils `?` and `-` may not stand before one line"
+kind_text kind.ExtraLeadingWhitespace = codes "The line has extra leading whitespace"
+kind_text (kind.InvalidShellRecipeAttribute recipe attribute) = codes "Recipe `" ++ (recipe ++ (codes "` has attribute `" ++ (attribute ++ codes "`, which only a script may have")))
 kind_text (kind.UnknownDependency recipe unknown) = codes "Recipe `" ++ (recipe ++ (codes "` has unknown dependency `" ++ (path_text unknown ++ codes "`")))
 kind_text (kind.CircularRecipeDependency recipe circle) = circle_text recipe circle
 kind_text (kind.DependencyArgumentCountMismatch dependency found least most) =
     codes "Dependency `" ++ (path_text dependency ++ (codes "` got " ++ (arguments_text found ++ (codes " but takes " ++ takes_text least most))))
+kind_text (kind.DuplicateDefault recipe) = codes "Recipe `" ++ (recipe ++ codes "` has attribute `default`, as another recipe of its module has")
 
 -- the same, after the place where it is told
 abbrev pub compile_text : CompileError → List ℕ
@@ -114,4 +122,4 @@ compile_text e = at_text e.token ++ (codes ": " ++ kind_text e.kind)
 -- what a fault of a run says
 abbrev pub run_text : RunError → List ℕ
 run_text (run.ExcessInvocations invocations) = codes "Expected 1 command-line recipe invocation but found " ++ decimal invocations
-run_text (run.NotYet recipe) = codes "Recipe `" ++ (recipe ++ codes "` has parts that cannot be run yet")
+run_text (run.NotYet recipe) = codes "Recipe `" ++ (recipe ++ codes "` cannot be run yet")

@@ -160,6 +160,15 @@ pub enum CompileErrorKind<'src> {
         name: BorrowedText<'src>,
         first: usize,
     },
+    /// A line that begins a command has the sigils `?` and `-`.
+    GuardAndInfallibleSigil,
+    /// A line that begins a command is indented further than the body.
+    ExtraLeadingWhitespace,
+    /// A recipe has an attribute that only a script may have, and is none.
+    InvalidShellRecipeAttribute {
+        recipe: BorrowedText<'src>,
+        attribute: BorrowedText<'src>,
+    },
     /// A recipe depends on what is no recipe.
     UnknownDependency {
         recipe: BorrowedText<'src>,
@@ -177,6 +186,10 @@ pub enum CompileErrorKind<'src> {
         found: usize,
         min: usize,
         max: usize,
+    },
+    /// Two recipes of a module have the attribute `default`.
+    DuplicateDefault {
+        recipe: BorrowedText<'src>,
     },
 }
 
@@ -200,11 +213,15 @@ impl<'src> CompileErrorKind<'src> {
             CompileErrorKind::DuplicateFunctionParameter { .. } => "DuplicateFunctionParameter",
             CompileErrorKind::ListFeature { .. } => "ListFeature",
             CompileErrorKind::Redefinition { .. } => "Redefinition",
+            CompileErrorKind::GuardAndInfallibleSigil => "GuardAndInfallibleSigil",
+            CompileErrorKind::ExtraLeadingWhitespace => "ExtraLeadingWhitespace",
+            CompileErrorKind::InvalidShellRecipeAttribute { .. } => "InvalidShellRecipeAttribute",
             CompileErrorKind::UnknownDependency { .. } => "UnknownDependency",
             CompileErrorKind::CircularRecipeDependency { .. } => "CircularRecipeDependency",
             CompileErrorKind::DependencyArgumentCountMismatch { .. } => {
                 "DependencyArgumentCountMismatch"
             }
+            CompileErrorKind::DuplicateDefault { .. } => "DuplicateDefault",
         }
     }
 }
@@ -321,6 +338,18 @@ impl<'src> fmt::Display for CompileErrorKind<'src> {
                     "`{name}` is redefined as {second_type}; its first definition is a {first_type} on line {line} of this file or of another one of its module"
                 )
             }
+            CompileErrorKind::GuardAndInfallibleSigil => {
+                f.write_str("The sigils `?` and `-` may not stand before one line")
+            }
+            CompileErrorKind::ExtraLeadingWhitespace => {
+                f.write_str("The line has extra leading whitespace")
+            }
+            CompileErrorKind::InvalidShellRecipeAttribute { recipe, attribute } => {
+                write!(
+                    f,
+                    "Recipe `{recipe}` has attribute `{attribute}`, which only a script may have"
+                )
+            }
             CompileErrorKind::UnknownDependency { recipe, unknown } => {
                 write!(f, "Recipe `{recipe}` has unknown dependency `{unknown}`")
             }
@@ -339,6 +368,12 @@ impl<'src> fmt::Display for CompileErrorKind<'src> {
                     most: *max,
                 };
                 write!(f, "Dependency `{dependency}` got {found} but takes {takes}")
+            }
+            CompileErrorKind::DuplicateDefault { recipe } => {
+                write!(
+                    f,
+                    "Recipe `{recipe}` has attribute `default`, as another recipe of its module has"
+                )
             }
         }
     }
@@ -466,9 +501,7 @@ impl<'src> fmt::Display for RunError<'src> {
                     "Expected 1 command-line recipe invocation but found {invocations}"
                 )
             }
-            RunError::NotYet { recipe } => {
-                write!(f, "Recipe `{recipe}` has parts that cannot be run yet")
-            }
+            RunError::NotYet { recipe } => { write!(f, "Recipe `{recipe}` cannot be run yet") }
         }
     }
 }

@@ -120,8 +120,8 @@ impl<'src> Justfile<'src> {
     /// it was.
     ///
     /// `NotYet` comes where the module or one in it has a variable, with the name of the first recipe that the words mean,
-    /// and where they lead to a recipe with a parameter that is more than a name, with that recipe's name. It comes after
-    /// `ExcessInvocations`.
+    /// and where they lead to a recipe with a line, an attribute or a parameter that is more than a name, with that recipe's
+    /// name. It comes after `ExcessInvocations`.
     ///
     /// The writer and the layers that evaluate are asked nothing yet.
     pub fn run<S: Syntax, E: Evaluation, H: Host, W: Output>(

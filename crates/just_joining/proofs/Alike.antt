@@ -1,13 +1,21 @@
 -- Recipes that are alike in what the rules read break the same rules.
-use Rattle.std.proofs.Common.{◌≡◌, ℕ, zero, suc, ◌+◌, ◌<◌, Bool, true, false, List, [], ◌∷◌, ◌++◌, map, length, get_or, Option, None, Some, refl, sym, ◌∙◌, ap, subst}
-use Rattle.std.specs.Prelude.{if◌then◌else◌}
-use Rattle.std.specs.List.{Contains, slice_get}
+use Rattle.std.proofs.Common.{◌≡◌, ℕ, zero, suc, ◌+◌, ◌<◌, Bool, true, false, ◌||◌, ◌&&◌, not, List, [], ◌∷◌, ◌++◌, map, length, get_or, Option, None, Some, refl, sym, ◌∙◌, ap, subst}
+use Rattle.std.specs.Prelude.{◌≢◌, ◌≤◌, if◌then◌else◌}
+use Rattle.std.specs.Cmp.Lexicographic.{slice_cmp}
+use Rattle.std.specs.Ordering.{nat_cmp}
+use Rattle.std.specs.declared.cmp.Ordering.TheVariants.{Less}
+use Rattle.std.specs.List.{Contains, list_any, slice_get}
 use Rattle.std.proofs.lemmas.List.{length-map}
-use Rattle.just_errors.specs.Causes.{Cause, Keeps}
+use Rattle.just_errors.specs.Causes.{Broken, Cause, Keeps}
+use Rattle.just_errors.specs.declared.error.CompileErrorKind.TheVariants as kind
+use Rattle.just_names.specs.Name.{text_of_name}
 use Rattle.just_names.specs.Token.{Place, lexeme}
 use Rattle.just_records.specs.declared.assignment.Assignment.{Assignment}
 use Rattle.just_records.specs.declared.function_definition.FunctionDefinition.{FunctionDefinition}
 use Rattle.just_records.specs.declared.function_definition.FunctionParameter.{FunctionParameter}
+use Rattle.just_records.specs.declared.attribute.NamedAttribute.{NamedAttribute}
+use Rattle.just_records.specs.declared.expression.Expression.{Expression}
+use Rattle.just_records.specs.declared.line.Line.{Line}
 use Rattle.just_records.specs.declared.list_use.ListUse.{ListUse}
 use Rattle.just_records.specs.declared.setting.Set.{Set}
 use Rattle.just_records.specs.declared.settings.Settings.{Settings}
@@ -15,24 +23,31 @@ use Rattle.just_parts.specs.Bare.{bare_function, bare_function_parameter}
 use Rattle.just_parts.specs.Evaluator.{functions_by_name}
 use Rattle.just_parts.specs.Layers.{Layers}
 use Rattle.just_parts.specs.Located.{located_assignment}
+use Rattle.just_parts.specs.Script.{is_script, is_shell}
+use Rattle.just_parts.specs.Syntax.{SyntaxAnswers}
 use Rattle.just_parts.specs.declared.layers.ast.UnresolvedDependency.{UnresolvedDependency}
 use Rattle.just_parts.specs.declared.recipe.Recipe.{Recipe}
 use Rattle.just_names.specs.declared.name.Name.{Name}
 use Rattle.just_names.specs.declared.name.Namepath.{Namepath}
 use Rattle.just_errors.specs.declared.error.Definition.TheVariants as definition
 use Rattle.just_joining.specs.Contents.{Contents, Defined, Signature, all_defined, defined, defined_in, defined_recipe, function_names, module_of_name, signature, signatures, texts_of_names, variable_names}
-use Rattle.just_joining.specs.Groups.{Breaks, Group, OfBodies, OfConstants, OfDependencies, OfHeaders, OfNames, functions_under, settings_of}
+use Rattle.just_joining.specs.Groups.{Breaks, Group, OfAliases, OfBodies, OfConstants, OfDependencies, OfHeaders, OfNames, functions_under, settings_of}
+use Rattle.just_joining.specs.Defaults.{Defaults, IsLater, duplicate_default, is_default, is_marked}
 use Rattle.just_joining.specs.Index.{Repeats}
 use Rattle.just_joining.specs.Kept.{claim_of_recipe, gives_way, kept_recipes, left_of}
 use Rattle.just_joining.specs.Settings.{allows_variables}
+use Rattle.just_joining.specs.Shells.{Lines, ScriptAttribute, ShellRecipe, Shells, invalid_attribute, of_attributes, of_lines, of_recipe}
 use Rattle.just_joining.specs.declared.kept.Claim.{Claim}
-use Rattle.just_joining.specs.Recipes.{name_of, token_of, named_parameters, parameter_names, is_defaulted, is_needed, FollowsDefault, named_paths, dependency_paths, least_of, most_of, no_recipe, recipe_at, Depends, DependsOn}
-use Rattle.just_joining.specs.Rules.{Bodies, BodiesUnder, Constants, Dependencies, Functions, Headers, IsCircleOf, Lists, Modules, Names, Parameters, Redefined, Sets, Unexports, Variables, argument_count, circular, duplicate_parameter, of_defined, of_functions, of_lists, of_modules, of_parameters, of_sets, of_unexports, of_variables, required_after_default, unknown_dependency}
+use Rattle.just_joining.specs.Recipes.{name_of, line_of, token_of, named_parameters, parameter_names, is_defaulted, is_needed, FollowsDefault, named_paths, dependency_paths, least_of, most_of, no_recipe, recipe_at, Depends, DependsOn}
+use Rattle.just_joining.specs.Rules.{Bodies, BodiesUnder, Constants, Dependencies, Functions, Headers, IsCircleOf, Lists, Modules, Names, Parameters, Redefined, Sets, Unexports, Variables, argument_count, circular, duplicate_parameter, of_defined, of_functions, of_lists, of_modules, of_parameters, of_sets, of_shells, of_unexports, of_variables, required_after_default, unknown_dependency}
 
 -- What the rules read of a recipe.
 pub record Outline : Type 0 where
   pub token : Place
   pub depth : ℕ
+  pub attributes : List (NamedAttribute Expression)
+  pub body : List Line
+  pub shebang : Bool
   pub named : List Name
   pub parameters : List (List ℕ)
   pub defaulted : List Bool
@@ -46,6 +61,9 @@ abbrev pub outline_of : Recipe UnresolvedDependency → Outline
 outline_of recipe = record {
   token = token_of recipe;
   depth = recipe.file_depth;
+  attributes = recipe.attributes;
+  body = recipe.body;
+  shebang = recipe.shebang;
   named = named_parameters recipe;
   parameters = parameter_names recipe;
   defaulted = map is_defaulted recipe.parameters;
@@ -114,6 +132,39 @@ module _ (rs qs : List (Recipe UnresolvedDependency)) (alike : AreAlike rs qs) w
       duplicate_parameter i p q (inside i h) (sym (name i) ∙ e) (subst (λ ns. Repeats ns p q) (ap (λ (o : Outline). o.parameters) (at i)) r) (subst (λ (ns : List Name). slice_get ns q ≡ Some second) (ap (λ (o : Outline). o.named) (at i)) x)
   parameters_alike _ (required_after_default {second} i q h f x) =
       required_after_default i q (inside i h) (follows i q f) (subst (λ (ns : List Name). slice_get ns q ≡ Some second) (ap (λ (o : Outline). o.named) (at i)) x)
+
+  script_alike : (s : Settings) (i : ℕ) → is_script (recipe_at rs i) s ≡ is_script (recipe_at qs i) s
+  script_alike s i = ap (λ (o : Outline). not (list_any is_shell o.attributes) && (o.shebang || s.default_script)) (at i)
+
+  told_at : (i : ℕ) (c : Cause) → ScriptAttribute (recipe_at rs i) c → ScriptAttribute (recipe_at qs i) c
+  told_at i _ (invalid_attribute {named} k there is) =
+      let same : ScriptAttribute (recipe_at qs i) (Broken (token_of (recipe_at qs i)) (kind.InvalidShellRecipeAttribute (name_of (recipe_at qs i)) (text_of_name named.name)))
+      = invalid_attribute k (subst (λ (ns : List (NamedAttribute Expression)). slice_get ns k ≡ Some named) (ap (λ (o : Outline). o.attributes) (at i)) there) is in
+      subst (λ t. ScriptAttribute (recipe_at qs i) (Broken t (kind.InvalidShellRecipeAttribute (lexeme t) (text_of_name named.name)))) (sym (tokens i)) same
+
+  shell_alike : (answers : SyntaxAnswers) (s : Settings) (i : ℕ) (c : Cause) → ShellRecipe answers s (recipe_at rs i) c → ShellRecipe answers s (recipe_at qs i) c
+  shell_alike answers s i c (of_lines isnt b) = of_lines (sym (script_alike s i) ∙ isnt) (subst (λ (ls : List Line). Lines answers s ls c) (ap (λ (o : Outline). o.body) (at i)) b)
+  shell_alike answers s i c (of_attributes isnt b) = of_attributes (sym (script_alike s i) ∙ isnt) (told_at i c b)
+
+  pub shells_alike : (answers : SyntaxAnswers) (s : Settings) (c : Cause) → Shells answers s rs c → Shells answers s qs c
+  shells_alike answers s c (of_recipe i h b) = of_recipe i (inside i h) (shell_alike answers s i c b)
+
+  marks : (i : ℕ) → is_marked (recipe_at rs i) ≡ is_marked (recipe_at qs i)
+  marks i = ap (λ (o : Outline). list_any is_default o.attributes) (at i)
+
+  lines : (i : ℕ) → line_of (recipe_at rs i) ≡ line_of (recipe_at qs i)
+  lines i = ap (λ (t : Place). t.line) (tokens i)
+
+  later_alike : (i j : ℕ) → IsLater (recipe_at rs i) (recipe_at rs j) → IsLater (recipe_at qs i) (recipe_at qs j)
+  later_alike i j l = record {
+    line = subst (λ n. line_of (recipe_at qs i) ≤ n) (lines j) (subst (λ n. n ≤ line_of (recipe_at rs j)) (lines i) l.line);
+    name = λ e. subst (λ n. slice_cmp nat_cmp n (name_of (recipe_at qs i)) ≢ Less) (name j) (subst (λ n. slice_cmp nat_cmp (name_of (recipe_at rs j)) n ≢ Less) (name i) (l.name (lines i ∙ e ∙ sym (lines j))));
+  }
+
+  pub defaults_alike : (c : Cause) → Defaults rs c → Defaults qs c
+  defaults_alike _ (duplicate_default i j h l apart first second later) =
+      subst (λ t. Defaults qs (Broken t (kind.DuplicateDefault (lexeme t)))) (sym (tokens j))
+      (duplicate_default i j (inside i h) (inside j l) apart (sym (marks i) ∙ first) (sym (marks j) ∙ second) (later_alike i j later))
 
   -- they define the same
   defined_alike : (ns : List Name) → all_defined ns rs ≡ all_defined ns qs
@@ -226,12 +277,13 @@ module _ (layers : Layers) (m n : Contents) (alike : AreAlikeContents m n) where
       (subst (λ (ns : List Name). Variables (allows_variables n.sets) ns m.unexports c) variables_alike (subst (λ (ss : List Set). Variables (allows_variables ss) (variable_names m.variables) m.unexports c) alike.sets b)))
   names_alike c (of_functions b) = of_functions (subst (λ (ss : List Signature). Functions ss c) signed_alike b)
 
-  bodies_alike : (s : Settings) (c : Cause) → Bodies s m c → Bodies s n c
+  bodies_alike : (s : Settings) (c : Cause) → Bodies layers.syntax s m c → Bodies layers.syntax s n c
+  bodies_alike s c (of_shells b) = of_shells (shells_alike m.recipes n.recipes alike.recipes layers.syntax s c b)
   bodies_alike s c (of_lists b) = of_lists (subst (λ (us : List ListUse). Lists s.lists (texts_of_names (function_names (signatures n.functions))) us c) alike.lists
       (subst (λ (ss : List Signature). Lists s.lists (texts_of_names (function_names ss)) m.lists c) signed_alike b))
   bodies_alike s c (of_defined b) = of_defined (subst (λ ds. Redefined s.allow_duplicate_recipes ds c) defined_same b)
 
-  under_alike : (o : Option Settings) (c : Cause) → BodiesUnder o m c → BodiesUnder o n c
+  under_alike : (o : Option Settings) (c : Cause) → BodiesUnder layers.syntax o m c → BodiesUnder layers.syntax o n c
   under_alike None c b = b
   under_alike (Some s) c b = bodies_alike s c b
 
@@ -239,7 +291,8 @@ module _ (layers : Layers) (m n : Contents) (alike : AreAlikeContents m n) where
   breaks_alike OfHeaders c b = headers_alike c b
   breaks_alike OfNames c b = names_alike c b
   breaks_alike OfConstants c b = subst (λ (o : Option Settings). Constants o c) settings_alike b
-  breaks_alike OfBodies c b = under_alike (settings_of layers.evaluator n) c (subst (λ (o : Option Settings). BodiesUnder o m c) settings_alike b)
+  breaks_alike OfBodies c b = under_alike (settings_of layers.evaluator n) c (subst (λ (o : Option Settings). BodiesUnder layers.syntax o m c) settings_alike b)
+  breaks_alike OfAliases c b = defaults_alike (kept_recipes m.recipes) (kept_recipes n.recipes) (kept_alike_recipes m.recipes n.recipes alike.recipes) c b
   breaks_alike OfDependencies c b = dependencies_alike (kept_recipes m.recipes) (kept_recipes n.recipes) (kept_alike_recipes m.recipes n.recipes alike.recipes) c b
 
 pub alike_back : (m n : Contents) → AreAlikeContents m n → AreAlikeContents n m

@@ -48,6 +48,9 @@ pub outline_located : (r : Recipe UnresolvedDependency) → outline_of (located_
 outline_located r = λ i. record {
   token = r.name.token;
   depth = r.file_depth;
+  attributes = r.attributes;
+  body = r.body;
+  shebang = r.shebang;
   named = named_bare r.parameters i;
   parameters = names_bare r.parameters i;
   defaulted = defaulted_bare r.parameters i;

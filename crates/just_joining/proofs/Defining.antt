@@ -15,12 +15,14 @@ use Rattle.just_errors.specs.declared.error.CompileErrorKind.TheVariants as kind
 use Rattle.just_errors.specs.declared.error.Definition.TheVariants as definition
 use Rattle.just_parts.specs.declared.layers.ast.UnresolvedDependency.{UnresolvedDependency}
 use Rattle.just_parts.specs.declared.recipe.Recipe.{Recipe}
-use Rattle.just_joining.specs.Contents.{Contents, Defined, all_defined, defined_in, defined_recipe, function_names, module_of_name, signatures, texts_of_defined, texts_of_names, variable_names}
+use Rattle.just_joining.specs.Contents.{Contents, Defined, all_defined, defined_in, defined_recipe, function_names, function_texts, module_of_name, signatures, texts_of_defined, texts_of_names, variable_names}
 use Rattle.just_joining.specs.Index.{AreApart, AreDifferent, IsLast, NoneRepeats, Repeats, name_at}
 use Rattle.just_joining.specs.Recipes.{name_of, names_of}
 use Rattle.just_joining.specs.Settings.{Conflicts, allows_variables}
+use Rattle.just_joining.specs.Shells.{Shells}
+use Rattle.just_parts.specs.Syntax.{SyntaxAnswers}
 use Rattle.just_records.specs.declared.settings.Settings.{Settings}
-use Rattle.just_joining.specs.Rules.{AssignedTwice, Bodies, Functions, Headers, IsRedefinition, Lists, Modules, Names, Parameters, Redefined, Sets, Unexported, Unexports, Variables, assigned_twice, duplicate_unexport, duplicate_variable, export_unexported, of_defined, of_functions, of_lists, of_variables, unexported, module_redefinition, of_modules, of_parameters, of_sets, of_unexports, redefinition}
+use Rattle.just_joining.specs.Rules.{AssignedTwice, Bodies, Functions, Headers, IsRedefinition, Lists, Modules, Names, Parameters, Redefined, Sets, Unexported, Unexports, Variables, assigned_twice, duplicate_unexport, duplicate_variable, export_unexported, of_defined, of_functions, of_lists, of_shells, of_variables, unexported, module_redefinition, of_modules, of_parameters, of_sets, of_unexports, redefinition}
 
 -- what stands in the first list, and in the second
 get_left : {A : Type 0} (xs ys : List A) (i : ℕ) (x : A) → slice_get xs i ≡ Some x → slice_get (xs ++ ys) i ≡ Some x
@@ -89,9 +91,10 @@ names_kept m variables functions c (of_variables b) = variables c b
 names_kept m variables functions c (of_functions b) = functions c b
 
 -- the bodies of a module
-pub bodies_kept : (s : Settings) (m : Contents) → Keeps (Lists s.lists (texts_of_names (function_names (signatures m.functions))) m.lists) → Keeps (Redefined s.allow_duplicate_recipes (defined_in m)) → Keeps (Bodies s m)
-bodies_kept s m lists defined c (of_lists b) = lists c b
-bodies_kept s m lists defined c (of_defined b) = defined c b
+pub bodies_kept : (answers : SyntaxAnswers) (s : Settings) (m : Contents) → Keeps (Lists s.lists (function_texts m) m.lists) → Keeps (Redefined s.allow_duplicate_recipes (defined_in m)) → Keeps (Shells answers s m.recipes) → Keeps (Bodies answers s m)
+bodies_kept answers s m lists defined shells c (of_lists b) = lists c b
+bodies_kept answers s m lists defined shells c (of_defined b) = defined c b
+bodies_kept answers s m lists defined shells c (of_shells b) = shells c b
 
 -- the headers of a module
 pub headers_kept : (conflicts : Conflicts) (m : Contents) → Keeps (Parameters m.recipes) → Keeps (Sets conflicts m.sets) → AreDifferent (texts_of_names m.unexports) → AreDifferent (texts_of_names m.modules) → Keeps (Headers conflicts m)

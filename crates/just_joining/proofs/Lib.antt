@@ -6,10 +6,12 @@ pub mod Edges
 pub mod Excluded
 pub mod FilePlaces
 pub mod Signatures
+pub mod Grouping
 pub mod Holding
 pub mod Indexing
 pub mod Joining
 pub mod Keeping
+pub mod Later
 pub mod Leave
 pub mod Mapping
 pub mod Numbers

@@ -41,6 +41,10 @@ signatures = map signature
 abbrev pub function_names : List Signature → List Name
 function_names = map (λ s. s.name)
 
+-- the texts of the names of a module's functions
+abbrev pub function_texts : Contents → List Text
+function_texts m = texts_of_names (function_names (signatures m.functions))
+
 -- the names of variables
 abbrev pub variable_names : List Assignment → List Name
 variable_names = map (λ (a : Assignment). a.name)

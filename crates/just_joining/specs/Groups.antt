@@ -10,6 +10,7 @@ use Rattle.just_parts.specs.Bare.{bare_function}
 use Rattle.just_parts.specs.Evaluator.{Evaluator, functions_by_name}
 use Rattle.just_parts.specs.Layers.{Layers}
 use Rattle.just_joining.specs.Contents.{Contents}
+use Rattle.just_joining.specs.Defaults.{Defaults}
 use Rattle.just_joining.specs.Kept.{kept_recipes}
 use Rattle.just_joining.specs.Rules.{BodiesUnder, Constants, Dependencies, Headers, Names}
 
@@ -28,6 +29,7 @@ pub data Group : Type 0 where
   OfConstants : Group
   OfBodies : Group
   OfDependencies : Group
+  OfAliases : Group
 
 abbrev pub rank : Group → ℕ
 rank OfHeaders = 0
@@ -35,14 +37,16 @@ rank OfNames = 1
 rank OfConstants = 2
 rank OfBodies = 3
 rank OfDependencies = 4
+rank OfAliases = 5
 
 -- what is broken of a group
 abbrev pub Breaks : Layers → Group → Contents → Cause → Type 0
 Breaks layers OfHeaders m = Headers layers.syntax.conflicts m
 Breaks layers OfNames m = Names m
 Breaks layers OfConstants m = Constants (settings_of layers.evaluator m)
-Breaks layers OfBodies m = BodiesUnder (settings_of layers.evaluator m) m
+Breaks layers OfBodies m = BodiesUnder layers.syntax (settings_of layers.evaluator m) m
 Breaks layers OfDependencies m = Dependencies (kept_recipes m.recipes)
+Breaks layers OfAliases m = Defaults (kept_recipes m.recipes)
 
 -- all groups are kept
 abbrev pub KeepsContents : Layers → Contents → Type 0

@@ -1,5 +1,6 @@
 pub mod Analyzable
 pub mod Contents
+pub mod Defaults
 pub mod Definitions
 pub mod Files
 pub mod Groups
@@ -14,3 +15,4 @@ pub mod Resolved
 pub mod Rows
 pub mod Rules
 pub mod Settings
+pub mod Shells

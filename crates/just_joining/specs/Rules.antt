@@ -15,10 +15,12 @@ use Rattle.just_records.specs.declared.list_use.ListUse.{ListUse}
 use Rattle.just_records.specs.declared.setting.Set.{Set}
 use Rattle.just_records.specs.declared.settings.Settings.{Settings}
 use Rattle.just_errors.specs.declared.error.Fault.{Fault}
+use Rattle.just_parts.specs.Syntax.{SyntaxAnswers}
 use Rattle.just_parts.specs.declared.layers.ast.UnresolvedDependency.{UnresolvedDependency}
 use Rattle.just_parts.specs.declared.recipe.Recipe.{Recipe}
-use Rattle.just_joining.specs.Contents.{Contents, Defined, Signature, defined_in, function_names, module_of_name, signatures, texts_of_defined, texts_of_names, variable_names}
+use Rattle.just_joining.specs.Contents.{Contents, Defined, Signature, defined_in, function_names, function_texts, module_of_name, signatures, texts_of_defined, texts_of_names, variable_names}
 use Rattle.just_joining.specs.Index.{Repeats, name_at}
+use Rattle.just_joining.specs.Shells.{Shells}
 use Rattle.just_joining.specs.Settings.{Conflicts, allows_variables, are_incompatible, line_at, place_at, setting_at, setting_names}
 use Rattle.just_joining.specs.Recipes.{name_of, named_parameters, parameter_names, FollowsDefault, named_paths, least_of, most_of, recipe_at, DependsOn}
 
@@ -99,9 +101,13 @@ pub data Variables (allowed : Bool) (names unexports : List Name) : Cause → Ty
   assigned_twice : {c : Cause} → allowed ≡ false → AssignedTwice names c → Variables allowed names unexports c
   unexported : {c : Cause} → Unexported names unexports c → Variables allowed names unexports c
 
+-- the same, of a module
+abbrev pub VariablesOf : Contents → Cause → Type 0
+VariablesOf m = Variables (allows_variables m.sets) (variable_names m.variables) m.unexports
+
 -- What is broken in the names of a module: those of its variables, or of its functions.
 pub data Names (m : Contents) : Cause → Type 0 where
-  of_variables : {c : Cause} → Variables (allows_variables m.sets) (variable_names m.variables) m.unexports c → Names m c
+  of_variables : {c : Cause} → VariablesOf m c → Names m c
   of_functions : {c : Cause} → Functions (signatures m.functions) c → Names m c
 
 -- The settings of a module have no value.
@@ -123,15 +129,16 @@ pub record StandsFor (names : List Text) (used : ListUse) : Type 0 where
 pub data Lists (on : Bool) (names : List Text) (uses : List ListUse) : Cause → Type 0 where
   list_feature : {used : ListUse} (i : ℕ) → on ≡ false → slice_get uses i ≡ Some used → (StandsFor names used → ⊥) → Lists on names uses (Broken used.token (kind.ListFeature used.feature))
 
--- What is broken in the bodies of a module under its settings: something needs lists, or two of its modules and recipes have one name.
-pub data Bodies (settings : Settings) (m : Contents) : Cause → Type 0 where
-  of_lists : {c : Cause} → Lists settings.lists (texts_of_names (function_names (signatures m.functions))) m.lists c → Bodies settings m c
-  of_defined : {c : Cause} → Redefined settings.allow_duplicate_recipes (defined_in m) c → Bodies settings m c
+-- What is broken in the bodies of a module under its settings: something needs lists, two of its modules and recipes have one name, or something in a recipe that a shell runs.
+pub data Bodies (answers : SyntaxAnswers) (settings : Settings) (m : Contents) : Cause → Type 0 where
+  of_lists : {c : Cause} → Lists settings.lists (function_texts m) m.lists c → Bodies answers settings m c
+  of_defined : {c : Cause} → Redefined settings.allow_duplicate_recipes (defined_in m) c → Bodies answers settings m c
+  of_shells : {c : Cause} → Shells answers settings m.recipes c → Bodies answers settings m c
 
 -- the same, where the settings have a value
-abbrev pub BodiesUnder : Option Settings → Contents → Cause → Type 0
-BodiesUnder None m c = ⊥
-BodiesUnder (Some settings) m c = Bodies settings m c
+abbrev pub BodiesUnder : SyntaxAnswers → Option Settings → Contents → Cause → Type 0
+BodiesUnder answers None m c = ⊥
+BodiesUnder answers (Some settings) m c = Bodies answers settings m c
 
 -- A circle of names: it begins and ends with one name, each recipe depends on the next, and `recipe` is the last that does.
 pub record IsCircleOf (recipes : List (Recipe UnresolvedDependency)) (recipe : List ℕ) (circle : List (List ℕ)) : Type 0 where

@@ -1,11 +1,11 @@
-//! The rules of a module's bodies: what needs lists, and the name space of modules and recipes.
+//! The rules of a module's bodies: what needs lists, the name space of modules and recipes, and what shells run.
 
 ghost use Rattle.std.specs.Prelude.{◌≡◌, ◌+◌, ◌<◌, false, IfOk, IfErr, IsTrue, OnOk, Some, length, slice_get};
 ghost use Rattle.std.specs.Str.{bytes_eq};
 ghost use Rattle.std.specs.HashMap.{get};
 ghost use Rattle.just_errors.specs.Causes.{Keeps, Reports};
-ghost use Rattle.just_joining.specs.Contents.{defined, defined_in, function_names, signatures, texts_of_defined, texts_of_names};
-ghost use Rattle.just_joining.specs.Definitions.{contents_in, functions_in, lists_in, recipes_in};
+ghost use Rattle.just_joining.specs.Contents.{defined, defined_in, function_texts, texts_of_defined};
+ghost use Rattle.just_joining.specs.Definitions.{contents_in, lists_in, recipes_in};
 ghost use Rattle.just_joining.specs.Index.{IsIndex};
 ghost use Rattle.just_joining.specs.Recipes.{names_of};
 ghost use Rattle.just_joining.specs.Rules.{Bodies, Lists, Redefined, StandsFor};
@@ -14,9 +14,10 @@ use crate::definitions::{Definitions, list_at, recipe_at};
 use crate::functions;
 use crate::headers::redefinition;
 use crate::names::{index_last, repeated_below, texts_of};
+use crate::shells::check_shells;
 use just_data::BorrowedText;
 use just_parts::layers::error::Definition;
-use just_parts::layers::{CompileError, CompileErrorKind, Error, ListUse, Name, Settings};
+use just_parts::layers::{CompileError, CompileErrorKind, Error, ListUse, Name, Settings, Syntax};
 use std::alloc::{AllocError, Global};
 use std::collections::HashMap;
 
@@ -25,7 +26,7 @@ fn function_texts<'a, 'src>(
     alloc: Global,
     definitions: &Definitions<'src, 'a>,
 ) -> Result<Vec<BorrowedText<'src>>, AllocError>
-    ensures { IfOk result (λ names. names.items ≡ texts_of_names (function_names (signatures (functions_in definitions.now)))) }
+    ensures { IfOk result (λ names. names.items ≡ function_texts (contents_in definitions.now)) }
 {
     let names = functions::names_of(alloc, definitions)?;
     texts_of(alloc, names.as_slice())
@@ -49,8 +50,8 @@ fn check_uses<'a, 'src>(
     alloc: Global,
     definitions: &Definitions<'src, 'a>,
 ) -> Result<(), Error<'src>>
-    ensures kept { OnOk result (Keeps (Lists false (texts_of_names (function_names (signatures (functions_in definitions.now)))) (lists_in definitions.now))) }
-    ensures named { IfErr result (Reports (Lists false (texts_of_names (function_names (signatures (functions_in definitions.now)))) (lists_in definitions.now))) }
+    ensures kept { OnOk result (Keeps (Lists false (function_texts (contents_in definitions.now)) (lists_in definitions.now))) }
+    ensures named { IfErr result (Reports (Lists false (function_texts (contents_in definitions.now)) (lists_in definitions.now))) }
 {
     let names = function_texts(alloc, definitions)?;
     let index = index_last(alloc, names.as_slice())?;
@@ -121,20 +122,22 @@ fn check_defined<'a, 'src>(
     }
 }
 
-/// Refuses a rule that is broken in the bodies of a module with these settings: something needs lists, which are off, or
-/// two of its modules and recipes have one name.
-pub fn check_bodies<'a, 'src>(
+/// Refuses a rule that is broken in the bodies of a module with these settings: something needs lists, which are off, two
+/// of its modules and recipes have one name, or a recipe that a shell runs has what it may not have.
+pub fn check_bodies<'a, 'src, S: Syntax>(
     alloc: Global,
+    syntax: &S,
     definitions: &Definitions<'src, 'a>,
     settings: &Settings,
 ) -> Result<(), Error<'src>>
-    ensures kept { OnOk result (Keeps (Bodies settings.now (contents_in definitions.now))) }
-    ensures named { IfErr result (Reports (Bodies settings.now (contents_in definitions.now))) }
+    ensures kept { OnOk result (Keeps (Bodies (S.answers syntax.now) settings.now (contents_in definitions.now))) }
+    ensures named { IfErr result (Reports (Bodies (S.answers syntax.now) settings.now (contents_in definitions.now))) }
 {
     if !settings.lists {
         check_uses(alloc, definitions)?;
     }
-    check_defined(alloc, definitions, settings.allow_duplicate_recipes)
+    check_defined(alloc, definitions, settings.allow_duplicate_recipes)?;
+    check_shells(alloc, syntax, definitions, settings)
 }
 
 fn recipe_names<'a, 'src>(

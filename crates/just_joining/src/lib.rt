@@ -2,6 +2,7 @@
 #![tactic(auto)]
 
 pub mod bodies;
+pub mod defaults;
 pub mod definitions;
 pub mod enabled;
 pub mod files;
@@ -13,5 +14,6 @@ pub mod module_names;
 pub mod names;
 pub mod recipe_resolver;
 mod settings;
+mod shells;
 pub mod unresolved_recipe;
 pub mod variables;

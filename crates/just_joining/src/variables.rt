@@ -5,7 +5,7 @@ ghost use Rattle.just_errors.specs.Causes.{Keeps, Reports};
 ghost use Rattle.just_joining.specs.Contents.{texts_of_names, variable_names};
 ghost use Rattle.just_joining.specs.Definitions.{contents_in, sets_in, variables_in};
 ghost use Rattle.just_joining.specs.Index.{AreApart, AreDifferent};
-ghost use Rattle.just_joining.specs.Rules.{AssignedTwice, Names, Unexported, Variables};
+ghost use Rattle.just_joining.specs.Rules.{AssignedTwice, Names, Unexported, VariablesOf};
 ghost use Rattle.just_joining.specs.Settings.{allows_variables, is_allowing};
 
 use crate::definitions::{Definitions, set_at, variable_at};
@@ -102,8 +102,8 @@ fn check_variables<'a, 'src>(
     alloc: Global,
     definitions: &Definitions<'src, 'a>,
 ) -> Result<(), Error<'src>>
-    ensures kept { OnOk result (Keeps (Variables (allows_variables (sets_in definitions.now)) (variable_names (variables_in definitions.now)) definitions.now.unexports.items)) }
-    ensures named { IfErr result (Reports (Variables (allows_variables (sets_in definitions.now)) (variable_names (variables_in definitions.now)) definitions.now.unexports.items)) }
+    ensures kept { OnOk result (Keeps (VariablesOf (contents_in definitions.now))) }
+    ensures named { IfErr result (Reports (VariablesOf (contents_in definitions.now))) }
 {
     let names = variable_names(alloc, definitions)?;
     if !allows_variables(definitions) {

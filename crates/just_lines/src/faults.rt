@@ -25,7 +25,9 @@ fn add_load(text: &mut String, error: &LoadError) -> Result<(), AllocError> {
 // Adds the fields of a broken rule.
 fn add_broken(text: &mut String, kind: &CompileErrorKind) -> Result<(), AllocError> {
     match kind {
-        CompileErrorKind::Syntax => Ok(()),
+        CompileErrorKind::Syntax
+        | CompileErrorKind::GuardAndInfallibleSigil
+        | CompileErrorKind::ExtraLeadingWhitespace => Ok(()),
         CompileErrorKind::Evaluate(fault) => write!(text, ": {fault}"),
         CompileErrorKind::DuplicateParameter { recipe, parameter } => {
             write!(text, ": recipe {recipe}, parameter {parameter}")
@@ -60,6 +62,10 @@ fn add_broken(text: &mut String, kind: &CompileErrorKind) -> Result<(), AllocErr
             name,
             first,
         } => write!(text, ": {first_type}, {second_type}, {name}, first {first}"),
+        CompileErrorKind::InvalidShellRecipeAttribute { recipe, attribute } => {
+            write!(text, ": recipe {recipe}, attribute {attribute}")
+        }
+        CompileErrorKind::DuplicateDefault { recipe } => write!(text, ": recipe {recipe}"),
         CompileErrorKind::UnknownDependency { recipe, unknown } => {
             write!(text, ": recipe {recipe}, unknown {unknown}")
         }

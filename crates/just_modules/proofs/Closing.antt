@@ -21,9 +21,12 @@ use Rattle.just_invoke.specs.Module.{module_name}
 use Rattle.just_running.specs.Recipes.{find_number, numbers}
 use Rattle.just_invoke.specs.declared.justfile.Justfile.{Justfile, out-Justfile}
 use Rattle.just_invoke.specs.declared.justfile.RecipeKey.{RecipeKey}
-use Rattle.just_modules.specs.Analysis.{IsDefaultOf, IsKeyOf}
+use Rattle.just_modules.specs.Analysis.{IsDefaultAmong, IsDefaultOf, IsKeyOf}
 use Rattle.just_modules.specs.Justfiles.{AreCompiled, Built, IsCompiled, by_name, held_by_name, none, one, recipes_in}
 use Rattle.just_modules.specs.Modules.{Forest, Module}
+use Rattle.just_graph.proofs.Index.{some_same}
+use Rattle.std.specs.Option.{option_map}
+use Rattle.just_joining.proofs.Later.{marked_or_none}
 use Rattle.just_joining.specs.Kept.{kept_recipes}
 use Rattle.just_joining.specs.Recipes.{recipes_of}
 use Rattle.just_joining.specs.Resolved.{number_at, unresolved_numbers}
@@ -100,11 +103,21 @@ module _ (layers : Layers) (asts : AstKey → Option Ast) (loaded : List Text) (
     key_held None f some = some
     key_held (Some key) f some = let at = f key refl in subst (λ n. IsSome (find_number recipes n)) at.2 (place_held at.0 at.1)
 
-    default_held : (o : Option Number) → IsDefaultOf (unresolved_numbers rs) own_rs o → IsSome o → IsSome (recipe_of_number recipes o)
-    default_held None d some = some
-    default_held (Some number) d some =
+    own_held : (o : Option Number) → IsDefaultOf (unresolved_numbers rs) own_rs o → IsSome o → IsSome (recipe_of_number recipes o)
+    own_held None d some = some
+    own_held (Some number) d some =
         let p = number_in rs (number_at own_rs d.0) (is_in (number_at own_rs d.0) (unresolved_numbers rs) d.1.is_resolved) in
         subst (λ n. IsSome (find_number recipes n)) (p.2 ∙ d.2) (place_held p.0 p.1)
+
+    marked_held : (o : Option Number) (k : ℕ) → k < length rs → option_map (λ (n : Number). n.0) o ≡ Some (number_at rs k) → IsSome (recipe_of_number recipes o)
+    marked_held None k h e = cc
+    marked_held (Some number) k h e = subst (λ n. IsSome (find_number recipes n)) (sym (some_same e)) (place_held k h)
+
+    default_held : (o : Option Number) → IsDefaultAmong rs own_rs o → IsSome o → IsSome (recipe_of_number recipes o)
+    default_held o d some = elim (marked_or_none rs) [
+      | inl there ↦ marked_held o there.0 there.1 (d.marked there.0 there.1 there.2)
+      | inr unmarked ↦ own_held o (d.unmarked unmarked) some
+    ]
 
     module_closed : IsClosed j recipes
     module_closed = record {

@@ -1,9 +1,8 @@
 -- Which of two recipes is the default before the other.
-use Rattle.std.proofs.Common.{◌≡◌, ◌≢◌, ◌==◌, ℕ, zero, suc, ◌<◌, Bool, true, false, IsTrue, List, [], ◌∷◌, length, get_or, Option, None, Some, Bor, refl, sym, ap, subst, ◌∙◌, arith, is_lt, inl, inr, ◌+◌}
+use Rattle.std.proofs.Common.{◌≡◌, ◌≢◌, ◌==◌, ℕ, zero, suc, ◌<◌, true, false, List, [], ◌∷◌, length, get_or, Option, None, Some, Bor, refl, sym, ap, subst, ◌∙◌, arith, inl, inr, ◌+◌}
 use Rattle.std.specs.List.{Contains}
 use Rattle.std.specs.Option.{is_some, option_copied}
-use Rattle.std.specs.Cmp.Lexicographic.{slice_cmp}
-use Rattle.std.specs.Ordering.{nat_cmp, ordering_reverse}
+use Rattle.std.specs.Ordering.{ordering_reverse}
 use Rattle.std.specs.declared.cmp.Ordering.{Ordering}
 use Rattle.std.specs.declared.cmp.Ordering.TheVariants.{Less, Equal, Greater}
 use Rattle.std.proofs.lemmas.Bool.{cases_Bool, cases_lt, eq-eqb, false≢true}
@@ -13,22 +12,17 @@ use Rattle.just_parts.specs.declared.layers.ast.UnresolvedDependency.{Unresolved
 use Rattle.just_parts.specs.declared.recipe.Recipe.{Recipe}
 use Rattle.just_running.specs.Recipes.{find_number, numbers}
 use Rattle.just_running.proofs.Places.{found-number}
-use Rattle.just_modules.specs.Analysis.{IsBefore, IsBetter, IsDefault, IsDefaultPlace}
+use Rattle.just_names.specs.declared.number.Number.{Number}
+use Rattle.just_joining.specs.Defaults.{IsMarkedPlace}
+use Rattle.just_modules.specs.Analysis.{IsBefore, IsBetter, IsDefault, IsDefaultPlace, IsMarked}
 use Rattle.just_joining.specs.Recipes.{name_of, line_of, recipe_at}
+use Rattle.just_joining.proofs.Later.{cmp, greater_not_less}
 use Rattle.just_joining.specs.Resolved.{number_at}
-
-abbrev cmp : List ℕ → List ℕ → Ordering
-cmp = slice_cmp nat_cmp
 
 equal_not_less : (o : Ordering) → o ≡ Equal → o ≢ Less
 equal_not_less Less e = cc
 equal_not_less Equal e = λ f. cc
 equal_not_less Greater e = cc
-
-greater_not_less : (o p : Ordering) → o ≡ ordering_reverse p → p ≡ Less → o ≢ Less
-greater_not_less o Less e h = λ f. let g : Less ≡ Greater = sym f ∙ e in cc
-greater_not_less o Equal e h = cc
-greater_not_less o Greater e h = cc
 
 pub itself : (a : Recipe UnresolvedDependency) → IsBefore a a
 itself a = record { line = omega arith; name = λ e. equal_not_less (cmp (name_of a) (name_of a)) (tied_itself nat_list_cmp_total (name_of a)) }
@@ -50,16 +44,6 @@ by_two a b c p q = record {
   line = omega (arith, p.line, q.line);
   name = λ e. not_less (name_of a) (name_of b) (name_of c) (cmp (name_of a) (name_of b)) refl (p.name (omega (arith, p.line, q.line, e))) (q.name (omega (arith, p.line, q.line, e)));
 }
-
-pub less_by : (o : Ordering) (b : Bool) → b ≡ is_lt o → IsTrue b → o ≡ Less
-less_by Less b e t = refl
-less_by Equal b e t = absurd (false≢true (subst IsTrue e t))
-less_by Greater b e t = absurd (false≢true (subst IsTrue e t))
-
-pub not_less_by : (o : Ordering) (b : Bool) → b ≡ is_lt o → b ≡ false → o ≢ Less
-not_less_by Less b e f = λ _. false≢true (sym f ∙ e)
-not_less_by Equal b e f = λ l. cc
-not_less_by Greater b e f = λ l. cc
 
 -- a name that is no less, on one line
 pub by_no_less : (a b : Recipe UnresolvedDependency) → line_of a ≡ line_of b → cmp (name_of a) (name_of b) ≢ Less → IsBefore a b
@@ -123,3 +107,13 @@ module _ (rs : List (Recipe Dependency)) (n : ℕ) where
   pub is_not : (o : Option (Bor (Recipe Dependency))) → option_copied o ≡ find_number rs n → is_some o ≡ false → Contains (numbers rs) n → ⊥
   is_not None e h c = missed_at rs n c.0 c.1 c.2 (sym e)
   is_not (Some r) e h c = cc
+
+-- the number of the one that is marked
+pub marked_is : (rs : List (Recipe UnresolvedDependency)) (p : ℕ) (n : Number) → IsMarkedPlace rs (length rs) (Some p) → n.0 ≡ number_at rs p → IsMarked rs (Some n)
+marked_is rs p n so e = λ k h yes. elim (cases_lt k p) [
+  | inl l ↦ absurd (false≢true (sym (so.2 k h (λ same. omega (arith, l, same))) ∙ yes))
+  | inr l ↦ elim (cases_lt p k) [
+    | inl m ↦ absurd (false≢true (sym (so.2 k h (λ same. omega (arith, m, same))) ∙ yes))
+    | inr m ↦ (let same : p ≡ k = omega (arith, l, m) in ap (λ i. Some i) (e ∙ ap (number_at rs) same))
+  ]
+]

@@ -15,7 +15,7 @@ use Rattle.just_parts.specs.declared.dependency.Dependency.{Dependency}
 use Rattle.just_parts.specs.Items.{Ast, Item}
 use Rattle.just_parts.specs.declared.recipe.Recipe.{Recipe}
 use Rattle.just_invoke.specs.declared.justfile.Justfile.{Justfile, out-Justfile, out-roll-Justfile}
-use Rattle.just_modules.specs.Analysis.{AreKeysOf, HasDefault, HasKeysOf, IsDefaultOf, IsOf}
+use Rattle.just_modules.specs.Analysis.{AreKeysOf, HasDefault, HasKeysOf, IsDefaultAmong, IsOf}
 use Rattle.just_joining.specs.Files.{ArePlaced, AreRows, asts_in}
 use Rattle.just_joining.specs.Joined.{IsJoined}
 use Rattle.just_modules.specs.Justfiles.{AreCompiled, Built, IsCompiled, by_name, contents_in, labelled_as, none, one, recipes_in, with_name, with_names}
@@ -25,7 +25,7 @@ use Rattle.just_joining.specs.Kept.{kept_recipes}
 use Rattle.just_joining.specs.Named.{contents_from, function_by, lists_by, lists_from, name_by, said_from, said_in, recipes_by, recipes_from, set_by, unexported_by, variable_by}
 use Rattle.just_joining.specs.Recipes.{recipes_of}
 use Rattle.just_joining.specs.Reading.{Submodule, items_in}
-use Rattle.just_joining.specs.Resolved.{AreResolved, unresolved_numbers}
+use Rattle.just_joining.specs.Resolved.{AreResolved}
 use Rattle.just_joining.specs.OfPlaces.{contents_of_place, names_of_place, recipes_of_place}
 use Rattle.just_modules.specs.Steps.{IsCompiledAt}
 use Rattle.just_joining.specs.declared.files.Files.{Files}
@@ -171,7 +171,7 @@ module _ (layers : Layers) (entries : List (AstKey × Ast)) (d : AstKey) (files 
           own_there = subst (λ k. Contains m.files k) (sym e) (own_joined same_ast_key keys_equivalent.refl _ (key_at p) m.files (join_at layers.syntax.enabled entries d files placed rows are paths joined p (below k l) (joins k l)));
           resolved = subst (λ path. AreResolved (kept_recipes (recipes_in layers.syntax.enabled asts m.files)) path (made p)) path_same (subst (λ rs. AreResolved (kept_recipes rs) at.own.module_path (made p)) rs_same at.resolved);
           settings = ap (settings_of layers.evaluator) (sym cs_same) ∙ at.settings ∙ ap (λ x. Some x.settings) (sym out);
-          default = subst (λ x. IsDefaultOf (unresolved_numbers (kept_recipes (recipes_in layers.syntax.enabled asts m.files))) (recipes_of layers.syntax.enabled at.own.items) x.default) (sym out)
+          default = subst (λ x. IsDefaultAmong (kept_recipes (recipes_in layers.syntax.enabled asts m.files)) (recipes_of layers.syntax.enabled at.own.items) x.default) (sym out)
               (subst (λ cs. HasDefault cs (recipes_of layers.syntax.enabled at.own.items) (justfile p)) cs_same at.default);
           fields = labelled_is_of (contents_in layers.syntax.enabled asts m.files) at.own loaded h.key.1 h.label (justfile p)
               (subst (λ cs. IsOf cs at.own loaded h.key.1 (justfile p)) cs_same (subst (λ (x : AstKey). IsOf (contents_of_place layers.syntax.enabled files joined p) at.own loaded x.1 (justfile p)) key_same at.fields));

@@ -4,8 +4,11 @@ use Rattle.just_graph.proofs.Index.{some_same}
 use Rattle.just_records.specs.declared.settings.Settings.{Settings}
 use Rattle.just_errors.specs.Causes.{Cause, Keeps}
 use Rattle.just_parts.specs.Layers.{Layers}
+use Rattle.just_parts.specs.Syntax.{SyntaxAnswers}
 use Rattle.just_joining.specs.Contents.{Contents}
-use Rattle.just_joining.specs.Groups.{Breaks, BreaksContents, KeepsBefore, KeepsContents, OfBodies, OfConstants, OfDependencies, OfHeaders, OfNames, settings_of}
+use Rattle.just_joining.specs.Groups.{Breaks, BreaksContents, KeepsBefore, KeepsContents, OfAliases, OfBodies, OfConstants, OfDependencies, OfHeaders, OfNames, settings_of}
+use Rattle.just_joining.specs.Defaults.{Defaults}
+use Rattle.just_joining.specs.Kept.{kept_recipes}
 use Rattle.just_joining.specs.Rules.{Bodies, BodiesUnder, Constants, settings_fault}
 use Rattle.just_modules.specs.Analysis.{BreaksRecipes, in_bodies, in_dependencies}
 
@@ -14,13 +17,13 @@ pub constants_kept : (o : Option Settings) (s : Settings) → o ≡ Some s → K
 constants_kept o s is _ (settings_fault none) = cc
 
 -- bodies that are kept under settings
-pub bodies_under : (o : Option Settings) (s : Settings) (m : Contents) → o ≡ Some s → Keeps (Bodies s m) → Keeps (BodiesUnder o m)
-bodies_under None s m is kept c b = b
-bodies_under (Some t) s m is kept c b = kept c (subst (λ (x : Settings). Bodies x m c) (some_same is) b)
+pub bodies_under : (answers : SyntaxAnswers) (o : Option Settings) (s : Settings) (m : Contents) → o ≡ Some s → Keeps (Bodies answers s m) → Keeps (BodiesUnder answers o m)
+bodies_under answers None s m is kept c b = b
+bodies_under answers (Some t) s m is kept c b = kept c (subst (λ (x : Settings). Bodies answers x m c) (some_same is) b)
 
-under_broken : (o : Option Settings) (s : Settings) (m : Contents) (c : Cause) → o ≡ Some s → Bodies s m c → BodiesUnder o m c
-under_broken None s m c is b = cc
-under_broken (Some t) s m c is b = subst (λ (x : Settings). Bodies x m c) (sym (some_same is)) b
+under_broken : (answers : SyntaxAnswers) (o : Option Settings) (s : Settings) (m : Contents) (c : Cause) → o ≡ Some s → Bodies answers s m c → BodiesUnder answers o m c
+under_broken answers None s m c is b = cc
+under_broken answers (Some t) s m c is b = subst (λ (x : Settings). Bodies answers x m c) (sym (some_same is)) b
 
 module _ (layers : Layers) (m : Contents) where
   pub before_names : Keeps (Breaks layers OfHeaders m) → KeepsBefore layers OfNames m
@@ -29,6 +32,7 @@ module _ (layers : Layers) (m : Contents) where
   before_names headers OfConstants lt = absurd (omega (arith, lt))
   before_names headers OfBodies lt = absurd (omega (arith, lt))
   before_names headers OfDependencies lt = absurd (omega (arith, lt))
+  before_names headers OfAliases lt = absurd (omega (arith, lt))
 
   pub before_constants : Keeps (Breaks layers OfHeaders m) → Keeps (Breaks layers OfNames m) → KeepsBefore layers OfConstants m
   before_constants headers names OfHeaders lt = headers
@@ -36,6 +40,7 @@ module _ (layers : Layers) (m : Contents) where
   before_constants headers names OfConstants lt = absurd (omega (arith, lt))
   before_constants headers names OfBodies lt = absurd (omega (arith, lt))
   before_constants headers names OfDependencies lt = absurd (omega (arith, lt))
+  before_constants headers names OfAliases lt = absurd (omega (arith, lt))
 
   pub before_bodies : Keeps (Breaks layers OfHeaders m) → Keeps (Breaks layers OfNames m) → Keeps (Breaks layers OfConstants m) → KeepsBefore layers OfBodies m
   before_bodies headers names constants OfHeaders lt = headers
@@ -43,6 +48,7 @@ module _ (layers : Layers) (m : Contents) where
   before_bodies headers names constants OfConstants lt = constants
   before_bodies headers names constants OfBodies lt = absurd (omega (arith, lt))
   before_bodies headers names constants OfDependencies lt = absurd (omega (arith, lt))
+  before_bodies headers names constants OfAliases lt = absurd (omega (arith, lt))
 
   module _ (earlier : KeepsBefore layers OfBodies m) where
     before_dependencies : Keeps (Breaks layers OfBodies m) → KeepsBefore layers OfDependencies m
@@ -51,16 +57,30 @@ module _ (layers : Layers) (m : Contents) where
     before_dependencies bodies OfNames lt = earlier OfNames (omega arith)
     before_dependencies bodies OfConstants lt = earlier OfConstants (omega arith)
     before_dependencies bodies OfDependencies lt = absurd (omega (arith, lt))
+    before_dependencies bodies OfAliases lt = absurd (omega (arith, lt))
+
+    before_aliases : Keeps (Breaks layers OfBodies m) → Keeps (Breaks layers OfDependencies m) → KeepsBefore layers OfAliases m
+    before_aliases bodies dependencies OfBodies lt = bodies
+    before_aliases bodies dependencies OfDependencies lt = dependencies
+    before_aliases bodies dependencies OfHeaders lt = earlier OfHeaders (omega arith)
+    before_aliases bodies dependencies OfNames lt = earlier OfNames (omega arith)
+    before_aliases bodies dependencies OfConstants lt = earlier OfConstants (omega arith)
+    before_aliases bodies dependencies OfAliases lt = absurd (omega (arith, lt))
 
     -- what is broken of recipes is broken of the module
-    pub recipes_broken : (s : Settings) → settings_of layers.evaluator m ≡ Some s → (c : Cause) → BreaksRecipes s m c → BreaksContents layers m c
-    recipes_broken s is c (in_bodies b) = record { group = OfBodies; earlier = earlier; broken = under_broken (settings_of layers.evaluator m) s m c is b }
-    recipes_broken s is c (in_dependencies bodies b) = record { group = OfDependencies; earlier = before_dependencies (bodies_under (settings_of layers.evaluator m) s m is bodies); broken = b }
+    pub recipes_broken : (s : Settings) → settings_of layers.evaluator m ≡ Some s → (c : Cause) → BreaksRecipes layers.syntax s m c → BreaksContents layers m c
+    recipes_broken s is c (in_bodies b) = record { group = OfBodies; earlier = earlier; broken = under_broken layers.syntax (settings_of layers.evaluator m) s m c is b }
+    recipes_broken s is c (in_dependencies bodies b) = record { group = OfDependencies; earlier = before_dependencies (bodies_under layers.syntax (settings_of layers.evaluator m) s m is bodies); broken = b }
+
+    -- so is what is broken of defaults
+    pub defaults_broken : Keeps (Breaks layers OfBodies m) → Keeps (Breaks layers OfDependencies m) → (c : Cause) → Defaults (kept_recipes m.recipes) c → BreaksContents layers m c
+    defaults_broken bodies dependencies c b = record { group = OfAliases; earlier = before_aliases bodies dependencies; broken = b }
 
     -- all groups are kept
-    pub all_kept : Keeps (Breaks layers OfBodies m) → Keeps (Breaks layers OfDependencies m) → KeepsContents layers m
-    all_kept bodies dependencies OfHeaders = earlier OfHeaders (omega arith)
-    all_kept bodies dependencies OfNames = earlier OfNames (omega arith)
-    all_kept bodies dependencies OfConstants = earlier OfConstants (omega arith)
-    all_kept bodies dependencies OfBodies = bodies
-    all_kept bodies dependencies OfDependencies = dependencies
+    pub all_kept : Keeps (Breaks layers OfBodies m) → Keeps (Breaks layers OfDependencies m) → Keeps (Breaks layers OfAliases m) → KeepsContents layers m
+    all_kept bodies dependencies aliases OfHeaders = earlier OfHeaders (omega arith)
+    all_kept bodies dependencies aliases OfNames = earlier OfNames (omega arith)
+    all_kept bodies dependencies aliases OfConstants = earlier OfConstants (omega arith)
+    all_kept bodies dependencies aliases OfBodies = bodies
+    all_kept bodies dependencies aliases OfDependencies = dependencies
+    all_kept bodies dependencies aliases OfAliases = aliases

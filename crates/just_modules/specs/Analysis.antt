@@ -1,5 +1,5 @@
 -- What a module's recipes are compiled to.
-use Rattle.std.specs.Prelude.{◌≡◌, ◌≢◌, ◌⊎◌, ℕ, ◌<◌, ◌≤◌, Bool, List, [], length, slice_get, Option, Some, None}
+use Rattle.std.specs.Prelude.{◌≡◌, ◌≢◌, ◌⊎◌, ℕ, ◌<◌, ◌≤◌, Bool, true, List, [], length, slice_get, Option, Some, None}
 use Rattle.std.specs.Cmp.Lexicographic.{slice_cmp}
 use Rattle.std.specs.List.{AllByRecursion, Contains}
 use Rattle.std.specs.Option.{option_map}
@@ -17,8 +17,10 @@ use Rattle.just_parts.specs.declared.layers.ast.UnresolvedDependency.{Unresolved
 use Rattle.just_parts.specs.declared.recipe.Recipe.{Recipe}
 use Rattle.just_errors.specs.Causes.{Cause, Keeps}
 use Rattle.just_parts.specs.Layers.{Layers}
+use Rattle.just_parts.specs.Syntax.{SyntaxAnswers}
 use Rattle.just_invoke.specs.declared.justfile.RecipeKey.{RecipeKey}
 use Rattle.just_joining.specs.Contents.{Contents}
+use Rattle.just_joining.specs.Defaults.{NoneMarked, is_marked}
 use Rattle.just_joining.specs.Files.{asts_in}
 use Rattle.just_joining.specs.Groups.{BreaksContents, KeepsContents, functions_under, settings_of}
 use Rattle.just_joining.specs.Named.{contents_from, recipes_by}
@@ -66,9 +68,18 @@ abbrev pub IsDefaultOf : List ℕ → List (Recipe UnresolvedDependency) → Opt
 IsDefaultOf resolved own None = IsDefaultPlace resolved own (length own) None
 IsDefaultOf resolved own (Some number) = (place : ℕ) × IsDefault resolved own (length own) place × (number_at own place ≡ number.0)
 
--- a module's default is a recipe of its own file, of those that are kept
+-- each of these recipes that has the attribute `default` has this number
+abbrev pub IsMarked : List (Recipe UnresolvedDependency) → Option Number → Type 0
+IsMarked recipes default = (k : ℕ) → k < length recipes → is_marked (recipe_at recipes k) ≡ true → option_map (λ (n : Number). n.0) default ≡ Some (number_at recipes k)
+
+-- Which of these recipes is run without words: the one with the attribute `default`, or where none has it one of the own file.
+pub record IsDefaultAmong (recipes own : List (Recipe UnresolvedDependency)) (default : Option Number) : Type 0 where
+  pub marked : IsMarked recipes default
+  pub unmarked : NoneMarked recipes → IsDefaultOf (unresolved_numbers recipes) own default
+
+-- a module's default, of its recipes that are kept
 abbrev pub HasDefault : Contents → List (Recipe UnresolvedDependency) → Justfile → Type 0
-HasDefault m own j = IsDefaultOf (unresolved_numbers (kept_recipes m.recipes)) own (out-Justfile j).default
+HasDefault m own j = IsDefaultAmong (kept_recipes m.recipes) own (out-Justfile j).default
 
 -- variables under their names: of those of one name the one that is kept
 abbrev pub variables_under : List Assignment → List (Text × Assignment)
@@ -112,6 +123,6 @@ abbrev pub BreaksFiles : Layers → Files → List ℕ → Cause → Type 0
 BreaksFiles layers files places = BreaksContents layers (contents_from layers.syntax.enabled (asts_in files) places)
 
 -- What is broken of recipes under settings: in their bodies, or where these are kept in their dependencies.
-pub data BreaksRecipes (settings : Settings) (m : Contents) : Cause → Type 0 where
-  in_bodies : {c : Cause} → Bodies settings m c → BreaksRecipes settings m c
-  in_dependencies : {c : Cause} → Keeps (Bodies settings m) → Dependencies (kept_recipes m.recipes) c → BreaksRecipes settings m c
+pub data BreaksRecipes (answers : SyntaxAnswers) (settings : Settings) (m : Contents) : Cause → Type 0 where
+  in_bodies : {c : Cause} → Bodies answers settings m c → BreaksRecipes answers settings m c
+  in_dependencies : {c : Cause} → Keeps (Bodies answers settings m) → Dependencies (kept_recipes m.recipes) c → BreaksRecipes answers settings m c

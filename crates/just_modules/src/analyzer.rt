@@ -84,22 +84,23 @@ fn check_module<'src, 'a, S: Syntax, E: Evaluation>(
 
 // The definitions of the module at a path that are kept, with these settings, and its recipes, resolved, each after those
 // that it depends on. An error names a rule that is broken in its bodies, or where these are kept in its dependencies.
-fn resolve_recipes<'src, 'a>(
+fn resolve_recipes<'src, 'a, S: Syntax>(
     alloc: Global,
     definitions: &Definitions<'src, 'a>,
+    syntax: &S,
     settings: &Settings,
     path: &Modulepath,
 ) -> Result<(Definitions<'src, 'a>, Recipes<'src>), Error<'src>>
     requires once { IsOnce (unresolved_numbers (recipes_in definitions.now)) }
     requires priors { All HasPriors (recipes_in definitions.now) }
-    ensures bodies { IfOk result (λ _. Keeps (Bodies settings.now (contents_in definitions.now))) }
+    ensures bodies { IfOk result (λ _. Keeps (Bodies (S.answers syntax.now) settings.now (contents_in definitions.now))) }
     ensures dependencies { IfOk result (λ _. Keeps (Dependencies (kept_recipes (recipes_in definitions.now)))) }
     ensures recipes { IfOk result (λ made. recipes_in made.0 ≡ kept_recipes (recipes_in definitions.now)) }
     ensures variables { IfOk result (λ made. variables_in made.0 ≡ kept_variables (variables_in definitions.now)) }
     ensures resolved { IfOk result (λ made. AreResolved (kept_recipes (recipes_in definitions.now)) path.now made.1) }
-    ensures named { IfErr result (Reports (BreaksRecipes settings.now (contents_in definitions.now))) }
+    ensures named { IfErr result (Reports (BreaksRecipes (S.answers syntax.now) settings.now (contents_in definitions.now))) }
 {
-    check_bodies(alloc, definitions, settings)?;
+    check_bodies(alloc, syntax, definitions, settings)?;
     let kept = kept_definitions(alloc, definitions)?;
     let index = index_recipes(alloc, &kept)?;
     let (rows, order) = order_recipes(alloc, &kept, &index)?;
@@ -139,10 +140,11 @@ pub fn analyze_module<'a, 'src, S: Syntax, E: Evaluation>(
     let (kept, mut made) = resolve_recipes(
         alloc,
         &definitions,
+        syntax,
         &evaluated.settings,
         &ast.module_path,
     )?;
-    let default = default_of(alloc, ast, syntax, &made)?;
+    let default = default_of(alloc, &kept, ast, syntax, &made)?;
     recipes.append(&mut made)?;
     let justfile = make_justfile(
         alloc,

@@ -1,10 +1,12 @@
 //! What a module's recipes are compiled to.
 
-ghost use Rattle.std.specs.Prelude.{◌≡◌, ◌<◌, false, IsTrue, IfOk, IfSome, Some, length};
+ghost use Rattle.std.specs.Prelude.{◌≡◌, ◌<◌, false, IsTrue, IfErr, IfOk, IfSome, OnOk, Some, length};
+ghost use Rattle.just_errors.specs.Causes.{Keeps, Reports};
 ghost use Rattle.just_running.specs.Recipes.{numbers};
 ghost use Rattle.just_invoke.specs.declared.justfile.Justfile.{out-Justfile};
-ghost use Rattle.just_modules.specs.Analysis.{AreKeysOf, HasKeysOf, IsBefore, IsBetter, IsDefaultOf, IsDefaultPlace, IsOf};
+ghost use Rattle.just_modules.specs.Analysis.{AreKeysOf, HasKeysOf, IsBefore, IsBetter, IsDefaultOf, IsDefaultPlace, IsMarked, IsOf};
 ghost use Rattle.just_joining.specs.Groups.{functions_under};
+ghost use Rattle.just_joining.specs.Defaults.{Defaults, NoneMarked};
 ghost use Rattle.just_joining.specs.Definitions.{contents_in, functions_in, recipes_in, variables_in};
 ghost use Rattle.just_joining.specs.Index.{AreDifferent};
 ghost use Rattle.just_joining.specs.Kept.{kept_recipes, kept_variables};
@@ -14,9 +16,10 @@ ghost use Rattle.just_joining.specs.Recipes.{names_of};
 use crate::constants::{Evaluated, variable_table};
 use just_data::{Sequence, Shared, Text};
 use just_invoke::{Justfile, RecipeKey, Recipes};
+use just_joining::defaults::marked_place;
 use just_joining::definitions::{Definitions, recipe_at};
 use just_parts::UnresolvedRecipe;
-use just_parts::layers::{Ast, Name, Number, Syntax};
+use just_parts::layers::{Ast, Error, Name, Number, Syntax};
 use just_table::Table;
 use std::alloc::{AllocError, Global};
 
@@ -85,8 +88,9 @@ fn default_place<'a, 'src>(own: &Definitions<'src, 'a>, resolved: &Recipes<'src>
     best
 }
 
-/// The number of the recipe that is run without words: one that the module's own file has, of those that are resolved.
-pub fn default_of<'src, S: Syntax>(
+// The number of the recipe that is run without words where none is marked: one that the module's own file has, of those
+// that are resolved.
+fn own_default<'src, S: Syntax>(
     alloc: Global,
     ast: &Ast<'src>,
     syntax: &S,
@@ -99,6 +103,26 @@ pub fn default_of<'src, S: Syntax>(
     match default_place(&own, resolved) {
         None => Ok(None),
         Some(place) => Ok(Some(recipe_at(&own, place).number)),
+    }
+}
+
+/// The number of the recipe that is run without words: of those that are kept the one with the attribute `default`, or
+/// else one that the module's own file has, of those that are resolved. An error says that two have the attribute.
+pub fn default_of<'a, 'src, S: Syntax>(
+    alloc: Global,
+    kept: &Definitions<'src, 'a>,
+    ast: &Ast<'src>,
+    syntax: &S,
+    resolved: &Recipes<'src>,
+) -> Result<Option<Number>, Error<'src>>
+    ensures kept { OnOk result (Keeps (Defaults (recipes_in kept.now))) }
+    ensures marked { IfOk result (IsMarked (recipes_in kept.now)) }
+    ensures unmarked { IfOk result (λ d. NoneMarked (recipes_in kept.now) → IsDefaultOf (numbers resolved.now) (recipes_by (S.answers syntax.now).enabled (Some ast.now)) d) }
+    ensures named { IfErr result (Reports (Defaults (recipes_in kept.now))) }
+{
+    match marked_place(kept)? {
+        Some(place) => Ok(Some(recipe_at(kept, place).number)),
+        None => Ok(own_default(alloc, ast, syntax, resolved)?),
     }
 }
 

@@ -3,6 +3,7 @@ pub mod Bare
 pub mod Edge
 pub mod Evaluation
 pub mod Evaluator
+pub mod Groups
 pub mod Host
 pub mod Items
 pub mod Layers

@@ -1,5 +1,5 @@
 -- Which recipes a run leads to, and which of them cannot be run yet.
-use Rattle.std.specs.Prelude.{◌≡◌, ◌<◌, ℕ, Bool, true, false, not, List, [], length, map, Some}
+use Rattle.std.specs.Prelude.{◌≡◌, ◌<◌, ℕ, Bool, true, false, not, ◌||◌, List, [], ◌∷◌, length, map, Some}
 use Rattle.std.specs.List.{All, list_any, slice_get, Contains}
 use Rattle.just_graph.specs.Steps.{Reached}
 use Rattle.just_records.specs.Parameter.{is_name}
@@ -29,9 +29,14 @@ places ts = map (λ (t : Task). t.pair.recipe) ts
 abbrev pub LeadTo : List (Recipe Dependency) → List Task → ℕ → Type 0
 LeadTo recipes tops place = Reached (DependsOn recipes) (places tops) [] place
 
--- a parameter of it is more than a name
+-- it has none
+abbrev pub is_empty : {A : Type 0} → List A → Bool
+is_empty [] = true
+is_empty (x ∷ xs) = false
+
+-- it has an attribute or a line, or a parameter of it is more than a name
 abbrev pub is_unready : Recipe Dependency → Bool
-is_unready recipe = list_any (λ p. not (is_name p)) recipe.parameters
+is_unready recipe = not (is_empty recipe.attributes) || (not (is_empty recipe.body) || list_any (λ p. not (is_name p)) recipe.parameters)
 
 -- it is the name of a recipe that they lead to and that cannot be run yet
 abbrev pub IsUnready : List (Recipe Dependency) → List Task → List ℕ → Type 0

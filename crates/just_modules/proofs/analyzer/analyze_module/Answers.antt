@@ -1,23 +1,26 @@
-use Rattle.std.proofs.Common.{◌≡◌, ◌∙◌, Some, ap, sym, subst, rules}
+use Rattle.std.proofs.Common.{◌≡◌, ◌∙◌, List, Some, ap, sym, subst, rules}
 use Rattle.std.specs.List.{All}
 use Rattle.std.proofs.lemmas.Result.{IfErr-weaker}
 use Rattle.just_graph.specs.Steps.{IsOnce}
 use Rattle.just_graph.proofs.Index.{some_same}
-use Rattle.just_errors.specs.Causes.{Reports}
+use Rattle.just_errors.specs.Causes.{Keeps, Reports}
 use Rattle.just_parts.specs.Items.{Ast}
 use Rattle.just_joining.specs.Contents.{Contents, texts_of_names}
-use Rattle.just_joining.specs.Definitions.{contents_in}
+use Rattle.just_joining.specs.Defaults.{Defaults, NoneMarked}
+use Rattle.just_joining.specs.Definitions.{contents_in, recipes_in}
 use Rattle.just_joining.specs.Index.{AreDifferent}
 use Rattle.just_joining.specs.Files.{asts_in}
 use Rattle.just_joining.specs.Groups.{BreaksContents, KeepsContents, settings_of}
 use Rattle.just_joining.specs.Kept.{kept_recipes}
 use Rattle.just_joining.specs.Named.{recipes_by, recipes_from}
 use Rattle.just_parts.specs.Layers.{layers_of}
+use Rattle.just_parts.specs.declared.layers.ast.UnresolvedDependency.{UnresolvedDependency}
+use Rattle.just_parts.specs.declared.recipe.Recipe.{Recipe}
 use Rattle.just_errors.proofs.Lifts.{reports_by}
 use Rattle.just_graph.proofs.Members.{contained, is_in}
 use Rattle.just_joining.proofs.Keeping.{kept_number}
-use Rattle.just_modules.specs.Analysis.{BreaksRecipes, IsDefaultOf}
-use Rattle.just_modules.proofs.Grounds.{all_kept, bodies_under, recipes_broken}
+use Rattle.just_modules.specs.Analysis.{BreaksRecipes, IsDefaultAmong, IsDefaultOf, IsMarked}
+use Rattle.just_modules.proofs.Grounds.{all_kept, bodies_under, defaults_broken, recipes_broken}
 use Rattle.just_joining.specs.Resolved.{AreResolved, HasPriors, unresolved_numbers}
 use Rattle.just_modules.proofs.Makings.{default_resolved, resolved_numbers}
 use Rattle.just_modules.proofs.analyzer.analyze_module.Goals as goal
@@ -42,8 +45,19 @@ returns-in_err-kept-clause-named g c =
     let layers = layers_of (g.S.Syntax.answers c.args.syntax.now) (g.E.Evaluation.answers c.args.evaluation.now) in
     let m = contents_in c.in_ok-definitions.definitions in
     let s = c.in_ok-evaluated.evaluated.settings in
-    IfErr-weaker c.from_residual-in_err-kept.result (Reports (BreaksRecipes s m)) _
-    (λ e h. subst (λ n. Reports (BreaksContents layers n) e) c.in_ok-definitions.ensures (reports_by (BreaksRecipes s m) (BreaksContents layers m) (recipes_broken layers m c.in_ok-evaluated.ensures.kept s c.in_ok-evaluated.ensures.settings) e h)) (search rules)
+    IfErr-weaker c.from_residual-in_err-kept.result (Reports (BreaksRecipes layers.syntax s m)) _
+    (λ e h. subst (λ n. Reports (BreaksContents layers n) e) c.in_ok-definitions.ensures (reports_by (BreaksRecipes layers.syntax s m) (BreaksContents layers m) (recipes_broken layers m c.in_ok-evaluated.ensures.kept s c.in_ok-evaluated.ensures.settings) e h)) (search rules)
+
+pub returns-in_err-default-clause-named : goal.returns-in_err-default-clause-named
+returns-in_err-default-clause-named g c =
+    let layers = layers_of (g.S.Syntax.answers c.args.syntax.now) (g.E.Evaluation.answers c.args.evaluation.now) in
+    let m = contents_in c.in_ok-definitions.definitions in
+    let s = c.in_ok-evaluated.evaluated.settings in
+    let named : Reports (Defaults (recipes_in c.in_ok-kept.kept)) c.in_err-default.field-0.0 = c.in_err-default.ensures.named in
+    IfErr-weaker c.from_residual-in_err-default.result (Reports (Defaults (recipes_in c.in_ok-kept.kept))) _
+    (λ e h. subst (λ n. Reports (BreaksContents layers n) e) c.in_ok-definitions.ensures (reports_by (Defaults (recipes_in c.in_ok-kept.kept)) (BreaksContents layers m)
+    (λ x k. defaults_broken layers m c.in_ok-evaluated.ensures.kept (bodies_under layers.syntax (settings_of layers.evaluator m) s m c.in_ok-evaluated.ensures.settings c.in_ok-kept.ensures.bodies) c.in_ok-kept.ensures.dependencies x
+    (subst (λ (rs : List (Recipe UnresolvedDependency)). Defaults rs x) c.in_ok-kept.ensures.recipes k)) e h)) (search (rules, named, c.from_residual-in_err-default.ensures.1, c.from_residual-in_err-default.ensures.0))
 
 pub append-requires : goal.append-requires
 append-requires g c = λ number a b.
@@ -55,7 +69,8 @@ pub returns-clause-kept : goal.returns-clause-kept
 returns-clause-kept g c =
     let layers = layers_of (g.S.Syntax.answers c.args.syntax.now) (g.E.Evaluation.answers c.args.evaluation.now) in
     let m = contents_in c.in_ok-definitions.definitions in
-    subst (KeepsContents layers) c.in_ok-definitions.ensures (all_kept layers m c.in_ok-evaluated.ensures.kept (bodies_under (settings_of layers.evaluator m) c.in_ok-evaluated.evaluated.settings m c.in_ok-evaluated.ensures.settings c.in_ok-kept.ensures.bodies) c.in_ok-kept.ensures.dependencies)
+    subst (KeepsContents layers) c.in_ok-definitions.ensures (all_kept layers m c.in_ok-evaluated.ensures.kept (bodies_under layers.syntax (settings_of layers.evaluator m) c.in_ok-evaluated.evaluated.settings m c.in_ok-evaluated.ensures.settings c.in_ok-kept.ensures.bodies) c.in_ok-kept.ensures.dependencies
+    (subst (λ (rs : List (Recipe UnresolvedDependency)). Keeps (Defaults rs)) c.in_ok-kept.ensures.recipes c.in_ok-default.ensures.kept))
 
 pub returns-clause-settings : goal.returns-clause-settings
 returns-clause-settings g c =
@@ -79,6 +94,10 @@ returns-clause-default g c = λ own e.
     let path = c.ast_at-ast.result.now.module_path in
     let same : c.ast_at-ast.result.now ≡ own = some_same (sym c.ast_at-ast.ensures ∙ e) in
     let resolved = subst (λ (m : Contents). AreResolved (kept_recipes m.recipes) path c.in_ok-kept.made) c.in_ok-definitions.ensures c.in_ok-kept.ensures.resolved in
-    subst (IsDefaultOf (unresolved_numbers (kept_recipes qs)) (recipes_by enabled (Some own))) (sym c.in_ok-justfile.ensures.default)
-    (subst (λ (ast : Ast). IsDefaultOf (unresolved_numbers (kept_recipes qs)) (recipes_by enabled (Some ast)) c.in_ok-default.default) same
-    (default_resolved (kept_recipes qs) path c.in_ok-kept.made (recipes_by enabled (Some c.ast_at-ast.result.now)) c.in_ok-default.default resolved c.in_ok-default.ensures))
+    let kept : recipes_in c.in_ok-kept.kept ≡ kept_recipes qs = c.in_ok-kept.ensures.recipes ∙ ap (λ (m : Contents). kept_recipes m.recipes) c.in_ok-definitions.ensures in
+    subst (IsDefaultAmong (kept_recipes qs) (recipes_by enabled (Some own))) (sym c.in_ok-justfile.ensures.default) (record {
+      marked = subst (λ (rs : List (Recipe UnresolvedDependency)). IsMarked rs c.in_ok-default.default) kept c.in_ok-default.ensures.marked;
+      unmarked = λ none. subst (λ (ast : Ast). IsDefaultOf (unresolved_numbers (kept_recipes qs)) (recipes_by enabled (Some ast)) c.in_ok-default.default) same
+          (default_resolved (kept_recipes qs) path c.in_ok-kept.made (recipes_by enabled (Some c.ast_at-ast.result.now)) c.in_ok-default.default resolved
+          (c.in_ok-default.ensures.unmarked (subst (λ (rs : List (Recipe UnresolvedDependency)). NoneMarked rs) (sym kept) none)));
+    })

@@ -17,32 +17,32 @@ use Rattle.just_modules.specs.Analysis.{BreaksRecipes, in_bodies, in_dependencie
 use Rattle.just_modules.proofs.analyzer.resolve_recipes.Goals as goal
 
 pub order_recipes-requires-clause-different : goal.order_recipes-requires-clause-different
-order_recipes-requires-clause-different c = subst (λ (rs : List (Recipe UnresolvedDependency)). AreDifferent (names_of rs)) (sym c.in_ok-kept.ensures.recipes) (kept_different (recipes_in c.args.definitions.now))
+order_recipes-requires-clause-different g c = subst (λ (rs : List (Recipe UnresolvedDependency)). AreDifferent (names_of rs)) (sym c.in_ok-kept.ensures.recipes) (kept_different (recipes_in c.args.definitions.now))
 
 pub resolve_in_order-requires-clause-different : goal.resolve_in_order-requires-clause-different
-resolve_in_order-requires-clause-different c = subst (λ (rs : List (Recipe UnresolvedDependency)). AreDifferent (names_of rs)) (sym c.in_ok-kept.ensures.recipes) (kept_different (recipes_in c.args.definitions.now))
+resolve_in_order-requires-clause-different g c = subst (λ (rs : List (Recipe UnresolvedDependency)). AreDifferent (names_of rs)) (sym c.in_ok-kept.ensures.recipes) (kept_different (recipes_in c.args.definitions.now))
 
 pub resolve_in_order-requires-clause-once : goal.resolve_in_order-requires-clause-once
-resolve_in_order-requires-clause-once c = subst (λ (rs : List (Recipe UnresolvedDependency)). IsOnce (unresolved_numbers rs)) (sym c.in_ok-kept.ensures.recipes) (kept_once (recipes_in c.args.definitions.now) c.requires.once)
+resolve_in_order-requires-clause-once g c = subst (λ (rs : List (Recipe UnresolvedDependency)). IsOnce (unresolved_numbers rs)) (sym c.in_ok-kept.ensures.recipes) (kept_once (recipes_in c.args.definitions.now) c.requires.once)
 
 pub resolve_in_order-requires-clause-priors : goal.resolve_in_order-requires-clause-priors
-resolve_in_order-requires-clause-priors c = subst (λ (rs : List (Recipe UnresolvedDependency)). All HasPriors rs) (sym c.in_ok-kept.ensures.recipes) (kept_all HasPriors (recipes_in c.args.definitions.now) c.requires.priors)
+resolve_in_order-requires-clause-priors g c = subst (λ (rs : List (Recipe UnresolvedDependency)). All HasPriors rs) (sym c.in_ok-kept.ensures.recipes) (kept_all HasPriors (recipes_in c.args.definitions.now) c.requires.priors)
 
 pub returns-in_err-check_bodies-clause-named : goal.returns-in_err-check_bodies-clause-named
-returns-in_err-check_bodies-clause-named c =
-    IfErr-weaker c.from_residual.result (Reports (Bodies c.args.settings.now (contents_in c.args.definitions.now))) _
-    (λ e h. reports_by (Bodies _ _) (BreaksRecipes _ _) (λ x k. in_bodies k) e h) (search rules)
+returns-in_err-check_bodies-clause-named g c =
+    IfErr-weaker c.from_residual.result (Reports (Bodies (g.S.Syntax.answers c.args.syntax.now) c.args.settings.now (contents_in c.args.definitions.now))) _
+    (λ e h. reports_by (Bodies _ _ _) (BreaksRecipes _ _ _) (λ x k. in_bodies k) e h) (search rules)
 
 pub returns-in_err-rows-clause-named : goal.returns-in_err-rows-clause-named
-returns-in_err-rows-clause-named c =
+returns-in_err-rows-clause-named g c =
     IfErr-weaker c.from_residual-in_err-rows.result (Reports (Dependencies (recipes_in c.in_ok-kept.kept))) _
-    (λ e h. reports_by (Dependencies (recipes_in c.in_ok-kept.kept)) (BreaksRecipes _ _) (λ x k. in_dependencies c.in_ok-check_bodies.ensures.kept (subst (λ (rs : List (Recipe UnresolvedDependency)). Dependencies rs x) c.in_ok-kept.ensures.recipes k)) e h) (search rules)
+    (λ e h. reports_by (Dependencies (recipes_in c.in_ok-kept.kept)) (BreaksRecipes _ _ _) (λ x k. in_dependencies c.in_ok-check_bodies.ensures.kept (subst (λ (rs : List (Recipe UnresolvedDependency)). Dependencies rs x) c.in_ok-kept.ensures.recipes k)) e h) (search rules)
 
 pub returns-clause-dependencies : goal.returns-clause-dependencies
-returns-clause-dependencies c = subst (λ (rs : List (Recipe UnresolvedDependency)). Keeps (Dependencies rs)) c.in_ok-kept.ensures.recipes c.in_ok-rows.ensures.kept
+returns-clause-dependencies g c = subst (λ (rs : List (Recipe UnresolvedDependency)). Keeps (Dependencies rs)) c.in_ok-kept.ensures.recipes c.in_ok-rows.ensures.kept
 
 pub returns-clause-resolved : goal.returns-clause-resolved
-returns-clause-resolved c =
+returns-clause-resolved g c =
     let rs = recipes_in c.in_ok-kept.kept in
     subst (λ (qs : List (Recipe UnresolvedDependency)). AreResolved qs c.args.path.now c.in_ok-made.made) c.in_ok-kept.ensures.recipes
     (all_resolved rs c.args.path.now c.in_ok-rows.order.items c.in_ok-made.made c.in_ok-rows.ensures.ordered
