@@ -72,10 +72,14 @@ IsDefaultOf resolved own (Some number) = (place : ℕ) × IsDefault resolved own
 abbrev pub IsMarked : List (Recipe UnresolvedDependency) → Option Number → Type 0
 IsMarked recipes default = (k : ℕ) → k < length recipes → is_marked (recipe_at recipes k) ≡ true → option_map (λ (n : Number). n.0) default ≡ Some (number_at recipes k)
 
--- Which of these recipes is run without words: the one with the attribute `default`, or where none has it one of the own file.
-pub record IsDefaultAmong (recipes own : List (Recipe UnresolvedDependency)) (default : Option Number) : Type 0 where
+-- Which of these recipes is run without words: the one with the attribute `default`, or where none has it one of the own file, of those with these numbers.
+pub record IsDefaultBy (recipes : List (Recipe UnresolvedDependency)) (resolved : List ℕ) (own : List (Recipe UnresolvedDependency)) (default : Option Number) : Type 0 where
   pub marked : IsMarked recipes default
-  pub unmarked : NoneMarked recipes → IsDefaultOf (unresolved_numbers recipes) own default
+  pub unmarked : NoneMarked recipes → IsDefaultOf resolved own default
+
+-- the same, of those that are resolved
+abbrev pub IsDefaultAmong : List (Recipe UnresolvedDependency) → List (Recipe UnresolvedDependency) → Option Number → Type 0
+IsDefaultAmong recipes = IsDefaultBy recipes (unresolved_numbers recipes)
 
 -- a module's default, of its recipes that are kept
 abbrev pub HasDefault : Contents → List (Recipe UnresolvedDependency) → Justfile → Type 0

@@ -4,9 +4,9 @@ ghost use Rattle.std.specs.Prelude.{◌≡◌, ◌<◌, false, IsTrue, IfErr, If
 ghost use Rattle.just_errors.specs.Causes.{Keeps, Reports};
 ghost use Rattle.just_running.specs.Recipes.{numbers};
 ghost use Rattle.just_invoke.specs.declared.justfile.Justfile.{out-Justfile};
-ghost use Rattle.just_modules.specs.Analysis.{AreKeysOf, HasKeysOf, IsBefore, IsBetter, IsDefaultOf, IsDefaultPlace, IsMarked, IsOf};
+ghost use Rattle.just_modules.specs.Analysis.{AreKeysOf, HasKeysOf, IsBefore, IsBetter, IsDefaultBy, IsDefaultOf, IsDefaultPlace, IsOf};
 ghost use Rattle.just_joining.specs.Groups.{functions_under};
-ghost use Rattle.just_joining.specs.Defaults.{Defaults, NoneMarked};
+ghost use Rattle.just_joining.specs.Defaults.{Defaults};
 ghost use Rattle.just_joining.specs.Definitions.{contents_in, functions_in, recipes_in, variables_in};
 ghost use Rattle.just_joining.specs.Index.{AreDifferent};
 ghost use Rattle.just_joining.specs.Kept.{kept_recipes, kept_variables};
@@ -116,8 +116,7 @@ pub fn default_of<'a, 'src, S: Syntax>(
     resolved: &Recipes<'src>,
 ) -> Result<Option<Number>, Error<'src>>
     ensures kept { OnOk result (Keeps (Defaults (recipes_in kept.now))) }
-    ensures marked { IfOk result (IsMarked (recipes_in kept.now)) }
-    ensures unmarked { IfOk result (λ d. NoneMarked (recipes_in kept.now) → IsDefaultOf (numbers resolved.now) (recipes_by (S.answers syntax.now).enabled (Some ast.now)) d) }
+    ensures default { IfOk result (IsDefaultBy (recipes_in kept.now) (numbers resolved.now) (recipes_by (S.answers syntax.now).enabled (Some ast.now))) }
     ensures named { IfErr result (Reports (Defaults (recipes_in kept.now))) }
 {
     match marked_place(kept)? {

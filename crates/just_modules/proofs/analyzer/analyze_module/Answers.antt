@@ -96,8 +96,8 @@ returns-clause-default g c = λ own e.
     let resolved = subst (λ (m : Contents). AreResolved (kept_recipes m.recipes) path c.in_ok-kept.made) c.in_ok-definitions.ensures c.in_ok-kept.ensures.resolved in
     let kept : recipes_in c.in_ok-kept.kept ≡ kept_recipes qs = c.in_ok-kept.ensures.recipes ∙ ap (λ (m : Contents). kept_recipes m.recipes) c.in_ok-definitions.ensures in
     subst (IsDefaultAmong (kept_recipes qs) (recipes_by enabled (Some own))) (sym c.in_ok-justfile.ensures.default) (record {
-      marked = subst (λ (rs : List (Recipe UnresolvedDependency)). IsMarked rs c.in_ok-default.default) kept c.in_ok-default.ensures.marked;
+      marked = subst (λ (rs : List (Recipe UnresolvedDependency)). IsMarked rs c.in_ok-default.default) kept c.in_ok-default.ensures.default.marked;
       unmarked = λ none. subst (λ (ast : Ast). IsDefaultOf (unresolved_numbers (kept_recipes qs)) (recipes_by enabled (Some ast)) c.in_ok-default.default) same
           (default_resolved (kept_recipes qs) path c.in_ok-kept.made (recipes_by enabled (Some c.ast_at-ast.result.now)) c.in_ok-default.default resolved
-          (c.in_ok-default.ensures.unmarked (subst (λ (rs : List (Recipe UnresolvedDependency)). NoneMarked rs) (sym kept) none)));
+          (c.in_ok-default.ensures.default.unmarked (subst (λ (rs : List (Recipe UnresolvedDependency)). NoneMarked rs) (sym kept) none)));
     })
