@@ -161,6 +161,22 @@ def parts(count):
     return bundle("x := " + " + ".join(["'a'"] * count)), ["a"]
 
 
+def labels(count):
+    """Many modules whose declarations have a few attributes each."""
+    lines = [line for n in range(count) for line in ("[private]", "[group('g')]", "[group('h')]", f"mod m{n}")]
+    return listed(lines + ["a:"], [(f"/m{n}.just", "b:") for n in range(count)]), ["a"]
+
+
+def absent(count):
+    """Many optional modules without a file."""
+    return bundle(*(f"mod? m{n}" for n in range(count)), "a:"), ["a"]
+
+
+def parameters(count):
+    """A recipe of many parameters, beside the one that is run."""
+    return bundle("a:", "r " + " ".join(f"x{n}" for n in range(count)) + ":"), ["a"]
+
+
 def body(count):
     """A recipe with a body of so many lines, beside the one that is run."""
     return bundle("a:", "b:", *("    echo {{ 'a' }}" for _ in range(count))), ["a"]
@@ -210,6 +226,9 @@ INPUTS = {
     "body of 100,000 lines": body(100_000),
     "10,000 recipes with ten lines each": bodies(10_000),
     "recipe with 10,000 attributes": attributes(10_000),
+    "2,000 modules with three attributes each": labels(2_000),
+    "20,000 optional modules without a file": absent(20_000),
+    "recipe with 10,000 parameters": parameters(10_000),
 }
 
 

@@ -2,4 +2,3 @@ pub mod Compilations
 pub mod Numbers
 pub mod Paths
 pub mod Readings
-pub mod WhatIsJudged

@@ -6,11 +6,9 @@ ghost use Rattle.just_parts.specs.Asts.{same_ast_key};
 ghost use Rattle.just_loader.specs.ModuleFile.{TellsSeveral, module_files};
 ghost use Rattle.just_loader.specs.Reached.{world_of};
 ghost use Rattle.just_analyzer.specs.Compiled.{Compiles};
-ghost use Rattle.just_analyzer.specs.Judged.{judged};
 ghost use Rattle.just_analyzer.specs.Paths.{AreRelative};
 
 use crate::compilation::Compilation;
-use crate::judging::Judging;
 use just_data::{Shared, Text};
 use just_loader::{Loaded, Sources, load, relative_path};
 use just_modules::Analyzer;
@@ -58,9 +56,8 @@ impl Compiler {
     }
 
     /// Compiles the file at `root` and those that it reaches, or names a rule that is broken. Where it succeeds no rule
-    /// is broken, and each recipe that the compilation names is held, after those that it depends on. A text with what
-    /// compiling cannot judge yet (attributes, options, bodies, that values are lists, programs that run lines) is refused
-    /// as one that does not follow the grammar. Of a variable its name is judged, and not what its value reads.
+    /// is broken, and each recipe that the compilation names is held, after those that it depends on. What expressions read
+    /// is not judged yet.
     ///
     /// The evaluation is asked for the settings of each module.
     pub fn compile<'src, S: Syntax, E: Evaluation>(
@@ -72,11 +69,10 @@ impl Compiler {
         root: &str,
     ) -> Result<Compilation<'src>, Error<'src>>
         requires { IsClean root.now }
-        ensures { Compiles (E.answers evaluation.now) (world_of sources.now config.now (judged (S.answers syntax.now)) root.now) result }
+        ensures { Compiles (E.answers evaluation.now) (world_of sources.now config.now (S.answers syntax.now) root.now) result }
     {
         let path = Text::from_str(alloc, root)?;
-        let judging = Judging { syntax };
-        let Loaded { asts, loaded } = load(alloc, config, &judging, sources, root)?;
+        let Loaded { asts, loaded } = load(alloc, config, syntax, sources, root)?;
         let paths = relative_paths(alloc, &asts, root)?;
         let loaded = Shared::new(alloc, loaded)?;
         let module_path = Modulepath::root(alloc);
@@ -94,7 +90,7 @@ impl Compiler {
             &paths,
             false,
             root,
-            &judging,
+            syntax,
             evaluation,
         )?;
         Ok(Compilation {

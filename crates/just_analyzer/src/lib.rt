@@ -3,7 +3,6 @@
 
 pub mod compilation;
 pub mod compiler;
-mod judging;
 
 pub use compilation::Compilation;
 pub use compiler::Compiler;

@@ -1,7 +1,9 @@
 -- What the plain grammar answers.
-use Rattle.std.specs.Prelude.{ℕ, true, List, None, Result, Ok, Err}
+use Rattle.std.specs.Prelude.{ℕ, true, if◌then◌else◌, List, codes, Option, Some, None, Result, Ok, Err}
 use Rattle.std.specs.Option.{option_map}
 use Rattle.std.specs.Result.{result_ok}
+use Rattle.std.specs.Str.{bytes_eq}
+use Rattle.just_errors.specs.declared.wording.ArgumentRange.{ArgumentRange}
 use Rattle.just_parts.specs.Bare.{ast_of_items}
 use Rattle.just_parts.specs.Items.{Ast}
 use Rattle.just_parts.specs.Syntax.{SyntaxAnswers}
@@ -24,7 +26,11 @@ counted_in (Err number) = 0
 unfoldable pub spends : List ℕ → List ℕ → ℕ
 spends path text = counted_in (items_of path text)
 
--- each item counts, there are no keywords, and settings may not stand together as these pairs say
+-- how many arguments the built-in function takes: none
+abbrev pub builtin : List ℕ → Option ArgumentRange
+builtin name = if bytes_eq name (codes "is_dependency") then Some (record { min = 0; max = 0 }) else None
+
+-- there are no constants, each item counts, there are no keywords, and settings may not stand together as these pairs say
 abbrev pub answers : List (Keyword × Keyword) → SyntaxAnswers
 answers pairs = record {
   parsed = λ relative text. option_map ast_of (result_ok (items_of relative text));
@@ -36,4 +42,6 @@ answers pairs = record {
   is_comment = sigil.is_comment;
   is_continuation = sigil.is_continuation;
   is_shebang = sigil.is_shebang;
+  constant = λ _. None;
+  builtin = builtin;
 }

@@ -17,8 +17,8 @@ use just_lexer::lines::{TextLine, line_token, lines};
 use just_names::Modulepath;
 use just_parts::Source;
 use just_parts::layers::{
-    Ast, CompileError, CompileErrorKind, Error, Item, Keyword, Line, Namepath, Numerator, Setting,
-    Settings, Sigil, Syntax,
+    ArgumentRange, Ast, CompileError, CompileErrorKind, Error, Item, Keyword, Line, Namepath,
+    Number, Numerator, Setting, Settings, Sigil, Syntax,
 };
 use std::alloc::{AllocError, Global};
 
@@ -145,6 +145,24 @@ impl<'a> Syntax for PlainSyntax<'a> {
 
     fn is_shebang<'src>(&self, line: &Line<'src>) -> bool {
         sigils::is_shebang(line)
+    }
+
+    fn constant(&self, name: &str) -> Option<Number> {
+        None
+    }
+
+    fn builtin(&self, name: &str) -> Option<ArgumentRange> {
+        builtin(name)
+    }
+}
+
+// How many arguments a built-in function takes. There is one, without arguments.
+fn builtin(name: &str) -> Option<ArgumentRange>
+    ensures { result ≡ spec.builtin name.now }
+{
+    match name {
+        "is_dependency" => Some(ArgumentRange { min: 0, max: 0 }),
+        _ => None,
     }
 }
 

@@ -1,1 +1,2 @@
 pub mod Lifts
+pub mod Pieces

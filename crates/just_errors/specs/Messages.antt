@@ -39,6 +39,10 @@ kind_name (kind.DuplicateUnexport variable) = codes "DuplicateUnexport"
 kind_name (kind.DuplicateVariable variable) = codes "DuplicateVariable"
 kind_name (kind.ExportUnexported variable) = codes "ExportUnexported"
 kind_name (kind.DuplicateFunctionParameter function parameter) = codes "DuplicateFunctionParameter"
+kind_name (kind.UndefinedFunction function) = codes "UndefinedFunction"
+kind_name (kind.FunctionArgumentCountMismatch function arguments expected) = codes "FunctionArgumentCountMismatch"
+kind_name (kind.UndefinedVariable variable) = codes "UndefinedVariable"
+kind_name (kind.CircularVariableDependency variable circle) = codes "CircularVariableDependency"
 kind_name (kind.ListFeature feature) = codes "ListFeature"
 kind_name (kind.Redefinition first_type second_type name first) = codes "Redefinition"
 kind_name kind.GuardAndInfallibleSigil = codes "GuardAndInfallibleSigil"
@@ -89,6 +93,15 @@ abbrev pub circle_text : List ℕ → List (List ℕ) → List ℕ
 circle_text recipe circle =
     if length circle == 2 then codes "Recipe `" ++ (recipe ++ codes "` depends on itself") else chain_text recipe circle
 
+-- what a circle of variables says
+abbrev pub readings_text : List ℕ → List (List ℕ) → List ℕ
+readings_text variable circle = codes "Variable `" ++ (variable ++ (codes "` depends on its own value: `" ++ (joined (codes " -> ") circle ++ codes "`")))
+
+-- the same, where one of two names, which are equal, is that of a variable which reads itself
+abbrev pub reading_text : List ℕ → List (List ℕ) → List ℕ
+reading_text variable circle =
+    if length circle == 2 then codes "Variable `" ++ (variable ++ codes "` is defined in terms of itself") else readings_text variable circle
+
 -- what a broken rule says
 abbrev pub kind_text : CompileErrorKind → List ℕ
 kind_text kind.Syntax = codes "The line does not follow the grammar"
@@ -103,6 +116,11 @@ kind_text (kind.DuplicateUnexport variable) = codes "Variable `" ++ (variable ++
 kind_text (kind.DuplicateVariable variable) = codes "Variable `" ++ (variable ++ codes "` has multiple definitions")
 kind_text (kind.ExportUnexported variable) = codes "Variable `" ++ (variable ++ codes "` is both assigned and unexported")
 kind_text (kind.DuplicateFunctionParameter function parameter) = codes "Function `" ++ (function ++ (codes "` has duplicate parameter `" ++ (parameter ++ codes "`")))
+kind_text (kind.UndefinedFunction function) = codes "Call to undefined function `" ++ (function ++ codes "`")
+kind_text (kind.FunctionArgumentCountMismatch function arguments expected) =
+    codes "Function `" ++ (function ++ (codes "` got " ++ (arguments_text arguments ++ (codes " but takes " ++ takes_text expected.min expected.max))))
+kind_text (kind.UndefinedVariable variable) = codes "Variable `" ++ (variable ++ codes "` not defined")
+kind_text (kind.CircularVariableDependency variable circle) = reading_text variable circle
 kind_text (kind.ListFeature feature) = feature_text feature ++ codes " needs the setting `lists`, which is off"
 kind_text (kind.Redefinition first_type second_type name first) =
     codes "`" ++ (name ++ (codes "` is redefined as " ++ (definition_text second_type ++ (codes "; its first definition is a " ++ (definition_text first_type ++ (codes " on line " ++ (place_text first ++ codes " of this file or of another one of its module")))))))

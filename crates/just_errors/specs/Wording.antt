@@ -1,13 +1,18 @@
 -- Parts of messages: counts of arguments, and places in a file.
-use Rattle.std.specs.Prelude.{ℕ, ◌+◌, ◌==◌, nat_le, min, List, [], ◌∷◌, ◌++◌, codes, decimal, if◌then◌else◌}
+use Rattle.std.specs.Prelude.{ℕ, Bool, ◌+◌, ◌==◌, ◌&&◌, nat_le, min, List, [], ◌∷◌, ◌++◌, codes, decimal, if◌then◌else◌}
 use Rattle.std.specs.List.{flat_map}
 use Rattle.just_names.specs.Token.{Place}
+use Rattle.just_errors.specs.declared.wording.ArgumentRange.{ArgumentRange}
 
 abbrev pub noun_text : ℕ → List ℕ
 noun_text count = if count == 1 then codes "argument" else codes "arguments"
 
 abbrev pub arguments_text : ℕ → List ℕ
 arguments_text count = decimal count ++ (codes " " ++ noun_text count)
+
+-- so many arguments are taken
+abbrev pub takes : ArgumentRange → ℕ → Bool
+takes range count = nat_le range.min count && nat_le count range.max
 
 -- how many arguments are taken: a most of 2^64 - 2 or more stands for any number
 abbrev pub takes_text : ℕ → ℕ → List ℕ

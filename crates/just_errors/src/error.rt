@@ -2,9 +2,9 @@
 ghost use Rattle.std.specs.Prelude.{◌≡◌, OnOk, codes};
 ghost use Rattle.std.specs.Fmt.{HasWritten, IsPlainFormatter, WritesOnOk};
 ghost use Rattle.just_names.specs.Modulepath.{joined};
-ghost use Rattle.just_errors.specs.Messages.{load_name, kind_name, invocation_name, run_name, error_name, chain_text, circle_text};
+ghost use Rattle.just_errors.specs.Messages.{load_name, kind_name, invocation_name, run_name, error_name, chain_text, circle_text, reading_text, readings_text};
 
-use crate::wording::{Arguments, At, Listed, Takes, noun};
+use crate::wording::{ArgumentRange, Arguments, At, Listed, noun};
 use just_data::{BorrowedText, Sequence, Text};
 use just_names::{Exhausted, ListFeature, Name, Namepath, Token};
 use std::alloc::{AllocError, AllocFailed};
@@ -149,6 +149,25 @@ pub enum CompileErrorKind<'src> {
         function: BorrowedText<'src>,
         parameter: BorrowedText<'src>,
     },
+    /// A function is called that is none.
+    UndefinedFunction {
+        function: BorrowedText<'src>,
+    },
+    /// A function is called with fewer or more arguments than it takes.
+    FunctionArgumentCountMismatch {
+        function: BorrowedText<'src>,
+        arguments: usize,
+        expected: ArgumentRange,
+    },
+    /// A variable is read that is none.
+    UndefinedVariable {
+        variable: BorrowedText<'src>,
+    },
+    /// A variable reads itself. The circle begins and ends with `variable`, and each member reads the next.
+    CircularVariableDependency {
+        variable: BorrowedText<'src>,
+        circle: Sequence<BorrowedText<'src>>,
+    },
     /// Something needs lists, and no setting says that values are lists.
     ListFeature {
         feature: ListFeature,
@@ -211,6 +230,12 @@ impl<'src> CompileErrorKind<'src> {
             CompileErrorKind::DuplicateVariable { .. } => "DuplicateVariable",
             CompileErrorKind::ExportUnexported { .. } => "ExportUnexported",
             CompileErrorKind::DuplicateFunctionParameter { .. } => "DuplicateFunctionParameter",
+            CompileErrorKind::UndefinedFunction { .. } => "UndefinedFunction",
+            CompileErrorKind::FunctionArgumentCountMismatch { .. } => {
+                "FunctionArgumentCountMismatch"
+            }
+            CompileErrorKind::UndefinedVariable { .. } => "UndefinedVariable",
+            CompileErrorKind::CircularVariableDependency { .. } => "CircularVariableDependency",
             CompileErrorKind::ListFeature { .. } => "ListFeature",
             CompileErrorKind::Redefinition { .. } => "Redefinition",
             CompileErrorKind::GuardAndInfallibleSigil => "GuardAndInfallibleSigil",
@@ -265,6 +290,34 @@ fn write_circle<W: fmt::Write>(
         write!(f, "Recipe `{recipe}` depends on itself")
     } else {
         write_chain(f, recipe, circle)
+    }
+}
+
+// Writes that a variable has this circle.
+fn write_readings<W: fmt::Write>(
+    f: &mut fmt::Formatter<W>,
+    variable: &BorrowedText,
+    circle: &[BorrowedText],
+) -> fmt::Result
+    ensures { WritesOnOk W.write_str_gives f.old result (readings_text variable.now circle.now) f.new }
+{
+    write!(f, "Variable `{variable}` depends on its own value: `")?;
+    write_names(f, circle)?;
+    f.write_str("`")
+}
+
+// Writes what a circle of variables says. One of a variable alone has its name twice.
+fn write_reading<W: fmt::Write>(
+    f: &mut fmt::Formatter<W>,
+    variable: &BorrowedText,
+    circle: &[BorrowedText],
+) -> fmt::Result
+    ensures { WritesOnOk W.write_str_gives f.old result (reading_text variable.now circle.now) f.new }
+{
+    if circle.len() == 2 {
+        write!(f, "Variable `{variable}` is defined in terms of itself")
+    } else {
+        write_readings(f, variable, circle)
     }
 }
 
@@ -323,6 +376,23 @@ impl<'src> fmt::Display for CompileErrorKind<'src> {
                     "Function `{function}` has duplicate parameter `{parameter}`"
                 )
             }
+            CompileErrorKind::UndefinedFunction { function } => {
+                write!(f, "Call to undefined function `{function}`")
+            }
+            CompileErrorKind::FunctionArgumentCountMismatch {
+                function,
+                arguments,
+                expected,
+            } => {
+                let found = Arguments(*arguments);
+                write!(f, "Function `{function}` got {found} but takes {expected}")
+            }
+            CompileErrorKind::UndefinedVariable { variable } => {
+                write!(f, "Variable `{variable}` not defined")
+            }
+            CompileErrorKind::CircularVariableDependency { variable, circle } => {
+                write_reading(f, variable, circle.as_slice())
+            }
             CompileErrorKind::ListFeature { feature } => {
                 write!(f, "{feature} needs the setting `lists`, which is off")
             }
@@ -363,9 +433,9 @@ impl<'src> fmt::Display for CompileErrorKind<'src> {
                 max,
             } => {
                 let found = Arguments(*found);
-                let takes = Takes {
-                    least: *min,
-                    most: *max,
+                let takes = ArgumentRange {
+                    min: *min,
+                    max: *max,
                 };
                 write!(f, "Dependency `{dependency}` got {found} but takes {takes}")
             }
@@ -434,7 +504,7 @@ pub enum InvocationError<'src> {
         min_arguments: usize,
     },
     /// A recipe is given too few words.
-    #[error("Recipe `{recipe}` got {found} positional {} but takes {}", noun(*.found), Takes {least: *.min, most: *.max})]
+    #[error("Recipe `{recipe}` got {found} positional {} but takes {}", noun(*.found), ArgumentRange {min: *.min, max: *.max})]
     PositionalArgumentCountMismatch {
         recipe: BorrowedText<'src>,
         found: usize,

@@ -9,3 +9,4 @@ pub use error::{
     CompileError, CompileErrorKind, Error, Fault, InvocationError, LoadError, RunError, SourceError,
 };
 pub use halt::Halt;
+pub use wording::ArgumentRange;

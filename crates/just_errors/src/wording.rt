@@ -1,8 +1,8 @@
 //! Parts of messages: a place in a file, a count of arguments, and a list of paths.
 ghost use Rattle.std.specs.Prelude.{◌≡◌};
-ghost use Rattle.just_errors.specs.Wording.{noun_text};
+ghost use Rattle.just_errors.specs.Wording.{noun_text, takes};
 
-use just_data::Text;
+use just_data::{Exact, Text};
 use just_names::Token;
 use std::fmt;
 
@@ -32,22 +32,40 @@ impl fmt::Display for Arguments {
     }
 }
 
-/// How many arguments are taken, as `exactly 2 arguments`, `at least 1 argument` and `1 to 2 arguments`.
-#[derive(Drop)]
-pub(crate) struct Takes {
-    pub least: usize,
-    pub most: usize,
+/// How many arguments are taken: at least `min`, and at most `max`. The greatest number but one, or a greater one, stands
+/// for any number. It is shown as `exactly 2 arguments`, `at least 1 argument` or `1 to 2 arguments`.
+#[derive(Clone, Copy, Debug, PartialEq, Eq)]
+pub struct ArgumentRange {
+    /// The least number.
+    pub min: usize,
+    /// The greatest number.
+    pub max: usize,
 }
 
-impl fmt::Display for Takes {
+impl ArgumentRange {
+    /// Whether so many may be given.
+    pub fn contains(&self, count: usize) -> bool
+        ensures { result ≡ takes self.now count }
+    {
+        self.min <= count && count <= self.max
+    }
+}
+
+impl Exact for ArgumentRange {
+    ghost use Rattle.std.proofs.Common.{rules};
+
+    ghost exact = { Prim.search rules };
+}
+
+impl fmt::Display for ArgumentRange {
     ghost use Rattle.std.specs.Prelude.{Some};
     ghost use Rattle.just_errors.specs.Wording.{takes_text};
 
-    ghost output = { λ t. Some (takes_text t.least t.most) };
+    ghost output = { λ t. Some (takes_text t.min t.max) };
 
     fn fmt<W: fmt::Write>(&self, f: &mut fmt::Formatter<W>) -> fmt::Result {
-        let least = self.least;
-        let most = self.most;
+        let least = self.min;
+        let most = self.max;
         if least == most {
             write!(f, "exactly {}", Arguments(least))
         } else if most >= ANY_NUMBER {

@@ -9,6 +9,8 @@ use std::collections::HashSet;
 #[derive(Drop)]
 struct Lines {
     modules: String,
+    labels: String,
+    absent: String,
     settings: String,
     variables: String,
     recipes: String,
@@ -60,6 +62,29 @@ fn add_module(module: &Justfile, lines: &mut Lines) -> Result<(), AllocError> {
     )
 }
 
+// Adds what the declaration of a module says of it, behind its own file.
+fn add_label(module: &Justfile, text: &mut String) -> Result<(), AllocError> {
+    text.push_str(next(text))?;
+    text.push_str(module.source.as_str())?;
+    if module.private {
+        text.push_str(" private")?;
+    }
+    for group in module.groups.as_slice() {
+        write!(text, " [{}]", group.cooked)?;
+    }
+    Ok(())
+}
+
+// Adds the names of the optional modules without a file, behind a module's own file.
+fn add_absent(module: &Justfile, text: &mut String) -> Result<(), AllocError> {
+    text.push_str(next(text))?;
+    text.push_str(module.source.as_str())?;
+    for name in module.absent_modules.values() {
+        write!(text, " {name}")?;
+    }
+    Ok(())
+}
+
 // Adds the settings of a module that are on, behind its own file.
 fn add_settings(module: &Justfile, text: &mut String) -> Result<(), AllocError> {
     text.push_str(next(text))?;
@@ -74,6 +99,7 @@ fn add_settings(module: &Justfile, text: &mut String) -> Result<(), AllocError> 
         ("export", settings.export),
         ("ignore-comments", settings.ignore_comments),
         ("lazy", settings.lazy),
+        ("lists", settings.lists),
         ("positional-arguments", settings.positional_arguments),
         ("quiet", settings.quiet),
     ];
@@ -118,6 +144,8 @@ fn add_recipes<'src>(
 fn lines_of(compilation: &Compilation, alloc: Global) -> Result<Lines, AllocError> {
     let mut lines = Lines {
         modules: String::new(alloc),
+        labels: String::new(alloc),
+        absent: String::new(alloc),
         settings: String::new(alloc),
         variables: String::new(alloc),
         recipes: String::new(alloc),
@@ -132,6 +160,8 @@ fn lines_of(compilation: &Compilation, alloc: Global) -> Result<Lines, AllocErro
             break;
         };
         add_module(module, &mut lines)?;
+        add_label(module, &mut lines.labels)?;
+        add_absent(module, &mut lines.absent)?;
         add_settings(module, &mut lines.settings)?;
         add_variables(module, &mut lines.variables)?;
         add_recipes(compilation, module, alloc, &mut lines)?;
@@ -154,6 +184,8 @@ pub fn add_compilation(
     writeln!(text, "\ntexts {}", compilation.asts.len())?;
     let lines = lines_of(compilation, alloc)?;
     writeln!(text, "modules{}", lines.modules)?;
+    writeln!(text, "labels{}", lines.labels)?;
+    writeln!(text, "absent{}", lines.absent)?;
     writeln!(text, "settings{}", lines.settings)?;
     writeln!(text, "variables{}", lines.variables)?;
     writeln!(text, "recipes{}", lines.recipes)?;

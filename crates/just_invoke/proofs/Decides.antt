@@ -5,7 +5,7 @@ use Rattle.std.proofs.lemmas.Bool.{cases_eq, cases_lt, false≢true}
 use Rattle.std.proofs.lemmas.List.{append-nil, take-append-drop, length-take, drop_all}
 use Rattle.std.proofs.lemmas.List.Sums.{prefix_len-le-length}
 use Rattle.just_names.specs.Modulepath.{Text, text_of}
-use Rattle.just_records.specs.Parameter.{is_variadic, least_arguments, most_arguments}
+use Rattle.just_records.specs.Parameter.{is_variadic, least_arguments}
 use Rattle.just_records.specs.declared.parameter.Parameter.{Parameter}
 use Rattle.just_parts.specs.declared.dependency.Dependency.{Dependency}
 use Rattle.just_parts.specs.declared.recipe.Recipe.{Recipe}
@@ -13,10 +13,10 @@ use Rattle.just_names.proofs.PathTexts.{PathOrNone, decide_argument_path, decide
 use Rattle.just_invoke.specs.declared.justfile.Justfile.{Justfile, out-Justfile}
 use Rattle.just_invoke.specs.declared.justfile.RecipeKey.{RecipeKey}
 use Rattle.just_invoke.specs.Closed.{recipe_named, default_recipe}
-use Rattle.just_invoke.specs.Cause.{Cause, unknown_recipe, unknown_submodule, expected_submodule, no_recipes, no_default, default_requires, count_mismatch}
+use Rattle.just_invoke.specs.Cause.{Cause, unknown_recipe, unknown_submodule, expected_submodule, no_recipes, no_default, default_requires}
 use Rattle.just_invoke.specs.Head.{Words, Held, name_of, NoDefault, BadName, goes_on, WordsLead, WordsMislead, NoPath, NoHead, IsHead, has_colon, is_empty, IsPathWord, PathLeads}
-use Rattle.just_invoke.specs.Tail.{IsTail, first_variadic, group, uses_from, any_missing}
-use Rattle.just_invoke.specs.Split.{Invoked, Invokes, Chain, IsSplit, Stops, IsFault}
+use Rattle.just_invoke.specs.Tail.{IsTail, first_variadic, group, uses_from}
+use Rattle.just_invoke.specs.Split.{Invoked, Invokes, Chain, IsSplit, Stops, IsFault, fault_of}
 use Rattle.just_invoke.proofs.Unique.{invokes_takes}
 
 decide_path : (last : Bool) (word : Text) → PathOrNone (IsPathWord last word)
@@ -155,10 +155,10 @@ tails ps words =
 abbrev BeginsOr : Justfile → Held → Words → Type 0
 BeginsOr root recipes words = ((after : Words) × (i : Invoked) × Invokes root recipes words after i) ⊎ ((cause : Cause) × Stops root recipes words cause)
 
-begins_after : (root : Justfile) (recipes : Held) (words head tail after : Words) (r : Recipe Dependency) (groups : List Words) (missing : Bool) →
+begins_after : (root : Justfile) (recipes : Held) (words head tail after : Words) (r : Recipe Dependency) (groups : List Words) (wrong : Option Cause) →
     words ≡ head ++ (tail ++ after) → IsHead root recipes head (tail ++ after) r → IsTail r.parameters tail after groups →
-    any_missing r.parameters groups ≡ missing → BeginsOr root recipes words
-begins_after root recipes words head tail after r groups false whole names reads complete =
+    fault_of r (length tail) groups ≡ wrong → BeginsOr root recipes words
+begins_after root recipes words head tail after r groups None whole names reads complete =
     inl (
       after,
       record { recipe = r; groups = groups },
@@ -171,9 +171,9 @@ begins_after root recipes words head tail after r groups false whole names reads
         complete = complete;
       },
     )
-begins_after root recipes words head tail after r groups true whole names reads lacks =
+begins_after root recipes words head tail after r groups (Some cause) whole names reads says =
     inr (
-      count_mismatch (name_of r) (length tail) (least_arguments r.parameters) (most_arguments r.parameters),
+      cause,
       inr (record {
         recipe = r;
         head = head;
@@ -183,8 +183,7 @@ begins_after root recipes words head tail after r groups true whole names reads 
         whole = whole;
         names = names;
         reads = reads;
-        lacks = lacks;
-        says = refl;
+        says = says;
       }),
     )
 
@@ -192,7 +191,7 @@ begins_head : (root : Justfile) (recipes : Held) (words : Words) → HeadOr root
 begins_head root recipes words (inr q) = inr (q.0, inl q.1)
 begins_head root recipes words (inl (head, rest, r, whole, names)) =
     let t = tails r.parameters rest in
-    begins_after root recipes words head t.0 t.1 r t.2 (any_missing r.parameters t.2) (whole ∙ ap (λ ws. head ++ ws) t.3)
+    begins_after root recipes words head t.0 t.1 r t.2 (fault_of r (length t.0) t.2) (whole ∙ ap (λ ws. head ++ ws) t.3)
     (subst (λ ws. IsHead root recipes head ws r) t.3 names) t.4 refl
 
 begins : (root : Justfile) (recipes : Held) (words : Words) → BeginsOr root recipes words

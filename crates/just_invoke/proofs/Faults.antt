@@ -4,16 +4,15 @@ use Rattle.std.specs.Bool.{MatchBool}
 use Rattle.std.proofs.lemmas.Bool.{false≢true}
 use Rattle.std.proofs.lemmas.List.{append-nil}
 use Rattle.just_names.specs.Modulepath.{Text}
-use Rattle.just_records.specs.Parameter.{least_arguments, most_arguments}
 use Rattle.just_parts.specs.declared.dependency.Dependency.{Dependency}
 use Rattle.just_parts.specs.declared.recipe.Recipe.{Recipe}
 use Rattle.just_invoke.specs.declared.justfile.Justfile.{Justfile, out-Justfile}
 use Rattle.just_invoke.specs.declared.justfile.RecipeKey.{RecipeKey}
 use Rattle.just_invoke.specs.Closed.{recipe_named, default_recipe}
-use Rattle.just_invoke.specs.Cause.{Cause, count_mismatch}
+use Rattle.just_invoke.specs.Cause.{Cause}
 use Rattle.just_invoke.specs.Head.{Words, Held, name_of, NoDefault, BadName, goes_on, WordsLead, WordsMislead, NoPath, NoHead, IsHead, has_colon, is_empty, PathLeads}
-use Rattle.just_invoke.specs.Tail.{IsTail, any_missing}
-use Rattle.just_invoke.specs.Split.{Invoked, Invokes, Chain, IsSplit, Lacks, Stops, IsFault}
+use Rattle.just_invoke.specs.Tail.{IsTail}
+use Rattle.just_invoke.specs.Split.{Invoked, Invokes, Chain, IsSplit, Lacks, Stops, IsFault, fault_of}
 use Rattle.just_invoke.proofs.Unique.{path_word_once, head_once, tail_once, invokes_once}
 
 no_default_once : (table : List (Text × RecipeKey)) (o : Option (Recipe Dependency)) (c d : Cause) → NoDefault table o c → NoDefault table o d → c ≡ d
@@ -87,13 +86,20 @@ no_head_once : (root : Justfile) (recipes : Held) (words : Words) (c d : Cause) 
 no_head_once root recipes [] c d p q = misleads_once root recipes false [] c d p q
 no_head_once root recipes (w ∷ ws) c d p q = no_head_once_step root recipes w ws c d (has_colon w) p q
 
+-- heads and tails of the same words, with the groups of the tails, have one fault or none
+same_fault : (root : Justfile) (recipes : Held) (words xs ts a ys us b : Words) (r s : Recipe Dependency) (g h : List Words) → words ≡ xs ++ (ts ++ a) → words ≡ ys ++ (us ++ b)
+    → IsHead root recipes xs (ts ++ a) r → IsHead root recipes ys (us ++ b) s → IsTail r.parameters ts a g → IsTail s.parameters us b h → fault_of r (length ts) g ≡ fault_of s (length us) h
+same_fault root recipes words xs ts a ys us b r s g h p q head other reads read =
+    let heads = head_once root recipes xs ys (ts ++ a) (us ++ b) r s (sym p ∙ q) head other in
+    let tails = tail_once s.parameters ts us a b g h heads.1 (subst (λ (r : Recipe Dependency). IsTail r.parameters ts a g) heads.2 reads) read in
+    let counts : length ts ≡ length us = omega (arith, ap length heads.1, length-append us b, length-append ts a, ap length tails.0) in
+    λ i. fault_of (heads.2 i) (counts i) (tails.1 i)
+
 no_lack : (root : Justfile) (recipes : Held) (words after : Words) (i : Invoked) (c : Cause) → Invokes root recipes words after i → Lacks root recipes words c → ⊥
 no_lack root recipes words after i c p q =
-    let heads = head_once root recipes p.head q.head (p.tail ++ after) (q.tail ++ q.after) i.recipe q.recipe (sym p.whole ∙ q.whole) p.names q.names in
-    let tails = tail_once q.recipe.parameters p.tail q.tail after q.after i.groups q.groups heads.1
-    (subst (λ (r : Recipe Dependency). IsTail r.parameters p.tail after i.groups) heads.2 p.reads) q.reads in
-    false≢true (sym (subst (λ gs. any_missing q.recipe.parameters gs ≡ false) tails.1
-    (subst (λ (r : Recipe Dependency). any_missing r.parameters i.groups ≡ false) heads.2 p.complete)) ∙ q.lacks)
+    let same = same_fault root recipes words p.head p.tail after q.head q.tail q.after i.recipe q.recipe i.groups q.groups p.whole q.whole p.names q.names p.reads q.reads in
+    let wrong : None ≡ Some c = sym p.complete ∙ same ∙ q.says in
+    let f : ⊥ = (cc) in f
 
 no_stop : (root : Justfile) (recipes : Held) (words after : Words) (i : Invoked) (c : Cause) → Invokes root recipes words after i → Stops root recipes words c → ⊥
 no_stop root recipes words after i c p (inl q) = no_head root recipes p.head (p.tail ++ after) i.recipe c p.names (subst (λ ws. NoHead root recipes ws c) p.whole q)
@@ -101,17 +107,9 @@ no_stop root recipes words after i c p (inr q) = no_lack root recipes words afte
 
 lacks_once : (root : Justfile) (recipes : Held) (words : Words) (c d : Cause) → Lacks root recipes words c → Lacks root recipes words d → c ≡ d
 lacks_once root recipes words c d p q =
-    let heads = head_once root recipes p.head q.head (p.tail ++ p.after) (q.tail ++ q.after) p.recipe q.recipe (sym p.whole ∙ q.whole) p.names q.names in
-    let tails = tail_once q.recipe.parameters p.tail q.tail p.after q.after p.groups q.groups heads.1
-    (subst (λ (r : Recipe Dependency). IsTail r.parameters p.tail p.after p.groups) heads.2 p.reads) q.reads in
-    let counts : length p.tail ≡ length q.tail =
-    let n = ap length heads.1 ∙ length-append q.tail q.after in
-    let m = length-append p.tail p.after in
-    let k = ap length tails.0 in omega arith in
-    p.says
-    ∙ ap (λ (r : Recipe Dependency). count_mismatch (name_of r) (length p.tail) (least_arguments r.parameters) (most_arguments r.parameters)) heads.2
-    ∙ ap (λ k. count_mismatch (name_of q.recipe) k (least_arguments q.recipe.parameters) (most_arguments q.recipe.parameters)) counts
-    ∙ sym q.says
+    let same = same_fault root recipes words p.head p.tail p.after q.head q.tail q.after p.recipe q.recipe p.groups q.groups p.whole q.whole p.names q.names p.reads q.reads in
+    let told : Some c ≡ Some d = sym p.says ∙ same ∙ q.says in
+    (cc)
 
 no_head_no_lack : (root : Justfile) (recipes : Held) (words : Words) (c d : Cause) → NoHead root recipes words c → Lacks root recipes words d → ⊥
 no_head_no_lack root recipes words c d p q = no_head root recipes q.head (q.tail ++ q.after) q.recipe c q.names (subst (λ ws. NoHead root recipes ws c) q.whole p)

@@ -7,7 +7,7 @@ use Rattle.just_parts.specs.declared.dependency.Dependency.{Dependency}
 use Rattle.just_parts.specs.declared.layers.config.Config.{Config}
 use Rattle.just_errors.specs.declared.error.Error.{Error}
 use Rattle.just_errors.specs.declared.error.Error.TheVariants.{Load, Compile, Invocation, Run, Exhausted, Memory}
-use Rattle.just_errors.specs.declared.error.RunError.TheVariants.{ExcessInvocations}
+use Rattle.just_errors.specs.declared.error.RunError.TheVariants.{ExcessInvocations, NotYet}
 use Rattle.just_errors.specs.declared.halt.Halt.{Halt}
 use Rattle.just_errors.specs.declared.halt.Halt.TheVariants as halt
 use Rattle.just_parts.specs.declared.layers.host.Entry.{Entry}
@@ -35,11 +35,12 @@ IsSo evaluator host recipes invoked old new result =
 module _ (root : Justfile) (recipes : List (Recipe Dependency)) (words : List (List ℕ)) (config : Config) where
   -- words that are not read
   unread : (e : Error) → cause.IsExpected e → IfSome (cause.cause_of e) (IsFault root recipes words) → Refuses root recipes words config.one e
-  unread (Invocation e) x h = fault e h
+  unread (Invocation e) x h = fault (Invocation e) (cause.cause_of_fault e) refl h
   unread Memory x h = memory
   unread (Load e) x h = absurd x
   unread (Compile e) x h = absurd x
-  unread (Run e) x h = absurd x
+  unread (Run (NotYet name)) x h = fault (Run (NotYet name)) (cause.not_yet name) refl h
+  unread (Run (ExcessInvocations n)) x h = absurd x
   unread Exhausted x h = absurd x
 
   -- they are not expected to run
@@ -53,7 +54,8 @@ module _ (root : Justfile) (recipes : List (Recipe Dependency)) (words : List (L
   unread-expected Memory x h p q invoked split old = out p q invoked old
   unread-expected (Load e) x h p q invoked split old = absurd x
   unread-expected (Compile e) x h p q invoked split old = absurd x
-  unread-expected (Run e) x h p q invoked split old = absurd x
+  unread-expected (Run (NotYet name)) x h p q invoked split old = absurd (split_no_fault root recipes words invoked (cause.not_yet name) split h)
+  unread-expected (Run (ExcessInvocations n)) x h p q invoked split old = absurd x
   unread-expected Exhausted x h p q invoked split old = absurd x
 
   -- what is answered for them

@@ -1,21 +1,22 @@
 -- Invocations, one after another.
 use Rattle.std.proofs.Common.{◌≡◌, inl, inr, ℕ, ◌+◌, ◌<◌, ◌≤◌, true, false, List, [], ◌∷◌, ◌++◌, Option, Some, None, length, get_or, take, drop, map, sym, ap, ◌∙◌, subst, IfSome, arith}
+use Rattle.std.specs.Prelude.{if◌then◌else◌}
 use Rattle.std.proofs.lemmas.List.{append_assoc, take-append-drop, drop-drop, append-nil, map-append, length-map, length-take-le, drop_all}
 use Rattle.std.specs.Borrow.{Bor}
 use Rattle.just_names.specs.Modulepath.{Text, texts}
-use Rattle.just_records.specs.Parameter.{least_arguments, most_arguments}
 use Rattle.just_records.specs.declared.parameter.Parameter.{Parameter}
 use Rattle.just_parts.specs.declared.dependency.Dependency.{Dependency}
 use Rattle.just_parts.specs.declared.recipe.Recipe.{Recipe}
 use Rattle.just_invoke.specs.declared.justfile.Justfile.{Justfile}
-use Rattle.just_invoke.specs.Cause.{Cause, count_mismatch}
+use Rattle.just_invoke.specs.Cause.{Cause, not_yet}
 use Rattle.just_invoke.specs.Head.{Words, Held, name_of, IsHead}
+use Rattle.just_invoke.specs.Options.{has_options}
 use Rattle.just_invoke.specs.Tail.{IsTail, any_missing}
 use Rattle.std.specs.List.{All}
 use Rattle.std.proofs.lemmas.List.Elements.{All-push}
 use Rattle.just_invoke.specs.Closed.{IsHeld}
 use Rattle.just_invoke.specs.declared.invocation.Invocation.{Invocation}
-use Rattle.just_invoke.specs.Split.{Invoked, invoked_of, Invokes, Chain, IsSplit, Stops, IsFault}
+use Rattle.just_invoke.specs.Split.{Invoked, invoked_of, Invokes, Chain, IsSplit, Stops, IsFault, fault_of, misfit}
 use Rattle.just_invoke.proofs.HeadLemmas.{texts_back}
 
 texts_cut : (n : ℕ) (words : List (Bor Text)) → texts words ≡ texts (take n words) ++ texts (drop n words)
@@ -35,8 +36,13 @@ module _ (root : Justfile) (recipes : Held) (words : List (Bor Text)) (n t : ℕ
   whole_cut : texts words ≡ texts (take n words) ++ (texts (take t (drop n words)) ++ texts (drop t (drop n words)))
   whole_cut = texts_cut n words ∙ ap (λ ws. texts (take n words) ++ ws) rest_cut
 
-  pub invokes_from : any_missing r.parameters groups ≡ false → Invokes root recipes (texts words) (texts (drop (n + t) words)) (record { recipe = r; groups = groups })
-  invokes_from complete =
+  taken_all : t ≤ length rest → t ≡ length (texts (take t (drop n words)))
+  taken_all small =
+      let within : t ≤ length (drop n words) = subst (λ ws. t ≤ length ws) rest_is small in
+      sym (length-map (take t (drop n words)) (λ w. w.now) ∙ length-take-le t (drop n words) within)
+
+  pub invokes_from : t ≤ length rest → fault_of r t groups ≡ None → Invokes root recipes (texts words) (texts (drop (n + t) words)) (record { recipe = r; groups = groups })
+  invokes_from small complete =
       subst (λ ws. Invokes root recipes (texts words) (texts ws) (record { recipe = r; groups = groups })) (drop-drop t n words)
       (record {
         head = texts (take n words);
@@ -44,16 +50,12 @@ module _ (root : Justfile) (recipes : Held) (words : List (Bor Text)) (n t : ℕ
         whole = whole_cut;
         names = subst (λ ws. IsHead root recipes (texts (take n words)) ws r) rest_cut names;
         reads = reads;
-        complete = complete;
+        complete = ap (λ k. fault_of r k groups) (sym (taken_all small)) ∙ complete;
       })
 
-  pub lacks_from : (o : Option Cause) → t ≤ length rest → any_missing r.parameters groups ≡ true →
-      o ≡ Some (count_mismatch (name_of r) t (least_arguments r.parameters) (most_arguments r.parameters)) → IfSome o (Stops root recipes (texts words))
-  lacks_from None within lacks e = absurd (let f : ⊥ = (cc) in f)
-  lacks_from (Some cause) small lacks e =
-      let within : t ≤ length (drop n words) = subst (λ ws. t ≤ length ws) rest_is small in
-      let taken : length (texts (take t (drop n words))) ≡ t = length-map (take t (drop n words)) (λ w. w.now) ∙ length-take-le t (drop n words) within in
-      let same : cause ≡ count_mismatch (name_of r) t (least_arguments r.parameters) (most_arguments r.parameters) = (cc) in
+  pub lacks_from : (o : Option Cause) (cause : Cause) → t ≤ length rest → fault_of r t groups ≡ Some cause → o ≡ Some cause → IfSome o (Stops root recipes (texts words))
+  lacks_from None cause small says e = absurd (let f : ⊥ = (cc) in f)
+  lacks_from (Some told) cause small says e =
       inr (record {
         recipe = r;
         head = texts (take n words);
@@ -63,9 +65,22 @@ module _ (root : Justfile) (recipes : Held) (words : List (Bor Text)) (n t : ℕ
         whole = whole_cut;
         names = subst (λ ws. IsHead root recipes (texts (take n words)) ws r) rest_cut names;
         reads = reads;
-        lacks = lacks;
-        says = same ∙ ap (λ k. count_mismatch (name_of r) k (least_arguments r.parameters) (most_arguments r.parameters)) (sym taken);
+        says = ap (λ k. fault_of r k groups) (sym (taken_all small)) ∙ says ∙ sym e;
       })
+
+-- what is wrong with a recipe's groups
+module _ (r : Recipe Dependency) (t : ℕ) (groups : List Words) where
+  pub fault_options : has_options r ≡ true → fault_of r t groups ≡ Some (not_yet (name_of r))
+  fault_options e = ap (λ b. if b then Some (not_yet (name_of r)) else (if any_missing r.parameters groups then Some (misfit r t) else None)) e
+
+  fault_placed : has_options r ≡ false → fault_of r t groups ≡ (if any_missing r.parameters groups then Some (misfit r t) else None)
+  fault_placed e = ap (λ b. if b then Some (not_yet (name_of r)) else (if any_missing r.parameters groups then Some (misfit r t) else None)) e
+
+  pub fault_missing : has_options r ≡ false → any_missing r.parameters groups ≡ true → fault_of r t groups ≡ Some (misfit r t)
+  fault_missing e m = fault_placed e ∙ ap (λ b. if b then Some (misfit r t) else None) m
+
+  pub fault_none : has_options r ≡ false → any_missing r.parameters groups ≡ false → fault_of r t groups ≡ None
+  fault_none e m = fault_placed e ∙ ap (λ b. if b then Some (misfit r t) else None) m
 
 -- none begins after those that were read
 pub fault_after : (root : Justfile) (recipes : Held) (words : Words) (rest : List (Bor Text)) (n : ℕ) (is : List Invoked) (o : Option Cause) (left : List (Bor Text)) → n < length rest → left ≡ drop n rest →

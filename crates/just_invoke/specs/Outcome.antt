@@ -1,10 +1,9 @@
 -- What a run of command words comes to.
-use Rattle.std.specs.Prelude.{◌≡◌, ◌<◌, ◌≤◌, ℕ, Bool, true, false, List, ◌∷◌, map, length, Option, Result, Err}
+use Rattle.std.specs.Prelude.{◌≡◌, ◌<◌, ◌≤◌, ℕ, Bool, true, false, List, ◌∷◌, map, length, Option, Some, Result, Err}
 use Rattle.just_parts.specs.declared.dependency.Dependency.{Dependency}
 use Rattle.just_parts.specs.declared.layers.config.Config.{Config}
 use Rattle.just_errors.specs.declared.error.Error.{Error}
-use Rattle.just_errors.specs.declared.error.Error.TheVariants.{Invocation, Run, Memory}
-use Rattle.just_errors.specs.declared.error.InvocationError.{InvocationError}
+use Rattle.just_errors.specs.declared.error.Error.TheVariants.{Run, Memory}
 use Rattle.just_errors.specs.declared.error.RunError.TheVariants.{ExcessInvocations, NotYet}
 use Rattle.just_errors.specs.declared.halt.Halt.{Halt}
 use Rattle.just_parts.specs.declared.layers.host.Entry.{Entry}
@@ -19,7 +18,7 @@ use Rattle.just_running.specs.Reports.{IsRun, IsAsExpected}
 use Rattle.just_running.specs.Unready.{IsUnready, AreReady}
 use Rattle.just_invoke.specs.declared.invocation.Invocation as parsed
 use Rattle.just_invoke.specs.declared.justfile.Justfile.{Justfile}
-use Rattle.just_invoke.specs.Cause.{cause_of_fault}
+use Rattle.just_invoke.specs.Cause.{Cause, cause_of}
 use Rattle.just_invoke.specs.Head.{name_of}
 use Rattle.just_invoke.specs.Split.{Invoked, invoked_of, IsSplit, IsFault}
 use Rattle.just_invoke.specs.Variables.{HasVariables}
@@ -38,7 +37,7 @@ tops_of recipes invocations = tops recipes (map invoked_of invocations)
 -- Why words are not run, where one invocation alone is allowed or not: they have a fault; they are several; the root or a module in it has a
 -- variable, of which the first recipe's name tells; they lead to a recipe that cannot be run yet; or memory is refused.
 pub data Refuses (root : Justfile) (recipes : List (Recipe Dependency)) (words : List (List ℕ)) (one : Bool) : Error → Type 0 where
-  fault : (e : InvocationError) → IsFault root recipes words (cause_of_fault e) → Refuses root recipes words one (Invocation e)
+  fault : (e : Error) (c : Cause) → cause_of e ≡ Some c → IsFault root recipes words c → Refuses root recipes words one e
   excess : (invoked : List Invoked) → IsSplit root recipes words invoked → one ≡ true → 1 < length invoked →
       Refuses root recipes words one (Run (ExcessInvocations (length invoked)))
   variables : (first : Invoked) (rest : List Invoked) → IsSplit root recipes words (first ∷ rest) → (one ≡ true → length (first ∷ rest) ≤ 1) →

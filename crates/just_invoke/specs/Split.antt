@@ -1,12 +1,13 @@
 -- Words as invocations, and why words are none.
-use Rattle.std.specs.Prelude.{◌≡◌, ◌≢◌, ◌⊎◌, ℕ, true, false, List, [], ◌∷◌, ◌++◌, length}
-use Rattle.just_records.specs.Parameter.{least_arguments, most_arguments}
+use Rattle.std.specs.Prelude.{◌≡◌, ◌≢◌, ◌⊎◌, ℕ, List, [], ◌∷◌, ◌++◌, length, Option, Some, None, if◌then◌else◌}
+use Rattle.just_records.specs.Parameter.{least_arguments, most_words}
 use Rattle.just_parts.specs.declared.dependency.Dependency.{Dependency}
 use Rattle.just_parts.specs.declared.recipe.Recipe.{Recipe}
 use Rattle.just_invoke.specs.declared.invocation.Invocation.{Invocation}
 use Rattle.just_invoke.specs.declared.justfile.Justfile.{Justfile}
-use Rattle.just_invoke.specs.Cause.{Cause, count_mismatch}
+use Rattle.just_invoke.specs.Cause.{Cause, count_mismatch, not_yet}
 use Rattle.just_invoke.specs.Head.{Words, Held, name_of, IsHead, NoHead}
+use Rattle.just_invoke.specs.Options.{has_options}
 use Rattle.just_invoke.specs.Tail.{IsTail, any_missing, shown}
 
 -- a recipe, with a group of words for each parameter
@@ -18,6 +19,16 @@ pub record Invoked : Type 0 where
 abbrev pub invoked_of : Invocation → Invoked
 invoked_of i = record { recipe = i.recipe.now; groups = shown i.arguments.items }
 
+-- why a recipe is not run with so many words
+abbrev pub misfit : Recipe Dependency → ℕ → Cause
+misfit recipe found = count_mismatch (name_of recipe) found (least_arguments recipe.parameters) (most_words recipe.parameters)
+
+-- what is wrong with the groups that a recipe got of so many words: it has options, or a group is empty that may not be
+abbrev pub fault_of : Recipe Dependency → ℕ → List Words → Option Cause
+fault_of recipe found groups =
+    if has_options recipe then Some (not_yet (name_of recipe))
+    else (if any_missing recipe.parameters groups then Some (misfit recipe found) else None)
+
 -- the words begin with an invocation, its head and then its tail, and these words follow it
 pub record Invokes (root : Justfile) (recipes : Held) (words after : Words) (i : Invoked) : Type 0 where
   pub head : Words
@@ -25,7 +36,7 @@ pub record Invokes (root : Justfile) (recipes : Held) (words after : Words) (i :
   pub whole : words ≡ head ++ (tail ++ after)
   pub names : IsHead root recipes head (tail ++ after) i.recipe
   pub reads : IsTail i.recipe.parameters tail after i.groups
-  pub complete : any_missing i.recipe.parameters i.groups ≡ false
+  pub complete : fault_of i.recipe (length tail) i.groups ≡ None
 
 -- invocations, one after another, and the words that are left
 abbrev pub Chain : Justfile → Held → Words → List Invoked → Words → Type 0
@@ -38,11 +49,7 @@ abbrev pub IsSplit : Justfile → Held → Words → List Invoked → Type 0
 IsSplit root recipes [] is = (i : Invoked) × (is ≡ i ∷ []) × Invokes root recipes [] [] i
 IsSplit root recipes (w ∷ ws) is = Chain root recipes (w ∷ ws) is []
 
--- why a recipe is not run with so many words
-abbrev pub misfit : Recipe Dependency → ℕ → Cause
-misfit recipe found = count_mismatch (name_of recipe) found (least_arguments recipe.parameters) (most_arguments recipe.parameters)
-
--- the words begin with a head and a tail, in which a group is empty that may not be
+-- the words begin with a head and a tail, with whose groups something is wrong
 pub record Lacks (root : Justfile) (recipes : Held) (words : Words) (cause : Cause) : Type 0 where
   pub recipe : Recipe Dependency
   pub head : Words
@@ -52,8 +59,7 @@ pub record Lacks (root : Justfile) (recipes : Held) (words : Words) (cause : Cau
   pub whole : words ≡ head ++ (tail ++ after)
   pub names : IsHead root recipes head (tail ++ after) recipe
   pub reads : IsTail recipe.parameters tail after groups
-  pub lacks : any_missing recipe.parameters groups ≡ true
-  pub says : cause ≡ misfit recipe (length tail)
+  pub says : fault_of recipe (length tail) groups ≡ Some cause
 
 -- why no invocation begins here
 abbrev pub Stops : Justfile → Held → Words → Cause → Type 0

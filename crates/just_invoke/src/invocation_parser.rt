@@ -1,14 +1,17 @@
 //! What command words mean.
 ghost use Rattle.std.specs.Prelude.{◌≡◌, ◌≤◌, ◌<◌, ◌++◌, ◌∷◌, [], ℕ, true, false, Some, IfOk, IfErr, IfSome, OnOk, OnErr, map, length, take, drop, slice_set, slice_index_or, vec_len};
-ghost use Rattle.std.specs.List.{All};
+ghost use Rattle.std.specs.List.{All, list_any};
 ghost use Rattle.std.specs.Option.{option_copied};
 ghost use Rattle.just_names.specs.Modulepath.{texts};
+ghost use Rattle.just_records.specs.Parameter.{is_option, is_variadic, most_words};
+ghost use Rattle.just_records.specs.declared.parameter.Parameter.{Parameter};
 ghost use Rattle.just_errors.specs.declared.error.Error.TheVariants as error;
 ghost use Rattle.just_errors.specs.declared.error.InvocationError.TheVariants as fault;
-ghost use Rattle.just_invoke.specs.Cause.{cause_of, IsExpected};
+ghost use Rattle.just_invoke.specs.Cause.{cause_of, not_yet, IsExpected};
 ghost use Rattle.just_invoke.specs.Closed.{recipe_named, default_recipe, IsHeld, IsClosed};
 ghost use Rattle.just_invoke.specs.declared.justfile.Justfile.{out-Justfile};
 ghost use Rattle.just_invoke.specs.Head.{Words, name_of, has_colon, is_empty, goes_on, TakesDefault, NoDefault, BadName, WordsLead, WordsMislead, IsPathWord, PathLeads, NoPath, IsHead, NoHead};
+ghost use Rattle.just_invoke.specs.Options.{has_options, is_of_parameter};
 ghost use Rattle.just_invoke.specs.Tail.{shown, first_variadic, IsTail, is_missing, any_missing};
 ghost use Rattle.just_invoke.specs.Split.{invoked_of, misfit, Invokes, Chain, IsSplit, Stops, IsFault};
 
@@ -17,7 +20,9 @@ use crate::justfile::Justfile;
 use just_data::{BorrowedText, Text};
 use just_names::Modulepath;
 use just_parts::Recipe;
-use just_parts::layers::{Error, Evaluation, InvocationError, Parameter};
+use just_parts::layers::{
+    Attribute, Error, Evaluation, InvocationError, NamedAttribute, Parameter, RunError,
+};
 use just_running::Recipes;
 use std::alloc::{AllocError, Global};
 
@@ -28,7 +33,8 @@ impl InvocationParser {
     /// The invocations that the words are: the root's default where there are no words, else as many as it takes to use
     /// every word, each at least one. The groups of an invocation borrow its words, one group for each parameter.
     ///
-    /// An error is `Memory`, or says why the first invocation that cannot be read is none. Nothing is changed either way.
+    /// An error is `Memory`, or says why the first invocation that cannot be read is none; it is `NotYet` where that is one of
+    /// a recipe with options, for which no words are read yet. Nothing is changed either way.
     pub fn parse_invocations<'run, 'src, 'words, E: Evaluation>(
         alloc: Global,
         root: &'run Justfile<'src>,
@@ -367,6 +373,26 @@ fn any_missing(parameters: &[Parameter], groups: &[Vec<&str>]) -> bool
     false
 }
 
+// Whether a parameter takes all words from its place on.
+fn any_variadic(parameters: &[Parameter]) -> bool
+    ensures { result ≡ list_any (λ (p : Parameter). is_variadic p.kind) parameters.now }
+{
+    parameters
+        .iter()
+        .any(|parameter| parameter.kind.is_variadic())
+}
+
+// How many words a recipe takes at most: one for each parameter, or any number where one is variadic.
+fn most_words(parameters: &[Parameter]) -> usize
+    ensures { result ≡ most_words parameters.now }
+{
+    if any_variadic(parameters) {
+        usize::MAX - 1
+    } else {
+        parameters.len()
+    }
+}
+
 // Why a recipe is not run with so many positional words.
 fn count_mismatch<'src>(recipe: &Recipe<'src>, found: usize) -> Error<'src>
     ensures cause { cause_of result ≡ Some (misfit recipe.now found) }
@@ -376,7 +402,40 @@ fn count_mismatch<'src>(recipe: &Recipe<'src>, found: usize) -> Error<'src>
         recipe: BorrowedText::new(recipe.name.lexeme()),
         found,
         min: recipe.min_arguments(),
-        max: recipe.max_arguments(),
+        max: most_words(recipe.parameters.as_slice()),
+    })
+}
+
+// Whether an attribute says something of a parameter.
+fn any_of_parameter(attributes: &[NamedAttribute]) -> bool
+    ensures { result ≡ list_any is_of_parameter attributes.now }
+{
+    attributes
+        .iter()
+        .any(|named| matches!(named.attribute, Attribute::Arg(_)))
+}
+
+// Whether a parameter is given by an option.
+fn any_option(parameters: &[Parameter]) -> bool
+    ensures { result ≡ list_any is_option parameters.now }
+{
+    parameters.iter().any(|parameter| parameter.is_option())
+}
+
+// Whether a parameter is given by an option, or an attribute says something of one.
+fn has_options<'src>(recipe: &Recipe<'src>) -> bool
+    ensures { result ≡ has_options recipe.now }
+{
+    any_of_parameter(recipe.attributes.as_slice()) || any_option(recipe.parameters.as_slice())
+}
+
+// That no words are read for a recipe yet.
+fn not_yet<'src>(recipe: &Recipe<'src>) -> Error<'src>
+    ensures cause { cause_of result ≡ Some (not_yet (name_of recipe.now)) }
+    ensures expected { IsExpected result }
+{
+    Error::Run(RunError::NotYet {
+        recipe: BorrowedText::new(recipe.name.lexeme()),
     })
 }
 
@@ -404,6 +463,9 @@ fn parse_invocation<'run, 'src, 'words>(
 {
     let (recipe, named) = parse_head(alloc, root, recipes, words)?;
     let (arguments, taken) = read_tail(alloc, recipe.parameters.as_slice(), after(words, named))?;
+    if has_options(recipe) {
+        return Err(not_yet(recipe));
+    }
     if any_missing(recipe.parameters.as_slice(), &arguments) {
         return Err(count_mismatch(recipe, taken));
     }

@@ -2,11 +2,11 @@
 use crate::invocation_parser::InvocationParser;
 use crate::running::run_invocations;
 use crate::variables::check_variables;
-use just_data::{Exact, Sequence, Shared, Text};
+use just_data::{BorrowedText, Exact, Sequence, Shared, Text};
 use just_names::Modulepath;
 use just_parts::layers::{
     Assignment, Config, Error, Evaluation, FunctionDefinition, Host, Name, Number, Output,
-    RunError, Settings, StringLiteral, Syntax,
+    RunError, Settings, StringLiteral, Syntax, UnstableFeature, Warning,
 };
 use just_running::{Recipes, Report};
 use just_table::{Keyed, Table};
@@ -41,6 +41,8 @@ impl<'src> Exact for RecipeKey<'src> {
 /// A compiled module.
 #[derive(Drop)]
 pub struct Justfile<'src> {
+    /// The names of the optional modules that have no file.
+    pub absent_modules: Table<'src, BorrowedText<'src>>,
     /// The variables of the module, by their names: of several of one name the one that is kept.
     pub assignments: Table<'src, Assignment<'src>>,
     /// The recipe that is run without words.
@@ -67,9 +69,13 @@ pub struct Justfile<'src> {
     pub settings: Settings,
     /// The path of the module's own file.
     pub source: Text,
+    /// The features that the module's files use and that are not stable, by their names.
+    pub unstable_features: Table<'src, UnstableFeature<'src>>,
     /// The names of the variables that recipes do not have in their environment, each once, in the order of the module's
     /// files.
     pub unexports: Sequence<Name<'src>>,
+    /// What a front is told of the module's files, file after file.
+    pub warnings: Sequence<Warning>,
     /// The folder of its own file.
     pub working_directory: Text,
 }

@@ -30,16 +30,16 @@ use Rattle.just_parts.specs.declared.recipe.Recipe.{Recipe}
 use Rattle.just_names.specs.declared.name.Name.{Name}
 use Rattle.just_names.specs.declared.name.Namepath.{Namepath}
 use Rattle.just_errors.specs.declared.error.Definition.TheVariants as definition
-use Rattle.just_joining.specs.Contents.{Contents, Defined, Signature, all_defined, defined, defined_in, defined_recipe, function_names, module_of_name, signature, signatures, texts_of_names, variable_names}
+use Rattle.just_joining.specs.Contents.{Contents, Defined, Signature, all_defined, defined, defined_in, defined_recipe, function_names, module_of_name, signature, signatures, variable_names}
+use Rattle.just_index.specs.Index.{texts_of_names, Repeats}
 use Rattle.just_joining.specs.Groups.{Breaks, Group, OfAliases, OfBodies, OfConstants, OfDependencies, OfHeaders, OfNames, functions_under, settings_of}
 use Rattle.just_joining.specs.Defaults.{Defaults, IsLater, duplicate_default, is_default, is_marked}
-use Rattle.just_joining.specs.Index.{Repeats}
 use Rattle.just_joining.specs.Kept.{claim_of_recipe, gives_way, kept_recipes, left_of}
 use Rattle.just_joining.specs.Settings.{allows_variables}
 use Rattle.just_joining.specs.Shells.{Lines, ScriptAttribute, ShellRecipe, Shells, invalid_attribute, of_attributes, of_lines, of_recipe}
 use Rattle.just_joining.specs.declared.kept.Claim.{Claim}
 use Rattle.just_joining.specs.Recipes.{name_of, line_of, token_of, named_parameters, parameter_names, is_defaulted, is_needed, FollowsDefault, named_paths, dependency_paths, least_of, most_of, no_recipe, recipe_at, Depends, DependsOn}
-use Rattle.just_joining.specs.Rules.{Bodies, BodiesUnder, Constants, Dependencies, Functions, Headers, IsCircleOf, Lists, Modules, Names, Parameters, Redefined, Sets, Unexports, Variables, argument_count, circular, duplicate_parameter, of_defined, of_functions, of_lists, of_modules, of_parameters, of_sets, of_shells, of_unexports, of_variables, required_after_default, unknown_dependency}
+use Rattle.just_joining.specs.Rules.{Bodies, Constants, Dependencies, Functions, Headers, IsCircleOf, Lists, Modules, Names, Parameters, Redefined, Sets, Under, Unexports, Variables, argument_count, circular, duplicate_parameter, of_defined, of_functions, of_lists, of_modules, of_parameters, of_sets, of_shells, of_unexports, of_variables, required_after_default, unknown_dependency}
 
 -- What the rules read of a recipe.
 pub record Outline : Type 0 where
@@ -55,7 +55,7 @@ pub record Outline : Type 0 where
   pub paths : List Namepath
   pub dependencies : List (List (List ℕ))
   pub least : ℕ
-  pub most : ℕ
+  pub most : Bool → ℕ
 
 abbrev pub outline_of : Recipe UnresolvedDependency → Outline
 outline_of recipe = record {
@@ -71,7 +71,7 @@ outline_of recipe = record {
   paths = named_paths recipe;
   dependencies = dependency_paths recipe;
   least = least_of recipe;
-  most = most_of recipe;
+  most = λ lists. most_of lists recipe;
 }
 
 abbrev pub outlines_of : List (Recipe UnresolvedDependency) → List Outline
@@ -189,20 +189,20 @@ module _ (rs qs : List (Recipe UnresolvedDependency)) (alike : AreAlike rs qs) w
   circle_alike : (recipe : List ℕ) (circle : List (List ℕ)) → IsCircleOf rs recipe circle → IsCircleOf qs recipe circle
   circle_alike recipe circle c = record { steps = c.steps; closed = c.closed; walk = λ k h. depends_on_alike (get_or circle k []) (get_or circle (k + 1) []) (c.walk k h); closing = c.closing }
 
-  pub dependencies_alike : (c : Cause) → Dependencies rs c → Dependencies qs c
-  dependencies_alike _ (unknown_dependency {recipe} {unknown} i h e c none) =
+  pub dependencies_alike : (lists : Bool) (c : Cause) → Dependencies lists rs c → Dependencies lists qs c
+  dependencies_alike lists _ (unknown_dependency {recipe} {unknown} i h e c none) =
       unknown_dependency i (inside i h) (sym (name i) ∙ e) (named i unknown c)
       (λ j l is. none j (subst (λ n. j < n) (sym many) l) (is ∙ ap (λ n. n ∷ []) (sym (name j))))
-  dependencies_alike _ (circular {recipe} {circle} {path} c d) = circular (circle_alike recipe circle c) (record {
+  dependencies_alike lists _ (circular {recipe} {circle} {path} c d) = circular (circle_alike recipe circle c) (record {
     from = d.from;
     there = inside d.from d.there;
     dependent_is = sym (name d.from) ∙ d.dependent_is;
     depends = named d.from path d.depends;
     names = d.names;
   })
-  dependencies_alike _ (argument_count {dependency} i j h l c is none least most wrong) =
+  dependencies_alike lists _ (argument_count {dependency} i j h l c is none least most wrong) =
       argument_count i j (inside i h) (inside j l) (named i dependency c) (is ∙ ap (λ n. n ∷ []) (name j)) none
-      (ap (λ (o : Outline). o.least) (sym (at j)) ∙ least) (ap (λ (o : Outline). o.most) (sym (at j)) ∙ most) wrong
+      (ap (λ (o : Outline). o.least) (sym (at j)) ∙ least) (ap (λ (o : Outline). o.most lists) (sym (at j)) ∙ most) wrong
 
 -- Contents that are alike: so are their recipes, and their functions and variables without numbers, their names, what they set and where they need lists are the same.
 pub record AreAlikeContents (m n : Contents) : Type 0 where
@@ -252,6 +252,10 @@ outlines_left all (x ∷ xs) =
 kept_alike_recipes : (rs qs : List (Recipe UnresolvedDependency)) → AreAlike rs qs → AreAlike (kept_recipes rs) (kept_recipes qs)
 kept_alike_recipes rs qs alike = outlines_left rs rs ∙ (λ i. left_of claim_by (alike i) (alike i)) ∙ sym (outlines_left qs qs)
 
+under_each : (o : Option Settings) (broken other : Settings → Cause → Type 0) → ((s : Settings) (c : Cause) → broken s c → other s c) → (c : Cause) → Under o broken c → Under o other c
+under_each None broken other f c b = b
+under_each (Some s) broken other f c b = f s c b
+
 -- they break the same rules
 module _ (layers : Layers) (m n : Contents) (alike : AreAlikeContents m n) where
   headers_alike : (c : Cause) → Headers layers.syntax.conflicts m c → Headers layers.syntax.conflicts n c
@@ -283,17 +287,17 @@ module _ (layers : Layers) (m n : Contents) (alike : AreAlikeContents m n) where
       (subst (λ (ss : List Signature). Lists s.lists (texts_of_names (function_names ss)) m.lists c) signed_alike b))
   bodies_alike s c (of_defined b) = of_defined (subst (λ ds. Redefined s.allow_duplicate_recipes ds c) defined_same b)
 
-  under_alike : (o : Option Settings) (c : Cause) → BodiesUnder layers.syntax o m c → BodiesUnder layers.syntax o n c
-  under_alike None c b = b
-  under_alike (Some s) c b = bodies_alike s c b
+  under_alike : (broken other : Settings → Cause → Type 0) → ((s : Settings) (c : Cause) → broken s c → other s c) → (c : Cause) → Under (settings_of layers.evaluator m) broken c → Under (settings_of layers.evaluator n) other c
+  under_alike broken other alike_under c b = under_each (settings_of layers.evaluator n) broken other alike_under c (subst (λ (o : Option Settings). Under o broken c) settings_alike b)
 
   pub breaks_alike : (g : Group) (c : Cause) → Breaks layers g m c → Breaks layers g n c
   breaks_alike OfHeaders c b = headers_alike c b
   breaks_alike OfNames c b = names_alike c b
   breaks_alike OfConstants c b = subst (λ (o : Option Settings). Constants o c) settings_alike b
-  breaks_alike OfBodies c b = under_alike (settings_of layers.evaluator n) c (subst (λ (o : Option Settings). BodiesUnder layers.syntax o m c) settings_alike b)
+  breaks_alike OfBodies c b = under_alike (λ s. Bodies layers.syntax s m) (λ s. Bodies layers.syntax s n) bodies_alike c b
   breaks_alike OfAliases c b = defaults_alike (kept_recipes m.recipes) (kept_recipes n.recipes) (kept_alike_recipes m.recipes n.recipes alike.recipes) c b
-  breaks_alike OfDependencies c b = dependencies_alike (kept_recipes m.recipes) (kept_recipes n.recipes) (kept_alike_recipes m.recipes n.recipes alike.recipes) c b
+  breaks_alike OfDependencies c b = under_alike (λ s. Dependencies s.lists (kept_recipes m.recipes)) (λ s. Dependencies s.lists (kept_recipes n.recipes))
+      (λ s. dependencies_alike (kept_recipes m.recipes) (kept_recipes n.recipes) (kept_alike_recipes m.recipes n.recipes alike.recipes) s.lists) c b
 
 pub alike_back : (m n : Contents) → AreAlikeContents m n → AreAlikeContents n m
 alike_back m n alike = record {

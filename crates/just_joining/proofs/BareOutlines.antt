@@ -1,5 +1,5 @@
 -- Recipes without their numbers have the same outlines.
-use Rattle.std.proofs.Common.{◌≡◌, ℕ, ◌+◌, cond, List, [], ◌∷◌, map, refl, ap}
+use Rattle.std.proofs.Common.{◌≡◌, ℕ, ◌+◌, Bool, cond, List, [], ◌∷◌, map, refl, ap}
 use Rattle.std.specs.Prelude.{if◌then◌else◌}
 use Rattle.std.specs.List.{list_any, fold}
 use Rattle.std.proofs.lemmas.List.{length-map}
@@ -34,8 +34,8 @@ variadic_bare : (ps : List Parameter) → list_any (λ (p : Parameter). is_varia
 variadic_bare [] = refl
 variadic_bare (p ∷ ps) = simp (variadic_bare ps)
 
-most_bare : (ps : List Parameter) → most_arguments (map bare_parameter ps) ≡ most_arguments ps
-most_bare ps = λ i. if variadic_bare ps i then 18446744073709551614 else length-map ps bare_parameter i
+most_bare : (lists : Bool) (ps : List Parameter) → most_arguments lists (map bare_parameter ps) ≡ most_arguments lists ps
+most_bare lists ps = λ i. if lists then length-map ps bare_parameter i else (if variadic_bare ps i then 18446744073709551614 else length-map ps bare_parameter i)
 
 count_from : (n : ℕ) (ps : List Parameter) → fold (λ a x. a + cond (is_required x) 1 0) n (map bare_parameter ps) ≡ fold (λ a x. a + cond (is_required x) 1 0) n ps
 count_from n [] = refl
@@ -58,5 +58,5 @@ outline_located r = λ i. record {
   paths = named_paths r;
   dependencies = dependency_paths r;
   least = least_bare r.parameters i;
-  most = most_bare r.parameters i;
+  most = λ lists. most_bare lists r.parameters i;
 }

@@ -10,7 +10,7 @@ use Rattle.just_graph.specs.Graph.{HasEdge, IsGraph}
 use Rattle.just_graph.specs.Building.{EachRow, targets_past}
 use Rattle.just_parts.specs.declared.layers.ast.UnresolvedDependency.{UnresolvedDependency}
 use Rattle.just_parts.specs.declared.recipe.Recipe.{Recipe}
-use Rattle.just_joining.specs.Index.{AreDifferent}
+use Rattle.just_index.specs.Index.{AreDifferent}
 use Rattle.just_joining.specs.Recipes.{name_of, dependency_paths, recipe_at, names_of, Depends}
 use Rattle.just_joining.specs.Rows.{IsTarget, IsRow}
 use Rattle.just_joining.proofs.RecipePlaces.{one_place}

@@ -14,7 +14,7 @@ use Rattle.just_graph.proofs.Members.{In, contained, from_map, in_map, is_in}
 use Rattle.just_names.specs.Modulepath.{Text}
 use Rattle.just_parts.specs.declared.layers.ast.UnresolvedDependency.{UnresolvedDependency}
 use Rattle.just_parts.specs.declared.recipe.Recipe.{Recipe}
-use Rattle.just_joining.specs.Index.{AreDifferent, name_at}
+use Rattle.just_index.specs.Index.{AreDifferent, name_at}
 use Rattle.just_joining.specs.Kept.{claim_at, claim_of_recipe, gives_way, kept, kept_recipes, left_of, lies_above, lies_beside, no_claim, stays}
 use Rattle.just_joining.specs.Recipes.{names_of}
 use Rattle.just_joining.specs.Resolved.{unresolved_numbers}

@@ -8,7 +8,6 @@ pub mod FilePlaces
 pub mod Signatures
 pub mod Grouping
 pub mod Holding
-pub mod Indexing
 pub mod Joining
 pub mod Keeping
 pub mod Later

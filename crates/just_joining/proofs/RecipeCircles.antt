@@ -10,7 +10,7 @@ use Rattle.just_graph.specs.Graph.{HasEdge, targets}
 use Rattle.just_graph.specs.Steps.{Leads, by_step, by_steps, IsCircle}
 use Rattle.just_parts.specs.declared.layers.ast.UnresolvedDependency.{UnresolvedDependency}
 use Rattle.just_parts.specs.declared.recipe.Recipe.{Recipe}
-use Rattle.just_joining.specs.Index.{AreDifferent}
+use Rattle.just_index.specs.Index.{AreDifferent}
 use Rattle.just_joining.specs.Recipes.{name_of, recipe_at, names_of, Depends, DependsOn}
 use Rattle.just_joining.specs.Rows.{IsTokenOn}
 use Rattle.just_joining.specs.Rules.{IsCircleOf, IsDependencyOn}

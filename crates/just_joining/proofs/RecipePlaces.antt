@@ -10,7 +10,7 @@ use Rattle.just_errors.specs.declared.error.CompileErrorKind.TheVariants as kind
 use Rattle.just_names.specs.Name.{text_of_name}
 use Rattle.just_names.specs.declared.name.Name.{Name}
 use Rattle.just_joining.specs.Recipes.{FollowsDefault, NoneFollows, name_of, named_parameters, parameter_names, lent, no_recipe, recipe_at, names_of}
-use Rattle.just_joining.specs.Index.{name_at, Repeats, AreDifferent}
+use Rattle.just_index.specs.Index.{name_at, Repeats, AreDifferent}
 use Rattle.just_errors.specs.Causes.{Cause, Broken}
 use Rattle.just_names.specs.Token.{Place}
 use Rattle.just_joining.specs.Rules.{Parameters, duplicate_parameter, required_after_default}

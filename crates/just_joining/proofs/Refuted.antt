@@ -1,5 +1,5 @@
 -- Each rule on dependencies is refuted by the rows and their order.
-use Rattle.std.proofs.Common.{◌≡◌, ℕ, ◌<◌, List, length, slice_index, sym, ◌∙◌, subst, arith, inl, inr}
+use Rattle.std.proofs.Common.{◌≡◌, ℕ, ◌<◌, Bool, List, length, slice_index, sym, ◌∙◌, subst, arith, inl, inr}
 use Rattle.std.specs.List.{Contains}
 use Rattle.std.specs.declared.vec.Vec.{Vec}
 use Rattle.std.specs.declared.alloc.Global.{Global}
@@ -9,7 +9,7 @@ use Rattle.just_graph.specs.Steps.{IsOrder, order_by}
 use Rattle.just_names.specs.Name.{texts_of_path}
 use Rattle.just_parts.specs.declared.layers.ast.UnresolvedDependency.{UnresolvedDependency}
 use Rattle.just_parts.specs.declared.recipe.Recipe.{Recipe}
-use Rattle.just_joining.specs.Index.{AreDifferent}
+use Rattle.just_index.specs.Index.{AreDifferent}
 use Rattle.just_joining.specs.Recipes.{name_of, least_of, recipe_at, names_of, Depends}
 use Rattle.just_joining.specs.Rows.{IsRow, IsOrderOf}
 use Rattle.just_errors.specs.Causes.{Cause}
@@ -34,7 +34,7 @@ module _ (rs : List (Recipe UnresolvedDependency)) (different : AreDifferent (na
     first = by_depends.steps_first;
   }
 
-  pub dependencies_kept : {c : Cause} → Dependencies rs c → ⊥
+  pub dependencies_kept : {lists : Bool} {c : Cause} → Dependencies lists rs c → ⊥
   dependencies_kept (unknown_dependency {recipe} {unknown} i inside e c none) =
       let t = target_of rs different i _ (texts_of_path unknown) (rows.rows i inside) (path_named (recipe_at rs i) unknown c) in
       none _ t.2.there t.2.named

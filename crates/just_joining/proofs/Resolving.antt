@@ -14,7 +14,7 @@ use Rattle.just_names.specs.declared.modulepath.Modulepath.{Modulepath}
 use Rattle.just_parts.specs.declared.recipe.Recipe.{Recipe}
 use Rattle.just_running.specs.Recipes.{numbers, needs, IsNew}
 use Rattle.just_running.specs.Recipes.{IsResolved}
-use Rattle.just_joining.specs.Index.{AreDifferent}
+use Rattle.just_index.specs.Index.{AreDifferent}
 use Rattle.just_joining.specs.Recipes.{names_of, Depends}
 use Rattle.just_joining.specs.Rows.{IsRow, IsOrderOf}
 use Rattle.just_joining.specs.Resolved.{unresolved_numbers, number_at, HasPriors, linked, Resolves, IsMadeOf, AreMadeOf, Resolving, AreResolved}

@@ -12,8 +12,8 @@ use Rattle.just_errors.specs.Causes.{Broken, Cause, Keeps}
 use Rattle.just_errors.specs.declared.error.CompileErrorKind.{CompileErrorKind}
 use Rattle.just_errors.specs.declared.error.CompileErrorKind.TheVariants as kind
 use Rattle.just_errors.specs.declared.error.Definition.TheVariants as definition
-use Rattle.just_joining.specs.Contents.{Signature, function_names, signature, signatures, texts_of_names}
-use Rattle.just_joining.specs.Index.{AreDifferent, Repeats}
+use Rattle.just_joining.specs.Contents.{Signature, function_names, signature, signatures}
+use Rattle.just_index.specs.Index.{texts_of_names, AreDifferent, Repeats}
 use Rattle.just_joining.specs.Rules.{Functions, RepeatsParameter, duplicate_function_parameter, function_redefinition, of_function}
 
 -- the names of functions one after another

@@ -1,5 +1,5 @@
 -- What a dependency names.
-use Rattle.std.proofs.Common.{◌≡◌, ◌≢◌, ℕ, ◌<◌, List, [], ◌∷◌, length, map, get_or, Option, Some, None, sym, ◌∙◌, ap, subst, arith, inl, inr, refl}
+use Rattle.std.proofs.Common.{◌≡◌, ◌≢◌, ℕ, ◌<◌, Bool, List, [], ◌∷◌, length, map, get_or, Option, Some, None, sym, ◌∙◌, ap, subst, arith, inl, inr, refl}
 use Rattle.std.specs.List.{Contains, slice_get}
 use Rattle.std.proofs.lemmas.List.{get_or_default, get_or-map, length-map}
 use Rattle.just_names.specs.Name.{texts_of_path}
@@ -7,7 +7,7 @@ use Rattle.just_names.specs.declared.name.Namepath.{Namepath}
 use Rattle.just_errors.specs.declared.error.CompileErrorKind.TheVariants as kind
 use Rattle.just_parts.specs.declared.layers.ast.UnresolvedDependency.{UnresolvedDependency}
 use Rattle.just_parts.specs.declared.recipe.Recipe.{Recipe}
-use Rattle.just_joining.specs.Index.{name_at, IsLast, IsIndex, place_in}
+use Rattle.just_index.specs.Index.{name_at, IsLast, IsIndex, place_in}
 use Rattle.just_graph.proofs.Index.{got_in, map_get}
 use Rattle.just_graph.proofs.Members.{In, contained, is_in}
 use Rattle.std.proofs.lemmas.Option.{slice_get_read}
@@ -85,14 +85,14 @@ module _ (rs : List (Recipe UnresolvedDependency)) (found : List ℕ → Option 
         (got_in (named_paths (recipe_at rs i)) at d.recipe (map_get (λ (x : UnresolvedDependency). x.recipe) (recipe_at rs i).dependencies at d
         (subst (λ (o : Recipe UnresolvedDependency). slice_get o.dependencies at ≡ Some d) is (subst (λ (xs : List UnresolvedDependency). slice_get xs at ≡ Some d) same (slice_get_read ds (length ds) at d refl inside read)))))
 
-    pub is_unknown : (name : List ℕ) (unknown : Namepath) (place : Place) → name ≡ name_of r → unknown ≡ d.recipe → place ≡ d.recipe.last.token → place_in found (texts_of_path d.recipe) ≡ None → Dependencies rs (Broken place (kind.UnknownDependency name unknown))
-    is_unknown name unknown place named copied told none =
-        subst (λ x. Dependencies rs (Broken x (kind.UnknownDependency name unknown))) (ap (λ (p : Namepath). p.last.token) copied ∙ sym told)
+    pub is_unknown : (lists : Bool) (name : List ℕ) (unknown : Namepath) (place : Place) → name ≡ name_of r → unknown ≡ d.recipe → place ≡ d.recipe.last.token → place_in found (texts_of_path d.recipe) ≡ None → Dependencies lists rs (Broken place (kind.UnknownDependency name unknown))
+    is_unknown lists name unknown place named copied told none =
+        subst (λ x. Dependencies lists rs (Broken x (kind.UnknownDependency name unknown))) (ap (λ (p : Namepath). p.last.token) copied ∙ sym told)
         (unknown_dependency i in_rs (sym (named ∙ ap name_of is)) (named_there unknown copied) (λ j h e. recipe_missing (texts_of_path d.recipe) none j h (ap texts_of_path (sym copied) ∙ e)))
 
-    pub is_mismatch : (j least most : ℕ) (t : Recipe UnresolvedDependency) (dependency : Namepath) (place : Place) → dependency ≡ d.recipe → place ≡ d.recipe.last.token → place_in found (texts_of_path d.recipe) ≡ Some j → t ≡ recipe_at rs j → least ≡ least_of t → most ≡ most_of t → 0 < least
-        → Dependencies rs (Broken place (kind.DependencyArgumentCountMismatch dependency 0 least most))
-    is_mismatch j least most t dependency place copied told e there is_least is_most some =
+    pub is_mismatch : (lists : Bool) (j least most : ℕ) (t : Recipe UnresolvedDependency) (dependency : Namepath) (place : Place) → dependency ≡ d.recipe → place ≡ d.recipe.last.token → place_in found (texts_of_path d.recipe) ≡ Some j → t ≡ recipe_at rs j → least ≡ least_of t → most ≡ most_of lists t → 0 < least
+        → Dependencies lists rs (Broken place (kind.DependencyArgumentCountMismatch dependency 0 least most))
+    is_mismatch lists j least most t dependency place copied told e there is_least is_most some =
         let s = recipe_found (texts_of_path d.recipe) j e in
-        subst (λ x. Dependencies rs (Broken x (kind.DependencyArgumentCountMismatch dependency 0 least most))) (ap (λ (p : Namepath). p.last.token) copied ∙ sym told)
-        (argument_count i j in_rs s.0 (named_there dependency copied) (ap texts_of_path copied ∙ s.1) refl (sym (is_least ∙ ap least_of there)) (sym (is_most ∙ ap most_of there)) (inl some))
+        subst (λ x. Dependencies lists rs (Broken x (kind.DependencyArgumentCountMismatch dependency 0 least most))) (ap (λ (p : Namepath). p.last.token) copied ∙ sym told)
+        (argument_count i j in_rs s.0 (named_there dependency copied) (ap texts_of_path copied ∙ s.1) refl (sym (is_least ∙ ap least_of there)) (sym (is_most ∙ ap (most_of lists) there)) (inl some))

@@ -7,6 +7,7 @@ use Rattle.just_records.specs.declared.assignment.Assignment.{Assignment}
 use Rattle.just_records.specs.declared.function_definition.FunctionDefinition.{FunctionDefinition}
 use Rattle.just_records.specs.declared.list_use.ListUse.{ListUse}
 use Rattle.just_records.specs.declared.setting.Set.{Set}
+use Rattle.just_index.specs.Index.{texts_of_names}
 use Rattle.just_errors.specs.declared.error.Definition.{Definition}
 use Rattle.just_errors.specs.declared.error.Definition.TheVariants as definition
 use Rattle.just_parts.specs.declared.layers.ast.UnresolvedDependency.{UnresolvedDependency}
@@ -21,10 +22,6 @@ pub record Contents : Type 0 where
   pub unexports : List Name
   pub sets : List Set
   pub lists : List ListUse
-
--- the texts of names
-abbrev pub texts_of_names : List Name → List Text
-texts_of_names = map text_of_name
 
 -- What the rules read of a function: its name, and those of its parameters.
 pub record Signature : Type 0 where

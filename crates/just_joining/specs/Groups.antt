@@ -12,7 +12,7 @@ use Rattle.just_parts.specs.Layers.{Layers}
 use Rattle.just_joining.specs.Contents.{Contents}
 use Rattle.just_joining.specs.Defaults.{Defaults}
 use Rattle.just_joining.specs.Kept.{kept_recipes}
-use Rattle.just_joining.specs.Rules.{BodiesUnder, Constants, Dependencies, Headers, Names}
+use Rattle.just_joining.specs.Rules.{Bodies, Constants, Dependencies, Headers, Names, Under}
 
 -- functions under their names
 abbrev pub functions_under : List FunctionDefinition → List (Text × FunctionDefinition)
@@ -44,8 +44,8 @@ abbrev pub Breaks : Layers → Group → Contents → Cause → Type 0
 Breaks layers OfHeaders m = Headers layers.syntax.conflicts m
 Breaks layers OfNames m = Names m
 Breaks layers OfConstants m = Constants (settings_of layers.evaluator m)
-Breaks layers OfBodies m = BodiesUnder layers.syntax (settings_of layers.evaluator m) m
-Breaks layers OfDependencies m = Dependencies (kept_recipes m.recipes)
+Breaks layers OfBodies m = Under (settings_of layers.evaluator m) (λ s. Bodies layers.syntax s m)
+Breaks layers OfDependencies m = Under (settings_of layers.evaluator m) (λ s. Dependencies s.lists (kept_recipes m.recipes))
 Breaks layers OfAliases m = Defaults (kept_recipes m.recipes)
 
 -- all groups are kept

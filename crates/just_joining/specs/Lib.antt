@@ -4,7 +4,6 @@ pub mod Defaults
 pub mod Definitions
 pub mod Files
 pub mod Groups
-pub mod Index
 pub mod Joined
 pub mod Kept
 pub mod Named

@@ -1,6 +1,5 @@
 -- What files at places say: recipes, functions, variables, names and settings, and where they need lists.
-use Rattle.std.specs.Prelude.{◌≡◌, ◌++◌, ℕ, Bool, List, [], ◌∷◌, flat_map, slice_get, Option, None, Some, if◌then◌else◌}
-use Rattle.just_parts.specs.Bare.{bare_item}
+use Rattle.std.specs.Prelude.{◌≡◌, ◌++◌, ℕ, Bool, List, [], ◌∷◌, flat_map, slice_get, Option, None, Some}
 use Rattle.just_parts.specs.declared.dependency.Dependency.{Dependency}
 use Rattle.just_parts.specs.Items.{Ast, Item}
 use Rattle.just_parts.specs.declared.layers.ast.Item.TheVariants as item
@@ -12,6 +11,7 @@ use Rattle.just_records.specs.declared.list_use.ListUse.{ListUse}
 use Rattle.just_records.specs.declared.setting.Set.{Set}
 use Rattle.just_names.specs.declared.modulepath.Modulepath.{Modulepath}
 use Rattle.just_parts.specs.declared.recipe.Recipe.{Recipe}
+use Rattle.just_notes.specs.Said.{said_in}
 use Rattle.just_joining.specs.Files.{asts_in}
 use Rattle.just_joining.specs.Kept.{kept_recipes}
 use Rattle.just_joining.specs.Recipes.{recipes_of}
@@ -43,14 +43,6 @@ variable_by _ = []
 abbrev pub set_by : Item → List Set
 set_by (item.Setting s) = s ∷ []
 set_by _ = []
-
--- what enabled items say, by what is read of each
-abbrev pub said : {A : Type 0} → (Item → List A) → (Item → Bool) → List Item → List A
-said by enabled items = flat_map (λ i. if enabled (bare_item i) then by i else []) items
-
-abbrev pub said_in : {A : Type 0} → (Item → List A) → (Item → Bool) → Option Ast → List A
-said_in by enabled None = []
-said_in by enabled (Some ast) = said by enabled ast.items
 
 -- what files say, file after file
 abbrev pub said_from : {A : Type 0} → (Item → List A) → (Item → Bool) → List Ast → List ℕ → List A

@@ -7,9 +7,11 @@ use Rattle.just_parts.specs.Items.{Item}
 use Rattle.just_parts.specs.declared.layers.ast.UnresolvedDependency.{UnresolvedDependency}
 use Rattle.just_parts.specs.declared.recipe.Recipe.{Recipe}
 use Rattle.just_names.specs.declared.name.Name.{Name}
-use Rattle.just_joining.specs.Contents.{Contents, texts_of_names}
+use Rattle.just_notes.specs.Labels.{label_by}
+use Rattle.just_notes.specs.declared.labels.Label.{Label}
+use Rattle.just_joining.specs.Contents.{Contents}
+use Rattle.just_index.specs.Index.{texts_of_names, AreDifferent}
 use Rattle.just_joining.specs.Files.{asts_in}
-use Rattle.just_joining.specs.Index.{AreDifferent}
 use Rattle.just_joining.specs.Named.{contents_from, name_by, said_from, recipes_from}
 use Rattle.just_joining.specs.Rules.{Modules}
 use Rattle.just_joining.specs.declared.files.Files.{Files}
@@ -21,6 +23,10 @@ recipes_of_place enabled files joined p = recipes_from enabled (asts_in files) (
 
 abbrev pub names_of_place : (Item → Bool) → Files → Joined → ℕ → List Name
 names_of_place enabled files joined p = said_from name_by enabled (asts_in files) (targets joined.files.items p)
+
+-- the labels of these
+abbrev pub labels_of_place : (Item → Bool) → Files → Joined → ℕ → List Label
+labels_of_place enabled files joined p = said_from label_by enabled (asts_in files) (targets joined.files.items p)
 
 -- all that the rules read of it
 abbrev pub contents_of_place : (Item → Bool) → Files → Joined → ℕ → Contents

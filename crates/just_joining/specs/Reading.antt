@@ -10,6 +10,8 @@ use Rattle.just_parts.specs.declared.layers.ast.Item.TheVariants as item
 use Rattle.just_names.specs.declared.name.Name.{Name}
 use Rattle.just_names.specs.declared.modulepath.Modulepath.{Modulepath}
 use Rattle.just_records.specs.declared.list_use.ListUse.{ListUse}
+use Rattle.just_notes.specs.Labels.{label_said}
+use Rattle.just_notes.specs.declared.labels.Label.{Label}
 use Rattle.just_joining.specs.Resolved.{path_to}
 
 abbrev pub Reading : Type 0
@@ -35,9 +37,10 @@ abbrev pub items_in : Option Ast → List Item
 items_in None = []
 items_in (Some ast) = ast.items
 
--- A module that a file declares: its name, and its path with that of its own file.
+-- A module that a file declares: its name, its label, and its path with that of its own file.
 pub record Submodule : Type 0 where
   pub name : Name
+  pub label : Label
   pub key : AstKey
 
 -- the key of the file that an item of a module's file imports
@@ -47,7 +50,7 @@ imported path _ = []
 
 -- the module that an item of a module's file declares
 abbrev pub declared : Modulepath → Item → List Submodule
-declared path (item.Module name relative (Some file) attributes doc optional) = record { name = name; key = (path_to path (text_of_name name), file) } ∷ []
+declared path (item.Module name relative (Some file) attributes doc optional) = record { name = name; label = label_said name attributes doc; key = (path_to path (text_of_name name), file) } ∷ []
 declared path _ = []
 
 -- what a file imports, and which modules it declares, in order

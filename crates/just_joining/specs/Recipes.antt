@@ -58,12 +58,12 @@ named_paths recipe = map (λ d. d.recipe) recipe.dependencies
 abbrev pub dependency_paths : Recipe UnresolvedDependency → List (List (List ℕ))
 dependency_paths recipe = map (λ d. texts_of_path d.recipe) recipe.dependencies
 
--- how many arguments it takes at least and at most
+-- how many arguments it takes at least and at most, the latter where values are lists or not
 abbrev pub least_of : Recipe UnresolvedDependency → ℕ
 least_of recipe = least_arguments recipe.parameters
 
-abbrev pub most_of : Recipe UnresolvedDependency → ℕ
-most_of recipe = most_arguments recipe.parameters
+abbrev pub most_of : Bool → Recipe UnresolvedDependency → ℕ
+most_of lists recipe = most_arguments lists recipe.parameters
 
 -- the recipes of the enabled items, in the order of the text, without those of other files
 abbrev pub recipes_of : (Item → Bool) → List Item → List (Recipe UnresolvedDependency)

@@ -18,8 +18,8 @@ use Rattle.just_errors.specs.declared.error.Fault.{Fault}
 use Rattle.just_parts.specs.Syntax.{SyntaxAnswers}
 use Rattle.just_parts.specs.declared.layers.ast.UnresolvedDependency.{UnresolvedDependency}
 use Rattle.just_parts.specs.declared.recipe.Recipe.{Recipe}
-use Rattle.just_joining.specs.Contents.{Contents, Defined, Signature, defined_in, function_names, function_texts, module_of_name, signatures, texts_of_defined, texts_of_names, variable_names}
-use Rattle.just_joining.specs.Index.{Repeats, name_at}
+use Rattle.just_joining.specs.Contents.{Contents, Defined, Signature, defined_in, function_names, function_texts, module_of_name, signatures, texts_of_defined, variable_names}
+use Rattle.just_index.specs.Index.{texts_of_names, Repeats, name_at}
 use Rattle.just_joining.specs.Shells.{Shells}
 use Rattle.just_joining.specs.Settings.{Conflicts, allows_variables, are_incompatible, line_at, place_at, setting_at, setting_names}
 use Rattle.just_joining.specs.Recipes.{name_of, named_parameters, parameter_names, FollowsDefault, named_paths, least_of, most_of, recipe_at, DependsOn}
@@ -135,10 +135,10 @@ pub data Bodies (answers : SyntaxAnswers) (settings : Settings) (m : Contents) :
   of_defined : {c : Cause} → Redefined settings.allow_duplicate_recipes (defined_in m) c → Bodies answers settings m c
   of_shells : {c : Cause} → Shells answers settings m.recipes c → Bodies answers settings m c
 
--- the same, where the settings have a value
-abbrev pub BodiesUnder : SyntaxAnswers → Option Settings → Contents → Cause → Type 0
-BodiesUnder answers None m c = ⊥
-BodiesUnder answers (Some settings) m c = Bodies answers settings m c
+-- what is broken under settings, where these have a value
+abbrev pub Under : Option Settings → (Settings → Cause → Type 0) → Cause → Type 0
+Under None broken c = ⊥
+Under (Some settings) broken c = broken settings c
 
 -- A circle of names: it begins and ends with one name, each recipe depends on the next, and `recipe` is the last that does.
 pub record IsCircleOf (recipes : List (Recipe UnresolvedDependency)) (recipe : List ℕ) (circle : List (List ℕ)) : Type 0 where
@@ -155,15 +155,15 @@ pub record IsDependencyOn (recipes : List (Recipe UnresolvedDependency)) (depend
   pub depends : Contains (named_paths (recipe_at recipes from)) path
   pub names : texts_of_path path ≡ named ∷ []
 
--- A dependency is no recipe, a recipe depends on itself, or one is depended on with too few or too many arguments. It is told at the last name of the dependency; of a circle, at that of one which closes it.
-pub data Dependencies (recipes : List (Recipe UnresolvedDependency)) : Cause → Type 0 where
+-- A dependency is no recipe, a recipe depends on itself, or one is depended on with too few or too many arguments, as values are lists or not. It is told at the last name of the dependency; of a circle, at that of one which closes it.
+pub data Dependencies (lists : Bool) (recipes : List (Recipe UnresolvedDependency)) : Cause → Type 0 where
   unknown_dependency : {recipe : List ℕ} {unknown : Namepath} (i : ℕ) → i < length recipes → name_of (recipe_at recipes i) ≡ recipe
       → Contains (named_paths (recipe_at recipes i)) unknown
       → ((j : ℕ) → j < length recipes → texts_of_path unknown ≢ name_of (recipe_at recipes j) ∷ [])
-      → Dependencies recipes (Broken unknown.last.token (kind.UnknownDependency recipe unknown))
+      → Dependencies lists recipes (Broken unknown.last.token (kind.UnknownDependency recipe unknown))
   circular : {recipe : List ℕ} {circle : List (List ℕ)} {path : Namepath} → IsCircleOf recipes recipe circle → IsDependencyOn recipes recipe (get_or circle (length circle - 1) []) path
-      → Dependencies recipes (Broken path.last.token (kind.CircularRecipeDependency recipe circle))
+      → Dependencies lists recipes (Broken path.last.token (kind.CircularRecipeDependency recipe circle))
   argument_count : {dependency : Namepath} {found least most : ℕ} (i j : ℕ) → i < length recipes → j < length recipes
       → Contains (named_paths (recipe_at recipes i)) dependency → texts_of_path dependency ≡ name_of (recipe_at recipes j) ∷ []
-      → found ≡ 0 → least_of (recipe_at recipes j) ≡ least → most_of (recipe_at recipes j) ≡ most → (found < least) ⊎ (most < found)
-      → Dependencies recipes (Broken dependency.last.token (kind.DependencyArgumentCountMismatch dependency found least most))
+      → found ≡ 0 → least_of (recipe_at recipes j) ≡ least → most_of lists (recipe_at recipes j) ≡ most → (found < least) ⊎ (most < found)
+      → Dependencies lists recipes (Broken dependency.last.token (kind.DependencyArgumentCountMismatch dependency found least most))

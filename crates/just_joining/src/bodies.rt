@@ -6,16 +6,16 @@ ghost use Rattle.std.specs.HashMap.{get};
 ghost use Rattle.just_errors.specs.Causes.{Keeps, Reports};
 ghost use Rattle.just_joining.specs.Contents.{defined, defined_in, function_texts, texts_of_defined};
 ghost use Rattle.just_joining.specs.Definitions.{contents_in, lists_in, recipes_in};
-ghost use Rattle.just_joining.specs.Index.{IsIndex};
+ghost use Rattle.just_index.specs.Index.{IsIndex};
 ghost use Rattle.just_joining.specs.Recipes.{names_of};
 ghost use Rattle.just_joining.specs.Rules.{Bodies, Lists, Redefined, StandsFor};
 
 use crate::definitions::{Definitions, list_at, recipe_at};
 use crate::functions;
 use crate::headers::redefinition;
-use crate::names::{index_last, repeated_below, texts_of};
 use crate::shells::check_shells;
 use just_data::BorrowedText;
+use just_index::{index_last, repeated_below, texts_of};
 use just_parts::layers::error::Definition;
 use just_parts::layers::{CompileError, CompileErrorKind, Error, ListUse, Name, Settings, Syntax};
 use std::alloc::{AllocError, Global};

@@ -2,7 +2,7 @@ ghost use Rattle.std.specs.Prelude.{◌≡◌, ◌<◌, IfOk, Some, length, slic
 ghost use Rattle.just_joining.specs.Recipes.{recipes_of, recipe_at};
 ghost use Rattle.just_joining.specs.Definitions.{functions_in, lists_in, recipes_in, sets_in, variables_in};
 
-use crate::enabled::is_enabled;
+use just_notes::is_enabled;
 use just_parts::UnresolvedRecipe;
 use just_parts::layers::{Assignment, FunctionDefinition, Item, ListUse, Name, Set, Syntax};
 use std::alloc::{AllocError, Global};
@@ -30,7 +30,8 @@ impl<'a, 'src> Definitions<'src, 'a> {
     ghost use Rattle.std.specs.Prelude.{◌++◌, [], OnOk};
     ghost use Rattle.just_joining.specs.Contents.{no_contents, with_lists};
     ghost use Rattle.just_joining.specs.Definitions.{contents_in, functions_in, lists_in, recipes_in, sets_in, variables_in};
-    ghost use Rattle.just_joining.specs.Named.{function_by, name_by, said, set_by, unexported_by, variable_by};
+    ghost use Rattle.just_joining.specs.Named.{function_by, name_by, set_by, unexported_by, variable_by};
+    ghost use Rattle.just_notes.specs.Said.{said};
 
     /// Nothing.
     pub fn new(alloc: Global) -> Definitions<'src, 'a>

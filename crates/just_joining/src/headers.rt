@@ -2,17 +2,17 @@ ghost use Rattle.std.specs.Prelude.{◌≡◌, ◌<◌, ℕ, length, IfOk, IfErr
 ghost use Rattle.just_names.specs.Name.{text_of_name};
 ghost use Rattle.just_records.specs.declared.parameter.Parameter.{Parameter};
 ghost use Rattle.just_errors.specs.declared.error.CompileErrorKind.TheVariants as kind;
-ghost use Rattle.just_joining.specs.Index.{AreDifferent};
+ghost use Rattle.just_index.specs.Index.{AreDifferent, texts_of_names};
 ghost use Rattle.just_joining.specs.Recipes.{FollowsDefault, NoneFollows, is_defaulted, is_needed, parameter_names, recipe_at};
 ghost use Rattle.just_joining.specs.Definitions.{contents_in, recipes_in};
 ghost use Rattle.just_errors.specs.Causes.{Keeps, Reports};
-ghost use Rattle.just_joining.specs.Contents.{defined, texts_of_names};
+ghost use Rattle.just_joining.specs.Contents.{defined};
 ghost use Rattle.just_joining.specs.Rules.{Headers, IsRedefinition, Modules, Parameters, Unexports};
 
 use crate::definitions::{Definitions, recipe_at};
-use crate::names::{index_names, repeated_name};
 use crate::settings::check_sets;
 use just_data::BorrowedText;
+use just_index::{index_names, repeated_name};
 use just_parts::layers::error::Definition;
 use just_parts::layers::{CompileError, CompileErrorKind, Error, Name, Parameter, Syntax};
 use std::alloc::{AllocError, Global};

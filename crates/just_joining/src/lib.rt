@@ -4,14 +4,12 @@
 pub mod bodies;
 pub mod defaults;
 pub mod definitions;
-pub mod enabled;
 pub mod files;
 pub mod functions;
 pub mod headers;
 pub mod joined;
 pub mod kept;
 pub mod module_names;
-pub mod names;
 pub mod recipe_resolver;
 mod settings;
 mod shells;

@@ -4,13 +4,14 @@ ghost use Rattle.std.specs.Prelude.{◌≡◌, ◌<◌, ◌++◌, ℕ, IfOk, IfE
 ghost use Rattle.std.specs.List.{All};
 ghost use Rattle.just_errors.specs.Causes.{Reports};
 ghost use Rattle.just_joining.specs.Files.{asts_in};
-ghost use Rattle.just_joining.specs.Named.{name_by, said, said_from};
+ghost use Rattle.just_joining.specs.Named.{name_by, said_from};
+ghost use Rattle.just_notes.specs.Said.{said};
 ghost use Rattle.just_joining.specs.OfPlaces.{HaveFiles, HaveNames, RepeatsNames};
 
-use crate::enabled::is_enabled;
 use crate::files::{Files, ast_at};
 use crate::headers::check_modules;
 use crate::joined::Joined;
+use just_notes::is_enabled;
 use just_parts::layers::{Error, Item, Name, Syntax};
 use std::alloc::{AllocError, Global};
 

@@ -1,4 +1,4 @@
-ghost use Rattle.std.specs.Prelude.{◌≡◌, ◌<◌, ℕ, [], length, get_or, slice_index, map, IfOk, IfErr};
+ghost use Rattle.std.specs.Prelude.{◌≡◌, ◌<◌, ℕ, Bool, [], length, get_or, slice_index, map, IfOk, IfErr};
 ghost use Rattle.std.specs.Str.{bytes_eq};
 ghost use Rattle.std.specs.HashMap.{get};
 ghost use Rattle.std.specs.List.{All, Contains};
@@ -6,7 +6,7 @@ ghost use Rattle.just_names.specs.Name.{texts_of_path};
 ghost use Rattle.just_graph.specs.Building.{EachRow};
 ghost use Rattle.just_graph.specs.Graph.{targets};
 ghost use Rattle.just_graph.specs.Steps.{IsOnce};
-ghost use Rattle.just_joining.specs.Index.{AreDifferent, IsIndex, place_in};
+ghost use Rattle.just_index.specs.Index.{AreDifferent, IsIndex, place_in};
 ghost use Rattle.just_joining.specs.Recipes.{name_of, dependency_paths, recipe_at, names_of};
 ghost use Rattle.just_joining.specs.Definitions.{recipes_in};
 ghost use Rattle.just_joining.specs.Resolved.{unresolved_numbers, HasPriors, Resolving, AreResolved};
@@ -18,7 +18,7 @@ use crate::definitions::{Definitions, recipe_at};
 use crate::unresolved_recipe::resolve;
 use just_data::{BorrowedText, Sequence};
 use just_names::Modulepath;
-use just_parts::layers::{CompileError, CompileErrorKind, Error, Namepath, Token};
+use just_parts::layers::{CompileError, CompileErrorKind, Error, Namepath, Settings, Token};
 use just_running::Recipes;
 use std::alloc::{AllocError, Global};
 use std::collections::HashMap;
@@ -40,6 +40,7 @@ fn place_of_path<'src>(
 fn target<'a, 'src>(
     definitions: &Definitions<'src, 'a>,
     index: &HashMap<BorrowedText<'src>, usize>,
+    settings: &Settings,
     place: usize,
     at: usize,
 ) -> Result<usize, Error<'src>>
@@ -47,7 +48,7 @@ fn target<'a, 'src>(
     requires place { place < length definitions.now.recipes.items }
     requires at { at < length (dependency_paths (recipe_at (recipes_in definitions.now) place)) }
     ensures target { IfOk result (IsTarget (recipes_in definitions.now) (get_or (dependency_paths (recipe_at (recipes_in definitions.now) place)) at [])) }
-    ensures named { IfErr result (Reports (Dependencies (recipes_in definitions.now))) }
+    ensures named { IfErr result (Reports (Dependencies settings.now.lists (recipes_in definitions.now))) }
 {
     let recipe = recipe_at(definitions, place);
     let dependency = &recipe.dependencies.as_slice()[at];
@@ -71,7 +72,7 @@ fn target<'a, 'src>(
             dependency: dependency.recipe.clone()?,
             found: 0,
             min,
-            max: named.max_arguments(),
+            max: named.max_arguments(settings),
         },
     }))
 }
@@ -81,16 +82,17 @@ fn row<'a, 'src>(
     alloc: Global,
     definitions: &Definitions<'src, 'a>,
     index: &HashMap<BorrowedText<'src>, usize>,
+    settings: &Settings,
     place: usize,
 ) -> Result<Vec<usize>, Error<'src>>
     requires index { IsIndex (names_of (recipes_in definitions.now)) (get bytes_eq index.now) }
     requires place { place < length definitions.now.recipes.items }
     ensures row { IfOk result (λ row. IsRow (recipes_in definitions.now) place row.items) }
-    ensures named { IfErr result (Reports (Dependencies (recipes_in definitions.now))) }
+    ensures named { IfErr result (Reports (Dependencies settings.now.lists (recipes_in definitions.now))) }
 {
     let mut row = Vec::new(alloc);
     for at in 0..recipe_at(definitions, place).dependencies.len() {
-        row.push(target(definitions, index, place, at)?)?;
+        row.push(target(definitions, index, settings, place, at)?)?;
     }
     Ok(row)
 }
@@ -100,14 +102,15 @@ fn rows<'a, 'src>(
     alloc: Global,
     definitions: &Definitions<'src, 'a>,
     index: &HashMap<BorrowedText<'src>, usize>,
+    settings: &Settings,
 ) -> Result<Vec<Vec<usize>>, Error<'src>>
     requires index { IsIndex (names_of (recipes_in definitions.now)) (get bytes_eq index.now) }
     ensures rows { IfOk result (λ rows. EachRow (IsRow (recipes_in definitions.now)) (length definitions.now.recipes.items) rows.items) }
-    ensures named { IfErr result (Reports (Dependencies (recipes_in definitions.now))) }
+    ensures named { IfErr result (Reports (Dependencies settings.now.lists (recipes_in definitions.now))) }
 {
     let mut rows = Vec::new(alloc);
     for place in 0..definitions.recipes.len() {
-        rows.push(row(alloc, definitions, index, place)?)?;
+        rows.push(row(alloc, definitions, index, settings, place)?)?;
     }
     Ok(rows)
 }
@@ -178,9 +181,9 @@ fn ordered<'a, 'src>(
 ) -> Result<Vec<usize>, Error<'src>>
     requires different { AreDifferent (names_of (recipes_in definitions.now)) }
     requires rows { EachRow (IsRow (recipes_in definitions.now)) (length definitions.now.recipes.items) rows.now }
-    ensures kept { IfOk result (λ _. Keeps (Dependencies (recipes_in definitions.now))) }
+    ensures kept { IfOk result (λ _. (lists : Bool) → Keeps (Dependencies lists (recipes_in definitions.now))) }
     ensures ordered { IfOk result (λ order. IsOrderOf (recipes_in definitions.now) order.items) }
-    ensures named { IfErr result (Reports (Dependencies (recipes_in definitions.now))) }
+    ensures named { (lists : Bool) → IfErr result (Reports (Dependencies lists (recipes_in definitions.now))) }
 {
     let roots = places_below(alloc, definitions.recipes.len())?;
     match just_graph::order(alloc, rows, roots.as_slice())? {
@@ -230,21 +233,22 @@ pub fn resolve_in_order<'a, 'src>(
     Ok(recipes)
 }
 
-/// The rows of recipes, and an order of their places, each after those that it depends on. An error names a dependency
-/// that is no recipe or lacks arguments, or recipes that depend on themselves.
+/// The rows of recipes under the settings of their module, and an order of their places, each after those that it depends
+/// on. An error names a dependency that is no recipe or lacks arguments, or recipes that depend on themselves.
 pub fn order_recipes<'a, 'src>(
     alloc: Global,
     definitions: &Definitions<'src, 'a>,
     index: &HashMap<BorrowedText<'src>, usize>,
+    settings: &Settings,
 ) -> Result<(Vec<Vec<usize>>, Vec<usize>), Error<'src>>
     requires different { AreDifferent (names_of (recipes_in definitions.now)) }
     requires index { IsIndex (names_of (recipes_in definitions.now)) (get bytes_eq index.now) }
-    ensures kept { IfOk result (λ _. Keeps (Dependencies (recipes_in definitions.now))) }
+    ensures kept { IfOk result (λ _. Keeps (Dependencies settings.now.lists (recipes_in definitions.now))) }
     ensures rows { IfOk result (λ made. EachRow (IsRow (recipes_in definitions.now)) (length definitions.now.recipes.items) made.0.items) }
     ensures ordered { IfOk result (λ made. IsOrderOf (recipes_in definitions.now) made.1.items) }
-    ensures named { IfErr result (Reports (Dependencies (recipes_in definitions.now))) }
+    ensures named { IfErr result (Reports (Dependencies settings.now.lists (recipes_in definitions.now))) }
 {
-    let rows = rows(alloc, definitions, index)?;
+    let rows = rows(alloc, definitions, index, settings)?;
     let order = ordered(alloc, definitions, rows.as_slice())?;
     Ok((rows, order))
 }

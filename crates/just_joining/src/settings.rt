@@ -5,7 +5,7 @@ ghost use Rattle.std.specs.Str.{bytes_eq};
 ghost use Rattle.std.specs.HashMap.{get};
 ghost use Rattle.just_errors.specs.Causes.{Keeps, Reports};
 ghost use Rattle.just_joining.specs.Definitions.{sets_in};
-ghost use Rattle.just_joining.specs.Index.{AreDifferent, IsIndex};
+ghost use Rattle.just_index.specs.Index.{AreDifferent, IsIndex};
 ghost use Rattle.just_joining.specs.Rules.{SetTwice, Sets};
 ghost use Rattle.just_joining.specs.Settings.{are_incompatible, excludes, setting_names, stands_in};
 

@@ -48,8 +48,26 @@ fn add_broken(text: &mut String, kind: &CompileErrorKind) -> Result<(), AllocErr
         ),
         CompileErrorKind::DuplicateUnexport { variable }
         | CompileErrorKind::DuplicateVariable { variable }
+        | CompileErrorKind::UndefinedVariable { variable }
         | CompileErrorKind::ExportUnexported { variable } => {
             write!(text, ": variable {variable}")
+        }
+        CompileErrorKind::UndefinedFunction { function } => write!(text, ": function {function}"),
+        CompileErrorKind::FunctionArgumentCountMismatch {
+            function,
+            arguments,
+            expected,
+        } => write!(
+            text,
+            ": function {function}, arguments {arguments}, min {}, max {}",
+            expected.min, expected.max
+        ),
+        CompileErrorKind::CircularVariableDependency { variable, circle } => {
+            write!(text, ": variable {variable}, circle")?;
+            for name in circle.as_slice() {
+                write!(text, " {name}")?;
+            }
+            Ok(())
         }
         CompileErrorKind::ListFeature { feature } => write!(text, ": {feature}"),
         CompileErrorKind::DuplicateFunctionParameter {

@@ -5,9 +5,20 @@ use Rattle.std.proofs.lemmas.Grind.{flat_map-append}
 use Rattle.std.proofs.lemmas.List.{append-nil, take_more}
 use Rattle.just_parts.specs.Items.{Ast, Item}
 use Rattle.just_records.specs.declared.list_use.ListUse.{ListUse}
+use Rattle.just_names.specs.Modulepath.{Text}
+use Rattle.just_records.specs.declared.unstable_feature.UnstableFeature.{UnstableFeature}
+use Rattle.just_table.specs.Entries.{put, put_all}
+use Rattle.just_notes.specs.Labels.{label_by}
+use Rattle.just_notes.specs.Notes.{absent_by, features_by, noted, warnings_by}
 use Rattle.just_joining.specs.Contents.{Contents, with_lists}
-use Rattle.just_joining.specs.Named.{contents_from, function_by, lists_by, name_by, recipes_by, said, said_in, set_by, unexported_by, variable_by}
+use Rattle.just_joining.specs.Named.{contents_from, function_by, lists_by, name_by, recipes_by, said_from, set_by, unexported_by, variable_by}
+use Rattle.just_modules.specs.Noted.{notes_from}
+use Rattle.just_notes.specs.Said.{said, said_in}
 use Rattle.just_joining.specs.Recipes.{recipes_of}
+
+put_append : {A : Type 0} (key : A → Text) (held : List (Text × A)) (xs ys : List A) → put_all key held (xs ++ ys) ≡ put_all key (put_all key held xs) ys
+put_append key held [] ys = refl
+put_append key held (x ∷ xs) ys = put_append key (put (key x) x held) xs ys
 
 module _ (enabled : Item → Bool) (asts : List Ast) (places : List ℕ) (n place : ℕ) (ast : Ast) where
   -- a file at the next place
@@ -17,6 +28,16 @@ module _ (enabled : Item → Bool) (asts : List Ast) (places : List ℕ) (n plac
         let each = λ (p : ℕ). read (slice_get asts p) in
         ap (flat_map each) (take_more places n 0 here ∙ ap (λ p. take n places ++ p ∷ []) (sym is)) ∙ flat_map-append each (take n places) (place ∷ [])
         ∙ ap (λ xs. flat_map each (take n places) ++ xs) (append-nil (each place) ∙ ap read at)
+
+    pub labels_more : said_from label_by enabled asts (take n places) ++ said label_by enabled ast.items ≡ said_from label_by enabled asts (take (n + 1) places)
+    labels_more = sym (next (said_in label_by enabled))
+
+    pub notes_more : noted enabled (notes_from enabled asts (take n places)) ast ≡ notes_from enabled asts (take (n + 1) places)
+    notes_more =
+        let absent = sym (put_append (λ t. t) [] (said_from absent_by enabled asts (take n places)) (said absent_by enabled ast.items)) ∙ ap (put_all (λ t. t) []) (sym (next (said_in absent_by enabled))) in
+        let used = flat_map (λ p. features_by (slice_get asts p)) (take n places) in
+        let features = sym (put_append (λ (f : UnstableFeature). f.name) [] used ast.unstable_features) ∙ ap (put_all (λ (f : UnstableFeature). f.name) []) (sym (next features_by)) in
+        λ i. record { absent_modules = absent i; unstable_features = features i; warnings = sym (next warnings_by) i }
 
     module _ (before added : Contents) (items : List Item) (uses : List ListUse) (same : before ≡ contents_from enabled asts (take n places)) (are : items ≡ ast.items) (need : uses ≡ ast.list_features) where
       -- what is added of items to what stands before is what the file says

@@ -23,15 +23,14 @@ use Rattle.just_running.specs.Recipes.{IsResolved}
 use Rattle.just_invoke.specs.declared.justfile.Justfile.{Justfile}
 use Rattle.just_joining.specs.Analyzable.{AreAnalyzable}
 use Rattle.just_modules.specs.Analyzed.{ComeAfter, IsAnalyzed}
-use Rattle.just_joining.specs.Contents.{texts_of_names}
+use Rattle.just_index.specs.Index.{texts_of_names, AreDifferent}
 use Rattle.just_joining.specs.Files.{ArePlaced, AreRows}
 use Rattle.just_modules.specs.Groups.{KeepsGroups, NamesModules}
-use Rattle.just_joining.specs.Index.{AreDifferent}
 use Rattle.just_joining.specs.Joined.{AreArranged, AreJoined, GoDeeper, IsJoined}
 use Rattle.just_modules.specs.Justfiles.{AreCompiled, Built, labelled_as, slot}
 use Rattle.just_modules.specs.Modules.{AreModules, Empty, Forest, HasModule, Heading, IsHeading, Module, Tree, a_module, after_it, first, in_it, no_module}
 use Rattle.just_joining.specs.Reading.{Reading, reading_of}
-use Rattle.just_joining.specs.OfPlaces.{RepeatsNames, names_of_place}
+use Rattle.just_joining.specs.OfPlaces.{RepeatsNames, labels_of_place, names_of_place}
 use Rattle.just_modules.specs.Steps.{BreaksInOrder, CanCompileAll, HaveCompiled}
 use Rattle.just_joining.specs.declared.files.Files.{Files}
 use Rattle.just_joining.specs.declared.files.Rows.{Rows}
@@ -130,8 +129,8 @@ module _ (layers : Layers) (entries : List (AstKey × Ast)) (d : AstKey) (files 
             subst (λ q. slot slots q ≡ Some (so.justfile q)) k.2 (so.held k.0 k.1 (λ i l e.
             not_root layers.syntax.enabled entries d files placed rows are can.paths joined (edge_joined layers.syntax.enabled entries d files placed rows are can.paths joined aj) root (reached i l) (subst (HasEdge joined.modules.items (slice_index order i)) k.2 e) refl))
 
-        many : (k : ℕ) → k < length order → length (names_of_place layers.syntax.enabled files joined (slice_index order k)) ≡ length (targets joined.modules.items (slice_index order k))
-        many k l = (all_can.each k l).names
+        many : (k : ℕ) → k < length order → length (labels_of_place layers.syntax.enabled files joined (slice_index order k)) ≡ length (targets joined.modules.items (slice_index order k))
+        many k l = (all_can.each k l).labels
 
         abbrev k0 : ℕ
         k0 = root_listed.0

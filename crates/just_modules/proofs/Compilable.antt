@@ -11,12 +11,11 @@ use Rattle.just_graph.proofs.Members.{In, is_in}
 use Rattle.just_parts.specs.Asts.{AstKey, same_ast_key}
 use Rattle.just_parts.specs.Items.{Ast, Item}
 use Rattle.just_joining.specs.Analyzable.{AreAnalyzable}
-use Rattle.just_joining.specs.Contents.{texts_of_names}
+use Rattle.just_index.specs.Index.{texts_of_names, AreDifferent}
 use Rattle.just_joining.specs.Files.{ArePlaced, AreRows}
-use Rattle.just_joining.specs.Index.{AreDifferent}
 use Rattle.just_joining.specs.Joined.{AreJoined, IsJoined}
 use Rattle.just_joining.specs.Reading.{Submodule}
-use Rattle.just_joining.specs.OfPlaces.{names_of_place}
+use Rattle.just_joining.specs.OfPlaces.{labels_of_place, names_of_place}
 use Rattle.just_modules.specs.Steps.{CanCompile, CanCompileAll}
 use Rattle.just_joining.specs.declared.files.Files.{Files}
 use Rattle.just_joining.specs.declared.files.Rows.{Rows}
@@ -25,7 +24,7 @@ use Rattle.just_joining.proofs.FilePlaces.{count, key_count}
 use Rattle.just_modules.proofs.ModulePaths.{file_path, one_outer, one_path, row_once, subs_at}
 use Rattle.just_modules.proofs.ModulePlaces.{file_inside, inner_keys}
 use Rattle.just_joining.proofs.Numbers.{have_priors, levels_once, numbers_apart, numbers_once}
-use Rattle.just_modules.proofs.Ready.{edge_joined, names_are, reached_joined}
+use Rattle.just_modules.proofs.Ready.{edge_joined, labels_are, names_are, reached_joined}
 
 module _ (enabled : Item → Bool) (entries : List (AstKey × Ast)) (d : AstKey) (files : Files) (placed : ArePlaced entries files) (rows : Rows) (are : AreRows enabled files rows)
     (can : AreAnalyzable enabled (λ k. lookup (same_ast_key k) entries)) (joined : Joined) (aj : AreJoined rows (length (keys_of entries)) joined) (root : ℕ) (inside : root < length (keys_of entries))
@@ -46,6 +45,9 @@ module _ (enabled : Item → Bool) (entries : List (AstKey × Ast)) (d : AstKey)
   names_same : {p : ℕ} → (r : IsReached p) → names_of_place enabled files joined p ≡ map (λ (s : Submodule). s.name) (subs_at enabled entries d files placed rows are can.paths joined p)
   names_same {p} r = names_are enabled entries d files placed rows are can.paths joined (targets joined.files.items p) (file_inside enabled entries d files placed rows are can.paths joined p (stands r).0 (stands r).1)
 
+  labels_same : {p : ℕ} → (r : IsReached p) → labels_of_place enabled files joined p ≡ map (λ (s : Submodule). s.label) (subs_at enabled entries d files placed rows are can.paths joined p)
+  labels_same {p} r = labels_are enabled entries d files placed rows are can.paths joined (targets joined.files.items p) (file_inside enabled entries d files placed rows are can.paths joined p (stands r).0 (stands r).1)
+
   different_subs : {p : ℕ} → (r : IsReached p) → names_there p → AreDifferent (texts_of_names (map (λ (s : Submodule). s.name) (subs_at enabled entries d files placed rows are can.paths joined p)))
   different_subs r different = subst (λ ns. AreDifferent (texts_of_names ns)) (names_same r) different
 
@@ -62,7 +64,7 @@ module _ (enabled : Item → Bool) (entries : List (AstKey × Ast)) (d : AstKey)
         numbers = numbers_once enabled entries d files placed rows are can (targets joined.files.items p) (levels_once (targets rows.imports.items) p (targets joined.files.items p) s.1.files) in_files;
         priors = have_priors enabled entries d files placed rows are can (targets joined.files.items p) in_files;
         apart = row_once enabled entries d files placed rows are can.paths joined p s.0 s.1 (different_subs r different);
-        names = ap length (names_same r) ∙ length-map (subs_at enabled entries d files placed rows are can.paths joined p) (λ (s : Submodule). s.name)
+        labels = ap length (labels_same r) ∙ length-map (subs_at enabled entries d files placed rows are can.paths joined p) (λ (s : Submodule). s.label)
             ∙ sym (length-map (subs_at enabled entries d files placed rows are can.paths joined p) (λ (s : Submodule). s.key))
             ∙ ap length (inner_keys enabled entries d files placed rows are can.paths joined p s.0 s.1) ∙ length-map (targets joined.modules.items p) _;
         different = different;

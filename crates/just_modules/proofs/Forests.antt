@@ -1,5 +1,5 @@
 -- The modules of headings are compiled to the justfiles at their places.
-use Rattle.std.proofs.Common.{◌≡◌, ◌<◌, ℕ, List, [], ◌∷◌, ◌++◌, map, length, get_or, slice_index, Option, Some, refl, sym, ap, subst, ◌∙◌, inl, inr, arith}
+use Rattle.std.proofs.Common.{◌≡◌, ◌<◌, ℕ, List, [], ◌∷◌, ◌++◌, map, length, get_or, slice_index, Option, None, Some, refl, sym, ap, subst, ◌∙◌, inl, inr, arith}
 use Rattle.std.specs.Prelude.{flat_map, slice_get}
 use Rattle.std.specs.List.{Contains}
 use Rattle.std.specs.Map.{keys_of, lookup}
@@ -18,25 +18,29 @@ use Rattle.just_invoke.specs.declared.justfile.Justfile.{Justfile, out-Justfile,
 use Rattle.just_modules.specs.Analysis.{AreKeysOf, HasDefault, HasKeysOf, IsDefaultAmong, IsOf}
 use Rattle.just_joining.specs.Files.{ArePlaced, AreRows, asts_in}
 use Rattle.just_joining.specs.Joined.{IsJoined}
-use Rattle.just_modules.specs.Justfiles.{AreCompiled, Built, IsCompiled, by_name, contents_in, labelled_as, none, one, recipes_in, with_name, with_names}
+use Rattle.just_modules.specs.Justfiles.{AreCompiled, Built, IsCompiled, by_name, contents_in, labelled_as, none, notes_said, one, recipes_in, with_labels}
+use Rattle.just_modules.specs.Noted.{notes_from}
 use Rattle.just_modules.specs.Modules.{Empty, Forest, Heading, Module, Tree, heading_of, headings_in}
 use Rattle.just_joining.specs.Contents.{Contents}
 use Rattle.just_joining.specs.Kept.{kept_recipes}
-use Rattle.just_joining.specs.Named.{contents_from, function_by, lists_by, lists_from, name_by, said_from, said_in, recipes_by, recipes_from, set_by, unexported_by, variable_by}
+use Rattle.just_joining.specs.Named.{contents_from, function_by, lists_by, name_by, said_from, recipes_by, recipes_from, set_by, unexported_by, variable_by}
+use Rattle.just_notes.specs.Said.{said_in}
 use Rattle.just_joining.specs.Recipes.{recipes_of}
 use Rattle.just_joining.specs.Reading.{Submodule, items_in}
 use Rattle.just_joining.specs.Resolved.{AreResolved}
-use Rattle.just_joining.specs.OfPlaces.{contents_of_place, names_of_place, recipes_of_place}
+use Rattle.just_joining.specs.OfPlaces.{contents_of_place, labels_of_place, recipes_of_place}
 use Rattle.just_modules.specs.Steps.{IsCompiledAt}
 use Rattle.just_joining.specs.declared.files.Files.{Files}
-use Rattle.just_modules.specs.declared.inner.Label.{Label}
+use Rattle.just_notes.specs.declared.labels.Label.{Label}
+use Rattle.just_notes.specs.declared.notes.Notes.{Notes}
+use Rattle.just_notes.specs.Notes.{absent_by, features_by, notes_of, warnings_by}
 use Rattle.just_joining.specs.declared.files.Rows.{Rows}
 use Rattle.just_joining.specs.declared.joined.Joined.{Joined}
 use Rattle.just_parts.proofs.AstKeys.{keys_equivalent}
 use Rattle.just_modules.proofs.Closing.{own_joined}
 use Rattle.just_joining.proofs.FilePlaces.{says}
 use Rattle.just_modules.proofs.ModulePlaces.{TreeAt, file_inside, join_at, module_of, tree_at}
-use Rattle.just_modules.proofs.Ready.{names_are}
+use Rattle.just_modules.proofs.Ready.{labels_are}
 use Rattle.just_parts.specs.Layers.{Layers}
 use Rattle.just_joining.specs.Groups.{settings_of}
 
@@ -46,11 +50,11 @@ under_names justfile [] row = []
 under_names justfile (h ∷ hs) [] = []
 under_names justfile (h ∷ hs) (q ∷ row) = labelled_as h.label (justfile q) ∷ under_names justfile hs row
 
-names_under : (justfile : ℕ → Justfile) (subs : List Submodule) (row : List ℕ) → length subs ≡ length row → with_names (map justfile row) (map (λ (s : Submodule). s.name) subs) ≡ under_names justfile (map heading_of subs) row
-names_under justfile [] [] e = refl
-names_under justfile [] (q ∷ row) e = cc
-names_under justfile (s ∷ subs) [] e = cc
-names_under justfile (s ∷ subs) (q ∷ row) e = ap (λ js. with_name s.name (justfile q) ∷ js) (names_under justfile subs row (omega (arith, e)))
+labels_under : (justfile : ℕ → Justfile) (subs : List Submodule) (row : List ℕ) → length subs ≡ length row → with_labels (map justfile row) (map (λ (s : Submodule). s.label) subs) ≡ under_names justfile (map heading_of subs) row
+labels_under justfile [] [] e = refl
+labels_under justfile [] (q ∷ row) e = cc
+labels_under justfile (s ∷ subs) [] e = cc
+labels_under justfile (s ∷ subs) (q ∷ row) e = ap (λ js. labelled_as s.label (justfile q) ∷ js) (labels_under justfile subs row (omega (arith, e)))
 
 -- a label changes nothing else
 module _ (cs : Contents) (ast : Ast) (loaded : List Text) (source : Text) (label : Label) (j : Justfile) (is : IsOf cs ast loaded source j) where
@@ -74,7 +78,7 @@ module _ (layers : Layers) (entries : List (AstKey × Ast)) (d : AstKey) (files 
     (order : List ℕ) (below : (k : ℕ) → k < length order → slice_index order k < length (keys_of entries)) (joins : (k : ℕ) → k < length order → IsJoined rows joined (slice_index order k))
     (lists_first : ListsStepsFirst (HasEdge joined.modules.items) order) (loaded : List Text) (made : ℕ → List (Recipe Dependency)) (justfile : ℕ → Justfile)
     (compiled : (k : ℕ) → k < length order → IsCompiledAt layers files joined loaded (slice_index order k) (map justfile (targets joined.modules.items (slice_index order k))) (made (slice_index order k)) (justfile (slice_index order k)))
-    (many : (k : ℕ) → k < length order → length (names_of_place layers.syntax.enabled files joined (slice_index order k)) ≡ length (targets joined.modules.items (slice_index order k))) where
+    (many : (k : ℕ) → k < length order → length (labels_of_place layers.syntax.enabled files joined (slice_index order k)) ≡ length (targets joined.modules.items (slice_index order k))) where
   abbrev asts : AstKey → Option Ast
   asts k = lookup (same_ast_key k) entries
 
@@ -90,30 +94,25 @@ module _ (layers : Layers) (entries : List (AstKey × Ast)) (d : AstKey) (files 
   abbrev pub built : List Built
   built = map (λ q. (key_at q, made q)) order
 
-  -- the recipes of files by their keys
-  recipes_here : (q : ℕ) → q < n → recipes_by layers.syntax.enabled (slice_get (asts_in files) q) ≡ recipes_of layers.syntax.enabled (items_in (asts (key_at q)))
-  recipes_here q h =
-      let s = says layers.syntax.enabled entries d files placed rows are paths q h in
-      ap (recipes_by layers.syntax.enabled) s.listed ∙ ap (λ o. recipes_of layers.syntax.enabled (items_in o)) (sym s.said)
+  -- what is read of files, by their keys
+  by_keys : {A : Type 0} (by : Option Ast → List A) (xs : List ℕ) → ((q : ℕ) → In q xs → q < n) → flat_map (λ p. by (slice_get (asts_in files) p)) xs ≡ flat_map (λ k. by (asts k)) (map key_at xs)
+  by_keys by [] inside = refl
+  by_keys by (q ∷ xs) inside =
+      let s = says layers.syntax.enabled entries d files placed rows are paths q (inside q (inl refl)) in
+      λ i. by ((s.listed ∙ sym s.said) i) ++ by_keys by xs (λ r h. inside r (inr h)) i
+
+  recipes_here : (o : Option Ast) → recipes_by layers.syntax.enabled o ≡ recipes_of layers.syntax.enabled (items_in o)
+  recipes_here None = refl
+  recipes_here (Some ast) = refl
 
   recipes_same : (xs : List ℕ) → ((q : ℕ) → In q xs → q < n) → recipes_from layers.syntax.enabled (asts_in files) xs ≡ recipes_in layers.syntax.enabled asts (map key_at xs)
-  recipes_same [] inside = refl
-  recipes_same (q ∷ xs) inside = λ i. recipes_here q (inside q (inl refl)) i ++ recipes_same xs (λ r h. inside r (inr h)) i
-
-  said_here : {A : Type 0} (by : Item → List A) (q : ℕ) → q < n → said_in by layers.syntax.enabled (slice_get (asts_in files) q) ≡ said_in by layers.syntax.enabled (asts (key_at q))
-  said_here by q h =
-      let s = says layers.syntax.enabled entries d files placed rows are paths q h in
-      ap (said_in by layers.syntax.enabled) (s.listed ∙ sym s.said)
+  recipes_same xs inside = by_keys (recipes_by layers.syntax.enabled) xs inside ∙ (λ i. flat_map (λ k. recipes_here (asts k) i) (map key_at xs))
 
   said_at : {A : Type 0} (by : Item → List A) (xs : List ℕ) → ((q : ℕ) → In q xs → q < n) → said_from by layers.syntax.enabled (asts_in files) xs ≡ flat_map (λ k. said_in by layers.syntax.enabled (asts k)) (map key_at xs)
-  said_at by [] inside = refl
-  said_at by (q ∷ xs) inside = λ i. said_here by q (inside q (inl refl)) i ++ said_at by xs (λ r h. inside r (inr h)) i
+  said_at by = by_keys (said_in by layers.syntax.enabled)
 
-  lists_at : (xs : List ℕ) → ((q : ℕ) → In q xs → q < n) → lists_from (asts_in files) xs ≡ flat_map (λ k. lists_by (asts k)) (map key_at xs)
-  lists_at [] inside = refl
-  lists_at (q ∷ xs) inside =
-      let s = says layers.syntax.enabled entries d files placed rows are paths q (inside q (inl refl)) in
-      λ i. lists_by ((s.listed ∙ sym s.said) i) ++ lists_at xs (λ r h. inside r (inr h)) i
+  notes_same : (xs : List ℕ) → ((q : ℕ) → In q xs → q < n) → notes_from layers.syntax.enabled (asts_in files) xs ≡ notes_said layers.syntax.enabled asts (map key_at xs)
+  notes_same xs inside = λ i. notes_of (said_at absent_by xs inside i) (by_keys features_by xs inside i) (by_keys warnings_by xs inside i)
 
   contents_same : (xs : List ℕ) → ((q : ℕ) → In q xs → q < n) → contents_from layers.syntax.enabled (asts_in files) xs ≡ contents_in layers.syntax.enabled asts (map key_at xs)
   contents_same xs inside = λ i. record {
@@ -123,7 +122,7 @@ module _ (layers : Layers) (entries : List (AstKey × Ast)) (d : AstKey) (files 
     modules = said_at name_by xs inside i;
     unexports = said_at unexported_by xs inside i;
     sets = said_at set_by xs inside i;
-    lists = lists_at xs inside i;
+    lists = by_keys lists_by xs inside i;
   }
 
   module _ (k : ℕ) (l : k < length order) (h : Heading) (e : h.key ≡ key_at (slice_index order k)) where
@@ -154,13 +153,16 @@ module _ (layers : Layers) (entries : List (AstKey × Ast)) (d : AstKey) (files 
     cs_same : contents_of_place layers.syntax.enabled files joined p ≡ contents_in layers.syntax.enabled asts m.files
     cs_same = contents_same (targets joined.files.items p) (file_inside layers.syntax.enabled entries d files placed rows are paths joined p (below k l) (joins k l))
 
-    names_same : names_of_place layers.syntax.enabled files joined p ≡ map (λ (s : Submodule). s.name) m.modules
-    names_same = names_are layers.syntax.enabled entries d files placed rows are paths joined (targets joined.files.items p) (file_inside layers.syntax.enabled entries d files placed rows are paths joined p (below k l) (joins k l))
+    in_files : (q : ℕ) → In q (targets joined.files.items p) → q < n
+    in_files = file_inside layers.syntax.enabled entries d files placed rows are paths joined p (below k l) (joins k l)
 
-    inner_same : with_names (map justfile (targets joined.modules.items p)) (names_of_place layers.syntax.enabled files joined p) ≡ under_names justfile (headings_in m) (targets joined.modules.items p)
+    labels_same : labels_of_place layers.syntax.enabled files joined p ≡ map (λ (s : Submodule). s.label) m.modules
+    labels_same = labels_are layers.syntax.enabled entries d files placed rows are paths joined (targets joined.files.items p) in_files
+
+    inner_same : with_labels (map justfile (targets joined.modules.items p)) (labels_of_place layers.syntax.enabled files joined p) ≡ under_names justfile (headings_in m) (targets joined.modules.items p)
     inner_same =
-        ap (with_names (map justfile (targets joined.modules.items p))) names_same
-        ∙ names_under justfile m.modules (targets joined.modules.items p) (sym (length-map m.modules (λ (s : Submodule). s.name)) ∙ ap length (sym names_same) ∙ many k l)
+        ap (with_labels (map justfile (targets joined.modules.items p))) labels_same
+        ∙ labels_under justfile m.modules (targets joined.modules.items p) (sym (length-map m.modules (λ (s : Submodule). s.label)) ∙ ap length (sym labels_same) ∙ many k l)
 
     pub is_compiled : IsCompiled layers asts loaded m (under_names justfile (headings_in m) (targets joined.modules.items p)) (made p) (labelled_as h.label (justfile p))
     is_compiled =
@@ -175,6 +177,8 @@ module _ (layers : Layers) (entries : List (AstKey × Ast)) (d : AstKey) (files 
               (subst (λ cs. HasDefault cs (recipes_of layers.syntax.enabled at.own.items) (justfile p)) cs_same at.default);
           fields = labelled_is_of (contents_in layers.syntax.enabled asts m.files) at.own loaded h.key.1 h.label (justfile p)
               (subst (λ cs. IsOf cs at.own loaded h.key.1 (justfile p)) cs_same (subst (λ (x : AstKey). IsOf (contents_of_place layers.syntax.enabled files joined p) at.own loaded x.1 (justfile p)) key_same at.fields));
+          notes = ap (λ x. let notes : Notes = record { absent_modules = x.absent_modules; unstable_features = x.unstable_features; warnings = x.warnings } in notes) out
+              ∙ at.notes ∙ notes_same (targets joined.files.items p) in_files;
           label = ap (λ x. let label : Label = record { name = x.name; doc = x.doc; groups = x.groups; private = x.private } in label) out;
           modules = ap (λ x. x.modules) out ∙ at.modules ∙ ap by_name inner_same;
         }

@@ -4,26 +4,34 @@ use Rattle.just_graph.proofs.Index.{some_same}
 use Rattle.just_records.specs.declared.settings.Settings.{Settings}
 use Rattle.just_errors.specs.Causes.{Cause, Keeps}
 use Rattle.just_parts.specs.Layers.{Layers}
-use Rattle.just_parts.specs.Syntax.{SyntaxAnswers}
 use Rattle.just_joining.specs.Contents.{Contents}
 use Rattle.just_joining.specs.Groups.{Breaks, BreaksContents, KeepsBefore, KeepsContents, OfAliases, OfBodies, OfConstants, OfDependencies, OfHeaders, OfNames, settings_of}
 use Rattle.just_joining.specs.Defaults.{Defaults}
 use Rattle.just_joining.specs.Kept.{kept_recipes}
-use Rattle.just_joining.specs.Rules.{Bodies, BodiesUnder, Constants, settings_fault}
+use Rattle.just_joining.specs.Rules.{Bodies, Constants, Dependencies, Under, settings_fault}
 use Rattle.just_modules.specs.Analysis.{BreaksRecipes, in_bodies, in_dependencies}
 
 -- settings that have a value
 pub constants_kept : (o : Option Settings) (s : Settings) → o ≡ Some s → Keeps (Constants o)
 constants_kept o s is _ (settings_fault none) = cc
 
--- bodies that are kept under settings
-pub bodies_under : (answers : SyntaxAnswers) (o : Option Settings) (s : Settings) (m : Contents) → o ≡ Some s → Keeps (Bodies answers s m) → Keeps (BodiesUnder answers o m)
-bodies_under answers None s m is kept c b = b
-bodies_under answers (Some t) s m is kept c b = kept c (subst (λ (x : Settings). Bodies answers x m c) (some_same is) b)
+-- what is kept, or broken, under settings that have a value
+module _ (broken : Settings → Cause → Type 0) where
+  under_kept : (o : Option Settings) (s : Settings) → o ≡ Some s → Keeps (broken s) → Keeps (Under o broken)
+  under_kept None s is kept c b = b
+  under_kept (Some t) s is kept c b = kept c (subst (λ (x : Settings). broken x c) (some_same is) b)
 
-under_broken : (answers : SyntaxAnswers) (o : Option Settings) (s : Settings) (m : Contents) (c : Cause) → o ≡ Some s → Bodies answers s m c → BodiesUnder answers o m c
-under_broken answers None s m c is b = cc
-under_broken answers (Some t) s m c is b = subst (λ (x : Settings). Bodies answers x m c) (sym (some_same is)) b
+  under_broken : (o : Option Settings) (s : Settings) (c : Cause) → o ≡ Some s → broken s c → Under o broken c
+  under_broken None s c is b = cc
+  under_broken (Some t) s c is b = subst (λ (x : Settings). broken x c) (sym (some_same is)) b
+
+module _ (layers : Layers) (m : Contents) (s : Settings) (is : settings_of layers.evaluator m ≡ Some s) where
+  -- bodies and dependencies that are kept under the settings of a module
+  pub bodies_under : Keeps (Bodies layers.syntax s m) → Keeps (Breaks layers OfBodies m)
+  bodies_under kept = under_kept (λ t. Bodies layers.syntax t m) (settings_of layers.evaluator m) s is kept
+
+  pub dependencies_under : Keeps (Dependencies s.lists (kept_recipes m.recipes)) → Keeps (Breaks layers OfDependencies m)
+  dependencies_under kept = under_kept (λ t. Dependencies t.lists (kept_recipes m.recipes)) (settings_of layers.evaluator m) s is kept
 
 module _ (layers : Layers) (m : Contents) where
   pub before_names : Keeps (Breaks layers OfHeaders m) → KeepsBefore layers OfNames m
@@ -69,8 +77,12 @@ module _ (layers : Layers) (m : Contents) where
 
     -- what is broken of recipes is broken of the module
     pub recipes_broken : (s : Settings) → settings_of layers.evaluator m ≡ Some s → (c : Cause) → BreaksRecipes layers.syntax s m c → BreaksContents layers m c
-    recipes_broken s is c (in_bodies b) = record { group = OfBodies; earlier = earlier; broken = under_broken layers.syntax (settings_of layers.evaluator m) s m c is b }
-    recipes_broken s is c (in_dependencies bodies b) = record { group = OfDependencies; earlier = before_dependencies (bodies_under layers.syntax (settings_of layers.evaluator m) s m is bodies); broken = b }
+    recipes_broken s is c (in_bodies b) = record { group = OfBodies; earlier = earlier; broken = under_broken (λ t. Bodies layers.syntax t m) (settings_of layers.evaluator m) s c is b }
+    recipes_broken s is c (in_dependencies bodies b) = record {
+      group = OfDependencies;
+      earlier = before_dependencies (bodies_under layers m s is bodies);
+      broken = under_broken (λ t. Dependencies t.lists (kept_recipes m.recipes)) (settings_of layers.evaluator m) s c is b;
+    }
 
     -- so is what is broken of defaults
     pub defaults_broken : Keeps (Breaks layers OfBodies m) → Keeps (Breaks layers OfDependencies m) → (c : Cause) → Defaults (kept_recipes m.recipes) c → BreaksContents layers m c

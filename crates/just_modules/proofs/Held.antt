@@ -13,7 +13,7 @@ use Rattle.just_table.specs.Entries.{find, put}
 use Rattle.just_parts.specs.declared.layers.ast.UnresolvedDependency.{UnresolvedDependency}
 use Rattle.just_parts.specs.declared.recipe.Recipe.{Recipe}
 use Rattle.just_invoke.specs.declared.justfile.RecipeKey.{RecipeKey}
-use Rattle.just_joining.specs.Index.{AreDifferent}
+use Rattle.just_index.specs.Index.{AreDifferent}
 use Rattle.just_joining.specs.Recipes.{name_of, recipe_at, names_of}
 use Rattle.just_joining.specs.Resolved.{number_at}
 use Rattle.just_modules.specs.Analysis.{HasKeysOf}

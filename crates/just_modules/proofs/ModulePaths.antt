@@ -17,9 +17,8 @@ use Rattle.just_names.specs.Name.{text_of_name}
 use Rattle.just_parts.specs.Items.{Ast, Item}
 use Rattle.just_parts.specs.declared.layers.ast.Item.TheVariants as item
 use Rattle.just_names.specs.declared.modulepath.Modulepath.{Modulepath}
-use Rattle.just_joining.specs.Contents.{texts_of_names}
+use Rattle.just_index.specs.Index.{texts_of_names, AreDifferent, name_at}
 use Rattle.just_joining.specs.Files.{ArePlaced, AreRows}
-use Rattle.just_joining.specs.Index.{AreDifferent, name_at}
 use Rattle.just_joining.specs.Joined.{IsJoined}
 use Rattle.just_joining.specs.Reading.{Reading, Submodule, declared, imported, imports_of, items_in, reading_of, submodules_of}
 use Rattle.just_joining.specs.Resolved.{path_to}

@@ -23,7 +23,10 @@ use Rattle.just_parts.specs.declared.recipe.Recipe.{Recipe}
 use Rattle.just_records.specs.declared.function_definition.FunctionDefinition.{FunctionDefinition}
 use Rattle.just_joining.specs.Files.{ArePlaced, AreRows, asts_in}
 use Rattle.just_joining.specs.Joined.{AreJoined, IsJoined}
-use Rattle.just_joining.specs.Named.{function_by, lists_by, lists_from, name_by, said, said_from, said_in, recipes_by, recipes_from, set_by, unexported_by, variable_by}
+use Rattle.just_joining.specs.Named.{function_by, lists_by, lists_from, name_by, said_from, recipes_by, recipes_from, set_by, unexported_by, variable_by}
+use Rattle.just_notes.specs.Labels.{label_by}
+use Rattle.just_notes.specs.declared.labels.Label.{Label}
+use Rattle.just_notes.specs.Said.{said, said_in}
 use Rattle.just_joining.specs.Recipes.{recipes_of, recipes_said}
 use Rattle.just_joining.specs.Reading.{Reading, Submodule, declared, enabled_items, items_in, located_ast, reading_of, submodules_of}
 use Rattle.just_joining.specs.declared.files.Files.{Files}
@@ -39,21 +42,30 @@ use Rattle.just_modules.proofs.ModulePlaces.{no_ast}
 abbrev name_of : Submodule → Name
 name_of s = s.name
 
--- the name of the module that a located item declares
+abbrev label_of : Submodule → Label
+label_of s = s.label
+
+-- the name and the label of the module that a located item declares
 name_located : (path : Modulepath) (i : Item) → map name_of (declared path (located_item i)) ≡ name_by i
 name_located path (item.Module name relative None attributes doc optional) = refl
 name_located path (item.Module name relative (Some file) attributes doc optional) = refl
 name_located path _ = refl
 
-module _ (enabled : Item → Bool) (path : Modulepath) where
-  one_name : (b : Bool) (i : Item) (items : List Item)
-      → map name_of (flat_map (declared path) (map located_item (cond b (i ∷ enabled_items enabled items) (enabled_items enabled items)))) ≡ cond b (name_by i) [] ++ map name_of (flat_map (declared path) (map located_item (enabled_items enabled items)))
-  one_name true i items = map-append name_of (declared path (located_item i)) (flat_map (declared path) (map located_item (enabled_items enabled items))) ∙ ap (λ ns. ns ++ map name_of (flat_map (declared path) (map located_item (enabled_items enabled items)))) (name_located path i)
-  one_name false i items = refl
+label_located : (path : Modulepath) (i : Item) → map label_of (declared path (located_item i)) ≡ label_by i
+label_located path (item.Module name relative None attributes doc optional) = refl
+label_located path (item.Module name relative (Some file) attributes doc optional) = refl
+label_located path _ = refl
 
-  names_counted : (items : List Item) → map name_of (flat_map (declared path) (map located_item (enabled_items enabled items))) ≡ said name_by enabled items
-  names_counted [] = refl
-  names_counted (i ∷ items) = one_name (enabled (bare_item i)) i items ∙ ap (λ ns. cond (enabled (bare_item i)) (name_by i) [] ++ ns) (names_counted items)
+-- what is read of declared modules is said by their items
+module _ {A : Type 0} (of : Submodule → A) (by : Item → List A) (enabled : Item → Bool) (path : Modulepath) (located : (i : Item) → map of (declared path (located_item i)) ≡ by i) where
+  one_declared : (b : Bool) (i : Item) (items : List Item)
+      → map of (flat_map (declared path) (map located_item (cond b (i ∷ enabled_items enabled items) (enabled_items enabled items)))) ≡ cond b (by i) [] ++ map of (flat_map (declared path) (map located_item (enabled_items enabled items)))
+  one_declared true i items = map-append of (declared path (located_item i)) (flat_map (declared path) (map located_item (enabled_items enabled items))) ∙ ap (λ ns. ns ++ map of (flat_map (declared path) (map located_item (enabled_items enabled items)))) (located i)
+  one_declared false i items = refl
+
+  declared_counted : (items : List Item) → map of (flat_map (declared path) (map located_item (enabled_items enabled items))) ≡ said by enabled items
+  declared_counted [] = refl
+  declared_counted (i ∷ items) = one_declared (enabled (bare_item i)) i items ∙ ap (λ ns. cond (enabled (bare_item i)) (by i) [] ++ ns) (declared_counted items)
 
 -- what is read of a located item
 unexport_located : (i : Item) → unexported_by (located_item i) ≡ unexported_by i
@@ -117,17 +129,24 @@ module _ (enabled : Item → Bool) (entries : List (AstKey × Ast)) (d : AstKey)
   abbrev key_at : ℕ → AstKey
   key_at p = get_or (keys_of entries) p d
 
-  names_here : (q : ℕ) → q < n → said_in name_by enabled (slice_get (asts_in files) q) ≡ map name_of (submodules_of R (key_at q))
-  names_here q h =
-      let s = says enabled entries d files placed rows are paths q h in
-      ap (said_in name_by enabled) s.listed ∙ sym (names_counted enabled (key_at q).0 s.ast.items)
-      ∙ ap (λ o. map name_of (flat_map (declared (key_at q).0) (items_in (option_map (located_ast enabled) o)))) (sym s.said)
+  module _ {A : Type 0} (of : Submodule → A) (by : Item → List A) (located : (path : Modulepath) (i : Item) → map of (declared path (located_item i)) ≡ by i) where
+    declared_here : (q : ℕ) → q < n → said_in by enabled (slice_get (asts_in files) q) ≡ map of (submodules_of R (key_at q))
+    declared_here q h =
+        let s = says enabled entries d files placed rows are paths q h in
+        ap (said_in by enabled) s.listed ∙ sym (declared_counted of by enabled (key_at q).0 (located (key_at q).0) s.ast.items)
+        ∙ ap (λ o. map of (flat_map (declared (key_at q).0) (items_in (option_map (located_ast enabled) o)))) (sym s.said)
 
-  -- the names of the modules in a module
+    declared_are : (xs : List ℕ) → ((q : ℕ) → In q xs → q < n) → said_from by enabled (asts_in files) xs ≡ map of (flat_map (submodules_of R) (map key_at xs))
+    declared_are [] inside = refl
+    declared_are (q ∷ xs) inside =
+        (λ i. declared_here q (inside q (inl refl)) i ++ declared_are xs (λ r h. inside r (inr h)) i) ∙ sym (map-append of (submodules_of R (key_at q)) (flat_map (submodules_of R) (map key_at xs)))
+
+  -- the names of the modules in a module, and their labels
   pub names_are : (xs : List ℕ) → ((q : ℕ) → In q xs → q < n) → said_from name_by enabled (asts_in files) xs ≡ map name_of (flat_map (submodules_of R) (map key_at xs))
-  names_are [] inside = refl
-  names_are (q ∷ xs) inside =
-      (λ i. names_here q (inside q (inl refl)) i ++ names_are xs (λ r h. inside r (inr h)) i) ∙ sym (map-append name_of (submodules_of R (key_at q)) (flat_map (submodules_of R) (map key_at xs)))
+  names_are = declared_are name_of name_by name_located
+
+  pub labels_are : (xs : List ℕ) → ((q : ℕ) → In q xs → q < n) → said_from label_by enabled (asts_in files) xs ≡ map label_of (flat_map (submodules_of R) (map key_at xs))
+  labels_are = declared_are label_of label_by label_located
 
   recipes_here : (q : ℕ) → q < n → AreAlike (recipes_by enabled (slice_get (asts_in files) q)) (recipes_said (unwrap_or (R (key_at q)) no_ast).items)
   recipes_here q h =

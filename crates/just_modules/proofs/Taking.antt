@@ -8,25 +8,25 @@ use Rattle.just_graph.proofs.Members.{contained, in_left, in_right, is_in}
 use Rattle.just_graph.proofs.Index.{get_map, map_get, some_same}
 use Rattle.just_table.specs.Entries.{put}
 use Rattle.just_names.specs.Modulepath.{Text}
-use Rattle.just_names.specs.declared.name.Name.{Name}
+use Rattle.just_notes.specs.declared.labels.Label.{Label}
 use Rattle.just_invoke.specs.Module.{module_name}
 use Rattle.just_invoke.specs.declared.justfile.Justfile.{Justfile}
-use Rattle.just_modules.specs.Justfiles.{held_by_name, slot, with_name, with_names}
+use Rattle.just_modules.specs.Justfiles.{held_by_name, labelled_as, slot, with_labels}
 
 pub held_more : (held : List (Text × Justfile)) (js : List Justfile) (j : Justfile) → held_by_name held (js ++ j ∷ []) ≡ put (module_name j) j (held_by_name held js)
 held_more held [] j = refl
 held_more held (k ∷ js) j = held_more (put (module_name k) k held) js j
 
-names_next : (js : List Justfile) (names : List Name) (n : ℕ) (j : Justfile) (name : Name) → slice_get js n ≡ Some j → slice_get names n ≡ Some name
-    → with_names (take (suc n) js) (take (suc n) names) ≡ with_names (take n js) (take n names) ++ with_name name j ∷ []
-names_next [] names n j name e f = cc
-names_next (k ∷ js) [] n j name e f = cc
-names_next (k ∷ js) (m ∷ names) zero j name e f = λ i. with_name (some_same f i) (some_same e i) ∷ []
-names_next (k ∷ js) (m ∷ names) (suc n) j name e f = ap (λ (ks : List Justfile). with_name m k ∷ ks) (names_next js names n j name e f)
+labels_next : (js : List Justfile) (labels : List Label) (n : ℕ) (j : Justfile) (label : Label) → slice_get js n ≡ Some j → slice_get labels n ≡ Some label
+    → with_labels (take (suc n) js) (take (suc n) labels) ≡ with_labels (take n js) (take n labels) ++ labelled_as label j ∷ []
+labels_next [] labels n j label e f = cc
+labels_next (k ∷ js) [] n j label e f = cc
+labels_next (k ∷ js) (m ∷ labels) zero j label e f = λ i. labelled_as (some_same f i) (some_same e i) ∷ []
+labels_next (k ∷ js) (m ∷ labels) (suc n) j label e f = ap (λ (ks : List Justfile). labelled_as m k ∷ ks) (labels_next js labels n j label e f)
 
-pub names_more : (js : List Justfile) (names : List Name) (n : ℕ) (j : Justfile) (name : Name) → slice_get js n ≡ Some j → slice_get names n ≡ Some name
-    → with_names (take (n + 1) js) (take (n + 1) names) ≡ with_names (take n js) (take n names) ++ with_name name j ∷ []
-names_more js names n j name e f = let one : n + 1 ≡ suc n = omega arith in ap (λ k. with_names (take k js) (take k names)) one ∙ names_next js names n j name e f
+pub labels_more : (js : List Justfile) (labels : List Label) (n : ℕ) (j : Justfile) (label : Label) → slice_get js n ≡ Some j → slice_get labels n ≡ Some label
+    → with_labels (take (n + 1) js) (take (n + 1) labels) ≡ with_labels (take n js) (take n labels) ++ labelled_as label j ∷ []
+labels_more js labels n j label e f = let one : n + 1 ≡ suc n = omega arith in ap (λ k. with_labels (take k js) (take k labels)) one ∙ labels_next js labels n j label e f
 
 get_or_same : (row : List ℕ) (n : ℕ) → n < length row → slice_index row n ≡ get_or row n (slice_index row n)
 get_or_same row n h = get_or_default row n 0 (slice_index row n) h

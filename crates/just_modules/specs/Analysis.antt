@@ -129,4 +129,4 @@ BreaksFiles layers files places = BreaksContents layers (contents_from layers.sy
 -- What is broken of recipes under settings: in their bodies, or where these are kept in their dependencies.
 pub data BreaksRecipes (answers : SyntaxAnswers) (settings : Settings) (m : Contents) : Cause → Type 0 where
   in_bodies : {c : Cause} → Bodies answers settings m c → BreaksRecipes answers settings m c
-  in_dependencies : {c : Cause} → Keeps (Bodies answers settings m) → Dependencies (kept_recipes m.recipes) c → BreaksRecipes answers settings m c
+  in_dependencies : {c : Cause} → Keeps (Bodies answers settings m) → Dependencies settings.lists (kept_recipes m.recipes) c → BreaksRecipes answers settings m c

@@ -18,7 +18,7 @@ use Rattle.just_modules.specs.Groups.{KeepsModules, NamesModules}
 use Rattle.just_modules.specs.Justfiles.{AreCompiled, Built}
 use Rattle.just_modules.specs.Modules.{AreModules, Empty, Forest, Heading, IsHeading, Module, Tree, heading}
 use Rattle.just_joining.specs.Reading.{reading_of}
-use Rattle.just_modules.specs.declared.inner.Label.{Label}
+use Rattle.just_notes.specs.declared.labels.Label.{Label}
 
 -- a module comes after those in it
 abbrev pub ComeAfter : List Built → Type 0

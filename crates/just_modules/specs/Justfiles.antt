@@ -8,17 +8,19 @@ use Rattle.just_parts.specs.declared.dependency.Dependency.{Dependency}
 use Rattle.just_parts.specs.Items.{Ast, Item}
 use Rattle.just_parts.specs.Layers.{Layers}
 use Rattle.just_parts.specs.declared.layers.ast.UnresolvedDependency.{UnresolvedDependency}
-use Rattle.just_names.specs.declared.name.Name.{Name}
 use Rattle.just_parts.specs.declared.recipe.Recipe.{Recipe}
 use Rattle.std.specs.List.{Contains}
 use Rattle.just_invoke.specs.Module.{module_name}
 use Rattle.just_invoke.specs.declared.justfile.Justfile.{Justfile, out-Justfile, roll-Justfile}
 use Rattle.just_modules.specs.Analysis.{HasDefault, HasSettings, IsOf}
-use Rattle.just_modules.specs.Modules.{Module, Forest, Empty, Tree, label_of}
-use Rattle.just_modules.specs.declared.inner.Label.{Label}
+use Rattle.just_notes.specs.Notes.{absent_by, features_by, notes_of, warnings_by}
+use Rattle.just_notes.specs.declared.labels.Label.{Label}
+use Rattle.just_notes.specs.declared.notes.Notes.{Notes}
+use Rattle.just_modules.specs.Modules.{Module, Forest, Empty, Tree}
 use Rattle.just_joining.specs.Contents.{Contents}
 use Rattle.just_joining.specs.Kept.{kept_recipes}
-use Rattle.just_joining.specs.Named.{function_by, lists_by, name_by, said_in, set_by, unexported_by, variable_by}
+use Rattle.just_joining.specs.Named.{function_by, lists_by, name_by, set_by, unexported_by, variable_by}
+use Rattle.just_notes.specs.Said.{said_in}
 use Rattle.just_joining.specs.Recipes.{recipes_of}
 use Rattle.just_joining.specs.Reading.{items_in}
 use Rattle.just_joining.specs.Resolved.{AreResolved}
@@ -38,6 +40,15 @@ contents_in enabled asts files = record {
   sets = flat_map (λ k. said_in set_by enabled (asts k)) files;
   lists = flat_map (λ k. lists_by (asts k)) files;
 }
+
+-- what is noted of files, file after file
+abbrev pub notes_said : (Item → Bool) → (AstKey → Option Ast) → List AstKey → Notes
+notes_said enabled asts files =
+    notes_of (flat_map (λ k. said_in absent_by enabled (asts k)) files) (flat_map (λ k. features_by (asts k)) files) (flat_map (λ k. warnings_by (asts k)) files)
+
+-- what a justfile has of that
+abbrev pub notes_in : Justfile → Notes
+notes_in j = record { absent_modules = (out-Justfile j).absent_modules; unstable_features = (out-Justfile j).unstable_features; warnings = (out-Justfile j).warnings }
 
 -- modules under their names, one after another
 abbrev pub held_by_name : List (Text × Justfile) → List Justfile → List (Text × Justfile)
@@ -65,6 +76,7 @@ pub record IsCompiled (layers : Layers) (asts : AstKey → Option Ast) (loaded :
   pub settings : HasSettings layers (contents_in layers.syntax.enabled asts m.files) j
   pub default : HasDefault (contents_in layers.syntax.enabled asts m.files) (recipes_of layers.syntax.enabled own.items) j
   pub fields : IsOf (contents_in layers.syntax.enabled asts m.files) own loaded m.heading.key.1 j
+  pub notes : notes_in j ≡ notes_said layers.syntax.enabled asts m.files
   pub label : label_in j ≡ m.heading.label
   pub modules : (out-Justfile j).modules ≡ by_name inner
 
@@ -78,19 +90,16 @@ pub data AreCompiled (layers : Layers) (asts : AstKey → Option Ast) (loaded : 
 abbrev pub labelled_as : Label → Justfile → Justfile
 labelled_as label j = roll-Justfile (record (out-Justfile j) { name = label.name; doc = label.doc; groups = label.groups; private = label.private })
 
-abbrev pub with_name : Name → Justfile → Justfile
-with_name name = labelled_as (label_of name)
-
--- each under the name beside it
-abbrev pub with_names : List Justfile → List Name → List Justfile
-with_names [] names = []
-with_names (j ∷ js) [] = []
-with_names (j ∷ js) (name ∷ names) = with_name name j ∷ with_names js names
+-- each under the label beside it
+abbrev pub with_labels : List Justfile → List Label → List Justfile
+with_labels [] labels = []
+with_labels (j ∷ js) [] = []
+with_labels (j ∷ js) (label ∷ labels) = labelled_as label j ∷ with_labels js labels
 
 -- what is held at a place
 abbrev pub slot : List (Option Justfile) → ℕ → Option Justfile
 slot slots q = get_or slots q None
 
--- what is held at the places of a row, each under the name beside it, by their names
-abbrev pub AreTaken : List (Option Justfile) → List ℕ → List Name → List Justfile → Type 0
-AreTaken slots row names modules = (js : List Justfile) → map Some js ≡ map (slot slots) row → modules ≡ by_name (with_names js names)
+-- what is held at the places of a row, each under the label beside it, by their names
+abbrev pub AreTaken : List (Option Justfile) → List ℕ → List Label → List Justfile → Type 0
+AreTaken slots row labels modules = (js : List Justfile) → map Some js ≡ map (slot slots) row → modules ≡ by_name (with_labels js labels)

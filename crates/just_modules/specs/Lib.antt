@@ -3,4 +3,5 @@ pub mod Analyzed
 pub mod Groups
 pub mod Justfiles
 pub mod Modules
+pub mod Noted
 pub mod Steps

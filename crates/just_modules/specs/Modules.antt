@@ -1,5 +1,5 @@
 -- The modules of a compilation, as data.
-use Rattle.std.specs.Prelude.{◌≡◌, Bool, false, List, [], ◌∷◌, map, flat_map, Option, None, Some}
+use Rattle.std.specs.Prelude.{◌≡◌, Bool, List, [], ◌∷◌, map, flat_map, Option, Some}
 use Rattle.std.specs.List.{Contains}
 use Rattle.just_graph.specs.Levels.{AreLevels}
 use Rattle.just_parts.specs.Asts.{AstKey, same_ast_key}
@@ -11,11 +11,7 @@ use Rattle.just_joining.specs.Contents.{Contents}
 use Rattle.just_joining.specs.Named.{function_by, set_by, unexported_by, variable_by}
 use Rattle.just_joining.specs.Recipes.{recipes_said}
 use Rattle.just_joining.specs.Reading.{Reading, Submodule, imports_of, submodules_of}
-use Rattle.just_modules.specs.declared.inner.Label.{Label}
-
--- the label of a module that is declared by its name alone
-abbrev pub label_of : Name → Label
-label_of name = record { name = Some name; doc = None; groups = []; private = false }
+use Rattle.just_notes.specs.declared.labels.Label.{Label}
 
 abbrev pub label : Option Name → Option Text → List StringLiteral → Bool → Label
 label name doc groups private = record { name = name; doc = doc; groups = groups; private = private }
@@ -36,7 +32,7 @@ pub record Module : Type 0 where
   pub modules : List Submodule
 
 abbrev pub heading_of : Submodule → Heading
-heading_of s = heading s.key (label_of s.name)
+heading_of s = heading s.key s.label
 
 -- the headings of the modules in a module
 abbrev pub headings_in : Module → List Heading

@@ -14,19 +14,19 @@ use Rattle.just_parts.specs.Items.{Ast, Item}
 use Rattle.just_parts.specs.declared.recipe.Recipe.{Recipe}
 use Rattle.just_invoke.specs.declared.justfile.Justfile.{Justfile, out-Justfile}
 use Rattle.just_modules.specs.Analysis.{HasDefault, HasSettings, IsOf}
-use Rattle.just_joining.specs.Contents.{texts_of_names}
+use Rattle.just_index.specs.Index.{texts_of_names, AreDifferent}
 use Rattle.just_joining.specs.Files.{asts_in, keys_in}
-use Rattle.just_joining.specs.Index.{AreDifferent}
-use Rattle.just_modules.specs.Justfiles.{by_name, slot, with_names}
+use Rattle.just_modules.specs.Justfiles.{by_name, notes_in, slot, with_labels}
+use Rattle.just_modules.specs.Noted.{notes_of_place}
 use Rattle.just_joining.specs.Groups.{BreaksContents, KeepsContents}
 use Rattle.just_joining.specs.Kept.{kept_recipes}
 use Rattle.just_joining.specs.Named.{recipes_by}
 use Rattle.just_joining.specs.Resolved.{AreResolved, HasPriors, unresolved_numbers}
-use Rattle.just_joining.specs.OfPlaces.{contents_of_place, names_of_place, recipes_of_place}
+use Rattle.just_joining.specs.OfPlaces.{contents_of_place, labels_of_place, names_of_place, recipes_of_place}
 use Rattle.just_joining.specs.declared.files.Files.{Files}
 use Rattle.just_joining.specs.declared.joined.Joined.{Joined}
 
--- The module at a place can be compiled: its files have places, the numbers of its recipes are different, and the modules in it stand at different places, with a name for each that no other one has.
+-- The module at a place can be compiled: its files have places, the numbers of its recipes are different, and the modules in it stand at different places, with a label for each and a name that no other one has.
 pub record CanCompile (enabled : Item → Bool) (files : Files) (joined : Joined) (p : ℕ) : Type 0 where
   pub there : p < length files.asts.items
   pub files_there : All (λ q. q < length files.asts.items) (targets joined.files.items p)
@@ -34,7 +34,7 @@ pub record CanCompile (enabled : Item → Bool) (files : Files) (joined : Joined
   pub numbers : IsOnce (unresolved_numbers (recipes_of_place enabled files joined p))
   pub priors : All HasPriors (recipes_of_place enabled files joined p)
   pub apart : IsOnce (targets joined.modules.items p)
-  pub names : length (names_of_place enabled files joined p) ≡ length (targets joined.modules.items p)
+  pub labels : length (labels_of_place enabled files joined p) ≡ length (targets joined.modules.items p)
   pub different : AreDifferent (texts_of_names (names_of_place enabled files joined p))
 
 -- What the module at a place is compiled to, from the justfiles of the modules in it; it has no label yet.
@@ -48,7 +48,8 @@ pub record IsCompiledAt (layers : Layers) (files : Files) (joined : Joined) (loa
   pub settings : HasSettings layers (contents_of_place layers.syntax.enabled files joined p) j
   pub default : HasDefault (contents_of_place layers.syntax.enabled files joined p) (recipes_by layers.syntax.enabled (Some own)) j
   pub fields : IsOf (contents_of_place layers.syntax.enabled files joined p) own loaded key.1 j
-  pub modules : (out-Justfile j).modules ≡ by_name (with_names inner (names_of_place layers.syntax.enabled files joined p))
+  pub notes : notes_in j ≡ notes_of_place layers.syntax.enabled files joined p
+  pub modules : (out-Justfile j).modules ≡ by_name (with_labels inner (labels_of_place layers.syntax.enabled files joined p))
 
 -- One more module is compiled, from those that are held at the places of the modules in it.
 pub record CompilesPlace (layers : Layers) (files : Files) (joined : Joined) (loaded : List Text) (p : ℕ) (old new : List (Option Justfile)) (before after : List (Recipe Dependency)) : Type 0 where

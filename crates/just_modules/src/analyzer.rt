@@ -10,6 +10,7 @@ ghost use Rattle.just_running.specs.Recipes.{numbers};
 ghost use Rattle.just_invoke.specs.declared.justfile.Justfile.{Justfile, out-Justfile};
 ghost use Rattle.just_joining.specs.Analyzable.{AreAnalyzable};
 ghost use Rattle.just_modules.specs.Analyzed.{Analyzes, NamesAnalyzed};
+ghost use Rattle.just_modules.specs.Justfiles.{notes_in};
 ghost use Rattle.just_joining.specs.Definitions.{contents_in, functions_in, recipes_in, variables_in};
 ghost use Rattle.just_joining.specs.Files.{asts_in};
 ghost use Rattle.just_modules.specs.Analysis.{BreaksFiles, BreaksRecipes, HasDefaultOf, HasSettingsOf, IsOfFiles, KeepsFiles};
@@ -17,14 +18,13 @@ ghost use Rattle.just_joining.specs.Named.{AreAddedAt, contents_from, name_by, s
 ghost use Rattle.just_joining.specs.Groups.{BreaksContents, KeepsBefore, OfBodies, functions_under, settings_of};
 ghost use Rattle.just_joining.specs.Rules.{Bodies, Dependencies};
 ghost use Rattle.just_parts.specs.Layers.{layers_of};
-ghost use Rattle.just_joining.specs.Contents.{texts_of_names};
-ghost use Rattle.just_joining.specs.Index.{AreDifferent};
+ghost use Rattle.just_index.specs.Index.{texts_of_names, AreDifferent};
 ghost use Rattle.just_joining.specs.Kept.{kept_recipes, kept_variables};
 ghost use Rattle.just_joining.specs.Resolved.{AreNew, AreResolved, HasPriors, unresolved_numbers};
 
 use crate::compiling::compile_in_order;
 use crate::constants::{Evaluated, evaluate};
-use crate::inner::{Label, labelled, take_at};
+use crate::inner::{labelled, take_at};
 use crate::making::{Surroundings, default_of, make_justfile};
 use just_data::{Sequence, Shared, Text};
 use just_invoke::{Justfile, Recipes};
@@ -38,6 +38,7 @@ use just_joining::module_names::check_module_names;
 use just_joining::recipe_resolver::{order_recipes, resolve_in_order};
 use just_joining::variables::check_names;
 use just_names::Modulepath;
+use just_notes::Label;
 use just_parts::layers::{
     Ast, Config, Error, Evaluation, Name, Number, Settings, StringLiteral, Syntax,
 };
@@ -94,7 +95,7 @@ fn resolve_recipes<'src, 'a, S: Syntax>(
     requires once { IsOnce (unresolved_numbers (recipes_in definitions.now)) }
     requires priors { All HasPriors (recipes_in definitions.now) }
     ensures bodies { IfOk result (λ _. Keeps (Bodies (S.answers syntax.now) settings.now (contents_in definitions.now))) }
-    ensures dependencies { IfOk result (λ _. Keeps (Dependencies (kept_recipes (recipes_in definitions.now)))) }
+    ensures dependencies { IfOk result (λ _. Keeps (Dependencies settings.now.lists (kept_recipes (recipes_in definitions.now)))) }
     ensures recipes { IfOk result (λ made. recipes_in made.0 ≡ kept_recipes (recipes_in definitions.now)) }
     ensures variables { IfOk result (λ made. variables_in made.0 ≡ kept_variables (variables_in definitions.now)) }
     ensures resolved { IfOk result (λ made. AreResolved (kept_recipes (recipes_in definitions.now)) path.now made.1) }
@@ -103,7 +104,7 @@ fn resolve_recipes<'src, 'a, S: Syntax>(
     check_bodies(alloc, syntax, definitions, settings)?;
     let kept = kept_definitions(alloc, definitions)?;
     let index = index_recipes(alloc, &kept)?;
-    let (rows, order) = order_recipes(alloc, &kept, &index)?;
+    let (rows, order) = order_recipes(alloc, &kept, &index, settings)?;
     let made = resolve_in_order(alloc, &kept, rows.as_slice(), order.as_slice(), path)?;
     Ok((kept, made))
 }
@@ -132,6 +133,7 @@ pub fn analyze_module<'a, 'src, S: Syntax, E: Evaluation>(
     ensures default { IfOk result (HasDefaultOf (S.answers syntax.now).enabled files.now own places.now) }
     ensures settings { IfOk result (HasSettingsOf (layers_of (S.answers syntax.now) (E.answers evaluation.now)) files.now places.now) }
     ensures modules { IfOk result (λ j. (out-Justfile j).modules ≡ surroundings.entry.modules) }
+    ensures notes { IfOk result (λ j. notes_in j ≡ surroundings.entry.notes) }
     ensures named { IfErr result (Reports (BreaksFiles (layers_of (S.answers syntax.now) (E.answers evaluation.now)) files.now places.now)) }
 {
     let definitions = definitions_at(alloc, files, syntax, places)?;

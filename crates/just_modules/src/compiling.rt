@@ -14,11 +14,11 @@ ghost use Rattle.just_modules.specs.Steps.{BreaksInOrder, CanCompile, CanCompile
 use crate::analyzer::analyze_module;
 use crate::inner::take_inner;
 use crate::making::Surroundings;
+use crate::noted::{labels_at, notes_at};
 use just_data::{Sequence, Shared, Text};
 use just_invoke::{Justfile, Recipes};
 use just_joining::files::Files;
 use just_joining::joined::Joined;
-use just_joining::module_names::module_names;
 use just_parts::layers::{Error, Evaluation, Syntax};
 use std::alloc::{AllocError, Global};
 
@@ -45,16 +45,17 @@ fn compile_place<'a, 'src, S: Syntax, E: Evaluation>(
     ensures named { IfErr result (Reports (BreaksFiles (layers_of (S.answers syntax.now) (E.answers evaluation.now)) files.now (targets joined.now.files.items place))) }
 {
     let row = joined.files[place].as_slice();
-    let names = module_names(alloc, files, syntax, row)?;
+    let labels = labels_at(alloc, files, syntax, row)?;
     let modules = take_inner(
         alloc,
         slots,
         joined.modules[place].as_slice(),
-        names.as_slice(),
+        labels.as_slice(),
     )?;
     let surroundings = Surroundings {
         loaded: loaded.clone()?,
         modules,
+        notes: notes_at(alloc, files, syntax, row)?,
         source: Text::from_str(alloc, files.keys[place].1.as_str())?,
     };
     let justfile = analyze_module(

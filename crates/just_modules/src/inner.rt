@@ -6,26 +6,12 @@ ghost use Rattle.std.specs.Map.{values_of};
 ghost use Rattle.just_graph.specs.Steps.{IsOnce};
 ghost use Rattle.just_invoke.specs.declared.justfile.Justfile.{Justfile};
 ghost use Rattle.just_modules.specs.Justfiles.{AreTaken, labelled_as, slot};
-ghost use Rattle.just_modules.specs.Modules.{label_of};
 
-use just_data::{Sequence, Text};
+use just_data::Sequence;
 use just_invoke::Justfile;
-use just_parts::layers::{Name, StringLiteral};
+use just_notes::Label;
 use just_table::Table;
 use std::alloc::{AllocError, Global};
-
-/// What the declaration of a module says of it.
-#[derive(Drop)]
-pub struct Label<'src> {
-    /// The name; the root's module has none.
-    pub name: Option<Name<'src>>,
-    /// What a listing says of it.
-    pub doc: Option<Text>,
-    /// The groups that a listing has it in.
-    pub groups: Sequence<StringLiteral<'src>>,
-    /// Whether a listing leaves it out.
-    pub private: bool,
-}
 
 /// A justfile under a label.
 pub fn labelled<'src>(justfile: Justfile<'src>, label: Label<'src>) -> Justfile<'src>
@@ -46,18 +32,6 @@ pub fn labelled<'src>(justfile: Justfile<'src>, label: Label<'src>) -> Justfile<
     }
 }
 
-// What is said of a module that is declared by its name alone.
-fn declared<'src>(alloc: Global, name: &Name<'src>) -> Label<'src>
-    ensures { result ≡ label_of name.now }
-{
-    Label {
-        name: Some(name.copied()),
-        doc: None,
-        groups: Sequence::new(alloc),
-        private: false,
-    }
-}
-
 // The values of a table, in the order of their names.
 fn values<'src>(
     alloc: Global,
@@ -72,6 +46,13 @@ fn values<'src>(
     Ok(Sequence::from_vec(modules))
 }
 
+// A label once more.
+fn copied_label<'src>(label: &Label<'src>) -> Result<Label<'src>, AllocError>
+    ensures { IfOk result (λ copy. copy ≡ label.now) }
+{
+    label.clone()
+}
+
 /// Takes what is held at a place.
 pub fn take_at<'src>(slots: &mut Vec<Option<Justfile<'src>>>, place: usize) -> Justfile<'src>
     requires inside { place < length slots.old.items }
@@ -83,26 +64,27 @@ pub fn take_at<'src>(slots: &mut Vec<Option<Justfile<'src>>>, place: usize) -> J
     slots[place].take().unwrap()
 }
 
-/// Takes the modules that are held at the places of a row, under the names beside them: they stand in byte order of
+/// Takes the modules that are held at the places of a row, under the labels beside them: they stand in byte order of
 /// their names.
 pub fn take_inner<'src>(
     alloc: Global,
     slots: &mut Vec<Option<Justfile<'src>>>,
     row: &[usize],
-    names: &[Name<'src>],
+    labels: &[Label<'src>],
 ) -> Result<Sequence<Justfile<'src>>, AllocError>
     requires inside { All (λ q. q < length slots.old.items) row.now }
     requires once { IsOnce row.now }
     requires there { (js : List Justfile) × (map Some js ≡ map (slot slots.old.items) row.now) }
-    requires names { length names.now ≡ length row.now }
-    ensures modules { IfOk result (AreTaken slots.old.items row.now names.now) }
+    requires labels { length labels.now ≡ length row.now }
+    ensures modules { IfOk result (AreTaken slots.old.items row.now labels.now) }
     ensures room { OnOk result (length slots.new.items ≡ length slots.old.items) }
     ensures others { OnOk result ((q : ℕ) → (Contains row.now q → ⊥) → slot slots.new.items q ≡ slot slots.old.items q) }
 {
     let mut table = Table::new(alloc);
     for at in 0..row.len() {
         let justfile = take_at(slots, row[at]);
-        table.insert(labelled(justfile, declared(alloc, &names[at])))?;
+        let label = copied_label(&labels[at])?;
+        table.insert(labelled(justfile, label))?;
     }
     let modules = values(alloc, table)?;
     Ok(modules)

@@ -6,5 +6,6 @@ mod compiling;
 mod constants;
 mod inner;
 mod making;
+mod noted;
 
 pub use analyzer::Analyzer;

@@ -5,10 +5,11 @@ ghost use Rattle.just_errors.specs.Causes.{Keeps, Reports};
 ghost use Rattle.just_running.specs.Recipes.{numbers};
 ghost use Rattle.just_invoke.specs.declared.justfile.Justfile.{out-Justfile};
 ghost use Rattle.just_modules.specs.Analysis.{AreKeysOf, HasKeysOf, IsBefore, IsBetter, IsDefaultBy, IsDefaultOf, IsDefaultPlace, IsOf};
+ghost use Rattle.just_modules.specs.Justfiles.{notes_in};
 ghost use Rattle.just_joining.specs.Groups.{functions_under};
 ghost use Rattle.just_joining.specs.Defaults.{Defaults};
 ghost use Rattle.just_joining.specs.Definitions.{contents_in, functions_in, recipes_in, variables_in};
-ghost use Rattle.just_joining.specs.Index.{AreDifferent};
+ghost use Rattle.just_index.specs.Index.{AreDifferent};
 ghost use Rattle.just_joining.specs.Kept.{kept_recipes, kept_variables};
 ghost use Rattle.just_joining.specs.Named.{recipes_by};
 ghost use Rattle.just_joining.specs.Recipes.{names_of};
@@ -18,6 +19,7 @@ use just_data::{Sequence, Shared, Text};
 use just_invoke::{Justfile, RecipeKey, Recipes};
 use just_joining::defaults::marked_place;
 use just_joining::definitions::{Definitions, recipe_at};
+use just_notes::Notes;
 use just_parts::UnresolvedRecipe;
 use just_parts::layers::{Ast, Error, Name, Number, Syntax};
 use just_table::Table;
@@ -139,13 +141,16 @@ fn copied_names<'src>(
     Ok(Sequence::from_vec(copies))
 }
 
-/// What a module has besides its recipes: the shared list of loaded files, and the modules that it declares.
+/// What a module has besides its recipes: the shared list of loaded files, the modules that it declares, and what is noted
+/// of its files.
 #[derive(Drop)]
 pub struct Surroundings<'src> {
     /// The relative paths of all loaded files.
     pub loaded: Shared<Sequence<Text>>,
     /// The modules that it declares, in byte order of their names.
     pub modules: Sequence<Justfile<'src>>,
+    /// What is noted of its files.
+    pub notes: Notes<'src>,
     /// The path of its own file.
     pub source: Text,
 }
@@ -168,17 +173,25 @@ pub fn make_justfile<'a, 'src>(
     ensures default { IfOk result (λ j. (out-Justfile j).default ≡ default) }
     ensures settings { IfOk result (λ j. (out-Justfile j).settings ≡ evaluated.entry.settings) }
     ensures modules { IfOk result (λ j. (out-Justfile j).modules ≡ surroundings.entry.modules) }
+    ensures notes { IfOk result (λ j. notes_in j ≡ surroundings.entry.notes) }
 {
     let Surroundings {
         loaded,
         modules,
+        notes,
         source,
     } = surroundings;
+    let Notes {
+        absent_modules,
+        unstable_features,
+        warnings,
+    } = notes;
     let Evaluated {
         functions,
         settings,
     } = evaluated;
     Ok(Justfile {
+        absent_modules,
         assignments: variable_table(alloc, kept)?,
         default,
         doc: None,
@@ -192,7 +205,9 @@ pub fn make_justfile<'a, 'src>(
         recipes: recipe_keys(alloc, kept)?,
         settings,
         source,
+        unstable_features,
         unexports: copied_names(alloc, definitions.unexports.as_slice())?,
+        warnings,
         working_directory: ast.working_directory.clone()?,
     })
 }

@@ -3,6 +3,7 @@ use Rattle.std.specs.Prelude.{◌≡◌, ℕ, ◌+◌, ◌<◌, ◌≤◌, ◌^�
 use Rattle.std.specs.List.{All, Contains, flat_map}
 use Rattle.just_parts.specs.Edge.{absolute_of}
 use Rattle.just_names.specs.Name.{texts_of_path}
+use Rattle.just_names.specs.declared.number.Number.{Number}
 use Rattle.just_names.specs.declared.name.Namepath.{Namepath}
 use Rattle.just_names.specs.Token.{lexeme}
 use Rattle.just_records.specs.declared.attribute.Attribute.{Attribute}
@@ -25,6 +26,7 @@ use Rattle.just_parts.specs.Items.{Ast, Item}
 use Rattle.just_parts.specs.declared.layers.ast.Item.TheVariants as item
 use Rattle.just_errors.specs.declared.error.CompileErrorKind.TheVariants as kind
 use Rattle.just_errors.specs.declared.error.Error.{Error}
+use Rattle.just_errors.specs.declared.wording.ArgumentRange.{ArgumentRange}
 use Rattle.just_errors.specs.declared.error.Error.TheVariants as error
 
 -- What the syntax layer answers, and which numbers it takes.
@@ -43,6 +45,9 @@ pub record SyntaxAnswers : Type 0 where
   pub is_comment : Line → Bool
   pub is_continuation : Line → Bool
   pub is_shebang : Line → Bool
+  -- the number of a constant, and how many arguments a built-in function takes, by their names
+  pub constant : List ℕ → Option Number
+  pub builtin : List ℕ → Option ArgumentRange
 
 abbrev pub parameter_numbers : List Parameter → List ℕ
 parameter_numbers = map (λ p. p.number.0)

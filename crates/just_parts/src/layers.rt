@@ -14,8 +14,8 @@ pub use edge::Edge;
 pub use evaluation::Evaluation;
 pub use host::{Entry, Groups, Host};
 pub use just_errors::{
-    CompileError, CompileErrorKind, Error, Fault, Halt, InvocationError, LoadError, RunError,
-    SourceError, error,
+    ArgumentRange, CompileError, CompileErrorKind, Error, Fault, Halt, InvocationError, LoadError,
+    RunError, SourceError, error,
 };
 pub use just_names::{Exhausted, ListFeature, Name, Namepath, Number, Numerator, Token};
 pub use just_records::{

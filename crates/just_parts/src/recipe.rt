@@ -8,6 +8,7 @@ ghost use Rattle.just_records.specs.Parameter.{is_required, is_variadic, least_a
 use crate::dependency::Dependency;
 use crate::layers::ast::UnresolvedDependency;
 use just_data::{Chain, Exact, Sequence, Text};
+use just_errors::ArgumentRange;
 use just_names::{Modulepath, Name, Number};
 use just_records::{Attribute, Line, NamedAttribute, Parameter, Settings};
 use std::alloc::{AllocError, Global};
@@ -61,14 +62,26 @@ impl<'src, D> Recipe<'src, D> {
         least(self.parameters.as_slice())
     }
 
-    /// How many arguments it takes at most: one for each parameter, or any number where one is variadic.
-    pub fn max_arguments(&self) -> usize
-        ensures { result ≡ most_arguments self.now.parameters }
+    /// How many arguments it takes at most under the settings of what depends on it: one for each parameter, or, where
+    /// values are no lists and a parameter is variadic, any number.
+    pub fn max_arguments(&self, settings: &Settings) -> usize
+        ensures { result ≡ most_arguments settings.now.lists self.now.parameters }
     {
-        if any_variadic(self.parameters.as_slice()) {
+        if !settings.lists && any_variadic(self.parameters.as_slice()) {
             usize::MAX - 1
         } else {
             self.parameters.len()
+        }
+    }
+
+    /// How many arguments it takes under the settings of what depends on it.
+    pub fn argument_range(&self, settings: &Settings) -> ArgumentRange
+        ensures least { result.min ≡ least_arguments self.now.parameters }
+        ensures most { result.max ≡ most_arguments settings.now.lists self.now.parameters }
+    {
+        ArgumentRange {
+            min: self.min_arguments(),
+            max: self.max_arguments(settings),
         }
     }
 }

@@ -37,5 +37,9 @@ abbrev pub least_arguments : List Parameter → ℕ
 least_arguments parameters = count_by is_required parameters
 
 -- a word for each parameter, or without end where one is variadic: the greatest `usize` but one
-abbrev pub most_arguments : List Parameter → ℕ
-most_arguments parameters = if list_any (λ (p : Parameter). is_variadic p.kind) parameters then 18446744073709551614 else length parameters
+abbrev pub most_words : List Parameter → ℕ
+most_words parameters = if list_any (λ (p : Parameter). is_variadic p.kind) parameters then 18446744073709551614 else length parameters
+
+-- an argument for each parameter where values are lists, and else as many as words
+abbrev pub most_arguments : Bool → List Parameter → ℕ
+most_arguments lists parameters = if lists then length parameters else most_words parameters

@@ -1,13 +1,22 @@
-use just_data::{Exact, Text};
+use just_data::{BorrowedText, Exact};
+use just_table::Keyed;
 
 /// A feature of the grammar that is not stable.
-#[derive(Clone, Debug, PartialEq, Eq, PartialOrd, Ord, Drop)]
-pub struct UnstableFeature {
+#[derive(Clone, Debug, PartialEq, Eq, Drop)]
+pub struct UnstableFeature<'src> {
     /// What it is called.
-    pub name: Text,
+    pub name: BorrowedText<'src>,
 }
 
-impl Exact for UnstableFeature {
+impl<'src> Keyed<'src> for UnstableFeature<'src> {
+    ghost key_of = { λ feature. feature.name };
+
+    fn key(&self) -> &'src str {
+        self.name.as_str()
+    }
+}
+
+impl<'src> Exact for UnstableFeature<'src> {
     ghost use Rattle.std.proofs.Common.{rules};
 
     ghost exact = { Prim.search rules };

@@ -75,7 +75,7 @@ pub struct Ast<'src, I = Item<'src>> {
     /// The folder of the module's own file: a clean path, or `/`.
     pub working_directory: Text,
     /// The features that are not stable and that it uses.
-    pub unstable_features: Sequence<UnstableFeature>,
+    pub unstable_features: Sequence<UnstableFeature<'src>>,
     /// Where it needs lists, in the order of the text.
     pub list_features: Sequence<ListUse<'src>>,
     /// What a front is told of it.

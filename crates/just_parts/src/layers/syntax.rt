@@ -7,8 +7,8 @@ ghost use Rattle.std.specs.List.{All};
 use crate::layers::ast::{Ast, Item};
 use crate::source::Source;
 use just_data::Sequence;
-use just_errors::Error;
-use just_names::Numerator;
+use just_errors::{ArgumentRange, Error};
+use just_names::{Number, Numerator};
 use just_records::{Keyword, Line, Setting, Settings, Sigil};
 use std::alloc::{AllocError, Global};
 
@@ -76,4 +76,12 @@ pub trait Syntax {
     /// Whether it says which program runs the lines.
     fn is_shebang<'src>(&self, line: &Line<'src>) -> bool
         ensures { result ≡ (answers self.now).is_shebang line.now };
+
+    /// The number of the constant of a name, where it is one.
+    fn constant(&self, name: &str) -> Option<Number>
+        ensures { result ≡ (answers self.now).constant name.now };
+
+    /// How many arguments the built-in function of a name takes, where it is one.
+    fn builtin(&self, name: &str) -> Option<ArgumentRange>
+        ensures { result ≡ (answers self.now).builtin name.now };
 }

@@ -1,11 +1,9 @@
-use Rattle.std.proofs.Common.{ℕ, List, ◌≡◌, ◌∙◌, ap, refl, ◌++◌, append_assoc, codes}
+use Rattle.std.proofs.Common.{◌≡◌, refl, ◌++◌, codes}
 use Rattle.std.proofs.lemmas.Grind.{put_three}
 use Rattle.just_names.specs.Modulepath.{joined}
 use Rattle.just_errors.specs.Messages.{chain_text}
+use Rattle.just_errors.proofs.Pieces.{three_parts}
 use Rattle.just_errors.proofs.error.write_chain.Goals as goal
-
-three_parts : (a r b c d : List ℕ) → (a ++ (r ++ b)) ++ (c ++ d) ≡ a ++ (r ++ (b ++ (c ++ d)))
-three_parts a r b c d = append_assoc a (r ++ b) (c ++ d) ∙ ap (λ t. a ++ t) (append_assoc r b (c ++ d))
 
 pub returns : goal.returns
 returns g c = λ plain ok.

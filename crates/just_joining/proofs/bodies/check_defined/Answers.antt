@@ -4,7 +4,7 @@ use Rattle.std.proofs.lemmas.Grind.{common_steps}
 use Rattle.just_names.specs.Modulepath.{Text}
 use Rattle.just_joining.specs.Contents.{all_defined, defined, texts_of_defined}
 use Rattle.just_joining.specs.Definitions.{recipes_in}
-use Rattle.just_joining.specs.Index.{NoneRepeats, Repeats}
+use Rattle.just_index.specs.Index.{NoneRepeats, Repeats}
 use Rattle.just_joining.proofs.Defining.{bound_of, defined_kept, defined_twice}
 use Rattle.just_joining.proofs.bodies.check_defined.Goals.{then-allowed, else-allowed}
 use Rattle.just_joining.proofs.bodies.check_defined.Goals as goal

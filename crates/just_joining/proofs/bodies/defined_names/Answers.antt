@@ -1,7 +1,7 @@
 use Rattle.std.proofs.Common.{◌≡◌, ◌∙◌, ◌++◌, ap, length, sym, arith}
 use Rattle.std.proofs.lemmas.Grind.{common_steps}
 use Rattle.std.proofs.lemmas.List.{take_all}
-use Rattle.just_joining.specs.Contents.{texts_of_names}
+use Rattle.just_index.specs.Index.{texts_of_names}
 use Rattle.just_joining.specs.Definitions.{recipes_in}
 use Rattle.just_joining.specs.Recipes.{names_of}
 use Rattle.just_joining.proofs.Defining.{texts_all}

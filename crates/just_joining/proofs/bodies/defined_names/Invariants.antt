@@ -1,5 +1,5 @@
 use Rattle.std.proofs.Common.{◌≡◌, ◌++◌, take}
-use Rattle.just_joining.specs.Contents.{texts_of_names}
+use Rattle.just_index.specs.Index.{texts_of_names}
 use Rattle.just_joining.specs.Definitions.{recipes_in}
 use Rattle.just_joining.specs.Recipes.{names_of}
 use Rattle.just_joining.proofs.bodies.defined_names.Given as goal

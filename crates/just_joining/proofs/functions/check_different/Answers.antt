@@ -4,9 +4,9 @@ use Rattle.std.proofs.lemmas.List.{length-map}
 use Rattle.std.proofs.lemmas.Option.{slice_get_read}
 use Rattle.just_names.specs.Name.{text_of_name}
 use Rattle.just_names.specs.declared.name.Name.{Name}
-use Rattle.just_joining.specs.Contents.{signatures, texts_of_names}
+use Rattle.just_joining.specs.Contents.{signatures}
+use Rattle.just_index.specs.Index.{texts_of_names, Repeats}
 use Rattle.just_joining.specs.Definitions.{functions_in}
-use Rattle.just_joining.specs.Index.{Repeats}
 use Rattle.just_joining.proofs.Signatures.{functions_redefined}
 use Rattle.just_joining.proofs.functions.check_different.Goals as goal
 

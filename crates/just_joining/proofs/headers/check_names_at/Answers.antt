@@ -5,7 +5,7 @@ use Rattle.std.proofs.lemmas.Option.{slice_get_read}
 use Rattle.just_graph.proofs.Index.{map_get}
 use Rattle.just_names.specs.Name.{text_of_name}
 use Rattle.just_records.specs.declared.parameter.Parameter.{Parameter}
-use Rattle.just_joining.specs.Index.{Repeats}
+use Rattle.just_index.specs.Index.{Repeats}
 use Rattle.just_joining.specs.Definitions.{recipes_in}
 use Rattle.just_joining.proofs.RecipePlaces.{length-lent, has_duplicate}
 use Rattle.just_joining.proofs.headers.check_names_at.Goals as goal

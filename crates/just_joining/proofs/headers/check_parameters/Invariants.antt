@@ -1,5 +1,5 @@
 use Rattle.std.proofs.Common.{ℕ, ◌<◌}
-use Rattle.just_joining.specs.Index.{AreDifferent}
+use Rattle.just_index.specs.Index.{AreDifferent}
 use Rattle.just_joining.specs.Recipes.{NoneFollows, parameter_names, recipe_at}
 use Rattle.just_joining.specs.Definitions.{recipes_in}
 use Rattle.just_joining.proofs.headers.check_parameters.Given as goal

@@ -6,9 +6,8 @@ use Rattle.just_errors.specs.Causes.{Reports}
 use Rattle.just_names.specs.Name.{text_of_name}
 use Rattle.just_names.specs.declared.name.Name.{Name}
 use Rattle.just_errors.proofs.Lifts.{reports_by}
-use Rattle.just_joining.specs.Contents.{texts_of_names}
+use Rattle.just_index.specs.Index.{texts_of_names, AreDifferent}
 use Rattle.just_joining.specs.Files.{asts_in}
-use Rattle.just_joining.specs.Index.{AreDifferent}
 use Rattle.just_joining.specs.Named.{name_by, said_from}
 use Rattle.just_joining.specs.Rules.{Modules}
 use Rattle.just_joining.specs.OfPlaces.{RepeatsNames, names_of_place}

@@ -1,6 +1,5 @@
 use Rattle.std.proofs.Common.{ℕ, ◌<◌, slice_index}
-use Rattle.just_joining.specs.Contents.{texts_of_names}
-use Rattle.just_joining.specs.Index.{AreDifferent}
+use Rattle.just_index.specs.Index.{texts_of_names, AreDifferent}
 use Rattle.just_joining.specs.OfPlaces.{names_of_place}
 use Rattle.just_joining.proofs.module_names.check_module_names.Given as goal
 

@@ -31,7 +31,7 @@ order-requires-clause-roots c = λ k d h.
     omega (arith, c.requires.rows.count)
 
 pub returns-in-Ok-clause-kept : goal.returns-in-Ok-clause-kept
-returns-in-Ok-clause-kept c = λ _ h.
+returns-in-Ok-clause-kept c = λ lists _ h.
     let long : length (recipes_in c.args.definitions.now) ≡ length c.args.definitions.now.recipes.items = length-lent c.args.definitions.now.recipes.items in
     let count : c.len.result ≡ length c.args.definitions.now.recipes.items = grind (arith, common_steps) in
     let rows = subst (λ n. EachRow (IsRow (recipes_in c.args.definitions.now)) n c.args.rows.now) (sym long) c.requires.rows in
@@ -76,7 +76,7 @@ recipe_at-last-requires c =
     omega arith
 
 pub returns-clause-named : goal.returns-clause-named
-returns-clause-named c =
+returns-clause-named c = λ lists.
     let rows = subst (λ n. EachRow (IsRow (recipes_in c.args.definitions.now)) n c.args.rows.now) (sym (length-lent c.args.definitions.now.recipes.items)) c.requires.rows in
     let edge : IsCircle (HasEdge c.args.rows.now) c.in-Err.circle.items = rw c.in-Err.is at c.in_ok-order.ensures.circle in
     let circle : IsCircle (Depends (recipes_in c.args.definitions.now)) c.in-Err.circle.items = circle_by (λ a b. (edges (recipes_in c.args.definitions.now) c.requires.different c.args.rows.now rows a b).0) c.in-Err.circle.items edge in
@@ -86,7 +86,7 @@ returns-clause-named c =
     let final : c.index.result.now ≡ slice_index c.in-Err.circle.items (length c.in-Err.circle.items - 1) = last_read _ _ _ again edge.steps c.index.ensures in
     let names = c.in_ok-names-in-Err.ensures ∙ ap (map (λ a. name_of (recipe_at (recipes_in c.args.definitions.now) a))) c.as_slice-in-Err.ensures.value in
     let recipe = c.new.ensures ∙ (c.lexeme.ensures ∙ ap name_of c.recipe_at-last.ensures.there) in
-    subst (λ (p : Place). Dependencies (recipes_in c.args.definitions.now) (Broken p (kind.CircularRecipeDependency c.new.result c.in_ok-names-in-Err.names))) (sym c.dependency_token.ensures.token_is)
+    subst (λ (p : Place). Dependencies lists (recipes_in c.args.definitions.now) (Broken p (kind.CircularRecipeDependency c.new.result c.in_ok-names-in-Err.names))) (sym c.dependency_token.ensures.token_is)
     (circular (circle_of (recipes_in c.args.definitions.now) c.in-Err.circle.items circle _ _ names (recipe ∙ ap (λ x. name_of (recipe_at (recipes_in c.args.definitions.now) x)) last))
     (closing_dependency (recipes_in c.args.definitions.now) c.in-Err.circle.items circle c.new.result c.in_ok-names-in-Err.names c.index-closing.result.now c.index.result.now c.dependency_token.result names recipe last final c.dependency_token.ensures))
 

@@ -19,7 +19,7 @@ returns-in_default-clause-named c =
     let same_many = ap (λ (o : Recipe UnresolvedDependency). length (dependency_paths o)) c.recipe_at-recipe.ensures.there in
     let within : c.args.at < length c.as_slice.result.now = omega (arith, c.requires.at, many, same_many, length-map c.recipe_at-recipe.result.now.dependencies (λ (d : UnresolvedDependency). texts_of_path d.recipe)) in
     is_unknown (recipes_in c.args.definitions.now) (get bytes_eq c.args.index.now) c.requires.index c.args.place c.args.at inside c.recipe_at-recipe.result.now c.recipe_at-recipe.ensures.there c.as_slice.result.now c.index-as_slice-at.result
-    c.as_slice.ensures c.index-as_slice-at.is within c.new.result c.in_ok-clone.field-0 c.copied.result (c.new.ensures ∙ c.lexeme.ensures) c.in_ok-clone.ensures.cases
+    c.as_slice.ensures c.index-as_slice-at.is within c.args.settings.now.lists c.new.result c.in_ok-clone.field-0 c.copied.result (c.new.ensures ∙ c.lexeme.ensures) c.in_ok-clone.ensures.cases
     c.copied.ensures (search rules)
 
 pub returns-clause-named : goal.returns-clause-named
@@ -30,6 +30,6 @@ returns-clause-named c =
     let same_many = ap (λ (o : Recipe UnresolvedDependency). length (dependency_paths o)) c.recipe_at-recipe.ensures.there in
     let within : c.args.at < length c.as_slice.result.now = omega (arith, c.requires.at, many, same_many, length-map c.recipe_at-recipe.result.now.dependencies (λ (d : UnresolvedDependency). texts_of_path d.recipe)) in
     is_mismatch (recipes_in c.args.definitions.now) (get bytes_eq c.args.index.now) c.requires.index c.args.place c.args.at inside c.recipe_at-recipe.result.now c.recipe_at-recipe.ensures.there c.as_slice.result.now c.index-as_slice-at.result
-    c.as_slice.ensures c.index-as_slice-at.is within c.in-Some.found c.min_arguments-min.result c.max_arguments.result c.recipe_at-named.result.now c.in_ok-clone-2.field-0 c.copied-2.result c.in_ok-clone-2.ensures.cases
+    c.as_slice.ensures c.index-as_slice-at.is within c.args.settings.now.lists c.in-Some.found c.min_arguments-min.result c.max_arguments.result c.recipe_at-named.result.now c.in_ok-clone-2.field-0 c.copied-2.result c.in_ok-clone-2.ensures.cases
     c.copied-2.ensures (search rules)
     c.recipe_at-named.ensures.there c.min_arguments-min.ensures c.max_arguments.ensures (omega (arith, c.if-min-eq0.false))

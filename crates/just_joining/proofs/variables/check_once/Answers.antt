@@ -3,8 +3,7 @@ use Rattle.std.specs.List.{slice_get}
 use Rattle.std.proofs.lemmas.List.{length-map}
 use Rattle.std.proofs.lemmas.Option.{slice_get_read}
 use Rattle.just_names.specs.Name.{text_of_name}
-use Rattle.just_joining.specs.Contents.{texts_of_names}
-use Rattle.just_joining.specs.Index.{Repeats}
+use Rattle.just_index.specs.Index.{texts_of_names, Repeats}
 use Rattle.just_joining.proofs.Defining.{assigned_again}
 use Rattle.just_joining.proofs.variables.check_once.Goals as goal
 

@@ -1,6 +1,5 @@
 use Rattle.std.proofs.Common.{◌≢◌, ℕ, ◌<◌, length}
-use Rattle.just_joining.specs.Contents.{texts_of_names}
-use Rattle.just_joining.specs.Index.{name_at}
+use Rattle.just_index.specs.Index.{texts_of_names, name_at}
 use Rattle.just_joining.proofs.variables.check_unexported.Given as goal
 
 abbrev pub invariant-loop-name : goal.invariant-loop-name

@@ -5,10 +5,10 @@ use Rattle.just_graph.specs.Steps.{IsOnce}
 use Rattle.just_graph.proofs.Index.{some_same}
 use Rattle.just_errors.specs.Causes.{Keeps, Reports}
 use Rattle.just_parts.specs.Items.{Ast}
-use Rattle.just_joining.specs.Contents.{Contents, texts_of_names}
+use Rattle.just_joining.specs.Contents.{Contents}
+use Rattle.just_index.specs.Index.{texts_of_names, AreDifferent}
 use Rattle.just_joining.specs.Defaults.{Defaults, NoneMarked}
 use Rattle.just_joining.specs.Definitions.{contents_in, recipes_in}
-use Rattle.just_joining.specs.Index.{AreDifferent}
 use Rattle.just_joining.specs.Files.{asts_in}
 use Rattle.just_joining.specs.Groups.{BreaksContents, KeepsContents, settings_of}
 use Rattle.just_joining.specs.Kept.{kept_recipes}
@@ -20,7 +20,7 @@ use Rattle.just_errors.proofs.Lifts.{reports_by}
 use Rattle.just_graph.proofs.Members.{contained, is_in}
 use Rattle.just_joining.proofs.Keeping.{kept_number}
 use Rattle.just_modules.specs.Analysis.{BreaksRecipes, IsDefaultAmong, IsDefaultOf, IsMarked}
-use Rattle.just_modules.proofs.Grounds.{all_kept, bodies_under, defaults_broken, recipes_broken}
+use Rattle.just_modules.proofs.Grounds.{all_kept, bodies_under, defaults_broken, dependencies_under, recipes_broken}
 use Rattle.just_joining.specs.Resolved.{AreResolved, HasPriors, unresolved_numbers}
 use Rattle.just_modules.proofs.Makings.{default_resolved, resolved_numbers}
 use Rattle.just_modules.proofs.analyzer.analyze_module.Goals as goal
@@ -56,7 +56,7 @@ returns-in_err-default-clause-named g c =
     let named : Reports (Defaults (recipes_in c.in_ok-kept.kept)) c.in_err-default.field-0.0 = c.in_err-default.ensures.named in
     IfErr-weaker c.from_residual-in_err-default.result (Reports (Defaults (recipes_in c.in_ok-kept.kept))) _
     (λ e h. subst (λ n. Reports (BreaksContents layers n) e) c.in_ok-definitions.ensures (reports_by (Defaults (recipes_in c.in_ok-kept.kept)) (BreaksContents layers m)
-    (λ x k. defaults_broken layers m c.in_ok-evaluated.ensures.kept (bodies_under layers.syntax (settings_of layers.evaluator m) s m c.in_ok-evaluated.ensures.settings c.in_ok-kept.ensures.bodies) c.in_ok-kept.ensures.dependencies x
+    (λ x k. defaults_broken layers m c.in_ok-evaluated.ensures.kept (bodies_under layers m s c.in_ok-evaluated.ensures.settings c.in_ok-kept.ensures.bodies) (dependencies_under layers m s c.in_ok-evaluated.ensures.settings c.in_ok-kept.ensures.dependencies) x
     (subst (λ (rs : List (Recipe UnresolvedDependency)). Defaults rs x) c.in_ok-kept.ensures.recipes k)) e h)) (search (rules, named, c.from_residual-in_err-default.ensures.1, c.from_residual-in_err-default.ensures.0))
 
 pub append-requires : goal.append-requires
@@ -69,7 +69,8 @@ pub returns-clause-kept : goal.returns-clause-kept
 returns-clause-kept g c =
     let layers = layers_of (g.S.Syntax.answers c.args.syntax.now) (g.E.Evaluation.answers c.args.evaluation.now) in
     let m = contents_in c.in_ok-definitions.definitions in
-    subst (KeepsContents layers) c.in_ok-definitions.ensures (all_kept layers m c.in_ok-evaluated.ensures.kept (bodies_under layers.syntax (settings_of layers.evaluator m) c.in_ok-evaluated.evaluated.settings m c.in_ok-evaluated.ensures.settings c.in_ok-kept.ensures.bodies) c.in_ok-kept.ensures.dependencies
+    let s = c.in_ok-evaluated.evaluated.settings in
+    subst (KeepsContents layers) c.in_ok-definitions.ensures (all_kept layers m c.in_ok-evaluated.ensures.kept (bodies_under layers m s c.in_ok-evaluated.ensures.settings c.in_ok-kept.ensures.bodies) (dependencies_under layers m s c.in_ok-evaluated.ensures.settings c.in_ok-kept.ensures.dependencies)
     (subst (λ (rs : List (Recipe UnresolvedDependency)). Keeps (Defaults rs)) c.in_ok-kept.ensures.recipes c.in_ok-default.ensures.kept))
 
 pub returns-clause-settings : goal.returns-clause-settings

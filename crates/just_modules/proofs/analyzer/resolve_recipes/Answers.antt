@@ -7,7 +7,7 @@ use Rattle.just_errors.proofs.Lifts.{reports_by}
 use Rattle.just_parts.specs.declared.layers.ast.UnresolvedDependency.{UnresolvedDependency}
 use Rattle.just_parts.specs.declared.recipe.Recipe.{Recipe}
 use Rattle.just_joining.specs.Definitions.{contents_in, recipes_in}
-use Rattle.just_joining.specs.Index.{AreDifferent}
+use Rattle.just_index.specs.Index.{AreDifferent}
 use Rattle.just_joining.specs.Recipes.{names_of}
 use Rattle.just_joining.specs.Resolved.{AreResolved, HasPriors, Resolving, unresolved_numbers}
 use Rattle.just_joining.specs.Rules.{Bodies, Dependencies}
@@ -35,11 +35,11 @@ returns-in_err-check_bodies-clause-named g c =
 
 pub returns-in_err-rows-clause-named : goal.returns-in_err-rows-clause-named
 returns-in_err-rows-clause-named g c =
-    IfErr-weaker c.from_residual-in_err-rows.result (Reports (Dependencies (recipes_in c.in_ok-kept.kept))) _
-    (λ e h. reports_by (Dependencies (recipes_in c.in_ok-kept.kept)) (BreaksRecipes _ _ _) (λ x k. in_dependencies c.in_ok-check_bodies.ensures.kept (subst (λ (rs : List (Recipe UnresolvedDependency)). Dependencies rs x) c.in_ok-kept.ensures.recipes k)) e h) (search rules)
+    IfErr-weaker c.from_residual-in_err-rows.result (Reports (Dependencies c.args.settings.now.lists (recipes_in c.in_ok-kept.kept))) _
+    (λ e h. reports_by (Dependencies c.args.settings.now.lists (recipes_in c.in_ok-kept.kept)) (BreaksRecipes _ _ _) (λ x k. in_dependencies c.in_ok-check_bodies.ensures.kept (subst (λ (rs : List (Recipe UnresolvedDependency)). Dependencies c.args.settings.now.lists rs x) c.in_ok-kept.ensures.recipes k)) e h) (search rules)
 
 pub returns-clause-dependencies : goal.returns-clause-dependencies
-returns-clause-dependencies g c = subst (λ (rs : List (Recipe UnresolvedDependency)). Keeps (Dependencies rs)) c.in_ok-kept.ensures.recipes c.in_ok-rows.ensures.kept
+returns-clause-dependencies g c = subst (λ (rs : List (Recipe UnresolvedDependency)). Keeps (Dependencies c.args.settings.now.lists rs)) c.in_ok-kept.ensures.recipes c.in_ok-rows.ensures.kept
 
 pub returns-clause-resolved : goal.returns-clause-resolved
 returns-clause-resolved g c =

@@ -9,9 +9,10 @@ use Rattle.just_parts.specs.Asts.{AstKey}
 use Rattle.just_errors.specs.Causes.{Reports}
 use Rattle.just_parts.specs.Items.{Ast}
 use Rattle.just_joining.specs.Files.{asts_in, keys_in}
-use Rattle.just_modules.specs.Justfiles.{by_name, slot, with_names}
-use Rattle.just_joining.specs.Contents.{texts_of_names}
-use Rattle.just_joining.specs.Index.{AreDifferent}
+use Rattle.just_modules.specs.Justfiles.{by_name, slot, with_labels}
+use Rattle.just_modules.specs.Noted.{notes_from}
+use Rattle.just_notes.specs.Labels.{label_by}
+use Rattle.just_index.specs.Index.{texts_of_names, AreDifferent}
 use Rattle.just_joining.specs.Named.{AreAdded, contents_from, name_by, said_from, recipes_by, recipes_from}
 use Rattle.just_joining.specs.Resolved.{HasPriors, unresolved_numbers}
 use Rattle.just_parts.specs.Layers.{layers_of}
@@ -21,8 +22,8 @@ use Rattle.just_modules.proofs.Makings.{is_of_same}
 use Rattle.just_joining.proofs.Joining.{row_lent, some_at}
 use Rattle.just_modules.proofs.compiling.compile_place.Goals as goal
 
-pub module_names-requires : goal.module_names-requires
-module_names-requires g c =
+pub labels_at-requires : goal.labels_at-requires
+labels_at-requires g c =
     let row = row_lent c.args.joined.now.files.items c.args.place c.index.result.now c.as_slice-row.result.now (omega (arith, c.requires.ready.there, c.requires.files)) c.index.ensures c.as_slice-row.ensures.value in
     subst (λ (xs : List ℕ). All (λ q. q < length c.args.files.now.asts.items) xs) (sym row) c.requires.ready.files_there
 
@@ -41,11 +42,16 @@ take_inner-requires-clause-there g c =
     let row = row_lent c.args.joined.now.modules.items c.args.place c.index-2.result.now c.as_slice.result.now (omega (arith, c.requires.ready.there, c.requires.modules)) c.index-2.ensures c.as_slice.ensures.value in
     (c.requires.inner.0, c.requires.inner.1 ∙ ap (map (slot c.args.slots.now.items)) (sym row))
 
-pub take_inner-requires-clause-names : goal.take_inner-requires-clause-names
-take_inner-requires-clause-names g c =
+pub take_inner-requires-clause-labels : goal.take_inner-requires-clause-labels
+take_inner-requires-clause-labels g c =
     let row = row_lent c.args.joined.now.modules.items c.args.place c.index-2.result.now c.as_slice.result.now (omega (arith, c.requires.ready.there, c.requires.modules)) c.index-2.ensures c.as_slice.ensures.value in
     let files = row_lent c.args.joined.now.files.items c.args.place c.index.result.now c.as_slice-row.result.now (omega (arith, c.requires.ready.there, c.requires.files)) c.index.ensures c.as_slice-row.ensures.value in
-    ap length (c.as_slice-2.ensures.value ∙ c.in_ok-names.ensures ∙ ap (said_from name_by (g.S.Syntax.answers c.args.syntax.now).enabled (asts_in c.args.files.now)) files) ∙ c.requires.ready.names ∙ ap length (sym row)
+    ap length (c.as_slice-2.ensures.value ∙ c.in_ok-labels.ensures ∙ ap (said_from label_by (g.S.Syntax.answers c.args.syntax.now).enabled (asts_in c.args.files.now)) files) ∙ c.requires.ready.labels ∙ ap length (sym row)
+
+pub notes_at-requires : goal.notes_at-requires
+notes_at-requires g c =
+    let row = row_lent c.args.joined.now.files.items c.args.place c.index.result.now c.as_slice-row.result.now (omega (arith, c.requires.ready.there, c.requires.files)) c.index.ensures c.as_slice-row.ensures.value in
+    subst (λ (xs : List ℕ). All (λ q. q < length c.args.files.now.asts.items) xs) (sym row) c.requires.ready.files_there
 
 pub analyze_module-requires-clause-places : goal.analyze_module-requires-clause-places
 analyze_module-requires-clause-places g c =
@@ -104,8 +110,9 @@ returns-clause-compiled g c =
         default = subst (λ (xs : List ℕ). HasDefault (contents_from enabled asts xs) (recipes_by enabled (Some own.0)) c.in_ok-justfile.justfile) row (c.in_ok-justfile.ensures.default own.0 own.1);
         fields = is_of_same (contents_from enabled asts c.as_slice-row.result.now) _ own.0 c.in_ok-clone.field-0 c.args.loaded.now c.in_ok-from_str.field-0 c.index-3.result.now.now.1 c.in_ok-justfile.justfile
             (ap (contents_from enabled asts) row) c.in_ok-clone.ensures.cases (c.in_ok-from_str.ensures ∙ c.as_str.ensures) (c.in_ok-justfile.ensures.fields own.0 own.1);
+        notes = c.in_ok-justfile.ensures.notes ∙ c.in_ok-notes_at.ensures ∙ ap (notes_from enabled asts) row;
         modules = c.in_ok-justfile.ensures.modules ∙ c.modules.view_is ∙ c.in_ok-modules.ensures.modules inner (e ∙ ap (map (slot c.args.slots.now.items)) (sym inner_row))
-            ∙ ap (λ names. by_name (with_names inner names)) (c.as_slice-2.ensures.value ∙ c.in_ok-names.ensures ∙ ap (said_from name_by enabled asts) row);
+            ∙ ap (λ labels. by_name (with_labels inner labels)) (c.as_slice-2.ensures.value ∙ c.in_ok-labels.ensures ∙ ap (said_from label_by enabled asts) row);
       };
       here = get_or-set_same c.take_inner.new.slots.items c.args.place (Some c.in_ok-justfile.justfile) None room;
       others = λ q ne out. get_or-set_other c.take_inner.new.slots.items c.args.place q (Some c.in_ok-justfile.justfile) None ne ∙ c.in_ok-modules.ensures.others q (λ x. out (subst (λ xs. Contains xs q) inner_row x));

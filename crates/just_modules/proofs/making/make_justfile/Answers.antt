@@ -6,7 +6,7 @@ use Rattle.just_table.specs.Entries.{put_all}
 use Rattle.just_parts.specs.declared.layers.ast.UnresolvedDependency.{UnresolvedDependency}
 use Rattle.just_parts.specs.declared.recipe.Recipe.{Recipe}
 use Rattle.just_joining.specs.Definitions.{contents_in, recipes_in}
-use Rattle.just_joining.specs.Index.{AreDifferent}
+use Rattle.just_index.specs.Index.{AreDifferent}
 use Rattle.just_joining.specs.Recipes.{names_of}
 use Rattle.just_joining.proofs.Keeping.{kept_different}
 use Rattle.just_joining.proofs.RecipePlaces.{length-lent}

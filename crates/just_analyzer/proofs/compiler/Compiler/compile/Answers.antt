@@ -13,7 +13,6 @@ use Rattle.just_modules.specs.Analyzed.{IsAnalyzed}
 use Rattle.just_modules.specs.Groups.{NamesModules}
 use Rattle.just_modules.specs.Modules.{heading, label}
 use Rattle.just_joining.specs.Reading.{reading_of}
-use Rattle.just_analyzer.specs.Judged.{judged}
 use Rattle.just_analyzer.specs.Readings.{root_heading}
 use Rattle.just_analyzer.specs.Rules.{Names, in_files, in_modules}
 use Rattle.just_analyzer.proofs.Compilations.{all_kept, none_named, refused}
@@ -22,39 +21,39 @@ use Rattle.just_analyzer.proofs.compiler.Compiler.compile.Goals as goal
 
 pub returns-in_err-path : goal.returns-in_err-path
 returns-in_err-path g c =
-    refused (g.E.Evaluation.answers c.args.evaluation.now) (world_of c.args.sources.now c.args.config.now (judged (g.S.Syntax.answers c.args.syntax.now)) c.args.root.now) c.from_residual.result (search rules) (search rules)
+    refused (g.E.Evaluation.answers c.args.evaluation.now) (world_of c.args.sources.now c.args.config.now (g.S.Syntax.answers c.args.syntax.now) c.args.root.now) c.from_residual.result (search rules) (search rules)
 
 pub returns-in_err-asts : goal.returns-in_err-asts
 returns-in_err-asts g c =
-    let w : World = world_of c.args.sources.now c.args.config.now (judged (g.S.Syntax.answers c.args.syntax.now)) c.args.root.now in
+    let w : World = world_of c.args.sources.now c.args.config.now (g.S.Syntax.answers c.args.syntax.now) c.args.root.now in
     refused (g.E.Evaluation.answers c.args.evaluation.now) w c.from_residual-in_err-asts.result (search rules) (lifted (NamesInFiles w) (Names (g.E.Evaluation.answers c.args.evaluation.now) w) (λ _ n. in_files n) c.from_residual-in_err-asts.result (let here : Reports (NamesInFiles w) c.in_err-asts.field-0.0 = c.in_err-asts.ensures.named in search (rules, here)))
 
 pub returns-in_err-loaded : goal.returns-in_err-loaded
 returns-in_err-loaded g c =
-    refused (g.E.Evaluation.answers c.args.evaluation.now) (world_of c.args.sources.now c.args.config.now (judged (g.S.Syntax.answers c.args.syntax.now)) c.args.root.now) c.from_residual-in_err-loaded.result (search rules) (search rules)
+    refused (g.E.Evaluation.answers c.args.evaluation.now) (world_of c.args.sources.now c.args.config.now (g.S.Syntax.answers c.args.syntax.now) c.args.root.now) c.from_residual-in_err-loaded.result (search rules) (search rules)
 
 pub returns-in_err-paths : goal.returns-in_err-paths
 returns-in_err-paths g c =
-    refused (g.E.Evaluation.answers c.args.evaluation.now) (world_of c.args.sources.now c.args.config.now (judged (g.S.Syntax.answers c.args.syntax.now)) c.args.root.now) c.from_residual-in_err-paths.result (search rules) (search rules)
+    refused (g.E.Evaluation.answers c.args.evaluation.now) (world_of c.args.sources.now c.args.config.now (g.S.Syntax.answers c.args.syntax.now) c.args.root.now) c.from_residual-in_err-paths.result (search rules) (search rules)
 
 pub analyze-requires-clause-paths : goal.analyze-requires-clause-paths
 analyze-requires-clause-paths g c = λ k held. subst (λ o. IsSome o) (sym (c.in_ok-paths.ensures k held)) refl
 
 pub analyze-requires-clause-held : goal.analyze-requires-clause-held
 analyze-requires-clause-held g c =
-    let w : World = world_of c.args.sources.now c.args.config.now (judged (g.S.Syntax.answers c.args.syntax.now)) c.args.root.now in
+    let w : World = world_of c.args.sources.now c.args.config.now (g.S.Syntax.answers c.args.syntax.now) c.args.root.now in
     let asts = get same_ast_key c.in_ok-asts.field-0.asts in
     let top : c.root-module_path.result ≡ record { components = []; spaced = false } = λ j. record { components = c.root-module_path.ensures.components j; spaced = c.root-module_path.ensures.spaced j } in
     subst (λ o. IsSome o) (sym (ap (λ (m : Modulepath). asts (m, w.root)) top ∙ (root_held w asts c.in_ok-asts.field-0.loaded c.in_ok-asts.ensures.loaded).1)) refl
 
 pub analyze-requires-clause-asts : goal.analyze-requires-clause-asts
 analyze-requires-clause-asts g c =
-    let w : World = world_of c.args.sources.now c.args.config.now (judged (g.S.Syntax.answers c.args.syntax.now)) c.args.root.now in
+    let w : World = world_of c.args.sources.now c.args.config.now (g.S.Syntax.answers c.args.syntax.now) c.args.root.now in
     are_analyzable w (get same_ast_key c.in_ok-asts.field-0.asts) c.in_ok-asts.field-0.loaded c.in_ok-asts.ensures.loaded
 
 pub returns-in_err-justfile : goal.returns-in_err-justfile
 returns-in_err-justfile g c =
-    let w : World = world_of c.args.sources.now c.args.config.now (judged (g.S.Syntax.answers c.args.syntax.now)) c.args.root.now in
+    let w : World = world_of c.args.sources.now c.args.config.now (g.S.Syntax.answers c.args.syntax.now) c.args.root.now in
     let asts = get same_ast_key c.in_ok-asts.field-0.asts in
     let reading = reading_of w.answers.enabled asts in
     let top : c.root-module_path.result ≡ record { components = []; spaced = false } = λ j. record { components = c.root-module_path.ensures.components j; spaced = c.root-module_path.ensures.spaced j } in
@@ -64,7 +63,7 @@ returns-in_err-justfile g c =
 
 pub returns : goal.returns
 returns g c =
-    let w : World = world_of c.args.sources.now c.args.config.now (judged (g.S.Syntax.answers c.args.syntax.now)) c.args.root.now in
+    let w : World = world_of c.args.sources.now c.args.config.now (g.S.Syntax.answers c.args.syntax.now) c.args.root.now in
     let asts = get same_ast_key c.in_ok-asts.field-0.asts in
     let loaded = c.in_ok-asts.field-0.loaded in
     let top : c.root-module_path.result ≡ record { components = []; spaced = false } = λ j. record { components = c.root-module_path.ensures.components j; spaced = c.root-module_path.ensures.spaced j } in

@@ -1,6 +1,7 @@
 use Rattle.std.proofs.Common.{◌≡◌, ◌++◌, drop}
 use Rattle.just_joining.specs.Definitions.{functions_in, lists_in, recipes_in, sets_in, variables_in}
-use Rattle.just_joining.specs.Named.{function_by, name_by, said, set_by, unexported_by, variable_by}
+use Rattle.just_joining.specs.Named.{function_by, name_by, set_by, unexported_by, variable_by}
+use Rattle.just_notes.specs.Said.{said}
 use Rattle.just_joining.specs.Recipes.{recipes_of}
 use Rattle.just_joining.proofs.definitions.Definitions.add.Given as goal
 

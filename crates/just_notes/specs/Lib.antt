@@ -1,0 +1,3 @@
+pub mod Labels
+pub mod Notes
+pub mod Said
