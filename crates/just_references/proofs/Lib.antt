@@ -1,0 +1,8 @@
+pub mod Fold
+pub mod Induction
+pub mod Layers
+pub mod MentionsOf
+pub mod NumbersOf
+pub mod PartsOf
+pub mod Renumbering
+pub mod Stack

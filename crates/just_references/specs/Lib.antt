@@ -1,0 +1,4 @@
+pub mod Body
+pub mod Numbers
+pub mod Parts
+pub mod References

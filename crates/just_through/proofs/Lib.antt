@@ -1,0 +1,10 @@
+pub mod Passing
+pub mod Filtered
+pub mod Inside
+pub mod Needing
+pub mod Finishes
+pub mod Frames
+pub mod Closing
+pub mod Ordering
+pub mod WayBack
+pub mod Coming

@@ -1,0 +1,4 @@
+pub mod Through
+pub mod Finished
+pub mod Path
+pub mod Came

@@ -1,0 +1,74 @@
+//! The order of the solid nodes by what they read, and the solid nodes that a start needs.
+
+ghost use Rattle.std.specs.Prelude.{◌≡◌, ◌<◌, ◌↔◌, ℕ, true, false, filter, get_or, length, IfErr, IfOk};
+ghost use Rattle.std.specs.List.{All, Contains};
+ghost use Rattle.just_graph.specs.Graph.{HasEdge, IsGraph};
+ghost use Rattle.just_graph.specs.Steps.{IsCircle, IsOnce};
+ghost use Rattle.just_through.specs.Through.{IsOrderThrough, IsSolid, Needed, Reads};
+
+use crate::circles::solid_circle;
+use crate::finishing::finish;
+use just_graph::reach;
+use std::alloc::{AllocError, Global};
+
+// The nodes that are solid, in their order.
+fn solid_ones(alloc: Global, solid: &[bool], nodes: &[usize]) -> Result<Vec<usize>, AllocError>
+    requires { All (λ a. a < length solid.now) nodes.now }
+    ensures { IfOk result (λ kept. kept.items ≡ filter (λ a. get_or solid.now a false) nodes.now) }
+{
+    nodes
+        .iter()
+        .copied()
+        .filter(|node| solid[*node])
+        .collect(alloc)
+}
+
+/// Lists the solid nodes that the roots lead to, each once and after whatever it reads. Or answers a circle of solid
+/// nodes, each of which reads the next: then there is no such order. A solid node reads the solid nodes that its edges
+/// lead to, also through nodes that pass.
+///
+/// It takes time in the number of nodes and edges, and no recursion. The error is want of memory.
+pub fn order_through(
+    alloc: Global,
+    edges: &[Vec<usize>],
+    solid: &[bool],
+    roots: &[usize],
+) -> Result<Result<Vec<usize>, Vec<usize>>, AllocError>
+    requires graph { IsGraph edges.now }
+    requires solid { length solid.now ≡ length edges.now }
+    requires roots { All (λ a. a < length edges.now) roots.now }
+    ensures ordered { IfOk result (λ answer. IfOk answer (λ order. IsOrderThrough (HasEdge edges.now) solid.now roots.now order.items)) }
+    ensures circle { IfOk result (λ answer. IfErr answer (λ circle. IsCircle (Reads (HasEdge edges.now) solid.now) circle.items)) }
+{
+    let finished = finish(alloc, edges, roots)?;
+    if let Some(circle) = solid_circle(alloc, edges, solid, finished.as_slice())? {
+        return Ok(Err(circle));
+    }
+    let order = solid_ones(alloc, solid, finished.as_slice())?;
+    Ok(Ok(order))
+}
+
+/// Lists the solid nodes that `start` needs, each once: its own solid nodes, those that its other nodes lead to through
+/// nodes that pass, and whatever a listed node reads, unless `stops` marks that node.
+///
+/// It takes time in the number of nodes and edges, and no recursion. The error is want of memory.
+pub fn need(
+    alloc: Global,
+    edges: &[Vec<usize>],
+    solid: &[bool],
+    start: &[usize],
+    stops: &[bool],
+) -> Result<Vec<usize>, AllocError>
+    requires graph { IsGraph edges.now }
+    requires solid { length solid.now ≡ length edges.now }
+    requires start { All (λ a. a < length edges.now) start.now }
+    requires stops { length stops.now ≡ length edges.now }
+    // Only solid nodes are stopped.
+    requires stops_solid { (a : ℕ) → get_or stops.now a false ≡ true → IsSolid solid.now a }
+    ensures once { IfOk result (λ needed. IsOnce needed.items) }
+    ensures needed { IfOk result (λ needed. (a : ℕ) → Contains needed.items a ↔ Needed (HasEdge edges.now) solid.now start.now stops.now a) }
+{
+    let found = reach(alloc, edges, start, stops)?;
+    let needed = solid_ones(alloc, solid, found.as_slice())?;
+    Ok(needed)
+}

@@ -1,0 +1,5 @@
+pub mod Known
+pub mod Misnaming
+pub mod Places
+pub mod Reading
+pub mod Steps
