@@ -1,3 +1,4 @@
+pub mod Alike
 pub mod Between
 pub mod Checked
 pub mod Circles

@@ -36,7 +36,7 @@ abbrev pub none_hidden : Text → Bool
 none_hidden name = false
 
 -- how many arguments a function takes: one of the module comes before a built-in one of its name
-abbrev range_with : Option FunctionDefinition → Option ArgumentRange → Option ArgumentRange
+abbrev pub range_with : Option FunctionDefinition → Option ArgumentRange → Option ArgumentRange
 range_with None builtin = builtin
 range_with (Some f) builtin = Some (record { min = length f.parameters; max = length f.parameters })
 
