@@ -128,6 +128,34 @@ def variables(count):
     return bundle(*(f"v{n} := '{n}'" for n in range(count)), "a:"), ["a"]
 
 
+def variable_chain(count):
+    """Many variables, each of which reads the next."""
+    return bundle(*(f"v{n} := v{n + 1}" for n in range(count - 1)), f"v{count - 1} := 'a'", "a:"), ["a"]
+
+
+def function_chain(count):
+    """Functions that call each other in a chain, and as many variables that call the first."""
+    functions = [f"f{n}() := f{n + 1}()" for n in range(count - 1)] + [f"f{count - 1}() := 'a'"]
+    return bundle(*functions, *(f"v{n} := f0()" for n in range(count)), "a:"), ["a"]
+
+
+def function_circle(count):
+    """Functions that call each other in a circle, and a variable that one of them reads and that calls none."""
+    functions = [f"f{n}() := f{(n + 1) % count}()" for n in range(count)]
+    return bundle(*functions, "g() := f0() + v", "v := 'a'", "w := g()", "a:"), ["a"]
+
+
+def circle_of_variables(count):
+    """Many variables, each of which reads the next, and the last the first, which is refused."""
+    return bundle(*(f"v{n} := v{(n + 1) % count}" for n in range(count)), "a:"), ["a"]
+
+
+def many_reads(count):
+    """A variable that reads so many others in one list."""
+    names = ", ".join(f"v{n}" for n in range(count))
+    return bundle("set lists", *(f"v{n} := 'a'" for n in range(count)), f"all := [{names}]", "a:"), ["a"]
+
+
 def variable_twice(count):
     """One variable, assigned many times in one file, as its setting allows."""
     return bundle("set allow-duplicate-variables", *(f"v := '{n}'" for n in range(count)), "a:"), ["a"]
@@ -216,6 +244,11 @@ INPUTS = {
     "2,000 modules that set seven settings each": settings(2_000),
     "a setting that is set 100,000 times": settings_twice(100_000),
     "20,000 variables": variables(20_000),
+    "20,000 variables that each read the next": variable_chain(20_000),
+    "2,000 functions in a chain, and 2,000 variables that call the first": function_chain(2_000),
+    "10,000 functions in a circle": function_circle(10_000),
+    "circle of 20,000 variables": circle_of_variables(20_000),
+    "list of 100,000 variables": many_reads(100_000),
     "a variable that is assigned 100,000 times": variable_twice(100_000),
     "1,000 recipes, each in every one of 100 files": duplicates(100_000),
     "a recipe that is defined 100,000 times over 100 files": one_name(100_000),

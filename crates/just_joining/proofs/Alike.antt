@@ -32,7 +32,9 @@ use Rattle.just_names.specs.declared.name.Namepath.{Namepath}
 use Rattle.just_errors.specs.declared.error.Definition.TheVariants as definition
 use Rattle.just_joining.specs.Contents.{Contents, Defined, Signature, all_defined, defined, defined_in, defined_recipe, function_names, module_of_name, signature, signatures, variable_names}
 use Rattle.just_index.specs.Index.{texts_of_names, Repeats}
-use Rattle.just_joining.specs.Groups.{Breaks, Group, OfAliases, OfBodies, OfConstants, OfDependencies, OfHeaders, OfNames, functions_under, settings_of}
+use Rattle.just_joining.specs.Groups.{Breaks, Group, OfAliases, OfBodies, OfConstants, OfDependencies, OfExpressions, OfHeaders, OfNames, functions_under, known_of, settings_of, variables_under}
+use Rattle.just_variables.specs.Known.{Known, known}
+use Rattle.just_variables.specs.Misnaming.{Expressions}
 use Rattle.just_joining.specs.Defaults.{Defaults, IsLater, duplicate_default, is_default, is_marked}
 use Rattle.just_joining.specs.Kept.{claim_of_recipe, gives_way, kept_recipes, left_of}
 use Rattle.just_joining.specs.Settings.{allows_variables}
@@ -273,6 +275,9 @@ module _ (layers : Layers) (m n : Contents) (alike : AreAlikeContents m n) where
   pub settings_alike : settings_of layers.evaluator m ≡ settings_of layers.evaluator n
   settings_alike = λ i. layers.evaluator.settings (functions_by_name (functions_under (alike.functions i))) (λ _. None) (alike.sets i)
 
+  known_alike : known_of layers.syntax m ≡ known_of layers.syntax n
+  known_alike = λ i. known layers.syntax (variables_under (alike.variables i)) (functions_under (alike.functions i))
+
   variables_alike : variable_names m.variables ≡ variable_names n.variables
   variables_alike = sym (variables_located m.variables) ∙ ap variable_names alike.variables ∙ variables_located n.variables
 
@@ -293,6 +298,7 @@ module _ (layers : Layers) (m n : Contents) (alike : AreAlikeContents m n) where
   pub breaks_alike : (g : Group) (c : Cause) → Breaks layers g m c → Breaks layers g n c
   breaks_alike OfHeaders c b = headers_alike c b
   breaks_alike OfNames c b = names_alike c b
+  breaks_alike OfExpressions c b = subst (λ (k : Known). Expressions k c) known_alike b
   breaks_alike OfConstants c b = subst (λ (o : Option Settings). Constants o c) settings_alike b
   breaks_alike OfBodies c b = under_alike (λ s. Bodies layers.syntax s m) (λ s. Bodies layers.syntax s n) bodies_alike c b
   breaks_alike OfAliases c b = defaults_alike (kept_recipes m.recipes) (kept_recipes n.recipes) (kept_alike_recipes m.recipes n.recipes alike.recipes) c b

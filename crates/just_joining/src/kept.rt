@@ -146,18 +146,29 @@ fn kept_variables<'a, 'src>(
     Ok(kept)
 }
 
-/// The recipes and the variables that are kept, and nothing else.
-pub fn kept_definitions<'a, 'src>(
+/// The recipes that are kept, and nothing else.
+pub fn keep_recipes<'a, 'src>(
     alloc: Global,
     definitions: &Definitions<'src, 'a>,
 ) -> Result<Definitions<'src, 'a>, AllocError>
-    ensures recipes { IfOk result (λ kept. recipes_in kept ≡ kept_recipes (recipes_in definitions.now)) }
-    ensures variables { IfOk result (λ kept. variables_in kept ≡ kept_variables (variables_in definitions.now)) }
+    ensures { IfOk result (λ kept. recipes_in kept ≡ kept_recipes (recipes_in definitions.now)) }
 {
     let recipes = kept_recipes(alloc, definitions)?;
-    let variables = kept_variables(alloc, definitions)?;
     Ok(Definitions {
         recipes,
+        ..Definitions::new(alloc)
+    })
+}
+
+/// The variables that are kept, and nothing else.
+pub fn keep_variables<'a, 'src>(
+    alloc: Global,
+    definitions: &Definitions<'src, 'a>,
+) -> Result<Definitions<'src, 'a>, AllocError>
+    ensures { IfOk result (λ kept. variables_in kept ≡ kept_variables (variables_in definitions.now)) }
+{
+    let variables = kept_variables(alloc, definitions)?;
+    Ok(Definitions {
         variables,
         ..Definitions::new(alloc)
     })

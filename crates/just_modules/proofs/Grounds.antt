@@ -5,7 +5,7 @@ use Rattle.just_records.specs.declared.settings.Settings.{Settings}
 use Rattle.just_errors.specs.Causes.{Cause, Keeps}
 use Rattle.just_parts.specs.Layers.{Layers}
 use Rattle.just_joining.specs.Contents.{Contents}
-use Rattle.just_joining.specs.Groups.{Breaks, BreaksContents, KeepsBefore, KeepsContents, OfAliases, OfBodies, OfConstants, OfDependencies, OfHeaders, OfNames, settings_of}
+use Rattle.just_joining.specs.Groups.{Breaks, BreaksContents, KeepsBefore, KeepsContents, OfAliases, OfBodies, OfConstants, OfDependencies, OfExpressions, OfHeaders, OfNames, settings_of}
 use Rattle.just_joining.specs.Defaults.{Defaults}
 use Rattle.just_joining.specs.Kept.{kept_recipes}
 use Rattle.just_joining.specs.Rules.{Bodies, Constants, Dependencies, Under, settings_fault}
@@ -37,32 +37,45 @@ module _ (layers : Layers) (m : Contents) where
   pub before_names : Keeps (Breaks layers OfHeaders m) → KeepsBefore layers OfNames m
   before_names headers OfHeaders lt = headers
   before_names headers OfNames lt = absurd (omega (arith, lt))
+  before_names headers OfExpressions lt = absurd (omega (arith, lt))
   before_names headers OfConstants lt = absurd (omega (arith, lt))
   before_names headers OfBodies lt = absurd (omega (arith, lt))
   before_names headers OfDependencies lt = absurd (omega (arith, lt))
   before_names headers OfAliases lt = absurd (omega (arith, lt))
 
-  pub before_constants : Keeps (Breaks layers OfHeaders m) → Keeps (Breaks layers OfNames m) → KeepsBefore layers OfConstants m
-  before_constants headers names OfHeaders lt = headers
-  before_constants headers names OfNames lt = names
-  before_constants headers names OfConstants lt = absurd (omega (arith, lt))
-  before_constants headers names OfBodies lt = absurd (omega (arith, lt))
-  before_constants headers names OfDependencies lt = absurd (omega (arith, lt))
-  before_constants headers names OfAliases lt = absurd (omega (arith, lt))
+  pub before_expressions : Keeps (Breaks layers OfHeaders m) → Keeps (Breaks layers OfNames m) → KeepsBefore layers OfExpressions m
+  before_expressions headers names OfHeaders lt = headers
+  before_expressions headers names OfNames lt = names
+  before_expressions headers names OfExpressions lt = absurd (omega (arith, lt))
+  before_expressions headers names OfConstants lt = absurd (omega (arith, lt))
+  before_expressions headers names OfBodies lt = absurd (omega (arith, lt))
+  before_expressions headers names OfDependencies lt = absurd (omega (arith, lt))
+  before_expressions headers names OfAliases lt = absurd (omega (arith, lt))
 
-  pub before_bodies : Keeps (Breaks layers OfHeaders m) → Keeps (Breaks layers OfNames m) → Keeps (Breaks layers OfConstants m) → KeepsBefore layers OfBodies m
-  before_bodies headers names constants OfHeaders lt = headers
-  before_bodies headers names constants OfNames lt = names
-  before_bodies headers names constants OfConstants lt = constants
-  before_bodies headers names constants OfBodies lt = absurd (omega (arith, lt))
-  before_bodies headers names constants OfDependencies lt = absurd (omega (arith, lt))
-  before_bodies headers names constants OfAliases lt = absurd (omega (arith, lt))
+  pub before_constants : Keeps (Breaks layers OfHeaders m) → Keeps (Breaks layers OfNames m) → Keeps (Breaks layers OfExpressions m) → KeepsBefore layers OfConstants m
+  before_constants headers names expressions OfHeaders lt = headers
+  before_constants headers names expressions OfNames lt = names
+  before_constants headers names expressions OfExpressions lt = expressions
+  before_constants headers names expressions OfConstants lt = absurd (omega (arith, lt))
+  before_constants headers names expressions OfBodies lt = absurd (omega (arith, lt))
+  before_constants headers names expressions OfDependencies lt = absurd (omega (arith, lt))
+  before_constants headers names expressions OfAliases lt = absurd (omega (arith, lt))
+
+  pub before_bodies : Keeps (Breaks layers OfHeaders m) → Keeps (Breaks layers OfNames m) → Keeps (Breaks layers OfExpressions m) → Keeps (Breaks layers OfConstants m) → KeepsBefore layers OfBodies m
+  before_bodies headers names expressions constants OfHeaders lt = headers
+  before_bodies headers names expressions constants OfNames lt = names
+  before_bodies headers names expressions constants OfExpressions lt = expressions
+  before_bodies headers names expressions constants OfConstants lt = constants
+  before_bodies headers names expressions constants OfBodies lt = absurd (omega (arith, lt))
+  before_bodies headers names expressions constants OfDependencies lt = absurd (omega (arith, lt))
+  before_bodies headers names expressions constants OfAliases lt = absurd (omega (arith, lt))
 
   module _ (earlier : KeepsBefore layers OfBodies m) where
     before_dependencies : Keeps (Breaks layers OfBodies m) → KeepsBefore layers OfDependencies m
     before_dependencies bodies OfBodies lt = bodies
     before_dependencies bodies OfHeaders lt = earlier OfHeaders (omega arith)
     before_dependencies bodies OfNames lt = earlier OfNames (omega arith)
+    before_dependencies bodies OfExpressions lt = earlier OfExpressions (omega arith)
     before_dependencies bodies OfConstants lt = earlier OfConstants (omega arith)
     before_dependencies bodies OfDependencies lt = absurd (omega (arith, lt))
     before_dependencies bodies OfAliases lt = absurd (omega (arith, lt))
@@ -72,6 +85,7 @@ module _ (layers : Layers) (m : Contents) where
     before_aliases bodies dependencies OfDependencies lt = dependencies
     before_aliases bodies dependencies OfHeaders lt = earlier OfHeaders (omega arith)
     before_aliases bodies dependencies OfNames lt = earlier OfNames (omega arith)
+    before_aliases bodies dependencies OfExpressions lt = earlier OfExpressions (omega arith)
     before_aliases bodies dependencies OfConstants lt = earlier OfConstants (omega arith)
     before_aliases bodies dependencies OfAliases lt = absurd (omega (arith, lt))
 
@@ -92,6 +106,7 @@ module _ (layers : Layers) (m : Contents) where
     pub all_kept : Keeps (Breaks layers OfBodies m) → Keeps (Breaks layers OfDependencies m) → Keeps (Breaks layers OfAliases m) → KeepsContents layers m
     all_kept bodies dependencies aliases OfHeaders = earlier OfHeaders (omega arith)
     all_kept bodies dependencies aliases OfNames = earlier OfNames (omega arith)
+    all_kept bodies dependencies aliases OfExpressions = earlier OfExpressions (omega arith)
     all_kept bodies dependencies aliases OfConstants = earlier OfConstants (omega arith)
     all_kept bodies dependencies aliases OfBodies = bodies
     all_kept bodies dependencies aliases OfDependencies = dependencies

@@ -9,6 +9,7 @@ pub mod Forests
 pub mod Grounds
 pub mod Headed
 pub mod Held
+pub mod Judging
 pub mod Keeping
 pub mod Keys
 pub mod Makings

@@ -15,8 +15,8 @@ use Rattle.just_names.specs.declared.number.Number.{Number}
 use Rattle.just_running.specs.Recipes.{numbers}
 use Rattle.just_invoke.specs.declared.justfile.Justfile.{Justfile, out-Justfile}
 use Rattle.just_invoke.specs.declared.justfile.RecipeKey.{RecipeKey}
-use Rattle.just_modules.specs.Analysis.{AreKeysOf, HasKeysOf, IsDefaultOf, IsOf, variables_under}
-use Rattle.just_joining.specs.Groups.{functions_under}
+use Rattle.just_modules.specs.Analysis.{AreKeysOf, HasKeysOf, IsDefaultOf, IsOf}
+use Rattle.just_joining.specs.Groups.{functions_under, variables_under}
 use Rattle.just_joining.specs.Contents.{Contents}
 use Rattle.just_joining.specs.Kept.{kept_recipes}
 use Rattle.just_joining.specs.Resolved.{AreMadeOf, AreResolved, number_at, unresolved_numbers}

@@ -5,10 +5,8 @@ use Rattle.std.specs.List.{AllByRecursion, Contains}
 use Rattle.std.specs.Option.{option_map}
 use Rattle.std.specs.Ordering.{nat_cmp}
 use Rattle.std.specs.declared.cmp.Ordering.TheVariants.{Less}
-use Rattle.just_table.specs.Entries.{find, put_all}
-use Rattle.just_names.specs.Name.{text_of_name}
+use Rattle.just_table.specs.Entries.{find}
 use Rattle.just_names.specs.Modulepath.{Text}
-use Rattle.just_records.specs.declared.assignment.Assignment.{Assignment}
 use Rattle.just_records.specs.declared.settings.Settings.{Settings}
 use Rattle.just_parts.specs.Items.{Ast, Item}
 use Rattle.just_names.specs.declared.number.Number.{Number}
@@ -22,11 +20,11 @@ use Rattle.just_invoke.specs.declared.justfile.RecipeKey.{RecipeKey}
 use Rattle.just_joining.specs.Contents.{Contents}
 use Rattle.just_joining.specs.Defaults.{NoneMarked, is_marked}
 use Rattle.just_joining.specs.Files.{asts_in}
-use Rattle.just_joining.specs.Groups.{BreaksContents, KeepsContents, functions_under, settings_of}
+use Rattle.just_joining.specs.Groups.{BreaksContents, KeepsContents, functions_under, settings_of, variables_under}
 use Rattle.just_joining.specs.Named.{contents_from, recipes_by}
 use Rattle.just_joining.specs.declared.files.Files.{Files}
 use Rattle.just_joining.specs.Recipes.{name_of, line_of, recipe_at}
-use Rattle.just_joining.specs.Kept.{kept_recipes, kept_variables}
+use Rattle.just_joining.specs.Kept.{kept_recipes}
 use Rattle.just_joining.specs.Resolved.{number_at, unresolved_numbers}
 use Rattle.just_joining.specs.Rules.{Bodies, Dependencies}
 
@@ -84,10 +82,6 @@ IsDefaultAmong recipes = IsDefaultBy recipes (unresolved_numbers recipes)
 -- a module's default, of its recipes that are kept
 abbrev pub HasDefault : Contents → List (Recipe UnresolvedDependency) → Justfile → Type 0
 HasDefault m own j = IsDefaultAmong (kept_recipes m.recipes) own (out-Justfile j).default
-
--- variables under their names: of those of one name the one that is kept
-abbrev pub variables_under : List Assignment → List (Text × Assignment)
-variables_under assignments = put_all (λ (a : Assignment). text_of_name a.name) [] (kept_variables assignments)
 
 -- A module has the keys of its recipes, those that are kept, its functions and variables, the names that it unexports, the paths that it was
 -- given, and what its own file says.

@@ -15,15 +15,15 @@ ghost use Rattle.just_joining.specs.Definitions.{contents_in, functions_in, reci
 ghost use Rattle.just_joining.specs.Files.{asts_in};
 ghost use Rattle.just_modules.specs.Analysis.{BreaksFiles, BreaksRecipes, HasDefaultOf, HasSettingsOf, IsOfFiles, KeepsFiles};
 ghost use Rattle.just_joining.specs.Named.{AreAddedAt, contents_from, name_by, said_from, recipes_from};
-ghost use Rattle.just_joining.specs.Groups.{BreaksContents, KeepsBefore, OfBodies, functions_under, settings_of};
+ghost use Rattle.just_joining.specs.Groups.{BreaksContents, KeepsBefore, OfBodies, functions_under, settings_of, variables_under};
 ghost use Rattle.just_joining.specs.Rules.{Bodies, Dependencies};
 ghost use Rattle.just_parts.specs.Layers.{layers_of};
 ghost use Rattle.just_index.specs.Index.{texts_of_names, AreDifferent};
-ghost use Rattle.just_joining.specs.Kept.{kept_recipes, kept_variables};
+ghost use Rattle.just_joining.specs.Kept.{kept_recipes};
 ghost use Rattle.just_joining.specs.Resolved.{AreNew, AreResolved, HasPriors, unresolved_numbers};
 
 use crate::compiling::compile_in_order;
-use crate::constants::{Evaluated, evaluate};
+use crate::constants::{Evaluated, evaluate, judge_expressions};
 use crate::inner::{labelled, take_at};
 use crate::making::{Surroundings, default_of, make_justfile};
 use just_data::{Sequence, Shared, Text};
@@ -33,7 +33,7 @@ use just_joining::definitions::Definitions;
 use just_joining::files::{Files, ast_at, file_rows, place_files, place_of};
 use just_joining::headers::check_headers;
 use just_joining::joined::arrange;
-use just_joining::kept::kept_definitions;
+use just_joining::kept::keep_recipes;
 use just_joining::module_names::check_module_names;
 use just_joining::recipe_resolver::{order_recipes, resolve_in_order};
 use just_joining::variables::check_names;
@@ -64,7 +64,7 @@ fn definitions_at<'b, 'a, 'src, S: Syntax>(
     Ok(definitions)
 }
 
-// What is evaluated of a module that keeps the rules of headers, of names and of what is evaluated.
+// What is evaluated of a module that keeps the rules of headers, of names, of expressions and of what is evaluated.
 fn check_module<'src, 'a, S: Syntax, E: Evaluation>(
     alloc: Global,
     definitions: &Definitions<'src, 'a>,
@@ -73,17 +73,19 @@ fn check_module<'src, 'a, S: Syntax, E: Evaluation>(
 ) -> Result<Evaluated<'src>, Error<'src>>
     requires { AreDifferent (texts_of_names definitions.now.modules.items) }
     ensures kept { IfOk result (λ _. KeepsBefore (layers_of (S.answers syntax.now) (E.answers evaluation.now)) OfBodies (contents_in definitions.now)) }
+    ensures variables { IfOk result (λ it. it.assignments ≡ variables_under (variables_in definitions.now)) }
     ensures functions { IfOk result (λ it. it.functions ≡ functions_under (functions_in definitions.now)) }
     ensures settings { IfOk result (λ it. settings_of (E.answers evaluation.now) (contents_in definitions.now) ≡ Some it.settings) }
     ensures named { IfErr result (Reports (BreaksContents (layers_of (S.answers syntax.now) (E.answers evaluation.now)) (contents_in definitions.now))) }
 {
     check_headers(alloc, definitions, syntax)?;
     check_names(alloc, definitions)?;
-    let evaluated = evaluate(alloc, definitions, evaluation)?;
+    let tables = judge_expressions(alloc, definitions, syntax)?;
+    let evaluated = evaluate(alloc, definitions, tables, evaluation)?;
     Ok(evaluated)
 }
 
-// The definitions of the module at a path that are kept, with these settings, and its recipes, resolved, each after those
+// The recipes of the module at a path that are kept, with these settings, and the same resolved, each after those
 // that it depends on. An error names a rule that is broken in its bodies, or where these are kept in its dependencies.
 fn resolve_recipes<'src, 'a, S: Syntax>(
     alloc: Global,
@@ -97,12 +99,11 @@ fn resolve_recipes<'src, 'a, S: Syntax>(
     ensures bodies { IfOk result (λ _. Keeps (Bodies (S.answers syntax.now) settings.now (contents_in definitions.now))) }
     ensures dependencies { IfOk result (λ _. Keeps (Dependencies settings.now.lists (kept_recipes (recipes_in definitions.now)))) }
     ensures recipes { IfOk result (λ made. recipes_in made.0 ≡ kept_recipes (recipes_in definitions.now)) }
-    ensures variables { IfOk result (λ made. variables_in made.0 ≡ kept_variables (variables_in definitions.now)) }
     ensures resolved { IfOk result (λ made. AreResolved (kept_recipes (recipes_in definitions.now)) path.now made.1) }
     ensures named { IfErr result (Reports (BreaksRecipes (S.answers syntax.now) settings.now (contents_in definitions.now))) }
 {
     check_bodies(alloc, syntax, definitions, settings)?;
-    let kept = kept_definitions(alloc, definitions)?;
+    let kept = keep_recipes(alloc, definitions)?;
     let index = index_recipes(alloc, &kept)?;
     let (rows, order) = order_recipes(alloc, &kept, &index, settings)?;
     let made = resolve_in_order(alloc, &kept, rows.as_slice(), order.as_slice(), path)?;

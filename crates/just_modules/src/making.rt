@@ -6,15 +6,15 @@ ghost use Rattle.just_running.specs.Recipes.{numbers};
 ghost use Rattle.just_invoke.specs.declared.justfile.Justfile.{out-Justfile};
 ghost use Rattle.just_modules.specs.Analysis.{AreKeysOf, HasKeysOf, IsBefore, IsBetter, IsDefaultBy, IsDefaultOf, IsDefaultPlace, IsOf};
 ghost use Rattle.just_modules.specs.Justfiles.{notes_in};
-ghost use Rattle.just_joining.specs.Groups.{functions_under};
+ghost use Rattle.just_joining.specs.Groups.{functions_under, variables_under};
 ghost use Rattle.just_joining.specs.Defaults.{Defaults};
 ghost use Rattle.just_joining.specs.Definitions.{contents_in, functions_in, recipes_in, variables_in};
 ghost use Rattle.just_index.specs.Index.{AreDifferent};
-ghost use Rattle.just_joining.specs.Kept.{kept_recipes, kept_variables};
+ghost use Rattle.just_joining.specs.Kept.{kept_recipes};
 ghost use Rattle.just_joining.specs.Named.{recipes_by};
 ghost use Rattle.just_joining.specs.Recipes.{names_of};
 
-use crate::constants::{Evaluated, variable_table};
+use crate::constants::Evaluated;
 use just_data::{Sequence, Shared, Text};
 use just_invoke::{Justfile, RecipeKey, Recipes};
 use just_joining::defaults::marked_place;
@@ -155,7 +155,7 @@ pub struct Surroundings<'src> {
     pub source: Text,
 }
 
-/// The justfile of a module with these definitions, of which some are kept, with a default, and with what is evaluated of
+/// The justfile of a module with these definitions, of whose recipes some are kept, with a default, and with what is evaluated of
 /// it. It has no label.
 pub fn make_justfile<'a, 'src>(
     alloc: Global,
@@ -167,7 +167,7 @@ pub fn make_justfile<'a, 'src>(
     surroundings: Surroundings<'src>,
 ) -> Result<Justfile<'src>, AllocError>
     requires recipes { recipes_in kept.now ≡ kept_recipes (recipes_in definitions.now) }
-    requires variables { variables_in kept.now ≡ kept_variables (variables_in definitions.now) }
+    requires variables { evaluated.assignments ≡ variables_under (variables_in definitions.now) }
     requires functions { evaluated.functions ≡ functions_under (functions_in definitions.now) }
     ensures fields { IfOk result (λ j. IsOf (contents_in definitions.now) ast.now surroundings.entry.loaded surroundings.entry.source j) }
     ensures default { IfOk result (λ j. (out-Justfile j).default ≡ default) }
@@ -187,12 +187,13 @@ pub fn make_justfile<'a, 'src>(
         warnings,
     } = notes;
     let Evaluated {
+        assignments,
         functions,
         settings,
     } = evaluated;
     Ok(Justfile {
         absent_modules,
-        assignments: variable_table(alloc, kept)?,
+        assignments,
         default,
         doc: None,
         functions,

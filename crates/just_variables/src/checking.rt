@@ -20,6 +20,7 @@ use std::alloc::{AllocError, Global};
 use std::collections::HashSet;
 
 /// What names stand for in the expressions of a module.
+#[derive(Drop)]
 pub struct Known<'a, 'src, S> {
     /// The variables of the module, each under its name.
     pub assignments: &'a Table<'src, Assignment<'src>>,

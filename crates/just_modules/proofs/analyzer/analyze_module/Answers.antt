@@ -59,6 +59,9 @@ returns-in_err-default-clause-named g c =
     (λ x k. defaults_broken layers m c.in_ok-evaluated.ensures.kept (bodies_under layers m s c.in_ok-evaluated.ensures.settings c.in_ok-kept.ensures.bodies) (dependencies_under layers m s c.in_ok-evaluated.ensures.settings c.in_ok-kept.ensures.dependencies) x
     (subst (λ (rs : List (Recipe UnresolvedDependency)). Defaults rs x) c.in_ok-kept.ensures.recipes k)) e h)) (search (rules, named, c.from_residual-in_err-default.ensures.1, c.from_residual-in_err-default.ensures.0))
 
+pub returns-in_err-append-clause-named : goal.returns-in_err-append-clause-named
+returns-in_err-append-clause-named g c = search (rules, c.from_residual-in_err-append.ensures.1, c.from_residual-in_err-append.ensures.0)
+
 pub append-requires : goal.append-requires
 append-requires g c = λ number a b.
     let qs = recipes_from (g.S.Syntax.answers c.args.syntax.now).enabled (asts_in c.args.files.now) c.args.places.now in

@@ -4,9 +4,10 @@ use Rattle.just_errors.specs.Causes.{Reports}
 use Rattle.just_errors.proofs.Lifts.{reports_by}
 use Rattle.just_parts.specs.Layers.{layers_of}
 use Rattle.just_joining.specs.Definitions.{contents_in}
-use Rattle.just_joining.specs.Groups.{BreaksContents, OfConstants, OfHeaders, OfNames, settings_of}
+use Rattle.just_joining.specs.Groups.{BreaksContents, OfConstants, OfExpressions, OfHeaders, OfNames, known_of, settings_of}
 use Rattle.just_joining.specs.Rules.{Constants, Headers, Names}
-use Rattle.just_modules.proofs.Grounds.{before_bodies, before_constants, before_names, constants_kept}
+use Rattle.just_variables.specs.Misnaming.{Expressions}
+use Rattle.just_modules.proofs.Grounds.{before_bodies, before_constants, before_expressions, before_names, constants_kept}
 use Rattle.just_modules.proofs.analyzer.check_module.Goals as goal
 
 pub returns-in_err-check_headers-clause-named : goal.returns-in_err-check_headers-clause-named
@@ -21,16 +22,24 @@ returns-in_err-check_names-clause-named g c =
     IfErr-weaker c.from_residual-in_err-check_names.result (Reports (Names m)) _
     (λ e h. reports_by (Names m) (BreaksContents layers m) (λ x k. record { group = OfNames; earlier = before_names layers m c.in_ok-check_headers.ensures.kept; broken = k }) e h) (search rules)
 
+pub returns-in_err-tables-clause-named : goal.returns-in_err-tables-clause-named
+returns-in_err-tables-clause-named g c =
+    let layers = layers_of (g.S.Syntax.answers c.args.syntax.now) (g.E.Evaluation.answers c.args.evaluation.now) in
+    let m = contents_in c.args.definitions.now in
+    IfErr-weaker c.from_residual-in_err-tables.result (Reports (Expressions (known_of layers.syntax m))) _
+    (λ e h. reports_by (Expressions _) (BreaksContents layers m)
+    (λ x k. record { group = OfExpressions; earlier = before_expressions layers m c.in_ok-check_headers.ensures.kept c.in_ok-check_names.ensures.kept; broken = k }) e h) (search rules)
+
 pub returns-in_err-evaluated-clause-named : goal.returns-in_err-evaluated-clause-named
 returns-in_err-evaluated-clause-named g c =
     let layers = layers_of (g.S.Syntax.answers c.args.syntax.now) (g.E.Evaluation.answers c.args.evaluation.now) in
     let m = contents_in c.args.definitions.now in
     IfErr-weaker c.from_residual-in_err-evaluated.result (Reports (Constants (settings_of layers.evaluator m))) _
     (λ e h. reports_by (Constants _) (BreaksContents layers m)
-    (λ x k. record { group = OfConstants; earlier = before_constants layers m c.in_ok-check_headers.ensures.kept c.in_ok-check_names.ensures.kept; broken = k }) e h) (search rules)
+    (λ x k. record { group = OfConstants; earlier = before_constants layers m c.in_ok-check_headers.ensures.kept c.in_ok-check_names.ensures.kept c.in_ok-tables.ensures.kept; broken = k }) e h) (search rules)
 
 pub returns-clause-kept : goal.returns-clause-kept
 returns-clause-kept g c =
     let layers = layers_of (g.S.Syntax.answers c.args.syntax.now) (g.E.Evaluation.answers c.args.evaluation.now) in
     let m = contents_in c.args.definitions.now in
-    before_bodies layers m c.in_ok-check_headers.ensures.kept c.in_ok-check_names.ensures.kept (constants_kept (settings_of layers.evaluator m) c.in_ok-evaluated.evaluated.settings c.in_ok-evaluated.ensures.settings)
+    before_bodies layers m c.in_ok-check_headers.ensures.kept c.in_ok-check_names.ensures.kept c.in_ok-tables.ensures.kept (constants_kept (settings_of layers.evaluator m) c.in_ok-evaluated.evaluated.settings c.in_ok-evaluated.ensures.settings)

@@ -17,16 +17,16 @@ use Rattle.just_modules.specs.Analysis.{BreaksRecipes, in_bodies, in_dependencie
 use Rattle.just_modules.proofs.analyzer.resolve_recipes.Goals as goal
 
 pub order_recipes-requires-clause-different : goal.order_recipes-requires-clause-different
-order_recipes-requires-clause-different g c = subst (λ (rs : List (Recipe UnresolvedDependency)). AreDifferent (names_of rs)) (sym c.in_ok-kept.ensures.recipes) (kept_different (recipes_in c.args.definitions.now))
+order_recipes-requires-clause-different g c = subst (λ (rs : List (Recipe UnresolvedDependency)). AreDifferent (names_of rs)) (sym c.in_ok-kept.ensures) (kept_different (recipes_in c.args.definitions.now))
 
 pub resolve_in_order-requires-clause-different : goal.resolve_in_order-requires-clause-different
-resolve_in_order-requires-clause-different g c = subst (λ (rs : List (Recipe UnresolvedDependency)). AreDifferent (names_of rs)) (sym c.in_ok-kept.ensures.recipes) (kept_different (recipes_in c.args.definitions.now))
+resolve_in_order-requires-clause-different g c = subst (λ (rs : List (Recipe UnresolvedDependency)). AreDifferent (names_of rs)) (sym c.in_ok-kept.ensures) (kept_different (recipes_in c.args.definitions.now))
 
 pub resolve_in_order-requires-clause-once : goal.resolve_in_order-requires-clause-once
-resolve_in_order-requires-clause-once g c = subst (λ (rs : List (Recipe UnresolvedDependency)). IsOnce (unresolved_numbers rs)) (sym c.in_ok-kept.ensures.recipes) (kept_once (recipes_in c.args.definitions.now) c.requires.once)
+resolve_in_order-requires-clause-once g c = subst (λ (rs : List (Recipe UnresolvedDependency)). IsOnce (unresolved_numbers rs)) (sym c.in_ok-kept.ensures) (kept_once (recipes_in c.args.definitions.now) c.requires.once)
 
 pub resolve_in_order-requires-clause-priors : goal.resolve_in_order-requires-clause-priors
-resolve_in_order-requires-clause-priors g c = subst (λ (rs : List (Recipe UnresolvedDependency)). All HasPriors rs) (sym c.in_ok-kept.ensures.recipes) (kept_all HasPriors (recipes_in c.args.definitions.now) c.requires.priors)
+resolve_in_order-requires-clause-priors g c = subst (λ (rs : List (Recipe UnresolvedDependency)). All HasPriors rs) (sym c.in_ok-kept.ensures) (kept_all HasPriors (recipes_in c.args.definitions.now) c.requires.priors)
 
 pub returns-in_err-check_bodies-clause-named : goal.returns-in_err-check_bodies-clause-named
 returns-in_err-check_bodies-clause-named g c =
@@ -36,14 +36,14 @@ returns-in_err-check_bodies-clause-named g c =
 pub returns-in_err-rows-clause-named : goal.returns-in_err-rows-clause-named
 returns-in_err-rows-clause-named g c =
     IfErr-weaker c.from_residual-in_err-rows.result (Reports (Dependencies c.args.settings.now.lists (recipes_in c.in_ok-kept.kept))) _
-    (λ e h. reports_by (Dependencies c.args.settings.now.lists (recipes_in c.in_ok-kept.kept)) (BreaksRecipes _ _ _) (λ x k. in_dependencies c.in_ok-check_bodies.ensures.kept (subst (λ (rs : List (Recipe UnresolvedDependency)). Dependencies c.args.settings.now.lists rs x) c.in_ok-kept.ensures.recipes k)) e h) (search rules)
+    (λ e h. reports_by (Dependencies c.args.settings.now.lists (recipes_in c.in_ok-kept.kept)) (BreaksRecipes _ _ _) (λ x k. in_dependencies c.in_ok-check_bodies.ensures.kept (subst (λ (rs : List (Recipe UnresolvedDependency)). Dependencies c.args.settings.now.lists rs x) c.in_ok-kept.ensures k)) e h) (search rules)
 
 pub returns-clause-dependencies : goal.returns-clause-dependencies
-returns-clause-dependencies g c = subst (λ (rs : List (Recipe UnresolvedDependency)). Keeps (Dependencies c.args.settings.now.lists rs)) c.in_ok-kept.ensures.recipes c.in_ok-rows.ensures.kept
+returns-clause-dependencies g c = subst (λ (rs : List (Recipe UnresolvedDependency)). Keeps (Dependencies c.args.settings.now.lists rs)) c.in_ok-kept.ensures c.in_ok-rows.ensures.kept
 
 pub returns-clause-resolved : goal.returns-clause-resolved
 returns-clause-resolved g c =
     let rs = recipes_in c.in_ok-kept.kept in
-    subst (λ (qs : List (Recipe UnresolvedDependency)). AreResolved qs c.args.path.now c.in_ok-made.made) c.in_ok-kept.ensures.recipes
+    subst (λ (qs : List (Recipe UnresolvedDependency)). AreResolved qs c.args.path.now c.in_ok-made.made) c.in_ok-kept.ensures
     (all_resolved rs c.args.path.now c.in_ok-rows.order.items c.in_ok-made.made c.in_ok-rows.ensures.ordered
     (subst (λ os. Resolving rs c.args.path.now os (length os) c.in_ok-made.made) c.as_slice-2.ensures.value c.in_ok-made.ensures))
