@@ -112,7 +112,7 @@ def function_parameters(count):
 
 
 def settings(count):
-    """Many modules, each of which sets all settings that compiling can judge."""
+    """Many modules, each of which sets seven settings."""
     names = ("allow-duplicate-recipes", "allow-duplicate-variables", "export", "ignore-comments", "lazy", "positional-arguments", "quiet")
     text = "".join(f"set {name}\n" for name in names) + "b:"
     return listed([f"mod m{n}" for n in range(count)] + ["a:"], [(f"/m{n}.just", text) for n in range(count)]), ["a"]
