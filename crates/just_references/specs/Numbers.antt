@@ -1,14 +1,10 @@
 -- Expressions with other numbers.
 use Rattle.std.specs.Prelude.{ℕ, List, Option, None}
-use Rattle.std.specs.HashMap.{get}
-use Rattle.std.specs.Option.{option_or}
-use Rattle.std.specs.Str.{bytes_eq}
 use Rattle.just_names.specs.Name.{text_of_name}
 use Rattle.just_names.specs.declared.number.Number.{Number}
 use Rattle.just_records.specs.declared.expression.Expression.{Expression, fold-Expression, roll-Expression}
 use Rattle.just_records.specs.declared.expression.Shape.{Shape, fold-Shape, roll-Shape}
 use Rattle.just_records.specs.declared.expression.Shape.TheOpen.{Shape-F}
-use Rattle.just_references.specs.declared.numbers.Numbers.{Numbers}
 
 -- one level, where a variable has the number that its name is given
 abbrev pub numbered_layer : {A B : Type 0} → (List ℕ → Option Number) → Shape-F A B → Shape-F A B
@@ -28,9 +24,3 @@ shape_with_numbers number_of = fold-Shape Shape Expression (shape_numbered numbe
 -- an expression without numbers
 abbrev pub bare : Expression → Expression
 bare = with_numbers (λ name. None)
-
--- the number of the parameter of a name, else that of the assignment, else that of the constant
-abbrev pub number_in : Numbers → List ℕ → Option Number
-number_in numbers name =
-    option_or (get bytes_eq numbers.parameters.now name)
-    (option_or (get bytes_eq numbers.assignments.now name) (get bytes_eq numbers.constants.now name))

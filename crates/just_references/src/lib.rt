@@ -1,9 +1,8 @@
-//! What expressions refer to: their calls and variables, and the numbers of these.
+//! What expressions refer to: their parts, and their calls and variables.
 #![tactic(auto)]
 
-pub mod numbers;
 mod parts;
 pub mod references;
 
-pub use numbers::{Numbers, number_variables};
+pub use parts::push_parts;
 pub use references::{Reference, References};

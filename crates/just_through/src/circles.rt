@@ -11,6 +11,7 @@ ghost use Rattle.just_through.specs.Through.{IsSolid, Reads};
 
 use crate::rows::{add, row};
 use std::alloc::{AllocError, Global};
+use std::collections::HashSet;
 
 // Adds what `start` leads to, to what is seen and closed under edges.
 fn close_over(
@@ -137,4 +138,29 @@ pub(crate) fn solid_circle(
         }
     }
     Ok(None)
+}
+
+/// A circle through the member of this one that a search met first, which is the one that it is done with last.
+pub(crate) fn circle_from_first(
+    alloc: Global,
+    edges: &[Vec<usize>],
+    solid: &[bool],
+    finished: &[usize],
+    circle: Vec<usize>,
+) -> Result<Vec<usize>, AllocError>
+    requires graph { IsGraph edges.now }
+    requires solid { length solid.now ≡ length edges.now }
+    requires finished { All (λ a. a < length edges.now) finished.now }
+    requires circle { IsCircle (Reads (HasEdge edges.now) solid.now) circle.items }
+    ensures { IfOk result (λ made. IsCircle (Reads (HasEdge edges.now) solid.now) made.items) }
+{
+    let mut members = HashSet::new(alloc);
+    members.extend(circle.as_slice().iter().copied())?;
+    for place in (0..finished.len()).rev() {
+        let node = finished[place];
+        if members.contains(&node) && solid[node] {
+            return Ok(circle_at(alloc, edges, solid, node)?.unwrap_or(circle));
+        }
+    }
+    Ok(circle)
 }

@@ -6,7 +6,7 @@ ghost use Rattle.just_graph.specs.Graph.{HasEdge, IsGraph};
 ghost use Rattle.just_graph.specs.Steps.{IsCircle, IsOnce};
 ghost use Rattle.just_through.specs.Through.{IsOrderThrough, IsSolid, Needed, Reads};
 
-use crate::circles::solid_circle;
+use crate::circles::{circle_from_first, solid_circle};
 use crate::finishing::finish;
 use just_graph::reach;
 use std::alloc::{AllocError, Global};
@@ -42,6 +42,7 @@ pub fn order_through(
 {
     let finished = finish(alloc, edges, roots)?;
     if let Some(circle) = solid_circle(alloc, edges, solid, finished.as_slice())? {
+        let circle = circle_from_first(alloc, edges, solid, finished.as_slice(), circle)?;
         return Ok(Err(circle));
     }
     let order = solid_ones(alloc, solid, finished.as_slice())?;

@@ -14,11 +14,20 @@ use Rattle.just_names.specs.Token.{Place}
 use Rattle.just_names.specs.declared.name.Name.{Name}
 use Rattle.just_references.specs.declared.references.Reference.TheVariants as reference
 use Rattle.just_variables.specs.Known.{Known, defines, none_hidden, range_of}
-use Rattle.just_variables.specs.Misnaming.{MisnamesAt, undefined_function, argument_count, undefined_variable}
+use Rattle.just_variables.specs.Misnaming.{MisnamesAt, MisnamesCall, undefined_function, argument_count, undefined_variable}
 
 -- how many arguments a function takes, which was asked by an equal text
 pub range_asked : (m : Known) (text asked : Text) (range found : Option ArgumentRange) → range ≡ range_of m asked → asked ≡ text → range ≡ found → range_of m text ≡ found
 range_asked m text asked range found is same e = sym (is ∙ ap (range_of m) same) ∙ e
+
+-- a call is at fault whatever is hidden
+pub call_told : {m : Known} {hidden : Text → Bool} {name : Name} {arguments : ℕ} {c : Cause} → MisnamesAt m hidden (reference.Call name arguments) c → MisnamesCall m name arguments c
+call_told (undefined_function missing) = undefined_function missing
+call_told (argument_count found apart) = argument_count found apart
+
+pub call_under : {m : Known} {name : Name} {arguments : ℕ} (hidden : Text → Bool) {c : Cause} → MisnamesCall m name arguments c → MisnamesAt m hidden (reference.Call name arguments) c
+call_under hidden (undefined_function missing) = undefined_function missing
+call_under hidden (argument_count found apart) = argument_count found apart
 
 -- a name at fault is told at its place, by its text
 module _ (m : Known) (hidden : Text → Bool) (name : Name) (token : Place) (told : Text) (here : token ≡ name.token) (same : told ≡ text_of_name name) where

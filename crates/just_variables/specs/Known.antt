@@ -1,6 +1,7 @@
 -- What names stand for in the expressions of a module.
 use Rattle.std.specs.Prelude.{Bool, false, ◌||◌, List, length, Option, None, Some, is_some}
 use Rattle.std.specs.List.{list_any}
+use Rattle.std.specs.Option.{option_map}
 use Rattle.std.specs.Str.{bytes_eq}
 use Rattle.just_errors.specs.declared.wording.ArgumentRange.{ArgumentRange}
 use Rattle.just_names.specs.Modulepath.{Text}
@@ -46,3 +47,7 @@ range_of m name = range_with (find name m.functions) (m.builtin name)
 -- a name is hidden, a variable, or a constant
 abbrev pub defines : Known → (Text → Bool) → Text → Bool
 defines m hidden name = hidden name || (is_some (find name m.assignments) || is_some (m.constant name))
+
+-- the number of the variable of a name
+abbrev pub number_of : Known → Text → Option Number
+number_of m name = option_map (λ (a : Assignment). a.number) (find name m.assignments)

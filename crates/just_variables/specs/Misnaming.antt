@@ -28,6 +28,13 @@ pub data MisnamesAt (m : Known) (hidden : Text → Bool) : Reference → Cause �
   undefined_variable : {name : Name} → defines m hidden (text_of_name name) ≡ false
       → MisnamesAt m hidden (reference.Variable name) (Broken name.token (kind.UndefinedVariable (text_of_name name)))
 
+-- the same of a call, whatever is hidden, and of a variable
+abbrev pub MisnamesCall : Known → Name → ℕ → Cause → Type 0
+MisnamesCall m name arguments = MisnamesAt m none_hidden (reference.Call name arguments)
+
+abbrev pub MisnamesVariable : Known → (Text → Bool) → Name → Cause → Type 0
+MisnamesVariable m hidden name = MisnamesAt m hidden (reference.Variable name)
+
 -- One of the calls and variables of an expression is at fault.
 pub record Misnames (m : Known) (hidden : Text → Bool) (e : Expression) (c : Cause) : Type 0 where
   pub at : Reference

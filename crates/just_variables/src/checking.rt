@@ -5,9 +5,8 @@ ghost use Rattle.std.specs.HashSet.{contains};
 ghost use Rattle.std.specs.Str.{bytes_eq};
 ghost use Rattle.just_errors.specs.Causes.{Keeps, Reports};
 ghost use Rattle.just_names.specs.Name.{text_of_name};
-ghost use Rattle.just_references.specs.declared.references.Reference.TheVariants as reference;
 ghost use Rattle.just_variables.specs.Known.{defines, hides, known_in, range_of};
-ghost use Rattle.just_variables.specs.Misnaming.{Expressions, HaveFunctionNames, HaveNames, Misnames, MisnamesAt};
+ghost use Rattle.just_variables.specs.Misnaming.{Expressions, HaveFunctionNames, HaveNames, Misnames, MisnamesAt, MisnamesCall, MisnamesVariable};
 
 use just_data::BorrowedText;
 use just_parts::layers::{
@@ -63,15 +62,14 @@ fn is_defined<'a, 'src, S: Syntax>(
     known.syntax.constant(name.lexeme()).is_some()
 }
 
-// Checks a call.
-fn check_call<'a, 'src, S: Syntax>(
+/// Checks a call: that it names a function of the module or a built-in one, and gives it as many arguments as it takes.
+pub fn check_call<'a, 'src, S: Syntax>(
     known: &Known<'a, 'src, S>,
-    hidden: &HashSet<BorrowedText<'src>>,
     name: &Name<'src>,
     arguments: usize,
 ) -> Result<(), Error<'src>>
-    ensures kept { OnOk result (Keeps (MisnamesAt (known_in (S.answers known.now.syntax.now) known.now) (contains bytes_eq hidden.now) (reference.Call name.now arguments))) }
-    ensures named { IfErr result (Reports (MisnamesAt (known_in (S.answers known.now.syntax.now) known.now) (contains bytes_eq hidden.now) (reference.Call name.now arguments))) }
+    ensures kept { OnOk result (Keeps (MisnamesCall (known_in (S.answers known.now.syntax.now) known.now) name.now arguments)) }
+    ensures named { IfErr result (Reports (MisnamesCall (known_in (S.answers known.now.syntax.now) known.now) name.now arguments)) }
 {
     let Some(expected) = expected(known, name.lexeme()) else {
         return Err(Error::Compile(CompileError {
@@ -100,8 +98,8 @@ fn check_variable<'a, 'src, S: Syntax>(
     hidden: &HashSet<BorrowedText<'src>>,
     name: &Name<'src>,
 ) -> Result<(), Error<'src>>
-    ensures kept { OnOk result (Keeps (MisnamesAt (known_in (S.answers known.now.syntax.now) known.now) (contains bytes_eq hidden.now) (reference.Variable name.now))) }
-    ensures named { IfErr result (Reports (MisnamesAt (known_in (S.answers known.now.syntax.now) known.now) (contains bytes_eq hidden.now) (reference.Variable name.now))) }
+    ensures kept { OnOk result (Keeps (MisnamesVariable (known_in (S.answers known.now.syntax.now) known.now) (contains bytes_eq hidden.now) name.now)) }
+    ensures named { IfErr result (Reports (MisnamesVariable (known_in (S.answers known.now.syntax.now) known.now) (contains bytes_eq hidden.now) name.now)) }
 {
     if is_defined(known, hidden, name) {
         return Ok(());
@@ -124,13 +122,13 @@ fn check_reference<'a, 'src, S: Syntax>(
     ensures named { IfErr result (Reports (MisnamesAt (known_in (S.answers known.now.syntax.now) known.now) (contains bytes_eq hidden.now) reference.now)) }
 {
     match reference {
-        Reference::Call { name, arguments } => check_call(known, hidden, name, *arguments),
+        Reference::Call { name, arguments } => check_call(known, name, *arguments),
         Reference::Variable { name } => check_variable(known, hidden, name),
     }
 }
 
 /// Checks the calls and the variables of an expression in whose scope some names are hidden.
-pub(crate) fn check_expression<'a, 'src, S: Syntax>(
+pub fn check_expression<'a, 'src, S: Syntax>(
     alloc: Global,
     known: &Known<'a, 'src, S>,
     hidden: &HashSet<BorrowedText<'src>>,
@@ -147,7 +145,7 @@ pub(crate) fn check_expression<'a, 'src, S: Syntax>(
 }
 
 /// The names of parameters.
-pub(crate) fn hidden_names<'src>(
+pub fn hidden_names<'src>(
     alloc: Global,
     parameters: &[FunctionParameter<'src>],
 ) -> Result<HashSet<BorrowedText<'src>>, AllocError>

@@ -5,5 +5,5 @@ mod checking;
 mod nodes;
 mod ordering;
 
-pub use checking::Known;
+pub use checking::{Known, check_call, check_expression, hidden_names};
 pub use ordering::order_assignments;

@@ -10,6 +10,11 @@ solid_circle-requires-clause-nodes c =
     let f = c.in_ok-finished.ensures in
     found_inside c.args.edges.now c.requires.graph c.args.roots.now [] c.in_ok-finished.finished.items c.as_slice.result.now _ c.requires.roots (λ a. (f.reached a, f.listed a)) c.as_slice.ensures.value refl
 
+pub circle_from_first-requires-clause-finished : goal.circle_from_first-requires-clause-finished
+circle_from_first-requires-clause-finished c =
+    let f = c.in_ok-finished.ensures in
+    found_inside c.args.edges.now c.requires.graph c.args.roots.now [] c.in_ok-finished.finished.items c.as_slice-in-Some.result.now _ c.requires.roots (λ a. (f.reached a, f.listed a)) c.as_slice-in-Some.ensures.value refl
+
 pub solid_ones-requires : goal.solid_ones-requires
 solid_ones-requires c =
     let f = c.in_ok-finished.ensures in

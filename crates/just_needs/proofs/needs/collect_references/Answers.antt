@@ -1,0 +1,24 @@
+use Rattle.std.specs.HashSet.{contains}
+use Rattle.std.specs.Str.{bytes_eq}
+use Rattle.just_needs.specs.Needs.{has_number, same_number}
+use Rattle.just_needs.proofs.Collecting.{collected, collected_all, keeps_gained}
+use Rattle.just_needs.proofs.needs.collect_references.Goals as goal
+use Rattle.just_variables.specs.Known.{hides, known_in}
+use Rattle.just_variables.specs.Steps.{scoped}
+
+pub returns-clause-gains : goal.returns-clause-gains
+returns-clause-gains g c =
+    let m = known_in (g.S.Syntax.answers c.args.known.now.syntax.now) c.args.known.now in
+    collected m (has_number c.args.overrides.now) (scoped (hides c.args.parameters.now) c.args.expression.now) (contains same_number c.args.references.now) (contains bytes_eq c.args.visited.now)
+    c.in_ok-found.found c.in_ok-found.ensures.found c.in_ok-found.ensures.over (contains same_number c.reserve.new.self) (contains same_number c.add_numbers.new.references) c.in_ok-reserve.ensures.keys.2 c.add_numbers.ensures
+
+pub returns-clause-all : goal.returns-clause-all
+returns-clause-all g c =
+    let m = known_in (g.S.Syntax.answers c.args.known.now.syntax.now) c.args.known.now in
+    collected_all m (has_number c.args.overrides.now) (scoped (hides c.args.parameters.now) c.args.expression.now) (contains same_number c.args.references.now) (contains bytes_eq c.args.visited.now)
+    c.in_ok-found.found c.in_ok-found.ensures.found c.in_ok-found.ensures.over (contains same_number c.reserve.new.self) (contains same_number c.add_numbers.new.references) c.in_ok-reserve.ensures.keys.2 c.add_numbers.ensures
+
+pub returns-clause-visited : goal.returns-clause-visited
+returns-clause-visited g c =
+    keeps_gained (contains bytes_eq c.in_ok-found.found.functions) (contains bytes_eq c.args.visited.now) (contains bytes_eq c.reserve-2.new.self) (contains bytes_eq c.add_functions.new.visited)
+    c.in_ok-reserve-2.ensures.keys.2 c.add_functions.ensures

@@ -1,0 +1,5 @@
+pub mod Numbers
+pub mod Order
+pub mod Outcome
+pub mod Steps
+pub mod Tables

@@ -1,0 +1,3 @@
+pub mod Numbered
+pub mod Numbering
+pub mod Resolved
