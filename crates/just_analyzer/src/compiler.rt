@@ -56,8 +56,8 @@ impl Compiler {
     }
 
     /// Compiles the file at `root` and those that it reaches, or names a rule that is broken. Where it succeeds no rule
-    /// is broken, and each recipe that the compilation names is held, after those that it depends on. What expressions read
-    /// is not judged yet.
+    /// is broken, and each recipe that the compilation names is held, after those that it depends on. What the expressions of
+    /// settings, recipes and attributes read is not judged yet.
     ///
     /// The evaluation is asked for the settings of each module.
     pub fn compile<'src, S: Syntax, E: Evaluation>(

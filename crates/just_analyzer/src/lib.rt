@@ -11,4 +11,6 @@ pub use just_loader::Sources;
 pub use just_modules::Analyzer;
 pub use just_names::{Modulepath, is_clean};
 pub use just_parts::{Dependency, Recipe, Source, UnresolvedRecipe, layers};
+pub use just_references::{Reference, References};
+pub use just_resolver::VariableResolver;
 pub use just_table::{Keyed, Table};

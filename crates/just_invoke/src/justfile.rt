@@ -4,14 +4,16 @@ use crate::running::run_invocations;
 use crate::variables::check_variables;
 use just_data::{BorrowedText, Exact, Sequence, Shared, Text};
 use just_names::Modulepath;
+use just_needs::assignment_references;
 use just_parts::layers::{
     Assignment, Config, Error, Evaluation, FunctionDefinition, Host, Name, Number, Output,
     RunError, Settings, StringLiteral, Syntax, UnstableFeature, Warning,
 };
 use just_running::{Recipes, Report};
 use just_table::{Keyed, Table};
-use std::alloc::Global;
-use std::collections::HashMap;
+use just_variables::Known;
+use std::alloc::{AllocError, Global};
+use std::collections::{HashMap, HashSet};
 
 /// The name and the number of a recipe.
 #[derive(Clone, Debug, PartialEq, Eq, Drop)]
@@ -43,13 +45,16 @@ impl<'src> Exact for RecipeKey<'src> {
 pub struct Justfile<'src> {
     /// The names of the optional modules that have no file.
     pub absent_modules: Table<'src, BorrowedText<'src>>,
-    /// The variables of the module, by their names: of several of one name the one that is kept.
+    /// The variables of the module, by their names: of several of one name the one that is kept. Each variable in their
+    /// values has the number of what it means.
     pub assignments: Table<'src, Assignment<'src>>,
     /// The recipe that is run without words.
     pub default: Option<Number>,
     /// What a listing says of it.
     pub doc: Option<Text>,
-    /// The functions of the module, by their names.
+    /// The names of the variables, each once and after those that its value reads, also through functions.
+    pub evaluation_order: Sequence<Name<'src>>,
+    /// The functions of the module, by their names, each variable in their bodies with the number of what it means.
     pub functions: Table<'src, FunctionDefinition<'src>>,
     /// The groups that a listing has it in.
     pub groups: Sequence<StringLiteral<'src>>,
@@ -110,6 +115,38 @@ impl<'src> Justfile<'src> {
         ensures { result ≡ is_some (out-Justfile self.now).name }
     {
         self.name.is_some()
+    }
+}
+
+impl<'src> Justfile<'src> {
+    ghost use Rattle.std.specs.Prelude.{◌≡◌, is_some, IfOk, IfSome};
+    ghost use Rattle.std.specs.HashSet.{contains};
+    ghost use Rattle.just_invoke.specs.declared.justfile.Justfile.{out-Justfile};
+    ghost use Rattle.just_needs.specs.Needs.{AreNeeded, has_number, same_number};
+    ghost use Rattle.just_table.specs.Entries.{find};
+    ghost use Rattle.just_variables.specs.Known.{known};
+
+    /// The numbers of the variables that a variable of the module needs: its own, and unless it is overridden those of what
+    /// its value reads, also through functions, and so on. None where the module has no variable of the name.
+    ///
+    /// The syntax layer is asked nothing. The error is want of memory.
+    pub fn assignment_references<S: Syntax>(
+        &self,
+        alloc: Global,
+        syntax: &S,
+        overrides: &HashMap<Number, Text>,
+        name: &str,
+    ) -> Result<Option<HashSet<Number>>, AllocError>
+        ensures found { IfOk result (λ found. is_some found ≡ is_some (find name.now (out-Justfile self.now).assignments)) }
+        ensures needed { let m = known (S.answers syntax.now) (out-Justfile self.now).assignments (out-Justfile self.now).functions in
+            IfOk result (λ found. IfSome found (λ set. AreNeeded m (has_number overrides.now) name.now (contains same_number set))) }
+    {
+        let known = Known {
+            assignments: &self.assignments,
+            functions: &self.functions,
+            syntax,
+        };
+        assignment_references(alloc, &known, overrides, name)
     }
 }
 

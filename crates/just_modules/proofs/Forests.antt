@@ -43,6 +43,7 @@ use Rattle.just_modules.proofs.ModulePlaces.{TreeAt, file_inside, join_at, modul
 use Rattle.just_modules.proofs.Ready.{labels_are}
 use Rattle.just_parts.specs.Layers.{Layers}
 use Rattle.just_joining.specs.Groups.{settings_of}
+use Rattle.just_modules.specs.Variables.{AreVariables, HasVariables}
 
 -- the justfiles at places, under the names of headings
 abbrev pub under_names : (ℕ → Justfile) → List Heading → List ℕ → List Justfile
@@ -64,8 +65,6 @@ module _ (cs : Contents) (ast : Ast) (loaded : List Text) (source : Text) (label
       record {
         keys = subst (λ x. AreKeysOf (kept_recipes cs.recipes) (length (kept_recipes cs.recipes)) x.recipes) (sym out) is.keys;
         held = subst (λ x. HasKeysOf (kept_recipes cs.recipes) (length (kept_recipes cs.recipes)) x.recipes) (sym out) is.held;
-        functions_are = ap (λ x. x.functions) out ∙ is.functions_are;
-        variables_are = ap (λ x. x.assignments) out ∙ is.variables_are;
         unexports_are = ap (λ x. x.unexports) out ∙ is.unexports_are;
         loaded_is = ap (λ x. x.loaded) out ∙ is.loaded_is;
         source_is = ap (λ x. x.source) out ∙ is.source_is;
@@ -173,6 +172,7 @@ module _ (layers : Layers) (entries : List (AstKey × Ast)) (d : AstKey) (files 
           own_there = subst (λ k. Contains m.files k) (sym e) (own_joined same_ast_key keys_equivalent.refl _ (key_at p) m.files (join_at layers.syntax.enabled entries d files placed rows are paths joined p (below k l) (joins k l)));
           resolved = subst (λ path. AreResolved (kept_recipes (recipes_in layers.syntax.enabled asts m.files)) path (made p)) path_same (subst (λ rs. AreResolved (kept_recipes rs) at.own.module_path (made p)) rs_same at.resolved);
           settings = ap (settings_of layers.evaluator) (sym cs_same) ∙ at.settings ∙ ap (λ x. Some x.settings) (sym out);
+          variables = subst (λ x. AreVariables layers.syntax (contents_in layers.syntax.enabled asts m.files) x.assignments x.functions x.evaluation_order) (sym out) (subst (λ cs. HasVariables layers cs (justfile p)) cs_same at.variables);
           default = subst (λ x. IsDefaultAmong (kept_recipes (recipes_in layers.syntax.enabled asts m.files)) (recipes_of layers.syntax.enabled at.own.items) x.default) (sym out)
               (subst (λ cs. HasDefault cs (recipes_of layers.syntax.enabled at.own.items) (justfile p)) cs_same at.default);
           fields = labelled_is_of (contents_in layers.syntax.enabled asts m.files) at.own loaded h.key.1 h.label (justfile p)

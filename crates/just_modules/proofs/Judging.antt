@@ -16,6 +16,7 @@ use Rattle.just_variables.specs.Misnaming.{Expressions}
 use Rattle.just_variables.proofs.Alike.{alike_changed, changed, changed_alike, expressions_alike, parameter_names, put_changed}
 use Rattle.just_joining.specs.Contents.{Contents}
 use Rattle.just_joining.specs.Groups.{functions_under, known_of, variables_under}
+use Rattle.just_modules.specs.Variables.{known_with_numbers}
 use Rattle.just_joining.specs.Kept.{claim_of_variable, gives_way, kept, kept_variables, left_of}
 use Rattle.just_joining.specs.declared.kept.Claim.{Claim}
 
@@ -47,10 +48,6 @@ parameters_same : (x : FunctionDefinition) → parameter_names (bare_function x)
 parameters_same x = bare_names x.parameters
 
 module _ (answers : SyntaxAnswers) (m : Contents) where
-  -- as they stand in the module's tables
-  abbrev pub numbered : Known
-  numbered = known answers (variables_under m.variables) (functions_under m.functions)
-
   abbrev bare : Known
   bare = known answers (changed located_assignment (variables_under m.variables)) (changed bare_function (functions_under m.functions))
 
@@ -61,12 +58,12 @@ module _ (answers : SyntaxAnswers) (m : Contents) where
       let functions = put_changed bare_function (λ (f : FunctionDefinition). text_of_name f.name) (λ (f : FunctionDefinition). text_of_name f.name) (λ f. refl) m.functions in
       λ i. known answers (sym variables i) (sym functions i)
 
-  pub keeps_known : Keeps (Expressions numbered) → Keeps (Expressions (known_of answers m))
+  pub keeps_known : Keeps (Expressions (known_with_numbers answers m)) → Keeps (Expressions (known_of answers m))
   keeps_known kept c b =
-      kept c (expressions_alike bare numbered (alike_changed answers located_assignment bare_function (λ a. refl) (λ a. refl) parameters_same (λ f. refl) (variables_under m.variables) (functions_under m.functions)) c
+      kept c (expressions_alike bare (known_with_numbers answers m) (alike_changed answers located_assignment bare_function (λ a. refl) (λ a. refl) parameters_same (λ f. refl) (variables_under m.variables) (functions_under m.functions)) c
       (subst (λ (k : Known). Expressions k c) (sym bare_is) b))
 
-  pub breaks_known : (c : Cause) → Expressions numbered c → Expressions (known_of answers m) c
+  pub breaks_known : (c : Cause) → Expressions (known_with_numbers answers m) c → Expressions (known_of answers m) c
   breaks_known c b =
       subst (λ (k : Known). Expressions k c) bare_is
-      (expressions_alike numbered bare (changed_alike answers located_assignment bare_function (λ a. refl) (λ a. refl) parameters_same (λ f. refl) (variables_under m.variables) (functions_under m.functions)) c b)
+      (expressions_alike (known_with_numbers answers m) bare (changed_alike answers located_assignment bare_function (λ a. refl) (λ a. refl) parameters_same (λ f. refl) (variables_under m.variables) (functions_under m.functions)) c b)

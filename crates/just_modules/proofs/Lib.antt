@@ -19,3 +19,4 @@ pub mod Ordered
 pub mod Ready
 pub mod TableValues
 pub mod Taking
+pub mod Variables

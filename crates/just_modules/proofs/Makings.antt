@@ -2,8 +2,6 @@
 use Rattle.std.proofs.Common.{◌≡◌, ◌∙◌, ℕ, List, [], ◌∷◌, ap, inl, inr, length, Option, None, Some, subst, sym, arith}
 use Rattle.std.specs.List.{Contains}
 use Rattle.std.proofs.lemmas.List.{get_or_default, length-map}
-use Rattle.just_names.specs.Modulepath.{Text}
-use Rattle.just_records.specs.declared.assignment.Assignment.{Assignment}
 use Rattle.just_graph.proofs.Index.{got_in}
 use Rattle.just_graph.proofs.Members.{In, contained, in_map, is_in}
 use Rattle.just_parts.specs.declared.dependency.Dependency.{Dependency}
@@ -16,7 +14,6 @@ use Rattle.just_running.specs.Recipes.{numbers}
 use Rattle.just_invoke.specs.declared.justfile.Justfile.{Justfile, out-Justfile}
 use Rattle.just_invoke.specs.declared.justfile.RecipeKey.{RecipeKey}
 use Rattle.just_modules.specs.Analysis.{AreKeysOf, HasKeysOf, IsDefaultOf, IsOf}
-use Rattle.just_joining.specs.Groups.{functions_under, variables_under}
 use Rattle.just_joining.specs.Contents.{Contents}
 use Rattle.just_joining.specs.Kept.{kept_recipes}
 use Rattle.just_joining.specs.Resolved.{AreMadeOf, AreResolved, number_at, unresolved_numbers}
@@ -37,16 +34,13 @@ resolved_numbers rs path made so n c = contained n (unresolved_numbers rs) (made
 
 -- a justfile, by its parts
 pub is_of : (m : Contents) (rs : List (Recipe UnresolvedDependency)) (ast : Ast) (loaded : List (List ℕ)) (source : List ℕ) (j : Justfile)
-    → (count : ℕ) (keys : List (List ℕ × RecipeKey)) (variables : List (Text × Assignment)) → rs ≡ kept_recipes m.recipes → length rs ≡ count
-    → (out-Justfile j).recipes ≡ keys → AreKeysOf rs count keys → HasKeysOf rs count keys → (out-Justfile j).functions ≡ functions_under m.functions
-    → (out-Justfile j).assignments ≡ variables → variables ≡ variables_under m.variables → (out-Justfile j).unexports ≡ m.unexports
+    → (count : ℕ) (keys : List (List ℕ × RecipeKey)) → rs ≡ kept_recipes m.recipes → length rs ≡ count
+    → (out-Justfile j).recipes ≡ keys → AreKeysOf rs count keys → HasKeysOf rs count keys → (out-Justfile j).unexports ≡ m.unexports
     → (out-Justfile j).loaded ≡ loaded → (out-Justfile j).source ≡ source → (out-Justfile j).module_path ≡ ast.module_path
     → (out-Justfile j).working_directory ≡ ast.working_directory → IsOf m ast loaded source j
-is_of m rs ast loaded source j count keys variables kept many keys_are all held functions variables_are under unexports loaded_is source_is path folder = record {
+is_of m rs ast loaded source j count keys kept many keys_are all held unexports loaded_is source_is path folder = record {
   keys = subst (λ (qs : List (Recipe UnresolvedDependency)). AreKeysOf qs (length qs) (out-Justfile j).recipes) kept (subst (AreKeysOf rs (length rs)) (sym keys_are) (subst (λ n. AreKeysOf rs n keys) (sym many) all));
   held = subst (λ (qs : List (Recipe UnresolvedDependency)). HasKeysOf qs (length qs) (out-Justfile j).recipes) kept (subst (HasKeysOf rs (length rs)) (sym keys_are) (subst (λ n. HasKeysOf rs n keys) (sym many) held));
-  functions_are = functions;
-  variables_are = variables_are ∙ under;
   unexports_are = unexports;
   loaded_is = loaded_is;
   source_is = source_is;

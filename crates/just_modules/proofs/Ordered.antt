@@ -169,7 +169,7 @@ no_settings = record {
 }
 
 no_justfile : Justfile
-no_justfile = roll-Justfile (record { absent_modules = []; assignments = []; default = None; doc = None; functions = []; groups = []; loaded = []; module_path = record { components = []; spaced = false }; modules = []; name = None; private = false; recipes = []; settings = no_settings; source = []; unexports = []; unstable_features = []; warnings = []; working_directory = [] })
+no_justfile = roll-Justfile (record { absent_modules = []; assignments = []; default = None; doc = None; evaluation_order = []; functions = []; groups = []; loaded = []; module_path = record { components = []; spaced = false }; modules = []; name = None; private = false; recipes = []; settings = no_settings; source = []; unexports = []; unstable_features = []; warnings = []; working_directory = [] })
 
 -- none is compiled
 pub compiled_none : (layers : Layers) (files : Files) (joined : Joined) (loaded : List Text) (order : List ℕ) (slots : List (Option Justfile)) (recipes : List (Recipe Dependency)) → length slots ≡ length files.asts.items → recipes ≡ []

@@ -1,5 +1,5 @@
 -- What a module's recipes are compiled to.
-use Rattle.std.specs.Prelude.{◌≡◌, ◌≢◌, ◌⊎◌, ℕ, ◌<◌, ◌≤◌, Bool, true, List, [], length, slice_get, Option, Some, None}
+use Rattle.std.specs.Prelude.{◌≡◌, ◌≢◌, ◌⊎◌, ℕ, ◌<◌, ◌≤◌, Bool, true, List, length, slice_get, Option, Some, None}
 use Rattle.std.specs.Cmp.Lexicographic.{slice_cmp}
 use Rattle.std.specs.List.{AllByRecursion, Contains}
 use Rattle.std.specs.Option.{option_map}
@@ -20,7 +20,7 @@ use Rattle.just_invoke.specs.declared.justfile.RecipeKey.{RecipeKey}
 use Rattle.just_joining.specs.Contents.{Contents}
 use Rattle.just_joining.specs.Defaults.{NoneMarked, is_marked}
 use Rattle.just_joining.specs.Files.{asts_in}
-use Rattle.just_joining.specs.Groups.{BreaksContents, KeepsContents, functions_under, settings_of, variables_under}
+use Rattle.just_joining.specs.Groups.{BreaksContents, KeepsContents, settings_of}
 use Rattle.just_joining.specs.Named.{contents_from, recipes_by}
 use Rattle.just_joining.specs.declared.files.Files.{Files}
 use Rattle.just_joining.specs.Recipes.{name_of, line_of, recipe_at}
@@ -83,13 +83,10 @@ IsDefaultAmong recipes = IsDefaultBy recipes (unresolved_numbers recipes)
 abbrev pub HasDefault : Contents → List (Recipe UnresolvedDependency) → Justfile → Type 0
 HasDefault m own j = IsDefaultAmong (kept_recipes m.recipes) own (out-Justfile j).default
 
--- A module has the keys of its recipes, those that are kept, its functions and variables, the names that it unexports, the paths that it was
--- given, and what its own file says.
+-- A module has the keys of its recipes, those that are kept, the names that it unexports, the paths that it was given, and what its own file says.
 pub record IsOf (m : Contents) (ast : Ast) (loaded : List (List ℕ)) (source : List ℕ) (justfile : Justfile) : Type 0 where
   pub keys : AreKeysOf (kept_recipes m.recipes) (length (kept_recipes m.recipes)) (out-Justfile justfile).recipes
   pub held : HasKeysOf (kept_recipes m.recipes) (length (kept_recipes m.recipes)) (out-Justfile justfile).recipes
-  pub functions_are : (out-Justfile justfile).functions ≡ functions_under m.functions
-  pub variables_are : (out-Justfile justfile).assignments ≡ variables_under m.variables
   pub unexports_are : (out-Justfile justfile).unexports ≡ m.unexports
   pub loaded_is : (out-Justfile justfile).loaded ≡ loaded
   pub source_is : (out-Justfile justfile).source ≡ source

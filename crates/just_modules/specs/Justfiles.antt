@@ -17,6 +17,7 @@ use Rattle.just_notes.specs.Notes.{absent_by, features_by, notes_of, warnings_by
 use Rattle.just_notes.specs.declared.labels.Label.{Label}
 use Rattle.just_notes.specs.declared.notes.Notes.{Notes}
 use Rattle.just_modules.specs.Modules.{Module, Forest, Empty, Tree}
+use Rattle.just_modules.specs.Variables.{HasVariables}
 use Rattle.just_joining.specs.Contents.{Contents}
 use Rattle.just_joining.specs.Kept.{kept_recipes}
 use Rattle.just_joining.specs.Named.{function_by, lists_by, name_by, set_by, unexported_by, variable_by}
@@ -74,6 +75,7 @@ pub record IsCompiled (layers : Layers) (asts : AstKey → Option Ast) (loaded :
   pub own_there : Contains m.files m.heading.key
   pub resolved : AreResolved (kept_recipes (recipes_in layers.syntax.enabled asts m.files)) m.heading.key.0 made
   pub settings : HasSettings layers (contents_in layers.syntax.enabled asts m.files) j
+  pub variables : HasVariables layers (contents_in layers.syntax.enabled asts m.files) j
   pub default : HasDefault (contents_in layers.syntax.enabled asts m.files) (recipes_of layers.syntax.enabled own.items) j
   pub fields : IsOf (contents_in layers.syntax.enabled asts m.files) own loaded m.heading.key.1 j
   pub notes : notes_in j ≡ notes_said layers.syntax.enabled asts m.files

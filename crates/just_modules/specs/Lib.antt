@@ -5,3 +5,4 @@ pub mod Justfiles
 pub mod Modules
 pub mod Noted
 pub mod Steps
+pub mod Variables

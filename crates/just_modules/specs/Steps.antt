@@ -18,6 +18,7 @@ use Rattle.just_index.specs.Index.{texts_of_names, AreDifferent}
 use Rattle.just_joining.specs.Files.{asts_in, keys_in}
 use Rattle.just_modules.specs.Justfiles.{by_name, notes_in, slot, with_labels}
 use Rattle.just_modules.specs.Noted.{notes_of_place}
+use Rattle.just_modules.specs.Variables.{HasVariables}
 use Rattle.just_joining.specs.Groups.{BreaksContents, KeepsContents}
 use Rattle.just_joining.specs.Kept.{kept_recipes}
 use Rattle.just_joining.specs.Named.{recipes_by}
@@ -46,6 +47,7 @@ pub record IsCompiledAt (layers : Layers) (files : Files) (joined : Joined) (loa
   pub kept : KeepsContents layers (contents_of_place layers.syntax.enabled files joined p)
   pub resolved : AreResolved (kept_recipes (recipes_of_place layers.syntax.enabled files joined p)) own.module_path made
   pub settings : HasSettings layers (contents_of_place layers.syntax.enabled files joined p) j
+  pub variables : HasVariables layers (contents_of_place layers.syntax.enabled files joined p) j
   pub default : HasDefault (contents_of_place layers.syntax.enabled files joined p) (recipes_by layers.syntax.enabled (Some own)) j
   pub fields : IsOf (contents_of_place layers.syntax.enabled files joined p) own loaded key.1 j
   pub notes : notes_in j ≡ notes_of_place layers.syntax.enabled files joined p

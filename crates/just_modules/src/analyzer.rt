@@ -11,11 +11,12 @@ ghost use Rattle.just_invoke.specs.declared.justfile.Justfile.{Justfile, out-Jus
 ghost use Rattle.just_joining.specs.Analyzable.{AreAnalyzable};
 ghost use Rattle.just_modules.specs.Analyzed.{Analyzes, NamesAnalyzed};
 ghost use Rattle.just_modules.specs.Justfiles.{notes_in};
-ghost use Rattle.just_joining.specs.Definitions.{contents_in, functions_in, recipes_in, variables_in};
+ghost use Rattle.just_joining.specs.Definitions.{contents_in, recipes_in};
 ghost use Rattle.just_joining.specs.Files.{asts_in};
 ghost use Rattle.just_modules.specs.Analysis.{BreaksFiles, BreaksRecipes, HasDefaultOf, HasSettingsOf, IsOfFiles, KeepsFiles};
+ghost use Rattle.just_modules.specs.Variables.{AreVariablesOf, HasVariablesOf};
 ghost use Rattle.just_joining.specs.Named.{AreAddedAt, contents_from, name_by, said_from, recipes_from};
-ghost use Rattle.just_joining.specs.Groups.{BreaksContents, KeepsBefore, OfBodies, functions_under, settings_of, variables_under};
+ghost use Rattle.just_joining.specs.Groups.{BreaksContents, KeepsBefore, OfBodies, settings_of};
 ghost use Rattle.just_joining.specs.Rules.{Bodies, Dependencies};
 ghost use Rattle.just_parts.specs.Layers.{layers_of};
 ghost use Rattle.just_index.specs.Index.{texts_of_names, AreDifferent};
@@ -23,7 +24,7 @@ ghost use Rattle.just_joining.specs.Kept.{kept_recipes};
 ghost use Rattle.just_joining.specs.Resolved.{AreNew, AreResolved, HasPriors, unresolved_numbers};
 
 use crate::compiling::compile_in_order;
-use crate::constants::{Evaluated, evaluate, judge_expressions};
+use crate::constants::{Variables, evaluate_settings, resolve_variables};
 use crate::inner::{labelled, take_at};
 use crate::making::{Surroundings, default_of, make_justfile};
 use just_data::{Sequence, Shared, Text};
@@ -64,25 +65,25 @@ fn definitions_at<'b, 'a, 'src, S: Syntax>(
     Ok(definitions)
 }
 
-// What is evaluated of a module that keeps the rules of headers, of names, of expressions and of what is evaluated.
+// The variables, the functions and the settings of a module that keeps the rules of headers, of names, of expressions and of
+// what is evaluated.
 fn check_module<'src, 'a, S: Syntax, E: Evaluation>(
     alloc: Global,
     definitions: &Definitions<'src, 'a>,
     syntax: &S,
     evaluation: &E,
-) -> Result<Evaluated<'src>, Error<'src>>
+) -> Result<(Variables<'src>, Settings), Error<'src>>
     requires { AreDifferent (texts_of_names definitions.now.modules.items) }
     ensures kept { IfOk result (λ _. KeepsBefore (layers_of (S.answers syntax.now) (E.answers evaluation.now)) OfBodies (contents_in definitions.now)) }
-    ensures variables { IfOk result (λ it. it.assignments ≡ variables_under (variables_in definitions.now)) }
-    ensures functions { IfOk result (λ it. it.functions ≡ functions_under (functions_in definitions.now)) }
-    ensures settings { IfOk result (λ it. settings_of (E.answers evaluation.now) (contents_in definitions.now) ≡ Some it.settings) }
+    ensures variables { IfOk result (λ it. AreVariablesOf (S.answers syntax.now) (contents_in definitions.now) it.0) }
+    ensures settings { IfOk result (λ it. settings_of (E.answers evaluation.now) (contents_in definitions.now) ≡ Some it.1) }
     ensures named { IfErr result (Reports (BreaksContents (layers_of (S.answers syntax.now) (E.answers evaluation.now)) (contents_in definitions.now))) }
 {
     check_headers(alloc, definitions, syntax)?;
     check_names(alloc, definitions)?;
-    let tables = judge_expressions(alloc, definitions, syntax)?;
-    let evaluated = evaluate(alloc, definitions, tables, evaluation)?;
-    Ok(evaluated)
+    let variables = resolve_variables(alloc, definitions, syntax)?;
+    let settings = evaluate_settings(alloc, definitions, evaluation)?;
+    Ok((variables, settings))
 }
 
 // The recipes of the module at a path that are kept, with these settings, and the same resolved, each after those
@@ -133,18 +134,19 @@ pub fn analyze_module<'a, 'src, S: Syntax, E: Evaluation>(
     ensures fields { IfOk result (IsOfFiles (S.answers syntax.now).enabled files.now own places.now surroundings.entry.loaded surroundings.entry.source) }
     ensures default { IfOk result (HasDefaultOf (S.answers syntax.now).enabled files.now own places.now) }
     ensures settings { IfOk result (HasSettingsOf (layers_of (S.answers syntax.now) (E.answers evaluation.now)) files.now places.now) }
+    ensures variables { IfOk result (HasVariablesOf (layers_of (S.answers syntax.now) (E.answers evaluation.now)) files.now places.now) }
     ensures modules { IfOk result (λ j. (out-Justfile j).modules ≡ surroundings.entry.modules) }
     ensures notes { IfOk result (λ j. notes_in j ≡ surroundings.entry.notes) }
     ensures named { IfErr result (Reports (BreaksFiles (layers_of (S.answers syntax.now) (E.answers evaluation.now)) files.now places.now)) }
 {
     let definitions = definitions_at(alloc, files, syntax, places)?;
     let ast = ast_at(files, own);
-    let evaluated = check_module(alloc, &definitions, syntax, evaluation)?;
+    let (variables, settings) = check_module(alloc, &definitions, syntax, evaluation)?;
     let (kept, mut made) = resolve_recipes(
         alloc,
         &definitions,
         syntax,
-        &evaluated.settings,
+        &settings,
         &ast.module_path,
     )?;
     let default = default_of(alloc, &kept, ast, syntax, &made)?;
@@ -155,7 +157,8 @@ pub fn analyze_module<'a, 'src, S: Syntax, E: Evaluation>(
         &kept,
         ast,
         default,
-        evaluated,
+        variables,
+        settings,
         surroundings,
     )?;
     Ok(justfile)

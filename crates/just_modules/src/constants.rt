@@ -1,43 +1,35 @@
 //! What is evaluated of a module while compiling, and the tables of its definitions.
 
-ghost use Rattle.std.specs.Prelude.{◌≡◌, [], IfOk, IfErr, OnOk, Some};
+ghost use Rattle.std.specs.Prelude.{◌≡◌, [], IfOk, IfErr, Some};
 ghost use Rattle.just_errors.specs.Causes.{Keeps, Reports};
 ghost use Rattle.just_names.specs.Name.{text_of_name};
 ghost use Rattle.just_table.specs.Entries.{put_all};
 ghost use Rattle.just_joining.specs.Definitions.{contents_in, functions_in, sets_in, variables_in};
-ghost use Rattle.just_joining.specs.Groups.{functions_under, known_of, settings_of, variables_under};
+ghost use Rattle.just_joining.specs.Groups.{functions_under, known_of, settings_of};
 ghost use Rattle.just_joining.specs.Rules.{Constants};
-ghost use Rattle.just_variables.specs.Known.{known};
+ghost use Rattle.just_modules.specs.Variables.{AreVariablesOf};
 ghost use Rattle.just_variables.specs.Misnaming.{Expressions};
 
 use just_data::{Exact, Sequence};
 use just_joining::definitions::{Definitions, function_at, set_at, variable_at};
 use just_joining::kept::keep_variables;
+use just_numbering::resolve_assignments;
 use just_parts::layers::{
-    Assignment, Error, Evaluation, FunctionDefinition, Scope, Set, Settings, Syntax,
+    Assignment, Error, Evaluation, FunctionDefinition, Name, Scope, Set, Settings, Syntax,
 };
 use just_table::Table;
-use just_variables::{Known, order_assignments};
 use std::alloc::{AllocError, Global};
 
-/// The variables of a module, of several of one name the one that is kept, and its functions, each under its name.
+/// The variables of a module, of several of one name the one that is kept, and its functions, with the numbers of what the
+/// names in them mean.
 #[derive(Drop)]
-pub struct Tables<'src> {
-    /// The variables.
+pub struct Variables<'src> {
+    /// The variables, each under its name.
     pub assignments: Table<'src, Assignment<'src>>,
-    /// The functions.
+    /// The names of the variables in an evaluation order.
+    pub evaluation_order: Sequence<Name<'src>>,
+    /// The functions, each under its name.
     pub functions: Table<'src, FunctionDefinition<'src>>,
-}
-
-/// What is evaluated of a module, and the tables of its definitions.
-#[derive(Drop)]
-pub struct Evaluated<'src> {
-    /// The variables of the module, by their names.
-    pub assignments: Table<'src, Assignment<'src>>,
-    /// Its functions, by their names.
-    pub functions: Table<'src, FunctionDefinition<'src>>,
-    /// What it sets, and the other settings by default.
-    pub settings: Settings,
 }
 
 // The functions, under their names.
@@ -89,72 +81,42 @@ fn variable_table<'a, 'src>(
     Ok(variables)
 }
 
-// Checks the names in the values of variables and in the bodies of functions, and that no variable reads itself.
-fn check_expressions<'src, S: Syntax>(
-    alloc: Global,
-    assignments: &Table<'src, Assignment<'src>>,
-    functions: &Table<'src, FunctionDefinition<'src>>,
-    syntax: &S,
-) -> Result<(), Error<'src>>
-    ensures kept { OnOk result (Keeps (Expressions (known (S.answers syntax.now) assignments.now functions.now))) }
-    ensures named { IfErr result (Reports (Expressions (known (S.answers syntax.now) assignments.now functions.now))) }
-{
-    let known = Known {
-        assignments,
-        functions,
-        syntax,
-    };
-    order_assignments(alloc, &known)?;
-    Ok(())
-}
-
-/// The variables of a module that are kept, and its functions. An error names what is at fault with a name in the value of
-/// a variable or in the body of a function, or variables that read one another in a circle.
-pub fn judge_expressions<'a, 'src, S: Syntax>(
+/// The variables and the functions of a module. An error names what is at fault with a name in the value of a variable or
+/// in the body of a function, or variables that read one another in a circle.
+pub fn resolve_variables<'a, 'src, S: Syntax>(
     alloc: Global,
     definitions: &Definitions<'src, 'a>,
     syntax: &S,
-) -> Result<Tables<'src>, Error<'src>>
+) -> Result<Variables<'src>, Error<'src>>
     ensures kept { IfOk result (λ _. Keeps (Expressions (known_of (S.answers syntax.now) (contents_in definitions.now)))) }
-    ensures assignments { IfOk result (λ it. it.assignments ≡ variables_under (variables_in definitions.now)) }
-    ensures functions { IfOk result (λ it. it.functions ≡ functions_under (functions_in definitions.now)) }
+    ensures variables { IfOk result (AreVariablesOf (S.answers syntax.now) (contents_in definitions.now)) }
     ensures named { IfErr result (Reports (Expressions (known_of (S.answers syntax.now) (contents_in definitions.now)))) }
 {
     let kept = keep_variables(alloc, definitions)?;
-    let assignments = variable_table(alloc, &kept)?;
-    let functions = function_table(alloc, definitions)?;
-    check_expressions(alloc, &assignments, &functions, syntax)?;
-    Ok(Tables {
+    let mut assignments = variable_table(alloc, &kept)?;
+    let mut functions = function_table(alloc, definitions)?;
+    let resolved = resolve_assignments(alloc, &mut assignments, &mut functions, syntax)?;
+    let (_, order) = resolved;
+    Ok(Variables {
         assignments,
+        evaluation_order: Sequence::from_vec(order),
         functions,
     })
 }
 
-/// Evaluates what a module sets, with these tables. An error is a fault of the evaluation.
-pub fn evaluate<'a, 'src, E: Evaluation>(
+/// Evaluates what a module sets. An error is a fault of the evaluation.
+pub fn evaluate_settings<'a, 'src, E: Evaluation>(
     alloc: Global,
     definitions: &Definitions<'src, 'a>,
-    tables: Tables<'src>,
     evaluation: &E,
-) -> Result<Evaluated<'src>, Error<'src>>
-    requires { tables.functions ≡ functions_under (functions_in definitions.now) }
-    ensures assignments { IfOk result (λ it. it.assignments ≡ tables.entry.assignments) }
-    ensures functions { IfOk result (λ it. it.functions ≡ functions_under (functions_in definitions.now)) }
-    ensures settings { IfOk result (λ it. settings_of (E.answers evaluation.now) (contents_in definitions.now) ≡ Some it.settings) }
+) -> Result<Settings, Error<'src>>
+    ensures settings { IfOk result (λ settings. settings_of (E.answers evaluation.now) (contents_in definitions.now) ≡ Some settings) }
     ensures named { IfErr result (Reports (Constants (settings_of (E.answers evaluation.now) (contents_in definitions.now)))) }
 {
-    let Tables {
-        assignments,
-        functions,
-    } = tables;
+    let functions = function_table(alloc, definitions)?;
     let sets = copied_sets(alloc, definitions)?;
     let constants = Scope {
         bindings: Sequence::new(alloc),
     };
-    let settings = evaluation.sets(alloc, &constants, &functions, sets.as_slice())?;
-    Ok(Evaluated {
-        assignments,
-        functions,
-        settings,
-    })
+    evaluation.sets(alloc, &constants, &functions, sets.as_slice())
 }

@@ -6,22 +6,21 @@ ghost use Rattle.just_running.specs.Recipes.{numbers};
 ghost use Rattle.just_invoke.specs.declared.justfile.Justfile.{out-Justfile};
 ghost use Rattle.just_modules.specs.Analysis.{AreKeysOf, HasKeysOf, IsBefore, IsBetter, IsDefaultBy, IsDefaultOf, IsDefaultPlace, IsOf};
 ghost use Rattle.just_modules.specs.Justfiles.{notes_in};
-ghost use Rattle.just_joining.specs.Groups.{functions_under, variables_under};
 ghost use Rattle.just_joining.specs.Defaults.{Defaults};
-ghost use Rattle.just_joining.specs.Definitions.{contents_in, functions_in, recipes_in, variables_in};
+ghost use Rattle.just_joining.specs.Definitions.{contents_in, recipes_in};
 ghost use Rattle.just_index.specs.Index.{AreDifferent};
 ghost use Rattle.just_joining.specs.Kept.{kept_recipes};
 ghost use Rattle.just_joining.specs.Named.{recipes_by};
 ghost use Rattle.just_joining.specs.Recipes.{names_of};
 
-use crate::constants::Evaluated;
+use crate::constants::Variables;
 use just_data::{Sequence, Shared, Text};
 use just_invoke::{Justfile, RecipeKey, Recipes};
 use just_joining::defaults::marked_place;
 use just_joining::definitions::{Definitions, recipe_at};
 use just_notes::Notes;
 use just_parts::UnresolvedRecipe;
-use just_parts::layers::{Ast, Error, Name, Number, Syntax};
+use just_parts::layers::{Ast, Error, Name, Number, Settings, Syntax};
 use just_table::Table;
 use std::alloc::{AllocError, Global};
 
@@ -155,23 +154,25 @@ pub struct Surroundings<'src> {
     pub source: Text,
 }
 
-/// The justfile of a module with these definitions, of whose recipes some are kept, with a default, and with what is evaluated of
-/// it. It has no label.
+/// The justfile of a module with these definitions, of whose recipes some are kept, with a default, and with its variables
+/// and settings. It has no label.
 pub fn make_justfile<'a, 'src>(
     alloc: Global,
     definitions: &Definitions<'src, 'a>,
     kept: &Definitions<'src, 'a>,
     ast: &Ast<'src>,
     default: Option<Number>,
-    evaluated: Evaluated<'src>,
+    variables: Variables<'src>,
+    settings: Settings,
     surroundings: Surroundings<'src>,
 ) -> Result<Justfile<'src>, AllocError>
     requires recipes { recipes_in kept.now ≡ kept_recipes (recipes_in definitions.now) }
-    requires variables { evaluated.assignments ≡ variables_under (variables_in definitions.now) }
-    requires functions { evaluated.functions ≡ functions_under (functions_in definitions.now) }
     ensures fields { IfOk result (λ j. IsOf (contents_in definitions.now) ast.now surroundings.entry.loaded surroundings.entry.source j) }
     ensures default { IfOk result (λ j. (out-Justfile j).default ≡ default) }
-    ensures settings { IfOk result (λ j. (out-Justfile j).settings ≡ evaluated.entry.settings) }
+    ensures assignments { IfOk result (λ j. (out-Justfile j).assignments ≡ variables.entry.assignments) }
+    ensures functions { IfOk result (λ j. (out-Justfile j).functions ≡ variables.entry.functions) }
+    ensures evaluation_order { IfOk result (λ j. (out-Justfile j).evaluation_order ≡ variables.entry.evaluation_order) }
+    ensures settings { IfOk result (λ j. (out-Justfile j).settings ≡ settings) }
     ensures modules { IfOk result (λ j. (out-Justfile j).modules ≡ surroundings.entry.modules) }
     ensures notes { IfOk result (λ j. notes_in j ≡ surroundings.entry.notes) }
 {
@@ -186,16 +187,17 @@ pub fn make_justfile<'a, 'src>(
         unstable_features,
         warnings,
     } = notes;
-    let Evaluated {
+    let Variables {
         assignments,
+        evaluation_order,
         functions,
-        settings,
-    } = evaluated;
+    } = variables;
     Ok(Justfile {
         absent_modules,
         assignments,
         default,
         doc: None,
+        evaluation_order,
         functions,
         groups: Sequence::new(alloc),
         loaded,

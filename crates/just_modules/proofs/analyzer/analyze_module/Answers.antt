@@ -23,6 +23,8 @@ use Rattle.just_modules.specs.Analysis.{BreaksRecipes, IsDefaultAmong, IsDefault
 use Rattle.just_modules.proofs.Grounds.{all_kept, bodies_under, defaults_broken, dependencies_under, recipes_broken}
 use Rattle.just_joining.specs.Resolved.{AreResolved, HasPriors, unresolved_numbers}
 use Rattle.just_modules.proofs.Makings.{default_resolved, resolved_numbers}
+use Rattle.just_modules.specs.Variables.{HasVariables}
+use Rattle.just_modules.proofs.Variables.{variables_had}
 use Rattle.just_modules.proofs.analyzer.analyze_module.Goals as goal
 
 pub resolve_recipes-requires-clause-once : goal.resolve_recipes-requires-clause-once
@@ -34,29 +36,29 @@ resolve_recipes-requires-clause-priors g c = subst (λ (m : Contents). All HasPr
 pub check_module-requires : goal.check_module-requires
 check_module-requires g c = subst (λ (m : Contents). AreDifferent (texts_of_names m.modules)) (sym c.in_ok-definitions.ensures) c.requires.modules
 
-pub returns-in_err-evaluated-clause-named : goal.returns-in_err-evaluated-clause-named
-returns-in_err-evaluated-clause-named g c =
+pub returns-in_err-variables-clause-named : goal.returns-in_err-variables-clause-named
+returns-in_err-variables-clause-named g c =
     let layers = layers_of (g.S.Syntax.answers c.args.syntax.now) (g.E.Evaluation.answers c.args.evaluation.now) in
-    IfErr-weaker c.from_residual-in_err-evaluated.result (Reports (BreaksContents layers (contents_in c.in_ok-definitions.definitions))) _
+    IfErr-weaker c.from_residual-in_err-variables.result (Reports (BreaksContents layers (contents_in c.in_ok-definitions.definitions))) _
     (λ e h. subst (λ m. Reports (BreaksContents layers m) e) c.in_ok-definitions.ensures h) (search rules)
 
 pub returns-in_err-kept-clause-named : goal.returns-in_err-kept-clause-named
 returns-in_err-kept-clause-named g c =
     let layers = layers_of (g.S.Syntax.answers c.args.syntax.now) (g.E.Evaluation.answers c.args.evaluation.now) in
     let m = contents_in c.in_ok-definitions.definitions in
-    let s = c.in_ok-evaluated.evaluated.settings in
+    let s = c.in_ok-variables.settings in
     IfErr-weaker c.from_residual-in_err-kept.result (Reports (BreaksRecipes layers.syntax s m)) _
-    (λ e h. subst (λ n. Reports (BreaksContents layers n) e) c.in_ok-definitions.ensures (reports_by (BreaksRecipes layers.syntax s m) (BreaksContents layers m) (recipes_broken layers m c.in_ok-evaluated.ensures.kept s c.in_ok-evaluated.ensures.settings) e h)) (search rules)
+    (λ e h. subst (λ n. Reports (BreaksContents layers n) e) c.in_ok-definitions.ensures (reports_by (BreaksRecipes layers.syntax s m) (BreaksContents layers m) (recipes_broken layers m c.in_ok-variables.ensures.kept s c.in_ok-variables.ensures.settings) e h)) (search rules)
 
 pub returns-in_err-default-clause-named : goal.returns-in_err-default-clause-named
 returns-in_err-default-clause-named g c =
     let layers = layers_of (g.S.Syntax.answers c.args.syntax.now) (g.E.Evaluation.answers c.args.evaluation.now) in
     let m = contents_in c.in_ok-definitions.definitions in
-    let s = c.in_ok-evaluated.evaluated.settings in
+    let s = c.in_ok-variables.settings in
     let named : Reports (Defaults (recipes_in c.in_ok-kept.kept)) c.in_err-default.field-0.0 = c.in_err-default.ensures.named in
     IfErr-weaker c.from_residual-in_err-default.result (Reports (Defaults (recipes_in c.in_ok-kept.kept))) _
     (λ e h. subst (λ n. Reports (BreaksContents layers n) e) c.in_ok-definitions.ensures (reports_by (Defaults (recipes_in c.in_ok-kept.kept)) (BreaksContents layers m)
-    (λ x k. defaults_broken layers m c.in_ok-evaluated.ensures.kept (bodies_under layers m s c.in_ok-evaluated.ensures.settings c.in_ok-kept.ensures.bodies) (dependencies_under layers m s c.in_ok-evaluated.ensures.settings c.in_ok-kept.ensures.dependencies) x
+    (λ x k. defaults_broken layers m c.in_ok-variables.ensures.kept (bodies_under layers m s c.in_ok-variables.ensures.settings c.in_ok-kept.ensures.bodies) (dependencies_under layers m s c.in_ok-variables.ensures.settings c.in_ok-kept.ensures.dependencies) x
     (subst (λ (rs : List (Recipe UnresolvedDependency)). Defaults rs x) c.in_ok-kept.ensures.recipes k)) e h)) (search (rules, named, c.from_residual-in_err-default.ensures.1, c.from_residual-in_err-default.ensures.0))
 
 pub returns-in_err-append-clause-named : goal.returns-in_err-append-clause-named
@@ -72,13 +74,21 @@ pub returns-clause-kept : goal.returns-clause-kept
 returns-clause-kept g c =
     let layers = layers_of (g.S.Syntax.answers c.args.syntax.now) (g.E.Evaluation.answers c.args.evaluation.now) in
     let m = contents_in c.in_ok-definitions.definitions in
-    let s = c.in_ok-evaluated.evaluated.settings in
-    subst (KeepsContents layers) c.in_ok-definitions.ensures (all_kept layers m c.in_ok-evaluated.ensures.kept (bodies_under layers m s c.in_ok-evaluated.ensures.settings c.in_ok-kept.ensures.bodies) (dependencies_under layers m s c.in_ok-evaluated.ensures.settings c.in_ok-kept.ensures.dependencies)
+    let s = c.in_ok-variables.settings in
+    subst (KeepsContents layers) c.in_ok-definitions.ensures (all_kept layers m c.in_ok-variables.ensures.kept (bodies_under layers m s c.in_ok-variables.ensures.settings c.in_ok-kept.ensures.bodies) (dependencies_under layers m s c.in_ok-variables.ensures.settings c.in_ok-kept.ensures.dependencies)
     (subst (λ (rs : List (Recipe UnresolvedDependency)). Keeps (Defaults rs)) c.in_ok-kept.ensures.recipes c.in_ok-default.ensures.kept))
 
 pub returns-clause-settings : goal.returns-clause-settings
 returns-clause-settings g c =
-    ap (settings_of (g.E.Evaluation.answers c.args.evaluation.now)) (sym c.in_ok-definitions.ensures) ∙ c.in_ok-evaluated.ensures.settings ∙ ap (λ s. Some s) (sym c.in_ok-justfile.ensures.settings)
+    ap (settings_of (g.E.Evaluation.answers c.args.evaluation.now)) (sym c.in_ok-definitions.ensures) ∙ c.in_ok-variables.ensures.settings ∙ ap (λ s. Some s) (sym c.in_ok-justfile.ensures.settings)
+
+pub returns-clause-variables : goal.returns-clause-variables
+returns-clause-variables g c =
+    let answers = g.S.Syntax.answers c.args.syntax.now in
+    let m = contents_in c.in_ok-definitions.definitions in
+    let is = c.in_ok-justfile.ensures in
+    subst (λ n. HasVariables (layers_of answers (g.E.Evaluation.answers c.args.evaluation.now)) n c.in_ok-justfile.justfile) c.in_ok-definitions.ensures
+    (variables_had answers m c.in_ok-variables.variables.assignments c.in_ok-variables.variables.functions c.in_ok-variables.variables.evaluation_order c.in_ok-variables.ensures.variables _ _ _ is.assignments is.functions is.evaluation_order)
 
 pub returns-clause-added : goal.returns-clause-added
 returns-clause-added g c = λ own e.

@@ -22,24 +22,24 @@ returns-in_err-check_names-clause-named g c =
     IfErr-weaker c.from_residual-in_err-check_names.result (Reports (Names m)) _
     (λ e h. reports_by (Names m) (BreaksContents layers m) (λ x k. record { group = OfNames; earlier = before_names layers m c.in_ok-check_headers.ensures.kept; broken = k }) e h) (search rules)
 
-pub returns-in_err-tables-clause-named : goal.returns-in_err-tables-clause-named
-returns-in_err-tables-clause-named g c =
+pub returns-in_err-variables-clause-named : goal.returns-in_err-variables-clause-named
+returns-in_err-variables-clause-named g c =
     let layers = layers_of (g.S.Syntax.answers c.args.syntax.now) (g.E.Evaluation.answers c.args.evaluation.now) in
     let m = contents_in c.args.definitions.now in
-    IfErr-weaker c.from_residual-in_err-tables.result (Reports (Expressions (known_of layers.syntax m))) _
+    IfErr-weaker c.from_residual-in_err-variables.result (Reports (Expressions (known_of layers.syntax m))) _
     (λ e h. reports_by (Expressions _) (BreaksContents layers m)
     (λ x k. record { group = OfExpressions; earlier = before_expressions layers m c.in_ok-check_headers.ensures.kept c.in_ok-check_names.ensures.kept; broken = k }) e h) (search rules)
 
-pub returns-in_err-evaluated-clause-named : goal.returns-in_err-evaluated-clause-named
-returns-in_err-evaluated-clause-named g c =
+pub returns-in_err-settings-clause-named : goal.returns-in_err-settings-clause-named
+returns-in_err-settings-clause-named g c =
     let layers = layers_of (g.S.Syntax.answers c.args.syntax.now) (g.E.Evaluation.answers c.args.evaluation.now) in
     let m = contents_in c.args.definitions.now in
-    IfErr-weaker c.from_residual-in_err-evaluated.result (Reports (Constants (settings_of layers.evaluator m))) _
+    IfErr-weaker c.from_residual-in_err-settings.result (Reports (Constants (settings_of layers.evaluator m))) _
     (λ e h. reports_by (Constants _) (BreaksContents layers m)
-    (λ x k. record { group = OfConstants; earlier = before_constants layers m c.in_ok-check_headers.ensures.kept c.in_ok-check_names.ensures.kept c.in_ok-tables.ensures.kept; broken = k }) e h) (search rules)
+    (λ x k. record { group = OfConstants; earlier = before_constants layers m c.in_ok-check_headers.ensures.kept c.in_ok-check_names.ensures.kept c.in_ok-variables.ensures.kept; broken = k }) e h) (search rules)
 
 pub returns-clause-kept : goal.returns-clause-kept
 returns-clause-kept g c =
     let layers = layers_of (g.S.Syntax.answers c.args.syntax.now) (g.E.Evaluation.answers c.args.evaluation.now) in
     let m = contents_in c.args.definitions.now in
-    before_bodies layers m c.in_ok-check_headers.ensures.kept c.in_ok-check_names.ensures.kept c.in_ok-tables.ensures.kept (constants_kept (settings_of layers.evaluator m) c.in_ok-evaluated.evaluated.settings c.in_ok-evaluated.ensures.settings)
+    before_bodies layers m c.in_ok-check_headers.ensures.kept c.in_ok-check_names.ensures.kept c.in_ok-variables.ensures.kept (constants_kept (settings_of layers.evaluator m) c.in_ok-settings.settings c.in_ok-settings.ensures.settings)

@@ -18,6 +18,7 @@ use Rattle.just_joining.specs.Resolved.{HasPriors, unresolved_numbers}
 use Rattle.just_parts.specs.Layers.{layers_of}
 use Rattle.just_joining.specs.Kept.{kept_recipes}
 use Rattle.just_modules.specs.Analysis.{BreaksFiles, HasDefault, HasSettingsOf, KeepsFiles}
+use Rattle.just_modules.specs.Variables.{HasVariablesOf}
 use Rattle.just_modules.proofs.Makings.{is_of_same}
 use Rattle.just_joining.proofs.Joining.{row_lent, some_at}
 use Rattle.just_modules.proofs.compiling.compile_place.Goals as goal
@@ -106,6 +107,7 @@ returns-clause-compiled g c =
         key_is = key;
         kept = subst (λ (xs : List ℕ). KeepsFiles (layers_of (g.S.Syntax.answers c.args.syntax.now) (g.E.Evaluation.answers c.args.evaluation.now)) c.args.files.now xs) row c.in_ok-justfile.ensures.kept;
         settings = subst (λ (xs : List ℕ). HasSettingsOf (layers_of (g.S.Syntax.answers c.args.syntax.now) (g.E.Evaluation.answers c.args.evaluation.now)) c.args.files.now xs c.in_ok-justfile.justfile) row c.in_ok-justfile.ensures.settings;
+        variables = subst (λ (xs : List ℕ). HasVariablesOf (layers_of (g.S.Syntax.answers c.args.syntax.now) (g.E.Evaluation.answers c.args.evaluation.now)) c.args.files.now xs c.in_ok-justfile.justfile) row c.in_ok-justfile.ensures.variables;
         resolved = added.resolved;
         default = subst (λ (xs : List ℕ). HasDefault (contents_from enabled asts xs) (recipes_by enabled (Some own.0)) c.in_ok-justfile.justfile) row (c.in_ok-justfile.ensures.default own.0 own.1);
         fields = is_of_same (contents_from enabled asts c.as_slice-row.result.now) _ own.0 c.in_ok-clone.field-0 c.args.loaded.now c.in_ok-from_str.field-0 c.index-3.result.now.now.1 c.in_ok-justfile.justfile

@@ -1,8 +1,5 @@
-use Rattle.std.proofs.Common.{◌≡◌, ◌∙◌, List, [], ap, length, rules, subst, sym}
+use Rattle.std.proofs.Common.{◌≡◌, ◌∙◌, List, length, rules, subst, sym}
 use Rattle.just_invoke.specs.declared.justfile.Justfile.TheViews.{the_lemmas}
-use Rattle.just_names.specs.Name.{text_of_name}
-use Rattle.just_records.specs.declared.assignment.Assignment.{Assignment}
-use Rattle.just_table.specs.Entries.{put_all}
 use Rattle.just_parts.specs.declared.layers.ast.UnresolvedDependency.{UnresolvedDependency}
 use Rattle.just_parts.specs.declared.recipe.Recipe.{Recipe}
 use Rattle.just_joining.specs.Definitions.{contents_in, recipes_in}
@@ -20,6 +17,6 @@ pub returns-clause-fields : goal.returns-clause-fields
 returns-clause-fields c =
     let many : length (recipes_in c.args.kept.now) ≡ length c.args.kept.now.recipes.items = length-lent c.args.kept.now.recipes.items in
     is_of (contents_in c.args.definitions.now) (recipes_in c.args.kept.now) c.args.ast.now c.args.surroundings.loaded c.args.surroundings.source _
-    (length c.args.kept.now.recipes.items) c.in_ok-recipe_keys.field-0 c.args.evaluated.assignments c.requires.recipes many (search (rules, the_lemmas))
-    c.in_ok-recipe_keys.ensures.keys c.in_ok-recipe_keys.ensures.held (search (rules, the_lemmas)) (search (rules, the_lemmas)) c.requires.variables (search (rules, the_lemmas))
+    (length c.args.kept.now.recipes.items) c.in_ok-recipe_keys.field-0 c.requires.recipes many (search (rules, the_lemmas))
+    c.in_ok-recipe_keys.ensures.keys c.in_ok-recipe_keys.ensures.held (search (rules, the_lemmas))
     (search (rules, the_lemmas)) (search (rules, the_lemmas)) (search (rules, the_lemmas)) (search (rules, the_lemmas))
