@@ -145,6 +145,12 @@ def function_circle(count):
     return bundle(*functions, "g() := f0() + v", "v := 'a'", "w := g()", "a:"), ["a"]
 
 
+def function_circle_with_a_variable(count):
+    """Functions that call each other in a circle, the last of which reads a variable, and a variable that calls the first."""
+    functions = [f"f{n}() := f{n + 1}()" for n in range(count - 1)] + [f"f{count - 1}() := f0() + v"]
+    return bundle(*functions, "v := 'a'", "w := f0()", "a:"), ["a"]
+
+
 def circle_of_variables(count):
     """Many variables, each of which reads the next, and the last the first, which is refused."""
     return bundle(*(f"v{n} := v{(n + 1) % count}" for n in range(count)), "a:"), ["a"]
@@ -154,6 +160,13 @@ def many_reads(count):
     """A variable that reads so many others in one list."""
     names = ", ".join(f"v{n}" for n in range(count))
     return bundle("set lists", *(f"v{n} := 'a'" for n in range(count)), f"all := [{names}]", "a:"), ["a"]
+
+
+def many_arguments(count):
+    """A variable that hands so many others to one function."""
+    parameters = ", ".join(f"x{n}" for n in range(count))
+    arguments = ", ".join(f"v{n}" for n in range(count))
+    return bundle(f"f({parameters}) := x0", *(f"v{n} := 'a'" for n in range(count)), f"all := f({arguments})", "a:"), ["a"]
 
 
 def variable_twice(count):
@@ -244,11 +257,14 @@ INPUTS = {
     "2,000 modules that set seven settings each": settings(2_000),
     "a setting that is set 100,000 times": settings_twice(100_000),
     "20,000 variables": variables(20_000),
+    "2,000 variables that each read the next": variable_chain(2_000),
     "20,000 variables that each read the next": variable_chain(20_000),
     "2,000 functions in a chain, and 2,000 variables that call the first": function_chain(2_000),
     "10,000 functions in a circle": function_circle(10_000),
+    "10,000 functions in a circle, the last of which reads a variable": function_circle_with_a_variable(10_000),
     "circle of 20,000 variables": circle_of_variables(20_000),
     "list of 100,000 variables": many_reads(100_000),
+    "call with 100,000 variables": many_arguments(100_000),
     "a variable that is assigned 100,000 times": variable_twice(100_000),
     "1,000 recipes, each in every one of 100 files": duplicates(100_000),
     "a recipe that is defined 100,000 times over 100 files": one_name(100_000),

@@ -13,6 +13,7 @@ struct Lines {
     absent: String,
     settings: String,
     variables: String,
+    order: String,
     recipes: String,
     entrances: String,
     numbers: HashSet<u64>,
@@ -125,6 +126,16 @@ fn add_variables(module: &Justfile, text: &mut String) -> Result<(), AllocError>
     Ok(())
 }
 
+// Adds the variables of a module in the order of their evaluation, behind its own file.
+fn add_order(module: &Justfile, text: &mut String) -> Result<(), AllocError> {
+    text.push_str(next(text))?;
+    text.push_str(module.source.as_str())?;
+    for name in module.evaluation_order.as_slice() {
+        write!(text, " {name}")?;
+    }
+    Ok(())
+}
+
 // Adds the recipes of a module, in the order of its table.
 fn add_recipes<'src>(
     compilation: &Compilation<'src>,
@@ -148,6 +159,7 @@ fn lines_of(compilation: &Compilation, alloc: Global) -> Result<Lines, AllocErro
         absent: String::new(alloc),
         settings: String::new(alloc),
         variables: String::new(alloc),
+        order: String::new(alloc),
         recipes: String::new(alloc),
         entrances: String::new(alloc),
         numbers: HashSet::new(alloc),
@@ -164,6 +176,7 @@ fn lines_of(compilation: &Compilation, alloc: Global) -> Result<Lines, AllocErro
         add_absent(module, &mut lines.absent)?;
         add_settings(module, &mut lines.settings)?;
         add_variables(module, &mut lines.variables)?;
+        add_order(module, &mut lines.order)?;
         add_recipes(compilation, module, alloc, &mut lines)?;
         for inner in module.modules.as_slice().iter().rev() {
             left.push(inner)?;
@@ -188,6 +201,7 @@ pub fn add_compilation(
     writeln!(text, "absent{}", lines.absent)?;
     writeln!(text, "settings{}", lines.settings)?;
     writeln!(text, "variables{}", lines.variables)?;
+    writeln!(text, "order{}", lines.order)?;
     writeln!(text, "recipes{}", lines.recipes)?;
     writeln!(text, "entrances{}", lines.entrances)?;
     writeln!(text, "numbers {} of {}", lines.numbers.len(), lines.count)
