@@ -4,6 +4,7 @@ ghost use Rattle.just_names.specs.Clean.{IsClean};
 ghost use Rattle.just_invoke.specs.Closed.{IsClosed};
 
 use crate::modules::add_compilation;
+use crate::variables::add_variable;
 use just_analyzer::layers::{Config, Entry, Error, Groups};
 use just_analyzer::{
     Compilation, Compiler, Invocation, InvocationParser, Modulepath, Report, Sources, is_clean,
@@ -179,6 +180,30 @@ fn add_sources(
     }
 }
 
+// Adds what a variable of the root's module refers to, and which variables it needs.
+fn add_of_variable(
+    text: &mut String,
+    alloc: Global,
+    sources: &Sources,
+    asked: &Asked,
+    name: &str,
+) -> Result<(), AllocError> {
+    let root = asked.root.as_str();
+    if !is_clean(root) {
+        return text.push_str("error NotClean\n");
+    }
+    match compile(alloc, sources, &PlainSyntax::new(), &asked.config, root) {
+        Ok(
+            Compilation {
+                justfile,
+                overrides,
+                ..
+            },
+        ) => add_variable(alloc, &justfile, &overrides, name, text),
+        Err(error) => add_fault(text, &error),
+    }
+}
+
 // Texts as words.
 fn words_of<'a>(alloc: Global, texts: &'a [String]) -> Result<Vec<&'a str>, AllocError> {
     texts.iter().map(|text| text.as_str()).collect(alloc)
@@ -191,6 +216,17 @@ fn answer_just(alloc: Global, bundle: &str, line: &str) -> Result<String, AllocE
     let words = words_of(alloc, asked.words.as_slice())?;
     match read_sources(alloc, bundle) {
         Ok(sources) => add_sources(&mut answer, alloc, &sources, &asked, words.as_slice())?,
+        Err(error) => writeln!(answer, "error Bundle: {error}")?,
+    }
+    Ok(answer)
+}
+
+// Answers a line `$ variable` over a bundle.
+fn answer_variable(alloc: Global, bundle: &str, name: &str) -> Result<String, AllocError> {
+    let mut answer = String::new(alloc);
+    let asked = read_asked(alloc, "")?;
+    match read_sources(alloc, bundle) {
+        Ok(sources) => add_of_variable(&mut answer, alloc, &sources, &asked, name)?,
         Err(error) => writeln!(answer, "error Bundle: {error}")?,
     }
     Ok(answer)
@@ -209,6 +245,7 @@ pub fn answer(alloc: Global, bundle: &str, question: &str) -> Result<Option<Stri
     let (kind, rest) = question.split_once(' ').unwrap_or((question, ""));
     let answer = match kind {
         "just" => answer_just(alloc, bundle, rest)?,
+        "variable" => answer_variable(alloc, bundle, rest)?,
         "parse" => answer_parse(alloc, unmarked(alloc, rest)?.as_str())?,
         "read" => answer_read(alloc, unmarked(alloc, rest)?.as_str())?,
         "copy" => answer_copy(alloc, unmarked(alloc, rest)?.as_str())?,

@@ -4,6 +4,7 @@
 mod answers;
 mod cases;
 mod modules;
+mod variables;
 
 use crate::cases::{differences, name_of};
 use anyhow::{Context, Result, ensure};
