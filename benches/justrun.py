@@ -314,7 +314,7 @@ def main():
         stack = 1 << 26 if "stack of 64 MiB" in name else None
         runs = [measure(program, text, ["/justfile", *arguments], stack) for _ in range(3)]
         status, printed, seconds, peak, told = min(runs, key=lambda run: run[2])
-        print(f"{name}: {len(text)} bytes, status {status}, {printed} lines, {seconds:.2f} s, {peak:.0f} MiB {told}", flush=True)
+        print(f"{name}: {len(text)} bytes, status {status}, {printed} lines, {seconds:.2f} s, {peak:.0f} MiB {told[:100]}", flush=True)
 
 
 if __name__ == "__main__":
