@@ -33,7 +33,7 @@ use Rattle.just_errors.specs.declared.error.Definition.TheVariants as definition
 use Rattle.just_joining.specs.Contents.{Contents, Defined, Signature, all_defined, defined, defined_in, defined_recipe, function_names, module_of_name, signature, signatures, variable_names}
 use Rattle.just_index.specs.Index.{texts_of_names, Repeats}
 use Rattle.just_joining.specs.Groups.{Breaks, Group, OfAliases, OfBodies, OfConstants, OfDependencies, OfExpressions, OfHeaders, OfNames, functions_under, known_of, settings_of, variables_under}
-use Rattle.just_variables.specs.Known.{Known, known}
+use Rattle.just_parts.specs.Known.{Known, known}
 use Rattle.just_variables.specs.Misnaming.{Expressions}
 use Rattle.just_joining.specs.Defaults.{Defaults, IsLater, duplicate_default, is_default, is_marked}
 use Rattle.just_joining.specs.Kept.{claim_of_recipe, gives_way, kept_recipes, left_of}

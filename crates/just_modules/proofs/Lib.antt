@@ -4,12 +4,10 @@ pub mod Analyzing
 pub mod Closing
 pub mod Compilable
 pub mod Defaults
-pub mod Evaluating
 pub mod Forests
 pub mod Grounds
 pub mod Headed
 pub mod Held
-pub mod Judging
 pub mod Keeping
 pub mod Keys
 pub mod Makings
@@ -19,4 +17,3 @@ pub mod Ordered
 pub mod Ready
 pub mod TableValues
 pub mod Taking
-pub mod Variables

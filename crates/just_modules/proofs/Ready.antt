@@ -36,7 +36,7 @@ use Rattle.just_joining.proofs.Alike.{AreAlike, outline_of, outlines_of}
 use Rattle.just_joining.proofs.BareOutlines.{outline_located}
 use Rattle.just_joining.proofs.FilePlaces.{are_graphs, says}
 use Rattle.just_modules.specs.Modules.{items_of}
-use Rattle.just_modules.proofs.Evaluating.{function_bare}
+use Rattle.just_constants.proofs.Evaluating.{function_bare}
 use Rattle.just_modules.proofs.ModulePlaces.{no_ast}
 
 abbrev name_of : Submodule → Name

@@ -3,13 +3,13 @@ use Rattle.std.proofs.Common.{◌≡◌, Bool, true, ◌||◌, [], map, ◌∙�
 use Rattle.std.specs.HashSet.{contains}
 use Rattle.just_names.specs.Modulepath.{Text}
 use Rattle.just_names.specs.declared.number.Number.{Number}
-use Rattle.just_needs.specs.Needs.{Gains, GainsAll, GainsThose, HasNone, IsSame, same_number}
+use Rattle.just_parts.specs.Needs.{Gains, GainsAll, GainsThose, HasNone, IsSame, same_number}
 use Rattle.just_needs.specs.Search.{Searches, found_in, scoped_of}
 use Rattle.just_needs.specs.declared.needs.Search.{Search}
 use Rattle.just_needs.proofs.Searching.{search_gains, search_gains_all}
 use Rattle.just_needs.proofs.Sets.{or_left}
-use Rattle.just_variables.specs.Known.{Known}
-use Rattle.just_variables.specs.Reading.{Reads}
+use Rattle.just_parts.specs.Known.{Known}
+use Rattle.just_parts.specs.Reading.{Reads}
 use Rattle.just_variables.specs.Steps.{Scoped}
 
 -- a set that has its keys in another order gains others

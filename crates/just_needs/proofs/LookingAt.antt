@@ -15,7 +15,7 @@ use Rattle.just_names.specs.Modulepath.{Text}
 use Rattle.just_names.specs.Name.{text_of_name}
 use Rattle.just_names.specs.declared.name.Name.{Name}
 use Rattle.just_names.specs.declared.number.Number.{Number}
-use Rattle.just_needs.specs.Needs.{same_number}
+use Rattle.just_parts.specs.Needs.{same_number}
 use Rattle.just_needs.specs.Search.{Found, Looks, LooksAtCall, LooksAtName, Searches, found_in, functions_left, hidden_by, scoped_of, unfound, variables_left}
 use Rattle.just_needs.specs.declared.needs.Search.{Search}
 use Rattle.just_needs.specs.declared.needs.Waiting.{Waiting}
@@ -28,8 +28,8 @@ use Rattle.just_references.specs.Body.{Calls, Names, mention_of}
 use Rattle.just_references.specs.declared.references.Reference.{Reference}
 use Rattle.just_references.specs.declared.references.Reference.TheVariants as reference
 use Rattle.just_table.specs.Entries.{find}
-use Rattle.just_variables.specs.Known.{Known}
-use Rattle.just_variables.specs.Reading.{mentions}
+use Rattle.just_parts.specs.Known.{Known}
+use Rattle.just_parts.specs.Reading.{mentions}
 use Rattle.just_variables.specs.Steps.{Scoped, body_scoped, value_scoped}
 
 -- what a set or a map answers at a key

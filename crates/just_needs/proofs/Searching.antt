@@ -7,7 +7,7 @@ use Rattle.std.proofs.lemmas.List.Elements.{Contains-append_cases, Contains-appe
 use Rattle.std.proofs.lemmas.Option.{same_Some}
 use Rattle.just_names.specs.Modulepath.{Text}
 use Rattle.just_names.specs.declared.number.Number.{Number}
-use Rattle.just_needs.specs.Needs.{Gains, GainsAll, HaveNumbersApart, IsClosed, IsNumberIn, Needs, onward, overridden_by, same_number, starts}
+use Rattle.just_parts.specs.Needs.{Gains, GainsAll, HaveNumbersApart, IsClosed, IsNumberIn, Needs, onward, overridden_by, same_number, starts}
 use Rattle.just_needs.specs.Search.{Found, IsCovered, IsDone, LeadsOn, Looks, Says, Searches, to_body, to_value, unfound}
 use Rattle.just_needs.proofs.Looking.{added, is_the_one, kept, not_in_none, the_one}
 use Rattle.just_needs.proofs.Sets.{number_itself, one_number}
@@ -15,8 +15,8 @@ use Rattle.just_records.specs.declared.assignment.Assignment.{Assignment}
 use Rattle.just_records.specs.declared.expression.Expression.{Expression}
 use Rattle.just_records.specs.declared.function_definition.FunctionDefinition.{FunctionDefinition}
 use Rattle.just_table.specs.Entries.{find}
-use Rattle.just_variables.specs.Known.{Known, none_hidden}
-use Rattle.just_variables.specs.Reading.{Reads, at_once, mentions, through}
+use Rattle.just_parts.specs.Known.{Known, none_hidden}
+use Rattle.just_parts.specs.Reading.{Reads, at_once, mentions, through}
 use Rattle.just_variables.specs.Steps.{Scoped, body_scoped, value_scoped}
 
 pub not_overridden : (overridden : Number → Bool) (m : Known) (name : Text) (a : Assignment) → find name m.assignments ≡ Some a → overridden a.number ≡ false → overridden_by overridden m name ≡ false

@@ -8,15 +8,15 @@ use Rattle.just_names.specs.Modulepath.{Text}
 use Rattle.just_names.specs.declared.number.Number.{Number}
 use Rattle.just_needs.specs.declared.needs.Search.{Search}
 use Rattle.just_needs.specs.declared.needs.Waiting.{Waiting}
-use Rattle.just_needs.specs.Needs.{HaveNumbersApart, IsNumberIn, Needs, overridden_by, same_number}
+use Rattle.just_parts.specs.Needs.{HaveNumbersApart, IsNumberIn, Needs, overridden_by, same_number}
 use Rattle.just_records.specs.declared.assignment.Assignment.{Assignment}
 use Rattle.just_records.specs.declared.function_definition.FunctionDefinition.{FunctionDefinition}
 use Rattle.just_records.specs.declared.function_definition.FunctionParameter.{FunctionParameter}
 use Rattle.just_references.specs.Body.{Calls, Mention, Names, mention_of}
 use Rattle.just_references.specs.declared.references.Reference.{Reference}
 use Rattle.just_table.specs.Entries.{find}
-use Rattle.just_variables.specs.Known.{Known, hides, none_hidden}
-use Rattle.just_variables.specs.Reading.{Reads, mentions}
+use Rattle.just_parts.specs.Known.{Known, hides, none_hidden}
+use Rattle.just_parts.specs.Reading.{Reads, mentions}
 use Rattle.just_variables.specs.Steps.{Scoped, body_scoped, scoped, value_scoped}
 
 -- Which numbers and which functions are found, and the expressions that are looked into next.

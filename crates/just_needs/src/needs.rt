@@ -4,12 +4,13 @@ ghost use Rattle.std.specs.Prelude.{◌≡◌, ◌≤◌, ◌∷◌, [], is_some
 ghost use Rattle.std.specs.HashSet.{contains, hash_set_len, spare};
 ghost use Rattle.std.specs.Str.{bytes_eq};
 ghost use Rattle.just_names.specs.Name.{text_of_name};
-ghost use Rattle.just_needs.specs.Needs.{AreNeeded, Gains, GainsAll, GainsThose, HasNone, IsSame, KeepsAll, has_number, same_number};
+ghost use Rattle.just_parts.specs.Needs.{AreNeeded, Gains, GainsAll, GainsThose, HasNone, IsSame, KeepsAll, has_number, same_number};
 ghost use Rattle.just_needs.specs.Search.{Looks, LooksAtCall, LooksAtName, Searches, found_in, hidden_by, scoped_of};
 ghost use Rattle.just_references.specs.Body.{mention_of};
 ghost use Rattle.just_table.specs.Entries.{find};
-ghost use Rattle.just_variables.specs.Known.{hides, known_in};
-ghost use Rattle.just_variables.specs.Reading.{Reads, mentions};
+ghost use Rattle.just_parts.specs.Known.{hides};
+ghost use Rattle.just_variables.specs.Lent.{known_in};
+ghost use Rattle.just_parts.specs.Reading.{Reads, mentions};
 
 use just_data::{BorrowedText, Text};
 use just_parts::layers::{Expression, FunctionParameter, Name, Number, Syntax};
@@ -294,4 +295,18 @@ pub fn assignment_references<'a, 'src, S: Syntax>(
     }
     references.insert(assignment.number)?;
     Ok(Some(references))
+}
+
+/// The numbers of the variables that these expressions need: those that one of them reads, and whatever such a one reads,
+/// unless it is overridden, and so on. No parameters are in scope.
+pub fn needed_references<'e, 'a, 'src, S: Syntax>(
+    alloc: Global,
+    known: &Known<'a, 'src, S>,
+    overrides: &HashMap<Number, Text>,
+    expressions: &[&'e Expression<'src>],
+) -> Result<HashSet<Number>, AllocError>
+    ensures needed { let m = known_in (S.answers known.now.syntax.now) known.now in
+        IfOk result (λ found. AreNeededBy m (has_number overrides.now) (map (λ e. e.now) expressions.now) (contains same_number found)) }
+{
+    todo!()
 }

@@ -25,9 +25,9 @@ use Rattle.just_records.specs.declared.function_definition.FunctionDefinition.{F
 use Rattle.just_records.specs.declared.function_definition.FunctionParameter.{FunctionParameter}
 use Rattle.just_references.specs.declared.references.Reference.{Reference}
 use Rattle.just_table.specs.Entries.{find, put, put_all}
-use Rattle.just_variables.specs.Known.{Known, defines, hides, known, none_hidden, range_of, range_with}
+use Rattle.just_parts.specs.Known.{Known, defines, hides, known, none_hidden, range_of, range_with}
 use Rattle.just_variables.specs.Misnaming.{Expressions, IsCircleOf, Misnames, MisnamesAt, argument_count, circular_variables, in_body, in_value, undefined_function, undefined_variable}
-use Rattle.just_variables.specs.Reading.{IsEvaluationOrder, Reads, ReadsOn, at_once, through}
+use Rattle.just_parts.specs.Reading.{IsEvaluationOrder, Reads, ReadsOn, at_once, through}
 use Rattle.just_variables.proofs.Placed.{at_place, the_value}
 
 abbrev pub parameter_names : FunctionDefinition → List Name

@@ -24,7 +24,7 @@ use Rattle.just_modules.proofs.Grounds.{all_kept, bodies_under, defaults_broken,
 use Rattle.just_joining.specs.Resolved.{AreResolved, HasPriors, unresolved_numbers}
 use Rattle.just_modules.proofs.Makings.{default_resolved, resolved_numbers}
 use Rattle.just_modules.specs.Variables.{HasVariables}
-use Rattle.just_modules.proofs.Variables.{variables_had}
+use Rattle.just_constants.proofs.Variables.{variables_had}
 use Rattle.just_modules.proofs.analyzer.analyze_module.Goals as goal
 
 pub resolve_recipes-requires-clause-once : goal.resolve_recipes-requires-clause-once

@@ -1,9 +1,10 @@
 use Rattle.std.specs.HashSet.{contains}
 use Rattle.std.specs.Str.{bytes_eq}
-use Rattle.just_needs.specs.Needs.{has_number, same_number}
+use Rattle.just_parts.specs.Needs.{has_number, same_number}
 use Rattle.just_needs.proofs.Collecting.{collected, collected_all, keeps_gained}
 use Rattle.just_needs.proofs.needs.collect_references.Goals as goal
-use Rattle.just_variables.specs.Known.{hides, known_in}
+use Rattle.just_parts.specs.Known.{hides}
+use Rattle.just_variables.specs.Lent.{known_in}
 use Rattle.just_variables.specs.Steps.{scoped}
 
 pub returns-clause-gains : goal.returns-clause-gains

@@ -9,7 +9,7 @@ use Rattle.just_records.specs.declared.function_definition.FunctionDefinition.{F
 use Rattle.just_references.specs.Body.{Calls, Mention, Names, mention_of}
 use Rattle.just_references.specs.References.{references}
 use Rattle.just_table.specs.Entries.{find}
-use Rattle.just_variables.specs.Known.{Known, hides, none_hidden}
+use Rattle.just_parts.specs.Known.{Known, hides, none_hidden}
 
 -- the calls and the variables of an expression, by their texts
 abbrev pub mentions : Expression → List Mention
@@ -20,6 +20,12 @@ pub data Reads (m : Known) : (Text → Bool) → Expression → Text → Type 0 
   at_once : {hidden : Text → Bool} {e : Expression} {name : Text} → Contains (mentions e) (Names name) → hidden name ≡ false → IsSome (find name m.assignments) → Reads m hidden e name
   through : {hidden : Text → Bool} {e : Expression} {function name : Text} {f : FunctionDefinition} (arguments : ℕ) → Contains (mentions e) (Calls function arguments)
       → find function m.functions ≡ Some f → Reads m (hides f.parameters) f.body name → Reads m hidden e name
+
+-- A variable that one of some expressions reads.
+pub record IsReadIn (m : Known) (es : List Expression) (name : Text) : Type 0 where
+  pub e : Expression
+  pub there : Contains es e
+  pub reads : Reads m none_hidden e name
 
 -- a variable reads what its value reads
 pub record ReadsOn (m : Known) (from to : Text) : Type 0 where

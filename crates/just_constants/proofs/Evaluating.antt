@@ -23,7 +23,7 @@ use Rattle.just_errors.specs.declared.error.Error.TheVariants as error
 use Rattle.just_parts.specs.Bare.{bare_function, bare_function_parameter}
 use Rattle.just_parts.specs.Evaluator.{Evaluator, FaultsAt, functions_by_name, value_in}
 use Rattle.just_joining.specs.Contents.{Contents}
-use Rattle.just_joining.specs.Groups.{functions_under, settings_of}
+use Rattle.just_joining.specs.Known.{functions_under, settings_of}
 use Rattle.just_joining.specs.Rules.{Constants, settings_fault}
 
 -- one more element

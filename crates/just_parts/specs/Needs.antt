@@ -1,14 +1,15 @@
 -- What variables an expression needs, by their numbers.
-use Rattle.std.specs.Prelude.{◌≡◌, ◌↔◌, ◌⊎◌, ◌||◌, Bool, true, false, Some, is_some}
+use Rattle.std.specs.Prelude.{◌≡◌, ◌↔◌, ◌⊎◌, ◌||◌, Bool, true, false, List, Some, is_some}
 use Rattle.std.specs.HashMap.{HashMap, get}
 use Rattle.std.specs.Option.{option_map_or}
 use Rattle.just_names.specs.Modulepath.{Text}
 use Rattle.just_names.specs.contracts.number.NumberPartialEq.TheImpl as number_eq
 use Rattle.just_names.specs.declared.number.Number.{Number}
 use Rattle.just_records.specs.declared.assignment.Assignment.{Assignment}
+use Rattle.just_records.specs.declared.expression.Expression.{Expression}
 use Rattle.just_table.specs.Entries.{find}
-use Rattle.just_variables.specs.Known.{Known}
-use Rattle.just_variables.specs.Reading.{ReadsOn}
+use Rattle.just_parts.specs.Known.{Known}
+use Rattle.just_parts.specs.Reading.{IsReadIn, ReadsOn}
 
 -- whether two numbers are one
 abbrev pub same_number : Number → Number → Bool
@@ -59,6 +60,11 @@ GainsAll m overridden start old new =
 abbrev pub AreNeeded : (m : Known) → (Number → Bool) → Text → (Number → Bool) → Type 0
 AreNeeded m overridden name set =
     HaveNumbersApart m → (n : Number) → (set n ≡ true) ↔ IsNumberIn m (Needs m (overridden_by overridden m) (λ (start : Text). start ≡ name)) n
+
+-- Where numbers tell variables apart, a set has the numbers of what some expressions need and no others.
+abbrev pub AreNeededBy : (m : Known) → (Number → Bool) → List Expression → (Number → Bool) → Type 0
+AreNeededBy m overridden es set =
+    HaveNumbersApart m → (n : Number) → (set n ≡ true) ↔ IsNumberIn m (Needs m (overridden_by overridden m) (IsReadIn m es)) n
 
 module _ {K : Type 0} where
   -- nothing is in a set

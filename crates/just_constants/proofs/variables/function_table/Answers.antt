@@ -3,11 +3,11 @@ use Rattle.std.proofs.lemmas.List.{take_all}
 use Rattle.std.proofs.lemmas.Grind.{common_steps}
 use Rattle.just_joining.specs.Definitions.{functions_in}
 use Rattle.just_joining.proofs.RecipePlaces.{length-lent}
-use Rattle.just_joining.specs.Groups.{functions_under}
+use Rattle.just_joining.specs.Known.{functions_under}
 use Rattle.just_names.specs.Name.{text_of_name}
 use Rattle.just_records.specs.declared.function_definition.FunctionDefinition.{FunctionDefinition}
-use Rattle.just_modules.proofs.Evaluating.{one_put}
-use Rattle.just_modules.proofs.constants.function_table.Goals as goal
+use Rattle.just_constants.proofs.Evaluating.{one_put}
+use Rattle.just_constants.proofs.variables.function_table.Goals as goal
 
 pub loop-place-preserved : goal.loop-place-preserved
 loop-place-preserved c =

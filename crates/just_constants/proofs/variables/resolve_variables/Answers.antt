@@ -5,14 +5,14 @@ use Rattle.just_errors.proofs.Lifts.{reports_by}
 use Rattle.just_names.specs.Name.{text_of_name}
 use Rattle.just_records.specs.declared.assignment.Assignment.{Assignment}
 use Rattle.just_table.specs.Entries.{put_all}
-use Rattle.just_variables.specs.Known.{Known, known}
+use Rattle.just_parts.specs.Known.{Known, known}
 use Rattle.just_variables.specs.Misnaming.{Expressions}
 use Rattle.just_joining.specs.Definitions.{contents_in, variables_in}
-use Rattle.just_joining.specs.Groups.{known_of, variables_under}
-use Rattle.just_modules.specs.Variables.{AreVariables, known_with_numbers}
-use Rattle.just_modules.proofs.Judging.{breaks_known, keeps_known}
-use Rattle.just_modules.proofs.Variables.{are_variables}
-use Rattle.just_modules.proofs.constants.resolve_variables.Goals as goal
+use Rattle.just_joining.specs.Known.{known_of, variables_under}
+use Rattle.just_constants.specs.Variables.{AreVariables, known_with_numbers}
+use Rattle.just_constants.proofs.Judging.{breaks_known, keeps_known}
+use Rattle.just_constants.proofs.Variables.{are_variables}
+use Rattle.just_constants.proofs.variables.resolve_variables.Goals as goal
 
 pub returns-in_err-resolved-clause-named : goal.returns-in_err-resolved-clause-named
 returns-in_err-resolved-clause-named g c =

@@ -1,22 +1,19 @@
-//! What is evaluated of a module while compiling, and the tables of its definitions.
+//! The variables and the functions of a module.
 
-ghost use Rattle.std.specs.Prelude.{◌≡◌, [], IfOk, IfErr, Some};
+ghost use Rattle.std.specs.Prelude.{◌≡◌, [], IfOk, IfErr};
 ghost use Rattle.just_errors.specs.Causes.{Keeps, Reports};
 ghost use Rattle.just_names.specs.Name.{text_of_name};
 ghost use Rattle.just_table.specs.Entries.{put_all};
-ghost use Rattle.just_joining.specs.Definitions.{contents_in, functions_in, sets_in, variables_in};
-ghost use Rattle.just_joining.specs.Groups.{functions_under, known_of, settings_of};
-ghost use Rattle.just_joining.specs.Rules.{Constants};
-ghost use Rattle.just_modules.specs.Variables.{AreVariablesOf};
+ghost use Rattle.just_joining.specs.Definitions.{contents_in, functions_in, variables_in};
+ghost use Rattle.just_joining.specs.Known.{functions_under, known_of};
+ghost use Rattle.just_constants.specs.Variables.{AreVariablesOf};
 ghost use Rattle.just_variables.specs.Misnaming.{Expressions};
 
 use just_data::{Exact, Sequence};
-use just_joining::definitions::{Definitions, function_at, set_at, variable_at};
+use just_joining::definitions::{Definitions, function_at, variable_at};
 use just_joining::kept::keep_variables;
 use just_numbering::resolve_assignments;
-use just_parts::layers::{
-    Assignment, Error, Evaluation, FunctionDefinition, Name, Scope, Set, Settings, Syntax,
-};
+use just_parts::layers::{Assignment, Error, FunctionDefinition, Name, Syntax};
 use just_table::Table;
 use std::alloc::{AllocError, Global};
 
@@ -46,25 +43,11 @@ fn function_table<'a, 'src>(
     Ok(functions)
 }
 
-// A value once more.
-fn copied<T: Exact>(value: &T) -> Result<T, AllocError>
+/// A value once more.
+pub fn copied<T: Exact>(value: &T) -> Result<T, AllocError>
     ensures { IfOk result (λ copy. copy ≡ value.now) }
 {
     value.clone()
-}
-
-// What the module sets, once more.
-fn copied_sets<'a, 'src>(
-    alloc: Global,
-    definitions: &Definitions<'src, 'a>,
-) -> Result<Vec<Set<'src>>, AllocError>
-    ensures { IfOk result (λ sets. sets.items ≡ sets_in definitions.now) }
-{
-    let mut sets = Vec::with_capacity(alloc, definitions.sets.len())?;
-    for place in 0..definitions.sets.len() {
-        sets.push(copied(set_at(definitions, place))?)?;
-    }
-    Ok(sets)
 }
 
 // The variables, under their names.
@@ -102,21 +85,4 @@ pub fn resolve_variables<'a, 'src, S: Syntax>(
         evaluation_order: Sequence::from_vec(order),
         functions,
     })
-}
-
-/// Evaluates what a module sets. An error is a fault of the evaluation.
-pub fn evaluate_settings<'a, 'src, E: Evaluation>(
-    alloc: Global,
-    definitions: &Definitions<'src, 'a>,
-    evaluation: &E,
-) -> Result<Settings, Error<'src>>
-    ensures settings { IfOk result (λ settings. settings_of (E.answers evaluation.now) (contents_in definitions.now) ≡ Some settings) }
-    ensures named { IfErr result (Reports (Constants (settings_of (E.answers evaluation.now) (contents_in definitions.now)))) }
-{
-    let functions = function_table(alloc, definitions)?;
-    let sets = copied_sets(alloc, definitions)?;
-    let constants = Scope {
-        bindings: Sequence::new(alloc),
-    };
-    evaluation.sets(alloc, &constants, &functions, sets.as_slice())
 }

@@ -13,12 +13,12 @@ use Rattle.just_records.specs.declared.function_definition.FunctionDefinition.{F
 use Rattle.just_table.specs.Entries.{IsKeyed, put, put_all}
 use Rattle.just_table.proofs.Shown.{put_keyed}
 use Rattle.just_joining.specs.Contents.{Contents}
-use Rattle.just_joining.specs.Groups.{functions_under, variables_under}
+use Rattle.just_joining.specs.Known.{functions_under, variables_under}
 use Rattle.just_joining.specs.Kept.{kept_variables}
 use Rattle.just_numbering.specs.Numbered.{name_of_assignment, name_of_function}
 use Rattle.just_numbering.specs.Resolved.{AreInOrder, ResolvesTo}
-use Rattle.just_variables.specs.Known.{Known, known}
-use Rattle.just_modules.specs.Variables.{AreVariables, known_with_numbers}
+use Rattle.just_parts.specs.Known.{Known, known}
+use Rattle.just_constants.specs.Variables.{AreVariables, known_with_numbers}
 
 all_keyed : {V : Type 0} (key_of : V → List ℕ) (es : List (List ℕ × V)) → IsKeyed key_of es → (vs : List V) → IsKeyed key_of (put_all key_of es vs)
 all_keyed key_of es keyed [] = keyed

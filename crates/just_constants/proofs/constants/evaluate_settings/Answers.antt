@@ -3,8 +3,8 @@ use Rattle.std.proofs.lemmas.Result.{IfErr-weaker, IfOk-weaker}
 use Rattle.just_parts.specs.Evaluator.{FaultsAt, functions_by_name, value_in}
 use Rattle.just_joining.specs.Definitions.{contents_in}
 use Rattle.just_joining.specs.Groups.{settings_of}
-use Rattle.just_modules.proofs.Evaluating.{faults_told, settings_asked}
-use Rattle.just_modules.proofs.constants.evaluate_settings.Goals as goal
+use Rattle.just_constants.proofs.Evaluating.{faults_told, settings_asked}
+use Rattle.just_constants.proofs.constants.evaluate_settings.Goals as goal
 
 pub returns-clause-named : goal.returns-clause-named
 returns-clause-named g c =

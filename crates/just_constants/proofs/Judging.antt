@@ -11,12 +11,12 @@ use Rattle.just_records.specs.declared.assignment.Assignment.{Assignment}
 use Rattle.just_records.specs.declared.function_definition.FunctionDefinition.{FunctionDefinition}
 use Rattle.just_records.specs.declared.function_definition.FunctionParameter.{FunctionParameter}
 use Rattle.just_table.specs.Entries.{put_all}
-use Rattle.just_variables.specs.Known.{Known, known}
+use Rattle.just_parts.specs.Known.{Known, known}
 use Rattle.just_variables.specs.Misnaming.{Expressions}
 use Rattle.just_variables.proofs.Alike.{alike_changed, changed, changed_alike, expressions_alike, parameter_names, put_changed}
 use Rattle.just_joining.specs.Contents.{Contents}
-use Rattle.just_joining.specs.Groups.{functions_under, known_of, variables_under}
-use Rattle.just_modules.specs.Variables.{known_with_numbers}
+use Rattle.just_joining.specs.Known.{functions_under, known_of, variables_under}
+use Rattle.just_constants.specs.Variables.{known_with_numbers}
 use Rattle.just_joining.specs.Kept.{claim_of_variable, gives_way, kept, kept_variables, left_of}
 use Rattle.just_joining.specs.declared.kept.Claim.{Claim}
 

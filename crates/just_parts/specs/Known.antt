@@ -12,7 +12,6 @@ use Rattle.just_records.specs.declared.assignment.Assignment.{Assignment}
 use Rattle.just_records.specs.declared.function_definition.FunctionDefinition.{FunctionDefinition}
 use Rattle.just_records.specs.declared.function_definition.FunctionParameter.{FunctionParameter}
 use Rattle.just_table.specs.Entries.{find}
-use Rattle.just_variables.specs.declared.checking.Known as lent
 
 -- The variables and the functions of a module, each under its name, and what the syntax layer has: how many arguments built-in functions take, and the numbers of constants.
 pub record Known : Type 0 where
@@ -24,9 +23,9 @@ pub record Known : Type 0 where
 abbrev pub known : SyntaxAnswers → List (Text × Assignment) → List (Text × FunctionDefinition) → Known
 known answers assignments functions = record { assignments = assignments; functions = functions; builtin = answers.builtin; constant = answers.constant }
 
--- the same of what the code lends
-abbrev pub known_in : {A : Type 0} → SyntaxAnswers → lent.Known A → Known
-known_in answers k = known answers k.assignments.now k.functions.now
+-- the same without a syntax layer: what variables read is told by the tables alone
+abbrev pub sources : List (Text × Assignment) → List (Text × FunctionDefinition) → Known
+sources assignments functions = record { assignments = assignments; functions = functions; builtin = λ _. None; constant = λ _. None }
 
 -- a parameter has the name
 abbrev pub hides : List FunctionParameter → Text → Bool

@@ -1,0 +1,3 @@
+pub mod Evaluating
+pub mod Judging
+pub mod Variables
