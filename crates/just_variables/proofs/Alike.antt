@@ -49,14 +49,14 @@ hides_named [] name = refl
 hides_named (p ∷ ps) name = ap (λ b. bytes_eq (text_of_name p.name) name || b) (hides_named ps name)
 
 -- parameters of the same names hide the same
-same_hidden : (f g : FunctionDefinition) → parameter_names g ≡ parameter_names f → hides f.parameters ≡ hides g.parameters
+pub same_hidden : (f g : FunctionDefinition) → parameter_names g ≡ parameter_names f → hides f.parameters ≡ hides g.parameters
 same_hidden f g e =
     let at : ((name : Text) → hides f.parameters name ≡ hides g.parameters name) =
     (λ name. hides_named f.parameters name ∙ (ap (list_any (λ (x : Name). bytes_eq (text_of_name x) name)) (sym e) ∙ sym (hides_named g.parameters name))) in
     λ i name. at name i
 
 -- and are as many
-same_count : (f g : FunctionDefinition) → parameter_names g ≡ parameter_names f → length f.parameters ≡ length g.parameters
+pub same_count : (f g : FunctionDefinition) → parameter_names g ≡ parameter_names f → length f.parameters ≡ length g.parameters
 same_count f g e =
     sym (length-map f.parameters (λ (p : FunctionParameter). p.name)) ∙ (ap length (sym e) ∙ length-map g.parameters (λ (p : FunctionParameter). p.name))
 
