@@ -138,7 +138,7 @@ changed {V} {W} f es = map {B = Text × W} (λ (e : Text × V). (e.0, f e.1)) es
 
 module _ {V W : Type 0} (f : V → W) where
   -- what is found in a changed table
-  find_changed : (k : Text) (es : List (Text × V)) → find k (changed f es) ≡ option_map f (find k es)
+  pub find_changed : (k : Text) (es : List (Text × V)) → find k (changed f es) ≡ option_map f (find k es)
   find_changed k [] = refl
   find_changed k (e ∷ es) = by_test (bytes_eq k e.0) (find_changed k es)
     where
@@ -154,10 +154,10 @@ module _ {V W : Type 0} (f : V → W) where
   none_of None e = refl
   none_of (Some x) e = cc
 
-  some_found : (k : Text) (es : List (Text × V)) (y : W) → find k (changed f es) ≡ Some y → (x : V) × (find k es ≡ Some x) × (f x ≡ y)
+  pub some_found : (k : Text) (es : List (Text × V)) (y : W) → find k (changed f es) ≡ Some y → (x : V) × (find k es ≡ Some x) × (f x ≡ y)
   some_found k es y e = some_of (find k es) y (sym (find_changed k es) ∙ e)
 
-  none_found : (k : Text) (es : List (Text × V)) → find k (changed f es) ≡ None → find k es ≡ None
+  pub none_found : (k : Text) (es : List (Text × V)) → find k (changed f es) ≡ None → find k es ≡ None
   none_found k es e = none_of (find k es) (sym (find_changed k es) ∙ e)
 
   -- its values
