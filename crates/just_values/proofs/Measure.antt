@@ -39,7 +39,7 @@ body_smaller name (entry ∷ rest) f is =
     let below : size f.body ≤ body_size entry + bodies_size rest = larger (bytes_eq name entry.0) entry (find name rest) (bodies_size rest) f (body_smaller name rest) is in
     omega (arith, sum_by-cons body_size entry rest)
 
-one_less : (calls : ℕ) → suc calls - 1 ≡ calls
+pub one_less : (calls : ℕ) → suc calls - 1 ≡ calls
 one_less calls = omega arith
 
 -- a call leaves more than its body takes

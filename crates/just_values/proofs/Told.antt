@@ -1,5 +1,6 @@
 -- What is told where a part has no value.
 use Rattle.std.proofs.Common.{◌≡◌, sym, ◌∙◌, ap, subst, Option, None, Some, Result, Ok, Err}
+use Rattle.std.specs.Prelude.{IfErr, IfOk}
 use Rattle.just_errors.specs.declared.error.Error.{Error}
 use Rattle.just_errors.specs.declared.error.Error.TheVariants as error
 use Rattle.just_parts.specs.Evaluator.{FaultsAt}
@@ -22,3 +23,13 @@ module _ {A : Type 0} {o p : Option A} (same : p ≡ o) where
   -- what tells an outcome tells an equal one
   pub tells_as : (r : Result A Error) → Tells o r → Tells p r
   tells_as r told = subst (λ x. Tells x r) (sym same) told
+
+-- what is told of a value, and of a fault
+module _ {A : Type 0} (o : Option A) where
+  pub told_value : (r : Result A Error) → Tells o r → IfOk r (λ value. o ≡ Some value)
+  told_value (Ok value) told = told
+  told_value (Err e) told = tt
+
+  pub told_fault : (r : Result A Error) → Tells o r → IfErr r (FaultsAt o)
+  told_fault (Ok value) told = tt
+  told_fault (Err e) told = told

@@ -1,4 +1,4 @@
-use Rattle.std.proofs.Common.{◌≡◌, sym, ◌∙◌, ap, ℕ, suc, ◌-◌, ◌+◌, ◌<◌, ◌≤◌, arith, rules, List, [], ◌∷◌, length, take, None, Some}
+use Rattle.std.proofs.Common.{◌≡◌, sym, ◌∙◌, ap, ℕ, suc, ◌-◌, ◌+◌, ◌<◌, ◌≤◌, arith, rules, subst, List, [], ◌∷◌, length, take, None, Some}
 use Rattle.std.specs.Option.{option_and_then, option_map}
 use Rattle.std.specs.List.{sum_by}
 use Rattle.just_names.specs.Name.{text_of_name}
@@ -8,7 +8,10 @@ use Rattle.just_table.specs.Entries.{find}
 use Rattle.std.proofs.lemmas.Result.{IfErr-weaker}
 use Rattle.just_values.specs.Among.{all_among, call_among, value_among, variable_among}
 use Rattle.just_values.proofs.AllOf.{all_more, all_none, both_put, no_left, no_right}
-use Rattle.just_values.specs.Values.{one_after_another, put_together, shape_evaluated}
+use Rattle.just_parts.specs.Evaluator.{FaultsAt, functions_by_name}
+use Rattle.just_values.specs.Lookup.{constant_values}
+use Rattle.just_values.proofs.Called.{call_down}
+use Rattle.just_values.specs.Values.{bound, value_with, one_after_another, put_together, shape_evaluated}
 use Rattle.just_values.proofs.Branches as branch
 use Rattle.just_values.proofs.Measure.{bodies_size, body_smaller, rounds_down}
 use Rattle.just_values.proofs.Shapes.{valueless}
@@ -62,7 +65,8 @@ pub evaluate-returns-in_ok-put_together-in-Concatenation : goal.evaluate-returns
 evaluate-returns-in_ok-put_together-in-Concatenation t c =
     let whole = branch.at_Concatenation c.args.among.now c.args.expression.now c.in-Concatenation.lhs c.in-Concatenation.rhs (sym c.get.ensures ∙ c.in-Concatenation.is)
     ∙ both_put _ _ c.in_ok-lhs-in-Concatenation.lhs c.in_ok-rhs-in-Concatenation.rhs c.in_ok-lhs-in-Concatenation.ensures c.in_ok-rhs-in-Concatenation.ensures in
-    whole ∙ (cc)
+    whole ∙ ap (λ value. Some value) (sym (c.in_ok-put_together-in-Concatenation.ensures
+    ∙ (λ i. put_together (c.as_slice-in-Concatenation.ensures i) (c.as_slice-in-Concatenation-2.ensures i))))
 
 pub evaluate-returns-in_err-values-in-List : goal.evaluate-returns-in_err-values-in-List
 evaluate-returns-in_err-values-in-List t c =
@@ -93,13 +97,13 @@ evaluate-returns-in-Group t c =
 pub evaluate-returns-in_ok-one-in-StringLiteral : goal.evaluate-returns-in_ok-one-in-StringLiteral
 evaluate-returns-in_ok-one-in-StringLiteral t c =
     let whole = branch.at_StringLiteral c.args.among.now c.args.expression.now c.in-StringLiteral.cooked (sym c.get.ensures ∙ c.in-StringLiteral.is) in
-    whole ∙ (cc)
+    whole ∙ ap (λ value. Some value) (sym (c.in_ok-one-in-StringLiteral.ensures ∙ ap (λ text. text ∷ []) c.in_ok-clone-in-StringLiteral.ensures.cases))
 
 pub evaluate-returns-in_ok-one_after_another-in-List : goal.evaluate-returns-in_ok-one_after_another-in-List
 evaluate-returns-in_ok-one_after_another-in-List t c =
     let whole = branch.at_List c.args.among.now c.args.expression.now _ (sym c.get.ensures ∙ c.in-List.is)
     ∙ ap (λ es. option_map one_after_another (all_among c.args.among.now es)) (sym c.as_slice.ensures) ∙ ap (option_map one_after_another) c.in_ok-values-in-List.ensures.values in
-    whole ∙ (cc)
+    whole ∙ ap (λ value. Some value) (sym c.in_ok-one_after_another-in-List.ensures)
 
 pub evaluate-returns-in_ok-values-in-Call : goal.evaluate-returns-in_ok-values-in-Call
 evaluate-returns-in_ok-values-in-Call t c =
@@ -110,11 +114,23 @@ evaluate-returns-in_ok-values-in-Call t c =
 
 pub evaluate_all-returns-in_err-value-clause-refused : goal.evaluate_all-returns-in_err-value-clause-refused
 evaluate_all-returns-in_err-value-clause-refused t c =
+    let value = value_among c.args.among.now in
     IfErr-weaker c.from_residual.result (λ e. e ≡ c.in_err-value.field-0.0) _
-    (λ e same. ?) (search rules)
+    (λ e same. faults_on (λ none. all_none value c.args.expressions.now c.loop-expression.expression-index c.expression-item.result c.loop-expression-test.true
+    (ap value (sym c.expression-item.is) ∙ none)) e (subst (FaultsAt (value c.expression-item.result)) (sym same) c.in_err-value.ensures)) (search rules)
 
 pub evaluate_all-loop-expression-preserved : goal.evaluate_all-loop-expression-preserved
-evaluate_all-loop-expression-preserved t c = ?
+evaluate_all-loop-expression-preserved t c =
+    let value = value_among c.args.among.now in
+    all_more value c.args.expressions.now c.loop-expression.expression-index c.expression-item.result c.loop-expression.values.items c.in_ok-value.value
+    c.loop-expression-test.true c.loop-expression.invariant (ap value (sym c.expression-item.is) ∙ c.in_ok-value.ensures)
+    ∙ ap (λ values. Some values) (sym c.in_ok-push.ensures.items)
 
 pub call-returns : goal.call-returns
-call-returns t c = ?
+call-returns t c =
+    let a = c.args.among.now in
+    let f = c.in-Some.function.now in
+    let found : find (text_of_name c.args.name.now) a.functions.now ≡ Some f = search rules in
+    tells_as (call_down a.functions.now (constant_values a.constants) (text_of_name c.args.name.now) c.args.arguments.now a.calls f (omega arith) found (omega arith)
+    ∙ ap (λ ps. value_with (a.calls - 1) (functions_by_name a.functions.now) (constant_values a.constants) (bound ps c.args.arguments.now) f.body) (sym c.as_slice.ensures))
+    c.evaluate.result c.evaluate.ensures
