@@ -1,0 +1,1 @@
+//! What the constants of a module come to.
