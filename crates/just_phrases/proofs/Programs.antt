@@ -1,5 +1,5 @@
 -- The program that a list is.
-use Rattle.std.proofs.Common.{◌≡◌, sym, ◌∙◌, ap, refl, List, Option, None}
+use Rattle.std.proofs.Common.{◌≡◌, sym, ◌∙◌, ap, refl, List, None}
 use Rattle.just_records.specs.declared.expression.Expression.{Expression}
 use Rattle.just_records.specs.declared.expression.Shape.{Shape, out-Shape, roll-Shape, out-roll-Shape, roll-out-Shape}
 use Rattle.just_records.specs.declared.expression.Shape.TheOpen.{Shape-F}
