@@ -1,107 +1,273 @@
--- The question for the constants of a module, of tables and numbers.
-use Rattle.std.proofs.Common.{◌≡◌, ◌∙◌, Bool, true, false, ◌||◌, List, [], ◌∷◌, ◌++◌, map, Option, None, Some, refl, sym, ap, subst}
-use Rattle.std.specs.Prelude.{◌↔◌, flat_map, if◌then◌else◌, option_to_list}
-use Rattle.std.specs.List.{Contains}
-use Rattle.std.specs.Option.{IsSome, is_some, option_and_then, option_map_or, option_or}
+-- What is asked of the evaluation about a module: by its tables with numbers, and by what its names stand for without.
+use Rattle.std.proofs.Common.{◌≡◌, ◌∙◌, ◌↔◌, ◌||◌, Bool, true, false, cond, List, [], ◌∷◌, map, length, Option, None, Some, refl, sym, ap, subst, inl, inr, ◌⊎◌}
+use Rattle.std.specs.Prelude.{if◌then◌else◌}
+use Rattle.std.specs.List.{Contains, list_any}
+use Rattle.std.specs.Option.{IsSome, is_some, option_and_then, option_map, option_map_or}
+use Rattle.std.specs.Str.{bytes_eq}
+use Rattle.std.proofs.lemmas.Bool.{false≢true}
+use Rattle.std.proofs.lemmas.List.{length-map}
 use Rattle.just_names.specs.Modulepath.{Text}
+use Rattle.just_names.specs.Name.{text_of_name}
+use Rattle.just_names.specs.declared.name.Name.{Name}
 use Rattle.just_names.specs.declared.number.Number.{Number}
-use Rattle.just_parts.specs.Evaluator.{Covers, Wanted, functions_by_name, needed_by, override_by, unnumbered, wanted_by}
-use Rattle.just_parts.specs.Known.{Known, none_hidden}
-use Rattle.just_parts.specs.Needs.{AreNeededBy, HaveNumbersApart, IsClosed, IsNumberIn, Needs, onward, overridden_by, same_number, starts}
-use Rattle.just_parts.specs.Reading.{IsReadIn, Reads, ReadsOn, at_once, through}
+use Rattle.just_errors.specs.Causes.{Cause}
+use Rattle.just_index.specs.Index.{texts_of_names}
+use Rattle.just_joining.specs.Constants.{AsksFor, IsNeeded, functions_asked, is_overridden, overriding}
+use Rattle.just_joining.specs.Contents.{Contents}
+use Rattle.just_joining.specs.Known.{functions_under, known_of, variables_under}
+use Rattle.just_numbering.specs.Numbered.{name_of_assignment, number_under, numbered_assignment, numbered_assignments, numbered_function, numbered_functions}
+use Rattle.just_parts.specs.Bare.{bare_function, bare_function_parameter}
+use Rattle.just_parts.specs.Evaluator.{Functions, functions_by_name, needed_by, override_by, unnumbered, unnumbered_assignment, unnumbered_function, wanted_by}
+use Rattle.just_parts.specs.Known.{Known, defines, hides, known, none_hidden, range_of, sources}
+use Rattle.just_parts.specs.Located.{located_assignment}
+use Rattle.just_parts.specs.Needs.{AreNeededBy, HaveNumbersApart, IsClosed, IsNumberIn, Needs, onward, overridden_by, starts}
+use Rattle.just_parts.specs.Reading.{IsEvaluationOrder, IsReadIn, Reads, ReadsOn, at_once, through}
+use Rattle.just_parts.specs.Syntax.{SyntaxAnswers}
 use Rattle.just_records.specs.declared.assignment.Assignment.{Assignment}
 use Rattle.just_records.specs.declared.expression.Expression.{Expression}
+use Rattle.just_records.specs.declared.function_definition.FunctionDefinition.{FunctionDefinition}
+use Rattle.just_records.specs.declared.function_definition.FunctionParameter.{FunctionParameter}
+use Rattle.just_references.specs.Numbers.{bare}
+use Rattle.just_references.specs.References.{references}
+use Rattle.just_references.proofs.Renumbering.{keeps_references, numbers_stay}
 use Rattle.just_table.specs.Entries.{find}
+use Rattle.just_variables.specs.Misnaming.{Misnames}
+use Rattle.just_variables.proofs.Alike.{changed}
 use Rattle.just_variables.proofs.Placed.{the_value}
-use Rattle.just_joining.specs.Constants.{AsksFor, IsNeeded, is_overridden, overriding}
-use Rattle.just_constants.proofs.Similar.{AreSimilar, needs_similar, read_in_similar, same_variable}
+use Rattle.just_constants.specs.Variables.{AreVariables, known_with_numbers}
+use Rattle.just_constants.proofs.Judging.{bare_is, bare_of}
+use Rattle.just_constants.proofs.Similar.{AreSimilar, changed_similar, defined_changed, misnames_same, needs_similar, order_of_similar, range_changed, read_in_similar, reads_on_similar, similar_changed, similar_then}
+use Rattle.just_constants.proofs.Tables.{changed_again, changed_same, find_changed, found_changed}
 
--- two truth values that are true together are the same
-pub both_true : (a b : Bool) → (a ≡ true → b ≡ true) → (b ≡ true → a ≡ true) → a ≡ b
-both_true true true to from = refl
-both_true true false to from = sym (to refl)
-both_true false true to from = from refl
-both_true false false to from = refl
+pub bare_parameters : (ps : List FunctionParameter) → map bare_function_parameter (map bare_function_parameter ps) ≡ map bare_function_parameter ps
+bare_parameters [] = refl
+bare_parameters (p ∷ ps) = ap (λ (qs : List FunctionParameter). bare_function_parameter p ∷ qs) (bare_parameters ps)
 
--- there is one question
-pub asked_once : (k : Known) (overrides : Text → Option Text) (es : List Expression) (lists : Bool) (v w : Wanted) → AsksFor k overrides es lists v → AsksFor k overrides es lists w → v ≡ w
-asked_once k overrides es lists v w a b =
-    let assignments : v.assignments ≡ w.assignments = a.assignments ∙ sym b.assignments in
-    let functions : v.functions ≡ w.functions = a.functions ∙ sym b.functions in
-    let values : v.overrides ≡ w.overrides = a.overrides ∙ sym b.overrides in
-    let needed : (name : Text) → v.needed name ≡ w.needed name = λ name. both_true (v.needed name) (w.needed name) (λ h. (b.needed name).1 ((a.needed name).0 h)) (λ h. (a.needed name).1 ((b.needed name).0 h)) in
-    let list : v.lists ≡ w.lists = a.lists ∙ sym b.lists in
-    λ i. record { assignments = assignments i; functions = functions i; overrides = values i; needed = λ name. needed name i; lists = list i }
+hides_bare : (ps : List FunctionParameter) (name : Text) → hides (map bare_function_parameter ps) name ≡ hides ps name
+hides_bare [] name = refl
+hides_bare (p ∷ ps) name = ap (λ b. bytes_eq (text_of_name p.name) name || b) (hides_bare ps name)
 
--- what is read is a variable, and so is what is needed
-read_assigned : (k : Known) {hidden : Text → Bool} {e : Expression} {name : Text} → Reads k hidden e name → IsSome (find name k.assignments)
-read_assigned k (at_once c h s) = s
-read_assigned k (through count c found r) = read_assigned k r
+is_some_changed : {V W : Type 0} (f : V → W) (o : Option V) → is_some (option_map f o) ≡ is_some o
+is_some_changed f None = refl
+is_some_changed f (Some x) = refl
 
-needed_assigned : (k : Known) (overridden : Text → Bool) (es : List Expression) {name : Text} → Needs k overridden (IsReadIn k es) name → IsSome (find name k.assignments)
-needed_assigned k overridden es (starts r) = read_assigned k r.reads
-needed_assigned k overridden es (onward needed free reads) = read_assigned k reads.reads
+-- what is needed is a variable
+reads_variable : {m : Known} {hidden : Text → Bool} {e : Expression} {name : Text} → Reads m hidden e name → IsSome (find name m.assignments)
+reads_variable (at_once c h s) = s
+reads_variable (through count c found r) = reads_variable r
 
--- Tables whose numbers tell variables apart, values that override some by their numbers, and a set of numbers that is needed by some expressions.
-module _ (k : Known) (values : Number → Option Text) (set : Number → Bool) (es : List Expression) (apart : HaveNumbersApart k) (needed : AreNeededBy k (λ n. is_some (values n)) es set) where
-  abbrev overridden : Text → Bool
-  overridden = overridden_by (λ n. is_some (values n)) k
+needs_variable : {m : Known} {o : Text → Bool} (es : List Expression) {name : Text} → Needs m o (IsReadIn m es) name → IsSome (find name m.assignments)
+needs_variable es (starts r) = reads_variable r.reads
+needs_variable es (onward need on step) = reads_variable step.reads
 
-  number_needed : (name : Text) (a : Assignment) → find name k.assignments ≡ Some a → set a.number ≡ true → Needs k overridden (IsReadIn k es) name
-  number_needed name a is h =
-      let n = (needed apart a.number).0 h in
-      subst (Needs k overridden (IsReadIn k es)) (apart n.name name n.assigned a n.is is n.number) n.there
+pub similar_itself : (vs : List (Text × Assignment)) (fs : List (Text × FunctionDefinition)) → AreSimilar vs vs fs fs
+similar_itself vs fs = record { variable = λ name a is. (a, is, refl); function = λ name f is. (f, is, refl, refl) }
 
-  needed_number : (name : Text) (a : Assignment) → find name k.assignments ≡ Some a → Needs k overridden (IsReadIn k es) name → set a.number ≡ true
-  needed_number name a is h = (needed apart a.number).1 (record { name = name; assigned = a; is = is; number = refl; there = h })
+module _ (answers : SyntaxAnswers) (m : Contents) where
+  abbrev numbered : Known
+  numbered = known_with_numbers answers m
 
-  by_name : (name : Text) (o : Option Assignment) → find name k.assignments ≡ o → (option_map_or (λ (a : Assignment). set a.number) o false ≡ true) → Needs k overridden (IsReadIn k es) name
-  by_name name None is h = cc
-  by_name name (Some a) is h = number_needed name a is h
+  abbrev variables : List (Text × Assignment)
+  variables = variables_under m.variables
 
-  -- a set of names and one of numbers
-  pub names_needed : (name : Text) → (needed_by k.assignments set name ≡ true) ↔ Needs k overridden (IsReadIn k es) name
-  names_needed name = (
-    λ h. by_name name (find name k.assignments) refl h,
-    λ h. let v = the_value (find name k.assignments) (needed_assigned k overridden es h) in ap (λ o. option_map_or (λ (a : Assignment). set a.number) o false) v.1 ∙ needed_number name v.0 v.1 h)
+  abbrev functions : List (Text × FunctionDefinition)
+  functions = functions_under m.functions
 
-  -- the set is closed
-  pub set_closed : IsClosed k (λ n. is_some (values n)) set
-  set_closed from to a b is there reads free h =
-      let none : overridden from ≡ false = ap (λ o. option_map_or (λ (x : Assignment). is_some (values x.number)) o false) is ∙ free in
-      needed_number to b there (onward (number_needed from a is h) none reads)
+  abbrev with_their_numbers : Known
+  with_their_numbers = known answers (numbered_assignments numbered) (numbered_functions numbered)
 
-  -- what the expressions read has a value wherever what is needed has one
-  pub all_covered : (bound : Text → Option (List Text)) → ((name : Text) → is_some (bound name) ≡ needed_by k.assignments set name) → (e : Expression) → Contains es e → Covers k bound e
-  all_covered bound exactly e there name reads = exactly name ∙ (names_needed name).1 (starts (record { e = e; there = there; reads = reads }))
+  value_keeps : (a : Assignment) → references (numbered_assignment numbered a).value ≡ references a.value
+  value_keeps a = keeps_references (number_under numbered []) a.value
 
-  -- the question of the tables is that of a module that differs in numbers alone
-  module _ (b : Known) (to : AreSimilar k b) (back : AreSimilar b k) (overrides : Text → Option Text) (found : (name : Text) (a : Assignment) → find name k.assignments ≡ Some a → values a.number ≡ overrides name) where
-    value_by : (name : Text) (o : Option Assignment) → find name k.assignments ≡ o → option_and_then (λ (a : Assignment). values a.number) o ≡ (if is_some o then overrides name else None)
-    value_by name None is = refl
-    value_by name (Some a) is = found name a is
+  body_keeps : (f : FunctionDefinition) → references (numbered_function numbered f).body ≡ references f.body
+  body_keeps f = keeps_references (number_under numbered f.parameters) f.body
 
-    pub same_overrides : (name : Text) → override_by k.assignments values name ≡ overriding b overrides name
-    same_overrides name =
-        value_by name (find name k.assignments) refl ∙ ap (λ t. if t then overrides name else None) (same_variable k b to name)
+  to_numbers : AreSimilar variables (numbered_assignments numbered) functions (numbered_functions numbered)
+  to_numbers = similar_changed (numbered_assignment numbered) (numbered_function numbered) value_keeps (λ f. refl) body_keeps variables functions
 
-    mark_by : (o : Option Assignment) → option_map_or (λ (a : Assignment). is_some (values a.number)) o false ≡ is_some (option_and_then (λ (a : Assignment). values a.number) o)
-    mark_by None = refl
-    mark_by (Some a) = refl
+  from_numbers : AreSimilar (numbered_assignments numbered) variables (numbered_functions numbered) functions
+  from_numbers = changed_similar (numbered_assignment numbered) (numbered_function numbered) value_keeps (λ f. refl) body_keeps variables functions
 
-    same_marks : (name : Text) → overridden name ≡ is_overridden b overrides name
-    same_marks name = mark_by (find name k.assignments) ∙ ap is_some (same_overrides name)
+  hidden_bare : (f : FunctionDefinition) → hides (bare_function f).parameters ≡ hides f.parameters
+  hidden_bare f = λ i name. hides_bare f.parameters name i
 
-    same_needs : (name : Text) → (needed_by k.assignments set name ≡ true) ↔ IsNeeded b overrides es name
-    same_needs name = (
-      λ h. needs_similar k b to (λ x free s. sym (same_marks x) ∙ free) (λ x r. read_in_similar k b to r) ((names_needed name).0 h),
-      λ h. (names_needed name).1 (needs_similar b k back (λ x free s. same_marks x ∙ free) (λ x r. read_in_similar b k back r) h))
+  to_bare : AreSimilar variables (bare_of answers m).assignments functions (bare_of answers m).functions
+  to_bare = similar_changed located_assignment bare_function (λ a. refl) hidden_bare (λ f. refl) variables functions
 
-    pub asks : (lists : Bool) → unnumbered k.assignments ≡ unnumbered b.assignments → functions_by_name k.functions ≡ functions_by_name b.functions → AsksFor b overrides es lists (wanted_by k.assignments k.functions values set lists)
-    asks lists variables functions = record {
-      assignments = variables;
-      functions = functions;
-      overrides = λ i name. same_overrides name i;
-      needed = same_needs;
-      lists = refl;
-    }
+  from_bare : AreSimilar (bare_of answers m).assignments variables (bare_of answers m).functions functions
+  from_bare = changed_similar located_assignment bare_function (λ a. refl) hidden_bare (λ f. refl) variables functions
+
+  -- the same names are at fault
+  count_bare : (f : FunctionDefinition) → length (bare_function f).parameters ≡ length f.parameters
+  count_bare f = length-map f.parameters bare_function_parameter
+
+  bare_range : (name : Text) → range_of (bare_of answers m) name ≡ range_of with_their_numbers name
+  bare_range name =
+      range_changed answers located_assignment bare_function count_bare variables functions name
+      ∙ sym (range_changed answers (numbered_assignment numbered) (numbered_function numbered) (λ f. refl) variables functions name)
+
+  bare_defined : (hidden : Text → Bool) (name : Text) → defines (bare_of answers m) hidden name ≡ defines with_their_numbers hidden name
+  bare_defined hidden name =
+      defined_changed answers located_assignment bare_function count_bare variables functions hidden name
+      ∙ sym (defined_changed answers (numbered_assignment numbered) (numbered_function numbered) (λ f. refl) variables functions hidden name)
+
+  -- variables and functions without numbers
+  assignment_asked : (a : Assignment) → unnumbered_assignment (numbered_assignment numbered a) ≡ unnumbered_assignment (located_assignment a)
+  assignment_asked a = λ i. record (unnumbered_assignment a) { value = numbers_stay (number_under numbered []) (λ name. None) a.value i }
+
+  function_asked : (f : FunctionDefinition) → unnumbered_function (numbered_function numbered f) ≡ unnumbered_function (bare_function f)
+  function_asked f = λ i. record f { parameters = sym (bare_parameters f.parameters) i; body = numbers_stay (number_under numbered f.parameters) (λ name. None) f.body i }
+
+  function_found : (o : Option FunctionDefinition) → option_map unnumbered_function (option_map (numbered_function numbered) o) ≡ option_map unnumbered_function (option_map bare_function o)
+  function_found None = refl
+  function_found (Some f) = ap (λ (x : FunctionDefinition). Some x) (function_asked f)
+
+  bare_asked : unnumbered (numbered_assignments numbered) ≡ unnumbered (bare_of answers m).assignments
+  bare_asked =
+      changed_again (numbered_assignment numbered) unnumbered_assignment variables
+      ∙ changed_same (λ a. unnumbered_assignment (numbered_assignment numbered a)) (λ a. unnumbered_assignment (located_assignment a)) assignment_asked variables
+      ∙ sym (changed_again located_assignment unnumbered_assignment variables)
+
+  bare_functions_asked : (name : Text) → functions_by_name (numbered_functions numbered) name ≡ functions_by_name (bare_of answers m).functions name
+  bare_functions_asked name =
+      ap (option_map unnumbered_function) (find_changed (numbered_function numbered) name functions)
+      ∙ function_found (find name functions)
+      ∙ ap (option_map unnumbered_function) (sym (find_changed bare_function name functions))
+
+  -- of tables that the code has
+  module _ (vs : List (Text × Assignment)) (fs : List (Text × FunctionDefinition)) (order : List Name) (is : AreVariables answers m vs fs order) where
+    abbrev tables : Known
+    tables = known answers vs fs
+
+    tables_are : with_their_numbers ≡ tables
+    tables_are = λ i. known answers (sym is.assignments_are i) (sym is.functions_are i)
+
+    pub known_from_tables : AreSimilar vs (known_of answers m).assignments fs (known_of answers m).functions
+    known_from_tables =
+        let first : AreSimilar (numbered_assignments numbered) (bare_of answers m).assignments (numbered_functions numbered) (bare_of answers m).functions =
+        similar_then (numbered_assignments numbered) variables (bare_of answers m).assignments (numbered_functions numbered) functions (bare_of answers m).functions from_numbers to_bare in
+        subst (λ (k : Known). AreSimilar vs k.assignments fs k.functions) (bare_is answers m)
+        (subst (λ (k : Known). AreSimilar k.assignments (bare_of answers m).assignments k.functions (bare_of answers m).functions) tables_are first)
+
+    pub tables_from_known : AreSimilar (known_of answers m).assignments vs (known_of answers m).functions fs
+    tables_from_known =
+        let first : AreSimilar (bare_of answers m).assignments (numbered_assignments numbered) (bare_of answers m).functions (numbered_functions numbered) =
+        similar_then (bare_of answers m).assignments variables (numbered_assignments numbered) (bare_of answers m).functions functions (numbered_functions numbered) from_bare to_numbers in
+        subst (λ (k : Known). AreSimilar k.assignments vs k.functions fs) (bare_is answers m)
+        (subst (λ (k : Known). AreSimilar (bare_of answers m).assignments k.assignments (bare_of answers m).functions k.functions) tables_are first)
+
+    pub tables_ordered : IsEvaluationOrder (sources vs fs) (texts_of_names order)
+    tables_ordered =
+        order_of_similar numbered (sources vs fs)
+        (subst (λ (k : Known). AreSimilar variables k.assignments functions k.functions) tables_are to_numbers)
+        (subst (λ (k : Known). AreSimilar k.assignments variables k.functions functions) tables_are from_numbers)
+        (texts_of_names order) is.evaluation_order.in_order
+
+    pub misnames_known : {hidden : Text → Bool} {e : Expression} {c : Cause} → Misnames tables hidden e c → Misnames (known_of answers m) hidden e c
+    misnames_known {hidden} {e} {c} b =
+        subst (λ (k : Known). Misnames k hidden e c) (bare_is answers m)
+        (misnames_same with_their_numbers (bare_of answers m) bare_range bare_defined (subst (λ (k : Known). Misnames k hidden e c) (sym tables_are) b))
+
+    pub misnames_tables : {hidden : Text → Bool} {e : Expression} {c : Cause} → Misnames (known_of answers m) hidden e c → Misnames tables hidden e c
+    misnames_tables {hidden} {e} {c} b =
+        subst (λ (k : Known). Misnames k hidden e c) tables_are
+        (misnames_same (bare_of answers m) with_their_numbers (λ name. sym (bare_range name)) (λ h name. sym (bare_defined h name)) (subst (λ (k : Known). Misnames k hidden e c) (sym (bare_is answers m)) b))
+
+    pub tables_asked : unnumbered vs ≡ unnumbered (known_of answers m).assignments
+    tables_asked = ap unnumbered is.assignments_are ∙ bare_asked ∙ ap (λ (k : Known). unnumbered k.assignments) (bare_is answers m)
+
+    pub tables_functions : functions_by_name fs ≡ functions_asked m
+    tables_functions =
+        let at : ((name : Text) → functions_by_name fs name ≡ functions_asked m name) = (λ name.
+            ap (λ gs. functions_by_name gs name) is.functions_are ∙ bare_functions_asked name ∙ ap (λ (k : Known). functions_by_name k.functions name) (bare_is answers m)) in
+        λ i name. at name i
+
+    found_numbered : (name : Text) (a : Assignment) → find name vs ≡ Some a → (b : Assignment) × (find name variables ≡ Some b) × (numbered_assignment numbered b ≡ a)
+    found_numbered name a found = found_changed (numbered_assignment numbered) name variables a (ap (find name) (sym is.assignments_are) ∙ found)
+
+    pub tables_apart : HaveNumbersApart numbered → HaveNumbersApart tables
+    tables_apart apart x y a b is_a is_b same =
+        let c = found_numbered x a is_a in
+        let d = found_numbered y b is_b in
+        apart x y c.0 d.0 c.1 d.1 (ap (λ (z : Assignment). z.number) c.2 ∙ same ∙ sym (ap (λ (z : Assignment). z.number) d.2))
+
+    is_variable : (name : Text) → is_some (find name vs) ≡ is_some (find name (known_of answers m).assignments)
+    is_variable name =
+        ap (λ es. is_some (find name es)) is.assignments_are
+        ∙ (ap is_some (find_changed (numbered_assignment numbered) name variables) ∙ is_some_changed (numbered_assignment numbered) (find name variables))
+        ∙ sym (ap is_some (find_changed located_assignment name variables) ∙ is_some_changed located_assignment (find name variables))
+        ∙ ap (λ (k : Known). is_some (find name k.assignments)) (bare_is answers m)
+
+    -- the question of these tables, where numbers tell which variables are overridden and needed
+    module _ (overrides : Text → Option Text) (es : List Expression) (lists : Bool) (numbers : Number → Option Text) (set : Number → Bool)
+        (says : (name : Text) (a : Assignment) → find name vs ≡ Some a → numbers a.number ≡ overrides name) (apart : HaveNumbersApart numbered)
+        (are_needed : AreNeededBy tables (λ n. is_some (numbers n)) es set) where
+      abbrev over : Number → Bool
+      over n = is_some (numbers n)
+
+      override_found : (name : Text) (o : Option Assignment) → find name vs ≡ o → option_and_then (λ (a : Assignment). numbers a.number) o ≡ (if is_some o then overrides name else None)
+      override_found name None found = refl
+      override_found name (Some a) found = says name a found
+
+      override_asked : (name : Text) → override_by vs numbers name ≡ overriding (known_of answers m) overrides name
+      override_asked name = override_found name (find name vs) refl ∙ ap (λ b. if b then overrides name else None) (is_variable name)
+
+      over_found : (o : Option Assignment) → option_map_or (λ (a : Assignment). over a.number) o false ≡ is_some (option_and_then (λ (a : Assignment). numbers a.number) o)
+      over_found None = refl
+      over_found (Some a) = refl
+
+      over_asked : (name : Text) → overridden_by over tables name ≡ is_overridden (known_of answers m) overrides name
+      over_asked name = over_found (find name vs) ∙ ap is_some (override_asked name)
+
+      abbrev NeededHere : Text → Type 0
+      NeededHere = Needs tables (overridden_by over tables) (IsReadIn tables es)
+
+      needed_known : {name : Text} → NeededHere name → IsNeeded (known_of answers m) overrides es name
+      needed_known need =
+          needs_similar tables (known_of answers m) known_from_tables (overridden_by over tables) (is_overridden (known_of answers m) overrides)
+          (IsReadIn tables es) (IsReadIn (known_of answers m) es) (λ name. sym (over_asked name)) (read_in_similar tables (known_of answers m) known_from_tables es) need
+
+      needed_here : {name : Text} → IsNeeded (known_of answers m) overrides es name → NeededHere name
+      needed_here need =
+          needs_similar (known_of answers m) tables tables_from_known (is_overridden (known_of answers m) overrides) (overridden_by over tables)
+          (IsReadIn (known_of answers m) es) (IsReadIn tables es) over_asked (read_in_similar (known_of answers m) tables tables_from_known es) need
+
+      -- a variable is in the set exactly where it is needed
+      in_set : (name : Text) (a : Assignment) → find name vs ≡ Some a → set a.number ≡ true → NeededHere name
+      in_set name a found there =
+          let i = (are_needed (tables_apart apart) a.number).0 there in
+          subst NeededHere (tables_apart apart i.name name i.assigned a i.is found i.number) i.there
+
+      to_set : (name : Text) (a : Assignment) → find name vs ≡ Some a → NeededHere name → set a.number ≡ true
+      to_set name a found need = (are_needed (tables_apart apart) a.number).1 (record { name = name; assigned = a; is = found; number = refl; there = need })
+
+      set_found : (name : Text) (o : Option Assignment) → find name vs ≡ o → option_map_or (λ (a : Assignment). set a.number) o false ≡ true → NeededHere name
+      set_found name None found h = absurd (false≢true h)
+      set_found name (Some a) found h = in_set name a found h
+
+      set_asked : (name : Text) → IsNeeded (known_of answers m) overrides es name → needed_by vs set name ≡ true
+      set_asked name need =
+          let here = needed_here need in
+          let a = the_value (find name vs) (needs_variable es here) in
+          ap (λ o. option_map_or (λ (x : Assignment). set x.number) o false) a.1 ∙ to_set name a.0 a.1 here
+
+      pub tables_ask : AsksFor (known_of answers m) overrides es lists (wanted_by vs fs numbers set lists)
+      tables_ask = record {
+        assignments = tables_asked;
+        functions = tables_functions;
+        overrides = λ i name. override_asked name i;
+        needed = λ name. (λ h. needed_known (set_found name (find name vs) refl h), set_asked name);
+        lists = refl;
+      }
+
+      -- with the number of a variable it has those of whatever the variable reads
+      pub tables_closed : IsClosed (sources vs fs) over set
+      tables_closed from to a b is_a is_b step free there =
+          let on : overridden_by over tables from ≡ false = ap (λ o. option_map_or (λ (x : Assignment). over x.number) o false) is_a ∙ free in
+          to_set to b is_b (onward (in_set from a is_a there) on (reads_on_similar (sources vs fs) tables (similar_itself vs fs) step))
+
+      -- what one of the expressions reads is needed
+      pub tables_read : (e : Expression) → Contains es e → (name : Text) → Reads (sources vs fs) none_hidden e name → needed_by vs set name ≡ true
+      tables_read e there name r =
+          let read : IsReadIn (sources vs fs) es name = record { e = e; there = there; reads = r } in
+          set_asked name (needed_known (starts (read_in_similar (sources vs fs) tables (similar_itself vs fs) es name read)))
