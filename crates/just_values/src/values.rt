@@ -33,12 +33,12 @@ pub struct Among<'a, 'src> {
     pub calls: usize,
 }
 
-// A value of one text.
-fn one(alloc: Global, text: Text) -> Result<Sequence<Text>, AllocError>
-    ensures { IfOk result (λ value. value ≡ text ∷ []) }
+/// A value of one text, which it shares.
+pub fn one(alloc: Global, text: &Text) -> Result<Sequence<Text>, AllocError>
+    ensures { IfOk result (λ value. value ≡ text.now ∷ []) }
 {
     let mut value = Sequence::new(alloc);
-    value.push(text)?;
+    value.push(text.clone()?)?;
     Ok(value)
 }
 
@@ -49,7 +49,7 @@ fn put_together(alloc: Global, lhs: &[Text], rhs: &[Text]) -> Result<Sequence<Te
     let mut text = String::new(alloc);
     text.push_str(joined(alloc, lhs)?.as_str())?;
     text.push_str(joined(alloc, rhs)?.as_str())?;
-    one(alloc, Text::from_string(text)?)
+    one(alloc, &Text::from_string(text)?)
 }
 
 // Values one after another.
@@ -140,7 +140,7 @@ pub fn evaluate<'a, 'src>(
     ensures { Tells (value_among among.now expression.now) result }
 {
     match expression.shape.get() {
-        Shape::StringLiteral { cooked } => Ok(one(alloc, cooked.clone()?)?),
+        Shape::StringLiteral { cooked } => Ok(one(alloc, cooked)?),
         Shape::Variable { name, .. } => variable(alloc, among, name),
         Shape::Group { contents } => evaluate(alloc, among, contents),
         Shape::List { elements } => {

@@ -97,7 +97,7 @@ evaluate-returns-in-Group t c =
 pub evaluate-returns-in_ok-one-in-StringLiteral : goal.evaluate-returns-in_ok-one-in-StringLiteral
 evaluate-returns-in_ok-one-in-StringLiteral t c =
     let whole = branch.at_StringLiteral c.args.among.now c.args.expression.now c.in-StringLiteral.cooked (sym c.get.ensures ∙ c.in-StringLiteral.is) in
-    whole ∙ ap (λ value. Some value) (sym (c.in_ok-one-in-StringLiteral.ensures ∙ ap (λ text. text ∷ []) c.in_ok-clone-in-StringLiteral.ensures.cases))
+    whole ∙ ap (λ value. Some value) (sym c.in_ok-one-in-StringLiteral.ensures)
 
 pub evaluate-returns-in_ok-one_after_another-in-List : goal.evaluate-returns-in_ok-one_after_another-in-List
 evaluate-returns-in_ok-one_after_another-in-List t c =
