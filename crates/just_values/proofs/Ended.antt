@@ -75,7 +75,7 @@ module _ (assignments : List (Text × Assignment)) (table : List (Text × Functi
   order_short =
       let short : length order ≤ length assignments = length-le_from_keys nat_list_eq_equiv order assignments distinct
       (λ name any. (is_order.lists name).0 (Contains-from_any (λ x y. (bytes_eq-Decides x y).0) name order any)) in
-      omega (arith, length-map assignments (λ (entry : Text × Assignment). (entry.0, unnumbered_assignment entry.1)))
+      omega (arith, length-map {B = Text × Assignment} assignments (λ (entry : Text × Assignment). (entry.0, unnumbered_assignment entry.1)))
 
   in_order : (name : Text) (a : Assignment) → find name assignments ≡ Some a → Contains order name
   in_order name a is = (is_order.lists name).1 (ap is_some is)

@@ -1,5 +1,6 @@
 pub mod AllOf
 pub mod Alike
+pub mod BareSets
 pub mod Branches
 pub mod Called
 pub mod Ended

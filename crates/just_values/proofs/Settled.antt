@@ -6,8 +6,10 @@ use Rattle.std.specs.Str.{bytes_eq}
 use Rattle.std.proofs.lemmas.List.{take_more}
 use Rattle.std.proofs.lemmas.List.Elements.{Contains-append_left, Contains-push, Contains-push_cases}
 use Rattle.std.proofs.lemmas.Slice.Eq.{bytes_eq-Decides}
-use Rattle.just_index.specs.Index.{name_at}
+use Rattle.just_index.specs.Index.{name_at, texts_of_names}
 use Rattle.just_names.specs.Modulepath.{Text}
+use Rattle.just_names.specs.Name.{text_of_name}
+use Rattle.just_names.specs.declared.name.Name.{Name}
 use Rattle.just_names.specs.declared.number.Number.{Number}
 use Rattle.just_parts.specs.Evaluator.{IsBindingOf, Wanted, wanted_by}
 use Rattle.just_parts.specs.Known.{sources}
@@ -64,11 +66,11 @@ module _ (assignments : List (Text × Assignment)) (table : List (Text × Functi
     no_constant name none None is = ap (option_map (λ (c : Constant). c.binding.value)) is
     no_constant name none (Some c) is = (let wrong : None ≡ Some (so.bound name c is).assigned = sym none ∙ (so.bound name c is).is in cc)
 
-    unassigned : (n : ℕ) (name : Text) → find name assignments ≡ None → values_after n wanted name ≡ table_values old name
+    pub unassigned : (n : ℕ) (name : Text) → find name assignments ≡ None → values_after n wanted name ≡ table_values old name
     unassigned n name none =
         after_unneeded wanted name (unneeded assignments table overrides set lists name none) n ∙ sym (no_constant name none (find name old) refl)
 
-    unneeded_value : (name : Text) → wanted.needed name ≡ false → (o : Option Constant) → find name old ≡ o → table_values old name ≡ None
+    pub unneeded_value : (name : Text) → wanted.needed name ≡ false → (o : Option Constant) → find name old ≡ o → table_values old name ≡ None
     unneeded_value name none None is = ap (option_map (λ (c : Constant). c.binding.value)) is
     unneeded_value name none (Some c) is = contradicts (so.needed name c is) none
 
@@ -182,3 +184,22 @@ module _ (assignments : List (Text × Assignment)) (table : List (Text × Functi
       -- one variable more
       pub settled_more : (new : List (Text × Constant)) → (wanted.needed next ≡ true → Adds assignments wanted next old new) → (wanted.needed next ≡ false → new ≡ old) → SettledAt (k + 1) new
       settled_more new added skipped = settled_by new added skipped (wanted.needed next) refl
+
+-- whether values are lists makes no difference
+pub adds_any : (assignments : List (Text × Assignment)) (table : List (Text × FunctionDefinition)) (overrides : Number → Option Text) (set : Number → Bool) (lists : Bool)
+    (name : Text) (old new : List (Text × Constant)) → Adds assignments (wanted_by assignments table overrides set false) name old new → Adds assignments (wanted_by assignments table overrides set lists) name old new
+adds_any assignments table overrides set lists name old new adds = record {
+  constant = adds.constant;
+  assigned = adds.assigned;
+  is = adds.is;
+  named = adds.named;
+  binding = adds.binding;
+  value = adds.value;
+  after = adds.after;
+}
+
+-- the text of the name at a place
+pub name_at_place : (names : List Name) (i : ℕ) (x : Name) → i < length names → x ≡ get_or names i x → text_of_name x ≡ name_at (texts_of_names names) i
+name_at_place [] i x inside is = absurd (omega arith)
+name_at_place (y ∷ names) zero x inside is = ap text_of_name is
+name_at_place (y ∷ names) (suc i) x inside is = name_at_place names i x (omega arith) is
