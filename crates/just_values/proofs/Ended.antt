@@ -1,12 +1,11 @@
 -- The constants after all of an order of evaluation.
-use Rattle.std.proofs.Common.{◌≡◌, refl, sym, ◌∙◌, ap, subst, ℕ, zero, suc, ◌+◌, ◌<◌, ◌≤◌, arith, Bool, true, false, cond, not, ◌||◌, ◌&&◌, List, [], ◌∷◌, length, get_or, map, take, Option, None, Some, inl, inr}
+use Rattle.std.proofs.Common.{◌≡◌, refl, sym, ◌∙◌, ap, subst, ℕ, zero, suc, ◌<◌, ◌≤◌, arith, Bool, true, false, cond, not, ◌||◌, ◌&&◌, List, [], ◌∷◌, length, map, take, Option, None, Some}
 use Rattle.std.specs.Prelude.{if◌then◌else◌}
 use Rattle.std.specs.Cmp.Lexicographic.{nat_list_eq_equiv}
-use Rattle.std.specs.List.{Contains, IsDistinct, list_all, list_any}
-use Rattle.std.specs.Option.{IsSome, is_some, option_map}
+use Rattle.std.specs.List.{Contains, IsDistinct, list_all}
+use Rattle.std.specs.Option.{is_some, option_and_then, option_map}
 use Rattle.std.specs.Str.{bytes_eq}
 use Rattle.std.proofs.lemmas.List.{get_or_default, length-map, take_all}
-use Rattle.std.proofs.lemmas.List.Elements.{Contains-get_or}
 use Rattle.std.proofs.lemmas.Map.Keys.{IsDistinct-from_apart}
 use Rattle.std.proofs.lemmas.Map.Steps.{length-le_from_keys}
 use Rattle.std.proofs.lemmas.Map.Views.{Contains-from_any}
@@ -16,7 +15,7 @@ use Rattle.just_index.specs.Index.{AreDifferent, name_at}
 use Rattle.just_names.specs.Modulepath.{Text}
 use Rattle.just_names.specs.Name.{text_of_name}
 use Rattle.just_names.specs.declared.number.Number.{Number}
-use Rattle.just_parts.specs.Evaluator.{Binds, IsBindingOf, Values, Wanted, unnumbered, unnumbered_assignment, values_of, wanted_by}
+use Rattle.just_parts.specs.Evaluator.{Binds, IsBindingOf, Values, Wanted, unnumbered_assignment, values_of, wanted_by}
 use Rattle.just_parts.specs.Known.{sources}
 use Rattle.just_parts.specs.Reading.{IsEvaluationOrder}
 use Rattle.just_records.specs.declared.assignment.Assignment.{Assignment}
@@ -26,12 +25,11 @@ use Rattle.just_records.specs.declared.scope.Scope.{Scope}
 use Rattle.just_table.specs.Entries.{IsKeyed, IsSorted, find}
 use Rattle.just_values.specs.Constants.{assigned_value, constants_of, demanded, is_settled, overridden_or, values_after}
 use Rattle.just_values.specs.Lookup.{constant_name, table_values}
-use Rattle.just_values.specs.Values.{Outcome}
+use Rattle.just_values.specs.Values.{value_of}
 use Rattle.just_values.specs.declared.lookup.Constant.{Constant}
 use Rattle.just_values.proofs.Scoped.{bindings_of, scope_each, scope_once, scope_values}
 use Rattle.just_values.proofs.Settled.{Settled, next_value, unassigned, unneeded_value}
 use Rattle.just_values.proofs.Steps.{after_needed, find_unnumbered, unneeded}
-use Rattle.just_variables.proofs.Placed.{the_value}
 
 -- all pass
 all_pass : {X : Type 0} (p : X → Bool) (xs : List X) → ((x : X) → p x ≡ true) → list_all p xs ≡ true
@@ -155,7 +153,7 @@ module _ (assignments : List (Text × Assignment)) (table : List (Text × Functi
       overridden name text need is =
           sym (value_at (suc steps) (omega (arith, order_short)) name (find name assignments) refl)
           ∙ after_needed wanted name need steps
-          ∙ ap (λ o. overridden_or o _) is
+          ∙ ap (λ o. overridden_or o (option_and_then (λ (a : Assignment). value_of wanted.functions last_values a.value) (find name wanted.assignments))) is
 
       each : (b : Binding) → Contains scope.bindings b → (a : Assignment) × (find (text_of_name b.name) assignments ≡ Some a) × IsBindingOf a b
       each b inside =

@@ -1,5 +1,5 @@
 -- Constants along an order of evaluation.
-use Rattle.std.proofs.Common.{◌≡◌, refl, sym, ◌∙◌, ap, subst, ℕ, zero, suc, ◌+◌, ◌<◌, ◌≤◌, arith, Bool, true, false, cond, List, [], ◌∷◌, ◌++◌, length, get_or, map, take, Option, None, Some, inl, inr, ◌⊎◌}
+use Rattle.std.proofs.Common.{◌≡◌, refl, sym, ◌∙◌, ap, subst, ℕ, zero, suc, ◌+◌, ◌<◌, ◌≤◌, arith, Bool, true, false, cond, List, [], ◌∷◌, ◌++◌, length, get_or, take, Option, None, Some, inl, inr, ◌⊎◌}
 use Rattle.std.specs.List.{Contains}
 use Rattle.std.specs.Option.{IsSome, is_some, option_map}
 use Rattle.std.specs.Str.{bytes_eq}
@@ -16,7 +16,7 @@ use Rattle.just_parts.specs.Known.{sources}
 use Rattle.just_parts.specs.Reading.{IsEvaluationOrder}
 use Rattle.just_records.specs.declared.assignment.Assignment.{Assignment}
 use Rattle.just_records.specs.declared.function_definition.FunctionDefinition.{FunctionDefinition}
-use Rattle.just_table.specs.Entries.{find, put}
+use Rattle.just_table.specs.Entries.{find}
 use Rattle.just_values.specs.Constants.{Adds, assigned_value, values_after}
 use Rattle.just_values.specs.Lookup.{table_values}
 use Rattle.just_values.specs.declared.lookup.Constant.{Constant}
@@ -101,7 +101,7 @@ module _ (assignments : List (Text × Assignment)) (table : List (Text × Functi
         settled = λ name there n least. elim (cases name there) [
           | inl front ↦ so.settled name front n (omega arith)
           | inr same ↦ let unneeded_name : wanted.needed name ≡ false = ap wanted.needed (sym same) ∙ none in
-            after_unneeded wanted name unneeded_name n ∙ sym (unneeded_value name unneeded_name (find name old) refl)
+              after_unneeded wanted name unneeded_name n ∙ sym (unneeded_value name unneeded_name (find name old) refl)
         ];
         before = λ name c is. lift name (so.before name c is);
         needed = so.needed;

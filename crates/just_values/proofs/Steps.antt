@@ -1,18 +1,18 @@
 -- The values of variables after some steps.
-use Rattle.std.proofs.Common.{◌≡◌, refl, sym, ◌∙◌, ap, ℕ, zero, suc, ◌<◌, ◌≤◌, arith, Bool, true, false, cond, List, [], ◌∷◌, map, Option, None, Some}
+use Rattle.std.proofs.Common.{◌≡◌, refl, sym, ◌∙◌, ap, ℕ, zero, suc, Bool, true, false, cond, List, [], ◌∷◌, Option, None, Some}
 use Rattle.std.specs.Prelude.{if◌then◌else◌}
 use Rattle.std.specs.Option.{option_and_then, option_map, option_map_or}
 use Rattle.std.specs.Str.{bytes_eq}
 use Rattle.just_names.specs.Modulepath.{Text}
 use Rattle.just_names.specs.declared.number.Number.{Number}
 use Rattle.just_parts.specs.Evaluator.{Functions, Values, Wanted, functions_by_name, unnumbered, unnumbered_assignment, wanted_by}
-use Rattle.just_parts.specs.Known.{Known, none_hidden, sources}
+use Rattle.just_parts.specs.Known.{none_hidden, sources}
 use Rattle.just_parts.specs.Reading.{Reads}
 use Rattle.just_records.specs.declared.assignment.Assignment.{Assignment}
 use Rattle.just_records.specs.declared.function_definition.FunctionDefinition.{FunctionDefinition}
 use Rattle.just_table.specs.Entries.{find}
 use Rattle.just_values.specs.Constants.{assigned_value, overridden_or, values_after}
-use Rattle.just_values.specs.Values.{Outcome, none_bound, value_of}
+use Rattle.just_values.specs.Values.{none_bound, value_of}
 use Rattle.just_values.proofs.Called.{bare_with}
 use Rattle.just_values.proofs.Read.{same_values}
 

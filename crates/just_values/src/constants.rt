@@ -36,7 +36,12 @@ fn value_of<'src>(
 {
     match overrides.get(&assignment.number) {
         Some(text) => Ok(one(alloc, text)?),
-        None => evaluate_among(alloc, functions, Constants::Tabled(constants), &assignment.value),
+        None => evaluate_among(
+            alloc,
+            functions,
+            Constants::Tabled(constants),
+            &assignment.value,
+        ),
     }
 }
 
@@ -116,7 +121,15 @@ pub fn constants_of<'src>(
 {
     let mut constants = Table::new(alloc);
     for name in order {
-        add_constant(alloc, assignments, functions, overrides, references, name, &mut constants)?;
+        add_constant(
+            alloc,
+            assignments,
+            functions,
+            overrides,
+            references,
+            name,
+            &mut constants,
+        )?;
     }
     Ok(scope_of(alloc, constants)?)
 }

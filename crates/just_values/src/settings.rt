@@ -57,7 +57,12 @@ fn interpreter<'src>(
         Tells (spec.interpreter_with values interpreter.now) result }
 {
     let command = text(alloc, functions, constants, &interpreter.command)?;
-    let arguments = texts(alloc, functions, constants, interpreter.arguments.as_slice())?;
+    let arguments = texts(
+        alloc,
+        functions,
+        constants,
+        interpreter.arguments.as_slice(),
+    )?;
     Ok(Interpreter { command, arguments })
 }
 

@@ -115,7 +115,11 @@ fn call<'a, 'src>(
         return Err(fault(alloc, &name.token, "The function has no value here"));
     };
     if function.parameters.len() != arguments.len() {
-        return Err(fault(alloc, &name.token, "The arguments are not as many as the parameters"));
+        return Err(fault(
+            alloc,
+            &name.token,
+            "The arguments are not as many as the parameters",
+        ));
     }
     if among.calls == 0 {
         return Err(fault(alloc, &name.token, "The call stands inside too many others"));

@@ -1,4 +1,4 @@
-use Rattle.std.proofs.Common.{◌≡◌, sym, ◌∙◌, ap, subst, arith, rules, Bool, true, false, List, [], None, Some}
+use Rattle.std.proofs.Common.{◌≡◌, sym, ◌∙◌, ap, subst, rules, true, false, [], Some}
 use Rattle.std.specs.Prelude.{if◌then◌else◌}
 use Rattle.std.specs.HashMap.{get}
 use Rattle.std.specs.HashSet.{contains}
@@ -10,6 +10,7 @@ use Rattle.just_table.specs.Entries.{find, put}
 use Rattle.just_values.specs.Constants.{assigned_value, overridden_or}
 use Rattle.just_values.specs.Lookup.{table_values}
 use Rattle.just_values.specs.Values.{value_of}
+use Rattle.just_values.specs.declared.lookup.Constant.{Constant}
 use Rattle.just_values.proofs.Steps.{assigned_is, needed_is}
 use Rattle.just_values.proofs.Told.{faults_on}
 use Rattle.just_values.proofs.constants.add_constant.Goals as goal
@@ -38,7 +39,7 @@ returns-clause-added c = λ need.
     let a = c.in-Some.assignment.now in
     let found : find name c.args.assignments.now ≡ Some a = search rules in
     let same : text_of_name c.copied.result ≡ name = ap text_of_name c.copied.ensures in
-    let constant = record { binding = record { name = c.copied.result; number = a.number; value = c.in_ok-value.value; export = a.export; private = a.private } } in
+    let constant : Constant = record { binding = record { name = c.copied.result; number = a.number; value = c.in_ok-value.value; export = a.export; private = a.private } } in
     record {
       constant = constant;
       assigned = a;

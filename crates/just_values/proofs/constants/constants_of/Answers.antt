@@ -1,16 +1,16 @@
-use Rattle.std.proofs.Common.{◌≡◌, sym, ◌∙◌, ap, subst, arith, rules, ◌<◌, length, List, true, false, Bool}
+use Rattle.std.proofs.Common.{◌≡◌, sym, ◌∙◌, ap, subst, arith, rules, ◌<◌, length, false}
 use Rattle.std.specs.HashMap.{get}
 use Rattle.std.specs.HashSet.{contains}
 use Rattle.std.proofs.lemmas.List.{length-map}
 use Rattle.std.proofs.lemmas.Result.{IfErr-weaker}
-use Rattle.just_index.specs.Index.{name_at, texts_of_names}
+use Rattle.just_index.specs.Index.{texts_of_names}
 use Rattle.just_names.specs.Name.{text_of_name}
 use Rattle.just_parts.specs.Evaluator.{FaultsAt, wanted_by}
 use Rattle.just_parts.specs.Needs.{same_number}
 use Rattle.just_values.specs.Constants.{Adds, demanded}
 use Rattle.just_values.specs.Lookup.{table_values}
 use Rattle.just_values.proofs.Ended.{binds, constants_are, refused}
-use Rattle.just_values.proofs.Settled.{Settled, adds_any, name_at_place, settled_more, settled_start}
+use Rattle.just_values.proofs.Settled.{Settled, adds_any, name_at_place, settled_more}
 use Rattle.just_values.proofs.Told.{faults_on}
 use Rattle.just_values.proofs.constants.constants_of.Goals as goal
 
@@ -40,11 +40,11 @@ loop-name-preserved c =
     let wanted = wanted_by c.args.assignments.now c.args.functions.now overrides set false in
     record {
       settled = λ lists. settled_more c.args.assignments.now c.args.functions.now overrides set lists order c.requires.order c.loop-name.name-index old
-      (c.loop-name.invariant.settled lists) inside new
-      (λ need. subst (λ name. Adds c.args.assignments.now (wanted_by c.args.assignments.now c.args.functions.now overrides set lists) name old new) same
-      (adds_any c.args.assignments.now c.args.functions.now overrides set lists (text_of_name c.name-item.result) old new
-      (c.in_ok-add_constant.ensures.added (ap wanted.needed same ∙ need))))
-      (λ none. c.in_ok-add_constant.ensures.skipped (ap wanted.needed same ∙ none));
+          (c.loop-name.invariant.settled lists) inside new
+          (λ need. subst (λ name. Adds c.args.assignments.now (wanted_by c.args.assignments.now c.args.functions.now overrides set lists) name old new) same
+          (adds_any c.args.assignments.now c.args.functions.now overrides set lists (text_of_name c.name-item.result) old new
+          (c.in_ok-add_constant.ensures.added (ap wanted.needed same ∙ need))))
+          (λ none. c.in_ok-add_constant.ensures.skipped (ap wanted.needed same ∙ none));
       keyed = c.in_ok-add_constant.ensures.keyed c.loop-name.invariant.keyed;
     }
 

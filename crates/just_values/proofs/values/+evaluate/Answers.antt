@@ -1,8 +1,7 @@
-use Rattle.std.proofs.Common.{◌≡◌, sym, ◌∙◌, ap, ℕ, suc, ◌-◌, ◌+◌, ◌<◌, ◌≤◌, arith, rules, subst, List, [], ◌∷◌, length, take, None, Some}
+use Rattle.std.proofs.Common.{◌≡◌, sym, ◌∙◌, ap, ◌-◌, arith, rules, subst, None, Some}
 use Rattle.std.specs.Option.{option_and_then, option_map}
 use Rattle.std.specs.List.{sum_by}
 use Rattle.just_names.specs.Name.{text_of_name}
-use Rattle.just_records.specs.declared.expression.Expression.{out-Expression}
 use Rattle.just_references.proofs.Fold.{size}
 use Rattle.just_table.specs.Entries.{find}
 use Rattle.std.proofs.lemmas.Result.{IfErr-weaker}
