@@ -1,22 +1,20 @@
 -- Values of one expression where what it mentions comes to the same, whichever numbers it has.
-use Rattle.std.proofs.Common.{◌≡◌, refl, sym, ◌∙◌, ap, subst, ℕ, suc, ◌<◌, arith, List, [], ◌∷◌, ◌++◌, length, map, Option, None, Some}
+use Rattle.std.proofs.Common.{◌≡◌, refl, sym, ◌∙◌, ap, subst, ℕ, suc, arith, List, [], ◌∷◌, ◌++◌, map, Option, None}
 use Rattle.std.specs.List.{AllByRecursion, Contains, flat_map}
 use Rattle.std.specs.Option.{option_and_then, option_map}
 use Rattle.std.proofs.lemmas.List.{map-append}
 use Rattle.std.proofs.lemmas.List.Concat.{flat_map-cons}
 use Rattle.just_names.specs.Modulepath.{Text}
-use Rattle.just_names.specs.Name.{text_of_name}
 use Rattle.just_names.specs.declared.number.Number.{Number}
-use Rattle.just_parts.specs.Evaluator.{Functions, Values}
+use Rattle.just_parts.specs.Evaluator.{Values}
 use Rattle.just_parts.specs.Reading.{mentions}
-use Rattle.just_records.specs.declared.expression.Expression.{Expression, out-Expression, roll-Expression, out-roll-Expression}
+use Rattle.just_records.specs.declared.expression.Expression.{Expression, out-Expression, out-roll-Expression}
 use Rattle.just_records.specs.declared.expression.Shape.{Shape, out-Shape, roll-Shape, roll-out-Shape}
 use Rattle.just_records.specs.declared.expression.Shape.TheOpen.{Shape-F, Expression-F}
 use Rattle.just_references.specs.Body.{Calls, Mention, Names, mention_of}
 use Rattle.just_references.specs.Numbers.{bare, shape_with_numbers, with_numbers}
 use Rattle.just_references.specs.Parts.{layer_parts, parts, shape_parts}
 use Rattle.just_references.specs.References.{layer_mention, mention, references, shape_mention}
-use Rattle.just_references.specs.declared.references.Reference.{Reference}
 use Rattle.just_references.proofs.Fold.{references_are}
 use Rattle.just_references.proofs.Induction.{over_all_parts}
 use Rattle.just_references.proofs.NumbersOf.{given_layer, numbers_out, numbers_roll}

@@ -1,5 +1,5 @@
 -- What each shape comes to among functions, constants and parameters.
-use Rattle.std.proofs.Common.{◌≡◌, refl, sym, ◌∙◌, ap, ℕ, zero, suc, ◌+◌, ◌<◌, arith, List, [], ◌∷◌, map, Option, None, Some}
+use Rattle.std.proofs.Common.{◌≡◌, refl, sym, ◌∙◌, ap, ℕ, zero, suc, List, [], ◌∷◌, map, Option, None, Some}
 use Rattle.std.specs.List.{sum_by}
 use Rattle.std.specs.Option.{option_and_then, option_map}
 use Rattle.just_names.specs.Modulepath.{Text}

@@ -15,7 +15,7 @@ use Rattle.just_records.specs.declared.function_definition.FunctionParameter.{Fu
 use Rattle.just_references.specs.Numbers.{bare}
 use Rattle.just_table.specs.Entries.{find}
 use Rattle.just_values.specs.Among.{call_with}
-use Rattle.just_values.specs.Values.{Outcome, body_with, bound, called, hiding, value_with}
+use Rattle.just_values.specs.Values.{Outcome, body_with, bound, value_with}
 use Rattle.just_values.proofs.Alike.{bare_value}
 use Rattle.just_values.proofs.Branches.{with_is}
 use Rattle.just_values.proofs.Measure.{one_less}

@@ -1,11 +1,11 @@
 -- The value of an expression depends on nothing but the values of what it reads.
-use Rattle.std.proofs.Common.{◌≡◌, refl, sym, ◌∙◌, ap, subst, ℕ, zero, suc, ◌<◌, arith, Bool, true, false, cond, List, [], ◌∷◌, length, Option, None, Some}
+use Rattle.std.proofs.Common.{◌≡◌, refl, sym, ◌∙◌, ap, subst, ℕ, zero, suc, arith, Bool, true, false, List, length, Option, None, Some}
 use Rattle.std.specs.Prelude.{◌==◌, if◌then◌else◌}
 use Rattle.std.specs.List.{Contains}
 use Rattle.std.specs.Option.{is_some, option_or}
 use Rattle.just_names.specs.Modulepath.{Text}
 use Rattle.just_parts.specs.Evaluator.{Functions, Values, functions_by_name}
-use Rattle.just_parts.specs.Known.{Known, hides, none_hidden, sources}
+use Rattle.just_parts.specs.Known.{Known, hides, sources}
 use Rattle.just_parts.specs.Reading.{Reads, at_once, mentions, through}
 use Rattle.just_records.specs.declared.assignment.Assignment.{Assignment}
 use Rattle.just_records.specs.declared.expression.Expression.{Expression}

@@ -4,10 +4,15 @@ use Rattle.std.specs.Option.{option_map}
 use Rattle.just_errors.specs.declared.error.Error.{Error}
 use Rattle.just_parts.specs.Evaluator.{FaultsAt, Values, values_of}
 use Rattle.just_names.specs.Modulepath.{Text}
+use Rattle.just_names.specs.Name.{text_of_name}
 use Rattle.just_table.specs.Entries.{find}
 use Rattle.just_values.specs.declared.lookup.Constant.{Constant}
 use Rattle.just_values.specs.declared.lookup.Constants.{Constants}
 use Rattle.just_values.specs.declared.lookup.Constants.TheVariants as constants
+
+-- the name of a constant
+abbrev pub constant_name : Constant → Text
+constant_name c = text_of_name c.binding.name
 
 -- the values of a table of constants
 abbrev pub table_values : List (Text × Constant) → Values

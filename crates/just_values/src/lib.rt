@@ -6,6 +6,6 @@ mod lookup;
 mod settings;
 mod values;
 
-// pub use constants::constants_of;
-// pub use settings::settings_of;
+pub use constants::constants_of;
+pub use settings::settings_of;
 pub use values::value_of;

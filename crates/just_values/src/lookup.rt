@@ -103,5 +103,9 @@ pub fn fault_nowhere<'src>(alloc: Global) -> Error<'src>
     ensures { FaultsAt {A = List path.Text} None result }
 {
     let token = Token::new(0, 0, 0, 0, BorrowedText::new(""), BorrowedText::new(""));
-    fault(alloc, &token, "An expression of this form has no value here")
+    fault(
+        alloc,
+        &token,
+        "An expression of this form has no value here",
+    )
 }

@@ -33,12 +33,12 @@ pub struct Among<'a, 'src> {
     pub calls: usize,
 }
 
-// A value of one text.
-fn one(alloc: Global, text: Text) -> Result<Sequence<Text>, AllocError>
-    ensures { IfOk result (λ value. value ≡ text ∷ []) }
+/// A value of one text, which it shares.
+pub fn one(alloc: Global, text: &Text) -> Result<Sequence<Text>, AllocError>
+    ensures { IfOk result (λ value. value ≡ text.now ∷ []) }
 {
     let mut value = Sequence::new(alloc);
-    value.push(text)?;
+    value.push(text.clone()?)?;
     Ok(value)
 }
 
@@ -49,7 +49,7 @@ fn put_together(alloc: Global, lhs: &[Text], rhs: &[Text]) -> Result<Sequence<Te
     let mut text = String::new(alloc);
     text.push_str(joined(alloc, lhs)?.as_str())?;
     text.push_str(joined(alloc, rhs)?.as_str())?;
-    one(alloc, Text::from_string(text)?)
+    one(alloc, &Text::from_string(text)?)
 }
 
 // Values one after another.
@@ -115,7 +115,11 @@ fn call<'a, 'src>(
         return Err(fault(alloc, &name.token, "The function has no value here"));
     };
     if function.parameters.len() != arguments.len() {
-        return Err(fault(alloc, &name.token, "The arguments are not as many as the parameters"));
+        return Err(fault(
+            alloc,
+            &name.token,
+            "The arguments are not as many as the parameters",
+        ));
     }
     if among.calls == 0 {
         return Err(fault(alloc, &name.token, "The call stands inside too many others"));
@@ -140,7 +144,7 @@ pub fn evaluate<'a, 'src>(
     ensures { Tells (value_among among.now expression.now) result }
 {
     match expression.shape.get() {
-        Shape::StringLiteral { cooked } => Ok(one(alloc, cooked.clone()?)?),
+        Shape::StringLiteral { cooked } => Ok(one(alloc, cooked)?),
         Shape::Variable { name, .. } => variable(alloc, among, name),
         Shape::Group { contents } => evaluate(alloc, among, contents),
         Shape::List { elements } => {

@@ -1,8 +1,7 @@
-use Rattle.std.proofs.Common.{◌≡◌, sym, ◌∙◌, ap, ℕ, suc, ◌-◌, ◌+◌, ◌<◌, ◌≤◌, arith, rules, subst, List, [], ◌∷◌, length, take, None, Some}
+use Rattle.std.proofs.Common.{◌≡◌, sym, ◌∙◌, ap, ◌-◌, arith, rules, subst, None, Some}
 use Rattle.std.specs.Option.{option_and_then, option_map}
 use Rattle.std.specs.List.{sum_by}
 use Rattle.just_names.specs.Name.{text_of_name}
-use Rattle.just_records.specs.declared.expression.Expression.{out-Expression}
 use Rattle.just_references.proofs.Fold.{size}
 use Rattle.just_table.specs.Entries.{find}
 use Rattle.std.proofs.lemmas.Result.{IfErr-weaker}
@@ -97,7 +96,7 @@ evaluate-returns-in-Group t c =
 pub evaluate-returns-in_ok-one-in-StringLiteral : goal.evaluate-returns-in_ok-one-in-StringLiteral
 evaluate-returns-in_ok-one-in-StringLiteral t c =
     let whole = branch.at_StringLiteral c.args.among.now c.args.expression.now c.in-StringLiteral.cooked (sym c.get.ensures ∙ c.in-StringLiteral.is) in
-    whole ∙ ap (λ value. Some value) (sym (c.in_ok-one-in-StringLiteral.ensures ∙ ap (λ text. text ∷ []) c.in_ok-clone-in-StringLiteral.ensures.cases))
+    whole ∙ ap (λ value. Some value) (sym c.in_ok-one-in-StringLiteral.ensures)
 
 pub evaluate-returns-in_ok-one_after_another-in-List : goal.evaluate-returns-in_ok-one_after_another-in-List
 evaluate-returns-in_ok-one_after_another-in-List t c =

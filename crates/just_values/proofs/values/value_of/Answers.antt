@@ -1,4 +1,3 @@
-use Rattle.std.proofs.Common.{sym}
 use Rattle.just_parts.specs.Evaluator.{functions_by_name, values_of}
 use Rattle.just_values.specs.Values.{none_bound}
 use Rattle.just_values.proofs.Called.{bare_with}
