@@ -179,7 +179,7 @@ module _ (answers : SyntaxAnswers) (m : Contents) where
     pub tables_functions : functions_by_name fs ≡ functions_asked m
     tables_functions =
         let at : ((name : Text) → functions_by_name fs name ≡ functions_asked m name) = (λ name.
-            ap (λ gs. functions_by_name gs name) is.functions_are ∙ bare_functions_asked name ∙ ap (λ (k : Known). functions_by_name k.functions name) (bare_is answers m)) in
+        ap (λ gs. functions_by_name gs name) is.functions_are ∙ bare_functions_asked name ∙ ap (λ (k : Known). functions_by_name k.functions name) (bare_is answers m)) in
         λ i name. at name i
 
     found_numbered : (name : Text) (a : Assignment) → find name vs ≡ Some a → (b : Assignment) × (find name variables ≡ Some b) × (numbered_assignment numbered b ≡ a)

@@ -6,7 +6,7 @@ pub mod Judged
 pub mod Judging
 pub mod Once
 pub mod Overriding
+pub mod Resolving
 pub mod Similar
 pub mod Tables
-pub mod Variables
 pub mod Walking

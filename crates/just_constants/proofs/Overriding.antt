@@ -87,8 +87,8 @@ module _ (m : Known) (sorted : IsSorted m.assignments) (apart : HaveNumbersApart
       let es = m.assignments in
       let at = entry_found es name a found in
       let all : All (HasName overrides a.number name) es = (λ k d l same.
-          let e = get_or es k d in
-          apart e.0 name e.1 a (entry_at es (different es sorted) k e.0 e.1 (slice_get-get_or es k d l)) found (one_number e.1.number a.number same)) in
+      let e = get_or es k d in
+      apart e.0 name e.1 a (entry_at es (different es sorted) k e.0 e.1 (slice_get-get_or es k d l)) found (one_number e.1.number a.number same)) in
       last_named overrides a.number name es (recursion_from_All (HasName overrides a.number name) es all) at.0 a at.1 refl
 
 -- numbers of expressions make no difference

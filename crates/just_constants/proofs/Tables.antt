@@ -38,7 +38,6 @@ module _ {V : Type 0} where
   put_sorted k v (e ∷ es) sorted = by_order (slice_cmp nat_cmp k e.0) refl
     where
       by_order : (o : Ordering) → slice_cmp nat_cmp k e.0 ≡ o → IsSorted (match_ordering o ((k, v) ∷ e ∷ es) ((e.0, v) ∷ es) (e ∷ put k v es))
-      unfolding IsStrictlySortedBy
       by_order Less o = ((o, below_all k e.0 es o sorted.0), sorted)
       by_order Equal o = sorted
       by_order Greater o = (put_below e.0 k v es (nat_list_cmp_total.antisymm e.0 k ∙ ap ordering_reverse o) sorted.0, put_sorted k v es sorted.1)

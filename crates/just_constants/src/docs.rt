@@ -32,12 +32,12 @@ fn doc_of_value(alloc: Global, value: &[Text]) -> Result<Option<Text>, AllocErro
 }
 
 // A label with the doc evaluated.
-fn documented<'src, S: Syntax, E: Evaluation>(
+fn documented<'k, 'src, S: Syntax, E: Evaluation>(
     alloc: Global,
     label: &Label<'src>,
-    variables: &Variables<'src>,
+    variables: &'k Variables<'src>,
     constants: &Scope<'src>,
-    syntax: &S,
+    syntax: &'k S,
     evaluation: &E,
 ) -> Result<Label<'src>, Error<'src>>
     requires { (e : Expression) → label.now.doc_expression ≡ Some e → Covers (sources variables.now.assignments variables.now.functions) (values_of constants.now) e }
@@ -70,13 +70,13 @@ fn documented<'src, S: Syntax, E: Evaluation>(
 
 /// The labels of the modules that a module declares, with their docs evaluated among its constants. An error names a fault
 /// of the evaluation, or what is at fault with a name in a doc.
-pub fn document<'a, 'src, S: Syntax, E: Evaluation>(
+pub fn document<'k, 'a, 'src, S: Syntax, E: Evaluation>(
     alloc: Global,
     definitions: &Definitions<'src, 'a>,
     labels: &[Label<'src>],
-    variables: &Variables<'src>,
+    variables: &'k Variables<'src>,
     constants: &Scope<'src>,
-    syntax: &S,
+    syntax: &'k S,
     evaluation: &E,
 ) -> Result<Vec<Label<'src>>, Error<'src>>
     requires docs { docs_in definitions.now ≡ doc_expressions labels.now }
