@@ -83,15 +83,15 @@ fn sets_lists<'a, 'src>(definitions: &Definitions<'src, 'a>) -> bool
 fn check_expressions<'e, 'a, 'src, S: Syntax>(
     alloc: Global,
     known: &Known<'a, 'src, S>,
-    expressions: &[&'e Expression<'src>],
+    expressions: &Vec<&'e Expression<'src>>,
 ) -> Result<(), Error<'src>>
     ensures kept { let m = known_in (S.answers known.now.syntax.now) known.now in
-        OnOk result ((e : Expression) → Contains (lent expressions.now) e → Keeps (Misnames m none_hidden e)) }
+        OnOk result ((e : Expression) → Contains (lent expressions.now.items) e → Keeps (Misnames m none_hidden e)) }
     ensures named { let m = known_in (S.answers known.now.syntax.now) known.now in
-        IfErr result (λ error. (e : Expression) × Contains (lent expressions.now) e × Reports (Misnames m none_hidden e) error) }
+        IfErr result (λ error. (e : Expression) × Contains (lent expressions.now.items) e × Reports (Misnames m none_hidden e) error) }
 {
     let hidden = HashSet::new(alloc);
-    for expression in expressions {
+    for expression in expressions.as_slice() {
         check_expression(alloc, known, &hidden, *expression)?;
     }
     Ok(())
@@ -125,11 +125,11 @@ pub fn evaluate_constants<'k, 'a, 'src, S: Syntax, E: Evaluation>(
         syntax,
     };
     let settings = settings_expressions(alloc, definitions)?;
-    check_expressions(alloc, &known, settings.as_slice())?;
+    check_expressions(alloc, &known, &settings)?;
     let overridden = overrides_of(alloc, config, path, &variables.assignments)?;
     let overrides = by_number(alloc, overridden.as_slice())?;
     let expressions = constant_expressions(alloc, definitions)?;
-    let references = needed_references(alloc, &known, &overrides, expressions.as_slice())?;
+    let references = needed_references(alloc, &known, &overrides, &expressions)?;
     let scope = evaluation.assignments_const(
         alloc,
         &variables.assignments,
