@@ -91,8 +91,8 @@ fn check_expressions<'e, 'a, 'src, S: Syntax>(
         IfErr result (λ error. (e : Expression) × Contains (lent expressions.now.items) e × Reports (Misnames m none_hidden e) error) }
 {
     let hidden = HashSet::new(alloc);
-    for expression in expressions.as_slice() {
-        check_expression(alloc, known, &hidden, *expression)?;
+    for place in 0..expressions.len() {
+        check_expression(alloc, known, &hidden, &*expressions[place])?;
     }
     Ok(())
 }

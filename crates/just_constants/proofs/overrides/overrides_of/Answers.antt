@@ -1,0 +1,10 @@
+use Rattle.std.proofs.Common.{◌∙◌, ap, sym}
+use Rattle.std.specs.Map.{is_at, lookup}
+use Rattle.just_parts.specs.Layers.{override_at, variable_cmp}
+use Rattle.just_constants.proofs.Overriding.{nothing_found}
+use Rattle.just_constants.proofs.overrides.overrides_of.Goals as goal
+
+pub returns-then-is_empty : goal.returns-then-is_empty
+returns-then-is_empty c =
+    c.new-found.ensures.items
+    ∙ sym (nothing_found (override_at c.args.config.now.overrides c.args.path.now) (λ name. ap (lookup (is_at (variable_cmp (c.args.path.now, name)))) (c.is_empty.ensures.0 c.if-is_empty.true)) c.args.assignments.now)
