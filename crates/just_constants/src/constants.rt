@@ -2,7 +2,7 @@
 
 ghost use Rattle.std.specs.Prelude.{◌≡◌, ◌∷◌, [], IfOk, IfErr, OnOk, Some};
 ghost use Rattle.std.specs.List.{Contains};
-ghost use Rattle.just_constants.specs.Constants.{CoversAll, evaluated_in};
+ghost use Rattle.just_constants.specs.Constants.{CoversAll, NamesFaultIn, evaluated_in};
 ghost use Rattle.just_constants.specs.Overrides.{overrides_found};
 ghost use Rattle.just_constants.specs.Variables.{AreVariablesOf, known_with_numbers};
 ghost use Rattle.just_errors.specs.Causes.{Keeps, Reports};
@@ -88,7 +88,7 @@ fn check_expressions<'e, 'a, 'src, S: Syntax>(
     ensures kept { let m = known_in (S.answers known.now.syntax.now) known.now in
         OnOk result ((e : Expression) → Contains (lent expressions.now.items) e → Keeps (Misnames m none_hidden e)) }
     ensures named { let m = known_in (S.answers known.now.syntax.now) known.now in
-        IfErr result (λ error. (e : Expression) × Contains (lent expressions.now.items) e × Reports (Misnames m none_hidden e) error) }
+        IfErr result (NamesFaultIn m (lent expressions.now.items)) }
 {
     let hidden = HashSet::new(alloc);
     for place in 0..expressions.len() {
