@@ -51,24 +51,24 @@ returns-in_err-scope-clause-named g c =
     (no_constants layers m v.assignments v.functions v.evaluation_order c.requires.variables c.requires.apart c.in_ok-overridden.overridden.items c.in_ok-overrides.overrides (contains same_number c.in_ok-references.references)
     (lent c.in_ok-expressions.expressions.items) c.sets_lists.result m.sets c.sets_lists.ensures refl c.in_ok-overridden.ensures (λ n. c.in_ok-overrides.ensures n ∙ ap (λ ps. last_of ps n) c.as_slice.ensures.value) c.in_ok-expressions.ensures c.in_ok-references.ensures.needed) (search rules)
 
-pub sets-requires : goal.sets-requires
-sets-requires g c =
+pub settings_of-requires : goal.settings_of-requires
+settings_of-requires g c =
     let layers = layers_at (given_of (g.S.Syntax.answers c.args.syntax.now) (g.E.Evaluation.answers c.args.evaluation.now) c.args.config.now.overrides) c.args.path.now in
     let m = contents_in c.args.definitions.now in
     let v = c.args.variables.now in
-    record { covered = settings_covered layers m v.assignments v.functions v.evaluation_order c.requires.variables c.requires.apart c.in_ok-overridden.overridden.items c.in_ok-overrides.overrides (contains same_number c.in_ok-references.references)
-    (lent c.in_ok-expressions.expressions.items) c.sets_lists.result c.as_slice-3.result.now c.sets_lists.ensures (c.as_slice-3.ensures.value ∙ c.in_ok-sets.ensures) c.in_ok-overridden.ensures (λ n. c.in_ok-overrides.ensures n ∙ ap (λ ps. last_of ps n) c.as_slice.ensures.value) c.in_ok-expressions.ensures c.in_ok-references.ensures.needed
-    c.in_ok-scope.scope c.in_ok-scope.ensures.constants c.in_ok-scope.ensures.binds }
+    settings_covered layers m v.assignments v.functions v.evaluation_order c.requires.variables c.requires.apart c.in_ok-overridden.overridden.items c.in_ok-overrides.overrides (contains same_number c.in_ok-references.references)
+    (lent c.in_ok-expressions.expressions.items) c.sets_lists.result m.sets c.sets_lists.ensures refl c.in_ok-overridden.ensures (λ n. c.in_ok-overrides.ensures n ∙ ap (λ ps. last_of ps n) c.as_slice.ensures.value) c.in_ok-expressions.ensures c.in_ok-references.ensures.needed
+    c.in_ok-scope.scope c.in_ok-scope.ensures.constants c.in_ok-scope.ensures.binds
 
 pub returns-in_err-settings-2-clause-named : goal.returns-in_err-settings-2-clause-named
 returns-in_err-settings-2-clause-named g c =
     let layers = layers_at (given_of (g.S.Syntax.answers c.args.syntax.now) (g.E.Evaluation.answers c.args.evaluation.now) c.args.config.now.overrides) c.args.path.now in
     let m = contents_in c.args.definitions.now in
     let v = c.args.variables.now in
-    IfErr-weaker c.from_residual-in_err-settings-2.result (FaultsAt (layers.evaluator.settings (functions_by_name v.functions) (values_of c.in_ok-scope.scope) (map bare_set c.as_slice-3.result.now))) _
+    IfErr-weaker c.from_residual-in_err-settings-2.result (FaultsAt (layers.evaluator.settings (functions_by_name v.functions) (values_of c.in_ok-scope.scope) (map bare_set m.sets))) _
     (no_settings layers m v.assignments v.functions v.evaluation_order c.requires.variables c.requires.apart c.in_ok-overridden.overridden.items c.in_ok-overrides.overrides (contains same_number c.in_ok-references.references)
-    (lent c.in_ok-expressions.expressions.items) c.sets_lists.result c.as_slice-3.result.now c.sets_lists.ensures (c.as_slice-3.ensures.value ∙ c.in_ok-sets.ensures) c.in_ok-overridden.ensures (λ n. c.in_ok-overrides.ensures n ∙ ap (λ ps. last_of ps n) c.as_slice.ensures.value) c.in_ok-expressions.ensures c.in_ok-references.ensures.needed
-    c.in_ok-scope.scope c.in_ok-scope.ensures.constants c.in_ok-scope.ensures.binds) (search (rules, c.in_err-settings-2.ensures.refused))
+    (lent c.in_ok-expressions.expressions.items) c.sets_lists.result m.sets c.sets_lists.ensures refl c.in_ok-overridden.ensures (λ n. c.in_ok-overrides.ensures n ∙ ap (λ ps. last_of ps n) c.as_slice.ensures.value) c.in_ok-expressions.ensures c.in_ok-references.ensures.needed
+    c.in_ok-scope.scope c.in_ok-scope.ensures.constants c.in_ok-scope.ensures.binds) (search rules)
 
 pub returns-clause-kept : goal.returns-clause-kept
 returns-clause-kept g c =
@@ -76,7 +76,7 @@ returns-clause-kept g c =
     let m = contents_in c.args.definitions.now in
     let v = c.args.variables.now in
     kept layers m v.assignments v.functions v.evaluation_order c.requires.variables c.requires.apart c.in_ok-overridden.overridden.items c.in_ok-overrides.overrides (contains same_number c.in_ok-references.references)
-    (lent c.in_ok-expressions.expressions.items) c.sets_lists.result c.as_slice-3.result.now c.sets_lists.ensures (c.as_slice-3.ensures.value ∙ c.in_ok-sets.ensures) c.in_ok-overridden.ensures (λ n. c.in_ok-overrides.ensures n ∙ ap (λ ps. last_of ps n) c.as_slice.ensures.value) c.in_ok-expressions.ensures c.in_ok-references.ensures.needed
+    (lent c.in_ok-expressions.expressions.items) c.sets_lists.result m.sets c.sets_lists.ensures refl c.in_ok-overridden.ensures (λ n. c.in_ok-overrides.ensures n ∙ ap (λ ps. last_of ps n) c.as_slice.ensures.value) c.in_ok-expressions.ensures c.in_ok-references.ensures.needed
     c.in_ok-scope.scope c.in_ok-scope.ensures.constants c.in_ok-scope.ensures.binds c.in_ok-settings-2.settings c.in_ok-settings-2.ensures.settings (lent c.in_ok-settings.settings.items) c.in_ok-settings.ensures c.in_ok-check_expressions.ensures.kept
 
 pub returns-clause-evaluated : goal.returns-clause-evaluated
@@ -85,7 +85,7 @@ returns-clause-evaluated g c =
     let m = contents_in c.args.definitions.now in
     let v = c.args.variables.now in
     evaluated layers m v.assignments v.functions v.evaluation_order c.requires.variables c.requires.apart c.in_ok-overridden.overridden.items c.in_ok-overrides.overrides (contains same_number c.in_ok-references.references)
-    (lent c.in_ok-expressions.expressions.items) c.sets_lists.result c.as_slice-3.result.now c.sets_lists.ensures (c.as_slice-3.ensures.value ∙ c.in_ok-sets.ensures) c.in_ok-overridden.ensures (λ n. c.in_ok-overrides.ensures n ∙ ap (λ ps. last_of ps n) c.as_slice.ensures.value) c.in_ok-expressions.ensures c.in_ok-references.ensures.needed
+    (lent c.in_ok-expressions.expressions.items) c.sets_lists.result m.sets c.sets_lists.ensures refl c.in_ok-overridden.ensures (λ n. c.in_ok-overrides.ensures n ∙ ap (λ ps. last_of ps n) c.as_slice.ensures.value) c.in_ok-expressions.ensures c.in_ok-references.ensures.needed
     c.in_ok-scope.scope c.in_ok-scope.ensures.constants c.in_ok-scope.ensures.binds c.in_ok-settings-2.settings c.in_ok-settings-2.ensures.settings
 
 pub returns-clause-covered : goal.returns-clause-covered
@@ -94,7 +94,7 @@ returns-clause-covered g c =
     let m = contents_in c.args.definitions.now in
     let v = c.args.variables.now in
     covered layers m v.assignments v.functions v.evaluation_order c.requires.variables c.requires.apart c.in_ok-overridden.overridden.items c.in_ok-overrides.overrides (contains same_number c.in_ok-references.references)
-    (lent c.in_ok-expressions.expressions.items) c.sets_lists.result c.as_slice-3.result.now c.sets_lists.ensures (c.as_slice-3.ensures.value ∙ c.in_ok-sets.ensures) c.in_ok-overridden.ensures (λ n. c.in_ok-overrides.ensures n ∙ ap (λ ps. last_of ps n) c.as_slice.ensures.value) c.in_ok-expressions.ensures c.in_ok-references.ensures.needed
+    (lent c.in_ok-expressions.expressions.items) c.sets_lists.result m.sets c.sets_lists.ensures refl c.in_ok-overridden.ensures (λ n. c.in_ok-overrides.ensures n ∙ ap (λ ps. last_of ps n) c.as_slice.ensures.value) c.in_ok-expressions.ensures c.in_ok-references.ensures.needed
     c.in_ok-scope.scope c.in_ok-scope.ensures.constants c.in_ok-scope.ensures.binds
 
 pub returns-clause-overridden : goal.returns-clause-overridden
