@@ -68,7 +68,7 @@ returns-in_err-settings-2-clause-named g c =
     IfErr-weaker c.from_residual-in_err-settings-2.result (FaultsAt (layers.evaluator.settings (functions_by_name v.functions) (values_of c.in_ok-scope.scope) (map bare_set m.sets))) _
     (no_settings layers m v.assignments v.functions v.evaluation_order c.requires.variables c.requires.apart c.in_ok-overridden.overridden.items c.in_ok-overrides.overrides (contains same_number c.in_ok-references.references)
     (lent c.in_ok-expressions.expressions.items) c.sets_lists.result m.sets c.sets_lists.ensures refl c.in_ok-overridden.ensures (λ n. c.in_ok-overrides.ensures n ∙ ap (λ ps. last_of ps n) c.as_slice.ensures.value) c.in_ok-expressions.ensures c.in_ok-references.ensures.needed
-    c.in_ok-scope.scope c.in_ok-scope.ensures.constants c.in_ok-scope.ensures.binds) (search rules)
+    c.in_ok-scope.scope c.in_ok-scope.ensures.constants c.in_ok-scope.ensures.binds) (search (rules, c.in_err-settings-2.ensures.refused, c.from_residual-in_err-settings-2.ensures))
 
 pub returns-clause-kept : goal.returns-clause-kept
 returns-clause-kept g c =
