@@ -122,3 +122,7 @@ pub nothing_found : (overrides : Text → Option Text) → ((name : Text) → ov
 nothing_found overrides none [] = refl
 nothing_found overrides none (e ∷ es) =
     ap (λ o. map (λ (value : Text). (e.1.number, value)) (option_to_list o) ++ overrides_found overrides es) (none e.0) ∙ nothing_found overrides none es
+
+pub no_elements : {A : Type 0} (xs : List A) → length xs ≡ 0 → xs ≡ []
+no_elements [] e = refl
+no_elements (x ∷ xs) e = absurd (omega arith)

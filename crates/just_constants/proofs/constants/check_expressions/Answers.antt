@@ -42,8 +42,8 @@ returns-in_err-check_expression-clause-named g c =
     let es = c.args.expressions.now.items in
     let item = c.index.result.now in
     IfErr-weaker c.from_residual.result (Reports (Misnames m (contains bytes_eq c.new-hidden.result) item.now)) _
-    (λ e h. (
-      item.now,
-      has_image (λ (r : Bor Expression). r.now) es item (is_there es c.loop-place.place item (omega arith) c.index.ensures),
-      subst (λ (x : Text → Bool). Reports (Misnames m x item.now) e) (nothing_hides c.new-hidden.result.keys c.new-hidden.ensures.empty) h,
-    )) (search rules)
+    (λ e h. record {
+      e = item.now;
+      there = has_image (λ (r : Bor Expression). r.now) es item (is_there es c.loop-place.place item (omega arith) c.index.ensures);
+      told = subst (λ (x : Text → Bool). Reports (Misnames m x item.now) e) (nothing_hides c.new-hidden.result.keys c.new-hidden.ensures.empty) h;
+    }) (search rules)
