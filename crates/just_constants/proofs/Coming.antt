@@ -3,23 +3,21 @@ use Rattle.std.proofs.Common.{◌≡◌, ◌∙◌, ◌++◌, Bool, List, Option
 use Rattle.std.specs.HashMap.{HashMap, get}
 use Rattle.std.specs.List.{All, Contains, flat_map}
 use Rattle.std.proofs.lemmas.List.Elements.{All-contains_itself, All-weaker, Contains-append_left}
-use Rattle.just_index.specs.Index.{texts_of_names}
 use Rattle.just_names.specs.Modulepath.{Text}
 use Rattle.just_names.specs.declared.name.Name.{Name}
 use Rattle.just_names.specs.declared.number.Number.{Number}
 use Rattle.just_errors.specs.Causes.{Keeps, Reports}
 use Rattle.just_errors.specs.declared.error.Error.{Error}
 use Rattle.just_errors.proofs.Lifts.{reports_by}
-use Rattle.just_joining.specs.Constants.{AreConstants, AsksConstants, Constants, Evaluated, IsEvaluated, constant_expressions, recipe_expressions, settings_among, settings_expressions, sets_lists}
+use Rattle.just_joining.specs.Constants.{AreConstants, AsksConstants, Constants, IsEvaluated, constant_expressions, recipe_expressions, settings_among, settings_expressions, sets_lists}
 use Rattle.just_joining.specs.Contents.{Contents}
 use Rattle.just_joining.specs.Kept.{kept_variables}
 use Rattle.just_joining.specs.Known.{known_of, variables_under}
 use Rattle.just_numbering.specs.Numbered.{name_of_assignment, numbered_assignment}
-use Rattle.just_parts.specs.Evaluator.{Binds, Covers, Evaluator, FaultsAt, Functions, Values, bare_set, functions_by_name, set_expressions, values_of, wanted_by}
+use Rattle.just_parts.specs.Evaluator.{Binds, Covers, FaultsAt, bare_set, functions_by_name, set_expressions, values_of, wanted_by}
 use Rattle.just_parts.specs.Known.{Known, known, none_hidden, sources}
 use Rattle.just_parts.specs.Layers.{Layers}
 use Rattle.just_parts.specs.Needs.{AreNeededBy, HaveNumbersApart, IsClosed, has_number, same_number}
-use Rattle.just_parts.specs.Syntax.{SyntaxAnswers}
 use Rattle.just_records.specs.declared.assignment.Assignment.{Assignment}
 use Rattle.just_records.specs.declared.expression.Expression.{Expression}
 use Rattle.just_records.specs.declared.function_definition.FunctionDefinition.{FunctionDefinition}

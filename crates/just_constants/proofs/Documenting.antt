@@ -1,21 +1,19 @@
 -- Labels with their docs evaluated, label after label.
-use Rattle.std.proofs.Common.{◌≡◌, ◌∙◌, Bool, ℕ, ◌+◌, ◌<◌, List, [], ◌∷◌, ◌++◌, Option, None, Some, ap, arith, get_or, length, refl, subst, sym, take, inl, inr}
-use Rattle.std.specs.List.{All, Contains}
+use Rattle.std.proofs.Common.{◌≡◌, ◌∙◌, Bool, List, [], ◌∷◌, ◌++◌, Option, None, Some, ap, refl, subst, sym, inl, inr}
+use Rattle.std.specs.List.{Contains}
 use Rattle.std.specs.Option.{option_to_list}
-use Rattle.std.proofs.lemmas.List.Elements.{All-contains, Contains-append_cases, Contains-append_left, Contains-append_right}
-use Rattle.std.proofs.lemmas.Option.{none-some, same_Some}
+use Rattle.std.proofs.lemmas.List.Elements.{Contains-append_cases, Contains-append_left, Contains-append_right}
+use Rattle.std.proofs.lemmas.Option.{same_Some}
 use Rattle.just_errors.specs.Causes.{Broken, Cause, Keeps, Reports}
 use Rattle.just_errors.specs.declared.error.Error.{Error}
 use Rattle.just_errors.specs.declared.error.Error.TheVariants as error
-use Rattle.just_errors.specs.declared.error.CompileErrorKind.TheVariants as kind
 use Rattle.just_errors.proofs.Lifts.{reports_by}
 use Rattle.just_joining.specs.Constants.{Docs, doc_fault, in_doc, value_among}
 use Rattle.just_joining.specs.Contents.{Contents}
-use Rattle.just_joining.specs.Known.{known_of}
 use Rattle.just_names.specs.Modulepath.{Text}
 use Rattle.just_needs.proofs.Looking.{is_the_one, not_in_none, the_one}
 use Rattle.just_notes.specs.declared.labels.Label.{Label}
-use Rattle.just_parts.specs.Evaluator.{Evaluator, FaultsAt, Functions, Values}
+use Rattle.just_parts.specs.Evaluator.{Evaluator, FaultsAt, Values}
 use Rattle.just_parts.specs.Known.{Known, none_hidden}
 use Rattle.just_parts.specs.Syntax.{SyntaxAnswers}
 use Rattle.just_records.specs.declared.expression.Expression.{Expression}

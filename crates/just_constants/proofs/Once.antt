@@ -1,6 +1,5 @@
 -- What is evaluated of a module is evaluated once.
-use Rattle.std.proofs.Common.{◌≡◌, ◌∙◌, ◌↔◌, Bool, true, false, List, Option, None, Some, refl, sym, ap}
-use Rattle.std.proofs.lemmas.Bool.{false≢true}
+use Rattle.std.proofs.Common.{◌≡◌, ◌∙◌, Bool, true, false, List, Option, refl, sym, ap}
 use Rattle.std.proofs.lemmas.Option.{same_Some}
 use Rattle.just_names.specs.Modulepath.{Text}
 use Rattle.just_joining.specs.Constants.{AreConstants, AsksFor, Evaluated, IsEvaluated, settings_among}
@@ -9,7 +8,6 @@ use Rattle.just_parts.specs.Evaluator.{Values, Wanted}
 use Rattle.just_parts.specs.Known.{Known}
 use Rattle.just_parts.specs.Layers.{Layers}
 use Rattle.just_records.specs.declared.expression.Expression.{Expression}
-use Rattle.just_records.specs.declared.settings.Settings.{Settings}
 
 same_truth : (b c : Bool) → (b ≡ true → c ≡ true) → (c ≡ true → b ≡ true) → b ≡ c
 same_truth true c to back = sym (to refl)

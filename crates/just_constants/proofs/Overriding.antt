@@ -1,10 +1,8 @@
 -- The value that overrides a variable, by its number.
-use Rattle.std.proofs.Common.{◌≡◌, ◌∙◌, ℕ, zero, suc, ◌<◌, ◌+◌, Bool, true, false, cond, List, [], ◌∷◌, ◌++◌, map, length, get_or, take, Option, None, Some, refl, sym, ap, subst, inl, inr, ◌⊎◌, arith}
-use Rattle.std.specs.Prelude.{flat_map, if◌then◌else◌}
+use Rattle.std.proofs.Common.{◌≡◌, ◌∙◌, ℕ, zero, suc, ◌<◌, ◌+◌, Bool, true, false, cond, List, [], ◌∷◌, ◌++◌, map, length, get_or, take, Option, None, Some, refl, sym, ap, inl, inr, ◌⊎◌, arith}
+use Rattle.std.specs.Prelude.{if◌then◌else◌}
 use Rattle.std.specs.List.{All, AllByRecursion, slice_get}
 use Rattle.std.specs.Option.{option_or, option_to_list}
-use Rattle.std.proofs.lemmas.Bool.Decides.{Decides-eqb}
-use Rattle.std.proofs.lemmas.Cmp.{nat_eq_equiv}
 use Rattle.std.proofs.lemmas.List.Elements.{recursion_from_All}
 use Rattle.std.proofs.lemmas.List.{take_more}
 use Rattle.std.proofs.lemmas.Option.{same_Some, slice_get-get_or}
@@ -17,7 +15,7 @@ use Rattle.just_records.specs.declared.assignment.Assignment.{Assignment}
 use Rattle.just_table.specs.Entries.{IsSorted, find}
 use Rattle.just_variables.proofs.Alike.{changed}
 use Rattle.just_variables.proofs.Placed.{different, entry_at, entry_found}
-use Rattle.just_constants.specs.Overrides.{last_of, override_found, overrides_found}
+use Rattle.just_constants.specs.Overrides.{last_of, overrides_found}
 
 or_none : (o : Option Text) → option_or o None ≡ o
 or_none None = refl

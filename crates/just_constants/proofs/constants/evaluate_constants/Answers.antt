@@ -1,4 +1,4 @@
-use Rattle.std.proofs.Common.{◌≡◌, ◌∙◌, List, ap, map, refl, rules, subst, sym}
+use Rattle.std.proofs.Common.{◌∙◌, List, ap, map, refl, rules, subst, sym}
 use Rattle.std.specs.HashMap.{get}
 use Rattle.std.specs.HashSet.{contains}
 use Rattle.std.proofs.lemmas.Result.{IfErr-weaker}

@@ -1,6 +1,5 @@
 use Rattle.std.proofs.Common.{◌≡◌, ◌∙◌, IfErr, IfOk, List, Some, map, subst, sym}
 use Rattle.std.specs.List.{All, flat_map}
-use Rattle.just_joining.specs.Definitions.{sets_in}
 use Rattle.just_parts.specs.Evaluator.{Covers, FaultsAt, bare_set, functions_by_name, set_expressions, values_of}
 use Rattle.just_parts.specs.Known.{sources}
 use Rattle.just_records.specs.declared.setting.Set.{Set}
