@@ -17,3 +17,4 @@ pub mod Ordered
 pub mod Ready
 pub mod TableValues
 pub mod Taking
+pub mod VariableNumbers

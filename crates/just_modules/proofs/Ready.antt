@@ -24,7 +24,7 @@ use Rattle.just_records.specs.declared.function_definition.FunctionDefinition.{F
 use Rattle.just_joining.specs.Files.{ArePlaced, AreRows, asts_in}
 use Rattle.just_joining.specs.Joined.{AreJoined, IsJoined}
 use Rattle.just_joining.specs.Named.{function_by, lists_by, lists_from, name_by, said_from, recipes_by, recipes_from, set_by, unexported_by, variable_by}
-use Rattle.just_notes.specs.Labels.{label_by}
+use Rattle.just_notes.specs.Labels.{doc_by, label_by}
 use Rattle.just_notes.specs.declared.labels.Label.{Label}
 use Rattle.just_notes.specs.Said.{said, said_in}
 use Rattle.just_joining.specs.Recipes.{recipes_of, recipes_said}
@@ -71,6 +71,11 @@ module _ {A : Type 0} (of : Submodule → A) (by : Item → List A) (enabled : I
 unexport_located : (i : Item) → unexported_by (located_item i) ≡ unexported_by i
 unexport_located (item.Unexport name) = refl
 unexport_located _ = refl
+
+doc_located : (i : Item) → doc_by (located_item i) ≡ doc_by i
+doc_located (item.Module name relative None attributes doc optional) = refl
+doc_located (item.Module name relative (Some file) attributes doc optional) = refl
+doc_located _ = refl
 
 set_located : (i : Item) → set_by (located_item i) ≡ set_by i
 set_located (item.Setting s) = refl
@@ -189,6 +194,10 @@ module _ (enabled : Item → Bool) (entries : List (AstKey × Ast)) (d : AstKey)
   -- what a module unexports
   pub unexports_are : (xs : List ℕ) → ((q : ℕ) → In q xs → q < n) → said_from unexported_by enabled (asts_in files) xs ≡ flat_map unexported_by (items_of (map (λ k. unwrap_or (R k) no_ast) (map key_at xs)))
   unexports_are = same_are unexported_by unexport_located
+
+  -- what the docs of its modules are evaluated from
+  pub docs_are : (xs : List ℕ) → ((q : ℕ) → In q xs → q < n) → said_from doc_by enabled (asts_in files) xs ≡ flat_map doc_by (items_of (map (λ k. unwrap_or (R k) no_ast) (map key_at xs)))
+  docs_are = same_are doc_by doc_located
 
   -- what it sets
   pub sets_are : (xs : List ℕ) → ((q : ℕ) → In q xs → q < n) → said_from set_by enabled (asts_in files) xs ≡ flat_map set_by (items_of (map (λ k. unwrap_or (R k) no_ast) (map key_at xs)))

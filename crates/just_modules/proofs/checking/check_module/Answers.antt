@@ -8,7 +8,7 @@ use Rattle.just_joining.specs.Groups.{BreaksContents, OfConstants, OfExpressions
 use Rattle.just_joining.specs.Rules.{Constants, Headers, Names}
 use Rattle.just_variables.specs.Misnaming.{Expressions}
 use Rattle.just_modules.proofs.Grounds.{before_bodies, before_constants, before_expressions, before_names, constants_kept}
-use Rattle.just_modules.proofs.analyzer.check_module.Goals as goal
+use Rattle.just_modules.proofs.checking.check_module.Goals as goal
 
 pub returns-in_err-check_headers-clause-named : goal.returns-in_err-check_headers-clause-named
 returns-in_err-check_headers-clause-named g c =
