@@ -1,10 +1,10 @@
 //! What variables an expression needs, by their numbers.
 
-ghost use Rattle.std.specs.Prelude.{◌≡◌, ◌≤◌, ◌∷◌, [], is_some, IfOk, IfSome, OnErr, OnOk};
+ghost use Rattle.std.specs.Prelude.{◌≡◌, ◌≤◌, ◌∷◌, [], is_some, map, IfOk, IfSome, OnErr, OnOk};
 ghost use Rattle.std.specs.HashSet.{contains, hash_set_len, spare};
 ghost use Rattle.std.specs.Str.{bytes_eq};
 ghost use Rattle.just_names.specs.Name.{text_of_name};
-ghost use Rattle.just_parts.specs.Needs.{AreNeeded, Gains, GainsAll, GainsThose, HasNone, IsSame, KeepsAll, has_number, same_number};
+ghost use Rattle.just_parts.specs.Needs.{AreNeeded, AreNeededBy, Gains, GainsAll, GainsThose, HasNone, IsSame, KeepsAll, has_number, same_number};
 ghost use Rattle.just_needs.specs.Search.{Looks, LooksAtCall, LooksAtName, Searches, found_in, hidden_by, scoped_of};
 ghost use Rattle.just_references.specs.Body.{mention_of};
 ghost use Rattle.just_table.specs.Entries.{find};
@@ -161,27 +161,26 @@ fn look_into<'w, 'a, 'src, S: Syntax>(
     Ok(())
 }
 
-// Searches from an expression until nothing waits.
+// Searches from what waits until nothing does.
 fn search_from<'w, 'a, 'src, S: Syntax>(
     alloc: Global,
     known: &'w Known<'a, 'src, S>,
     overrides: &HashMap<Number, Text>,
     references: &HashSet<Number>,
     visited: &HashSet<BorrowedText<'src>>,
-    first: Waiting<'w, 'src>,
+    stack: Vec<Waiting<'w, 'src>>,
 ) -> Result<Search<'w, 'src>, AllocError>
     ensures found { let m = known_in (S.answers known.now.syntax.now) known.now in
         let old = contains same_number references.now in
         let visited = contains bytes_eq visited.now in
-        IfOk result (λ search. Searches m (has_number overrides.now) (scoped_of first.entry) old visited (found_in old visited search)) }
+        IfOk result (λ search. Searches m (has_number overrides.now) (map scoped_of stack.entry.items) old visited (found_in old visited search)) }
     ensures over { IfOk result (λ search. search.stack.items ≡ []) }
 {
     let mut search = Search {
         numbers: HashSet::new(alloc),
         functions: HashSet::new(alloc),
-        stack: Vec::new(alloc),
+        stack,
     };
-    search.stack.push(first)?;
     while let Some(next) = search.stack.pop() {
         look_into(
             alloc,
@@ -251,7 +250,9 @@ pub fn collect_references<'a, 'src, S: Syntax>(
         expression,
         parameters: Some(parameters),
     };
-    let found = search_from(alloc, known, overrides, &*references, &*visited, first)?;
+    let mut stack = Vec::new(alloc);
+    stack.push(first)?;
+    let found = search_from(alloc, known, overrides, &*references, &*visited, stack)?;
     let Search {
         numbers,
         functions,
@@ -301,12 +302,23 @@ pub fn assignment_references<'a, 'src, S: Syntax>(
 /// unless it is overridden, and so on. No parameters are in scope.
 pub fn needed_references<'e, 'a, 'src, S: Syntax>(
     alloc: Global,
-    known: &Known<'a, 'src, S>,
+    known: &'e Known<'a, 'src, S>,
     overrides: &HashMap<Number, Text>,
     expressions: &[&'e Expression<'src>],
 ) -> Result<HashSet<Number>, AllocError>
     ensures needed { let m = known_in (S.answers known.now.syntax.now) known.now in
         IfOk result (λ found. AreNeededBy m (has_number overrides.now) (map (λ e. e.now) expressions.now) (contains same_number found)) }
 {
-    todo!()
+    let references = HashSet::new(alloc);
+    let visited = HashSet::new(alloc);
+    let mut stack = Vec::with_capacity(alloc, expressions.len())?;
+    for expression in expressions {
+        stack.push(Waiting {
+            expression: *expression,
+            parameters: None,
+        })?;
+    }
+    let found = search_from(alloc, known, overrides, &references, &visited, stack)?;
+    let Search { numbers, .. } = found;
+    Ok(numbers)
 }
