@@ -12,7 +12,7 @@ use Rattle.just_graph.specs.Graph.{HasEdge, targets}
 use Rattle.just_graph.specs.Steps.{Reached, from_member, from_start}
 use Rattle.just_graph.proofs.Members.{In, contained, from_flat, is_in}
 use Rattle.just_parts.specs.Asts.{AstKey, same_ast_key}
-use Rattle.just_parts.specs.Bare.{bare_function, bare_item}
+use Rattle.just_parts.specs.Bare.{bare_function, bare_function_parameter, bare_item}
 use Rattle.just_parts.specs.Located.{located_assignment, located_item}
 use Rattle.just_parts.specs.Items.{Ast, Item}
 use Rattle.just_parts.specs.declared.layers.ast.Item.TheVariants as item
@@ -21,6 +21,7 @@ use Rattle.just_names.specs.declared.name.Name.{Name}
 use Rattle.just_names.specs.declared.modulepath.Modulepath.{Modulepath}
 use Rattle.just_parts.specs.declared.recipe.Recipe.{Recipe}
 use Rattle.just_records.specs.declared.function_definition.FunctionDefinition.{FunctionDefinition}
+use Rattle.just_records.specs.declared.function_definition.FunctionParameter.{FunctionParameter}
 use Rattle.just_joining.specs.Files.{ArePlaced, AreRows, asts_in}
 use Rattle.just_joining.specs.Joined.{AreJoined, IsJoined}
 use Rattle.just_joining.specs.Named.{function_by, lists_by, lists_from, name_by, said_from, recipes_by, recipes_from, set_by, unexported_by, variable_by}
@@ -36,7 +37,6 @@ use Rattle.just_joining.proofs.Alike.{AreAlike, outline_of, outlines_of}
 use Rattle.just_joining.proofs.BareOutlines.{outline_located}
 use Rattle.just_joining.proofs.FilePlaces.{are_graphs, says}
 use Rattle.just_modules.specs.Modules.{items_of}
-use Rattle.just_constants.proofs.Evaluating.{function_bare}
 use Rattle.just_modules.proofs.ModulePlaces.{no_ast}
 
 abbrev name_of : Submodule → Name
@@ -80,6 +80,14 @@ doc_located _ = refl
 set_located : (i : Item) → set_by (located_item i) ≡ set_by i
 set_located (item.Setting s) = refl
 set_located _ = refl
+
+-- a function without numbers has none to lose
+bare_parameters : (ps : List FunctionParameter) → map bare_function_parameter (map bare_function_parameter ps) ≡ map bare_function_parameter ps
+bare_parameters [] = refl
+bare_parameters (p ∷ ps) = ap (λ (qs : List FunctionParameter). bare_function_parameter p ∷ qs) (bare_parameters ps)
+
+function_bare : (f : FunctionDefinition) → bare_function (bare_function f) ≡ bare_function f
+function_bare f = λ i. record f { parameters = bare_parameters f.parameters i }
 
 function_located : (i : Item) → map bare_function (function_by (located_item i)) ≡ map bare_function (function_by i)
 function_located (item.Function f) = ap (λ (g : FunctionDefinition). g ∷ []) (function_bare f)
