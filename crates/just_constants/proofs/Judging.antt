@@ -48,10 +48,10 @@ parameters_same : (x : FunctionDefinition) → parameter_names (bare_function x)
 parameters_same x = bare_names x.parameters
 
 module _ (answers : SyntaxAnswers) (m : Contents) where
-  abbrev bare : Known
-  bare = known answers (changed located_assignment (variables_under m.variables)) (changed bare_function (functions_under m.functions))
+  abbrev pub bare_of : Known
+  bare_of = known answers (changed located_assignment (variables_under m.variables)) (changed bare_function (functions_under m.functions))
 
-  bare_is : bare ≡ known_of answers m
+  pub bare_is : bare_of ≡ known_of answers m
   bare_is =
       let variables = ap (put_all (λ (a : Assignment). text_of_name a.name) []) (kept_same claim_of_variable located_assignment (λ a. refl) m.variables)
       ∙ put_changed located_assignment (λ (a : Assignment). text_of_name a.name) (λ (a : Assignment). text_of_name a.name) (λ a. refl) (kept_variables m.variables) in
@@ -60,10 +60,10 @@ module _ (answers : SyntaxAnswers) (m : Contents) where
 
   pub keeps_known : Keeps (Expressions (known_with_numbers answers m)) → Keeps (Expressions (known_of answers m))
   keeps_known kept c b =
-      kept c (expressions_alike bare (known_with_numbers answers m) (alike_changed answers located_assignment bare_function (λ a. refl) (λ a. refl) parameters_same (λ f. refl) (variables_under m.variables) (functions_under m.functions)) c
+      kept c (expressions_alike bare_of (known_with_numbers answers m) (alike_changed answers located_assignment bare_function (λ a. refl) (λ a. refl) parameters_same (λ f. refl) (variables_under m.variables) (functions_under m.functions)) c
       (subst (λ (k : Known). Expressions k c) (sym bare_is) b))
 
   pub breaks_known : (c : Cause) → Expressions (known_with_numbers answers m) c → Expressions (known_of answers m) c
   breaks_known c b =
       subst (λ (k : Known). Expressions k c) bare_is
-      (expressions_alike (known_with_numbers answers m) bare (changed_alike answers located_assignment bare_function (λ a. refl) (λ a. refl) parameters_same (λ f. refl) (variables_under m.variables) (functions_under m.functions)) c b)
+      (expressions_alike (known_with_numbers answers m) bare_of (changed_alike answers located_assignment bare_function (λ a. refl) (λ a. refl) parameters_same (λ f. refl) (variables_under m.variables) (functions_under m.functions)) c b)

@@ -1,6 +1,16 @@
 -- What the declarations of modules say, with their docs evaluated.
 use Rattle.std.specs.Prelude.{◌≡◌, List, [], ◌∷◌, codes, flat_map, Option, None, Some, option_to_list}
 use Rattle.just_names.specs.Modulepath.{Text, joined}
+use Rattle.just_names.specs.Token.{Place}
+use Rattle.just_errors.specs.Causes.{Broken, Cause}
+use Rattle.just_errors.specs.declared.error.CompileErrorKind.TheVariants as kind
+use Rattle.just_errors.specs.declared.error.Fault.{Fault}
+use Rattle.just_parts.specs.Evaluator.{Evaluator, Values, functions_by_name}
+use Rattle.just_parts.specs.Known.{Known, known, none_hidden}
+use Rattle.just_parts.specs.Syntax.{SyntaxAnswers}
+use Rattle.just_references.specs.Numbers.{bare}
+use Rattle.just_variables.specs.Misnaming.{Misnames}
+use Rattle.just_constants.specs.declared.variables.Variables.{Variables}
 use Rattle.just_notes.specs.declared.labels.Label.{Label}
 use Rattle.just_records.specs.declared.expression.Expression.{Expression}
 
@@ -29,3 +39,16 @@ AreDocumented value (label ∷ labels) made = (first : Label) × (rest : List La
 -- what their docs are evaluated from
 abbrev pub doc_expressions : List Label → List Expression
 doc_expressions = flat_map (λ (label : Label). option_to_list label.doc_expression)
+
+-- what names stand for in a module, by its tables
+abbrev pub known_by : SyntaxAnswers → Variables → Known
+known_by answers variables = known answers variables.assignments variables.functions
+
+-- the value of an expression among constants, by the tables of a module
+abbrev pub value_by : Evaluator → Variables → Values → Expression → Option (List Text)
+value_by evaluator variables values e = evaluator.value (functions_by_name variables.functions) values (bare e)
+
+-- A name in the doc of a declaration is at fault, or it has no value.
+pub data DocFault (m : Known) (value : Expression → Option (List Text)) (said : Option Expression) : Cause → Type 0 where
+  misnamed : {e : Expression} {c : Cause} → said ≡ Some e → Misnames m none_hidden e c → DocFault m value said c
+  no_value : {e : Expression} {place : Place} {fault : Fault} → said ≡ Some e → value e ≡ None → DocFault m value said (Broken place (kind.Evaluate fault))

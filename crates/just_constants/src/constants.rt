@@ -99,13 +99,13 @@ fn check_expressions<'e, 'a, 'src, S: Syntax>(
 
 /// Evaluates what the settings, docs, helps and patterns of the module at a path need, and then its settings, with what the
 /// configuration overrides. An error names a fault of the evaluation, or what is at fault with a name in a setting.
-pub fn evaluate_constants<'a, 'src, S: Syntax, E: Evaluation>(
+pub fn evaluate_constants<'k, 'a, 'src, S: Syntax, E: Evaluation>(
     alloc: Global,
     config: &Config,
     path: &Modulepath,
     definitions: &Definitions<'src, 'a>,
-    variables: &Variables<'src>,
-    syntax: &S,
+    variables: &'k Variables<'src>,
+    syntax: &'k S,
     evaluation: &E,
 ) -> Result<Constants<'src>, Error<'src>>
     requires variables { AreVariablesOf (S.answers syntax.now) (contents_in definitions.now) variables.now }

@@ -1,15 +1,18 @@
 //! The docs of the modules that a module declares.
 
-ghost use Rattle.std.specs.Prelude.{◌≡◌, IfOk, IfErr};
+ghost use Rattle.std.specs.Prelude.{◌≡◌, IfOk, IfErr, Some};
 ghost use Rattle.just_constants.specs.Constants.{CoversAll};
-ghost use Rattle.just_constants.specs.Documented.{AreDocumented, IsDocumented, doc_expressions, doc_of_value};
+ghost use Rattle.just_constants.specs.Documented.{AreDocumented, DocFault, IsDocumented, doc_expressions, doc_of_value, known_by, value_by};
 ghost use Rattle.just_constants.specs.Variables.{AreVariablesOf};
 ghost use Rattle.just_errors.specs.Causes.{Keeps, Reports};
 ghost use Rattle.just_joining.specs.Constants.{Docs, value_among};
 ghost use Rattle.just_joining.specs.Definitions.{contents_in, docs_in};
-ghost use Rattle.just_parts.specs.Evaluator.{values_of};
+ghost use Rattle.just_parts.specs.Evaluator.{Covers, values_of};
+ghost use Rattle.just_parts.specs.Known.{none_hidden, sources};
+ghost use Rattle.just_records.specs.declared.expression.Expression.{Expression};
+ghost use Rattle.just_variables.specs.Misnaming.{Misnames};
 
-use crate::variables::Variables;
+use crate::variables::{Variables, copied};
 use just_data::Text;
 use just_joining::definitions::Definitions;
 use just_notes::Label;
@@ -28,46 +31,52 @@ fn doc_of_value(alloc: Global, value: &[Text]) -> Result<Option<Text>, AllocErro
     Ok(Some(joined(alloc, value)?))
 }
 
-// A label with the doc evaluated. TODO contract
-fn documented<'src, S: Syntax, E: Evaluation>(
+// A label with the doc evaluated.
+fn documented<'k, 'src, S: Syntax, E: Evaluation>(
     alloc: Global,
     label: &Label<'src>,
-    variables: &Variables<'src>,
+    variables: &'k Variables<'src>,
     constants: &Scope<'src>,
-    syntax: &S,
+    syntax: &'k S,
     evaluation: &E,
 ) -> Result<Label<'src>, Error<'src>>
+    requires { (e : Expression) → label.now.doc_expression ≡ Some e → Covers (sources variables.now.assignments variables.now.functions) (values_of constants.now) e }
+    ensures kept { IfOk result (λ _. (e : Expression) → label.now.doc_expression ≡ Some e → Keeps (Misnames (known_by (S.answers syntax.now) variables.now) none_hidden e)) }
+    ensures label { IfOk result (IsDocumented (value_by (E.answers evaluation.now) variables.now (values_of constants.now)) label.now) }
+    ensures named { let value = value_by (E.answers evaluation.now) variables.now (values_of constants.now) in
+        IfErr result (Reports (DocFault (known_by (S.answers syntax.now) variables.now) value label.now.doc_expression)) }
 {
-    let mut made = label.clone()?;
-    if let Some(expression) = &label.doc_expression {
-        let known = Known {
-            assignments: &variables.assignments,
-            functions: &variables.functions,
-            syntax,
-        };
-        let hidden = HashSet::new(alloc);
-        check_expression(alloc, &known, &hidden, expression)?;
-        let value = evaluation.value_const(
-            alloc,
-            constants,
-            &variables.assignments,
-            &variables.functions,
-            expression,
-        )?;
-        made.doc = doc_of_value(alloc, value.as_slice())?;
-    }
+    let mut made = copied(label)?;
+    let Some(expression) = &label.doc_expression else {
+        return Ok(made);
+    };
+    let known = Known {
+        assignments: &variables.assignments,
+        functions: &variables.functions,
+        syntax,
+    };
+    let hidden = HashSet::new(alloc);
+    check_expression(alloc, &known, &hidden, expression)?;
+    let value = evaluation.value_const(
+        alloc,
+        constants,
+        &variables.assignments,
+        &variables.functions,
+        expression,
+    )?;
+    made.doc = doc_of_value(alloc, value.as_slice())?;
     Ok(made)
 }
 
 /// The labels of the modules that a module declares, with their docs evaluated among its constants. An error names a fault
 /// of the evaluation, or what is at fault with a name in a doc.
-pub fn document<'a, 'src, S: Syntax, E: Evaluation>(
+pub fn document<'k, 'a, 'src, S: Syntax, E: Evaluation>(
     alloc: Global,
     definitions: &Definitions<'src, 'a>,
     labels: &[Label<'src>],
-    variables: &Variables<'src>,
+    variables: &'k Variables<'src>,
     constants: &Scope<'src>,
-    syntax: &S,
+    syntax: &'k S,
     evaluation: &E,
 ) -> Result<Vec<Label<'src>>, Error<'src>>
     requires docs { docs_in definitions.now ≡ doc_expressions labels.now }

@@ -7,6 +7,7 @@ ghost use Rattle.just_joining.specs.Recipes.{lent};
 ghost use Rattle.just_parts.specs.Evaluator.{interpreter_expressions, setting_expressions};
 
 use just_joining::definitions::{Definitions, recipe_at, set_at};
+use just_parts::UnresolvedRecipe;
 use just_parts::layers::{ArgumentProperty, Attribute, Expression, Interpreter, Setting};
 use std::alloc::{AllocError, Global};
 
@@ -82,6 +83,19 @@ pub fn settings_expressions<'b, 'a, 'src>(
     Ok(found)
 }
 
+// Adds those of a recipe.
+fn push_recipe<'b, 'src>(
+    recipe: &'b UnresolvedRecipe<'src>,
+    found: &mut Vec<&'b Expression<'src>>,
+) -> Result<(), AllocError>
+    ensures { OnOk result (lent found.new.items ≡ lent found.old.items ++ recipe_expressions recipe.now) }
+{
+    for named in recipe.attributes.as_slice() {
+        push_attribute(&named.attribute, found)?;
+    }
+    Ok(())
+}
+
 // Adds those of all recipes.
 fn push_recipes<'b, 'a, 'src>(
     definitions: &'b Definitions<'src, 'a>,
@@ -90,9 +104,7 @@ fn push_recipes<'b, 'a, 'src>(
     ensures { OnOk result (lent found.new.items ≡ lent found.old.items ++ flat_map recipe_expressions (recipes_in definitions.now)) }
 {
     for place in 0..definitions.recipes.len() {
-        for named in recipe_at(definitions, place).attributes.as_slice() {
-            push_attribute(&named.attribute, found)?;
-        }
+        push_recipe(recipe_at(definitions, place), found)?;
     }
     Ok(())
 }

@@ -6,9 +6,9 @@ ghost use Rattle.just_constants.specs.Overrides.{last_of, overrides_found};
 ghost use Rattle.just_parts.specs.Layers.{override_at};
 ghost use Rattle.just_parts.specs.Needs.{same_number};
 
+use just_data::Text;
 use just_names::Modulepath;
 use just_parts::layers::{Assignment, Config, Number};
-use just_data::Text;
 use just_table::Table;
 use std::alloc::{AllocError, Global};
 use std::collections::HashMap;

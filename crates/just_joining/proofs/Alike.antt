@@ -20,7 +20,7 @@ use Rattle.just_records.specs.declared.list_use.ListUse.{ListUse}
 use Rattle.just_records.specs.declared.setting.Set.{Set}
 use Rattle.just_records.specs.declared.settings.Settings.{Settings}
 use Rattle.just_parts.specs.Bare.{bare_function, bare_function_parameter}
-use Rattle.just_parts.specs.Evaluator.{Functions, Values, Wanted, bare_set, functions_by_name, set_expressions}
+use Rattle.just_parts.specs.Evaluator.{Values, Wanted, bare_set, functions_by_name, set_expressions}
 use Rattle.just_parts.specs.Layers.{Layers}
 use Rattle.just_parts.specs.Located.{located_assignment}
 use Rattle.just_references.specs.Numbers.{bare}
@@ -333,14 +333,14 @@ module _ (layers : Layers) (m n : Contents) (alike : AreAlikeContents m n) where
       in_doc (subst (λ (es : List Expression). Contains es e) alike.docs there) (subst (λ (k : Known). Misnames k none_hidden e c) known_alike b)
   docs_alike values _ (doc_fault {e} there none) =
       doc_fault (subst (λ (es : List Expression). Contains es e) alike.docs there)
-      (ap (λ (fs : Functions). layers.evaluator.value fs values (bare e)) (sym functions_alike) ∙ none)
+      ((λ i. layers.evaluator.value (sym functions_alike i) values (bare e)) ∙ none)
 
   bodies_and_docs_alike : (it : Evaluated) (c : Cause) → BodiesAndDocs layers m it c → BodiesAndDocs layers n it c
   bodies_and_docs_alike it c (in_docs b) = in_docs (docs_alike it.constants c b)
   bodies_and_docs_alike it c (in_bodies b) = in_bodies (bodies_alike it.settings c b)
 
   under_alike : (broken other : Evaluated → Cause → Type 0) → ((it : Evaluated) (c : Cause) → broken it c → other it c) → (c : Cause) → Under (IsEvaluated layers m) broken c → Under (IsEvaluated layers n) other c
-  under_alike broken other each c (under {it} is b) = under (evaluated_alike it is) (each it c b)
+  under_alike broken other each c (under {a = it} is b) = under (evaluated_alike it is) (each it c b)
 
   pub breaks_alike : (g : Group) (c : Cause) → Breaks layers g m c → Breaks layers g n c
   breaks_alike OfHeaders c b = headers_alike c b

@@ -65,12 +65,12 @@ abbrev pub IsNeeded : Known → (Text → Option Text) → List Expression → T
 IsNeeded k overrides es = Needs k (is_overridden k overrides) (IsReadIn k es)
 
 -- The question for constants: the variables and functions without numbers, the values that override variables, and the variables that these expressions need.
-pub record AsksFor (k : Known) (overrides : Text → Option Text) (es : List Expression) (lists : Bool) (wanted : Wanted) : Type 0 where
+pub record AsksFor (k : Known) (given : Text → Option Text) (es : List Expression) (on : Bool) (wanted : Wanted) : Type 0 where
   pub assignments : wanted.assignments ≡ unnumbered k.assignments
   pub functions : wanted.functions ≡ functions_by_name k.functions
-  pub overrides : wanted.overrides ≡ overriding k overrides
-  pub needed : (name : Text) → (wanted.needed name ≡ true) ↔ IsNeeded k overrides es name
-  pub lists : wanted.lists ≡ lists
+  pub overrides : wanted.overrides ≡ overriding k given
+  pub needed : (name : Text) → (wanted.needed name ≡ true) ↔ IsNeeded k given es name
+  pub lists : wanted.lists ≡ on
 
 -- what is set says that values are lists
 abbrev pub is_lists : Setting → Bool

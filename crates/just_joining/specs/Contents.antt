@@ -1,5 +1,5 @@
 -- What the rules read of a module.
-use Rattle.std.specs.Prelude.{List, [], ◌++◌, map}
+use Rattle.std.specs.Prelude.{List, [], ◌∷◌, ◌++◌, map}
 use Rattle.just_names.specs.Modulepath.{Text}
 use Rattle.just_names.specs.Name.{text_of_name}
 use Rattle.just_names.specs.declared.name.Name.{Name}

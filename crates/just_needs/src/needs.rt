@@ -302,7 +302,7 @@ pub fn assignment_references<'a, 'src, S: Syntax>(
 /// unless it is overridden, and so on. No parameters are in scope.
 pub fn needed_references<'e, 'a, 'src, S: Syntax>(
     alloc: Global,
-    known: &'e Known<'a, 'src, S>,
+    known: &Known<'a, 'src, S>,
     overrides: &HashMap<Number, Text>,
     expressions: &[&'e Expression<'src>],
 ) -> Result<HashSet<Number>, AllocError>
@@ -314,7 +314,7 @@ pub fn needed_references<'e, 'a, 'src, S: Syntax>(
     let mut stack = Vec::with_capacity(alloc, expressions.len())?;
     for expression in expressions {
         stack.push(Waiting {
-            expression: *expression,
+            expression: &**expression,
             parameters: None,
         })?;
     }

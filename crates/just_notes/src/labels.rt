@@ -7,7 +7,9 @@ ghost use Rattle.just_notes.specs.Said.{said};
 
 use crate::enabled::is_enabled;
 use just_data::{Exact, Sequence, Text};
-use just_parts::layers::{Attribute, Expression, Item, Name, NamedAttribute, StringLiteral, Syntax};
+use just_parts::layers::{
+    Attribute, Expression, Item, Name, NamedAttribute, StringLiteral, Syntax,
+};
 use std::alloc::{AllocError, Global};
 
 /// What the declaration of a module says of it.

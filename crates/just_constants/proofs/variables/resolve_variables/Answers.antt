@@ -11,7 +11,7 @@ use Rattle.just_joining.specs.Definitions.{contents_in, variables_in}
 use Rattle.just_joining.specs.Known.{known_of, variables_under}
 use Rattle.just_constants.specs.Variables.{AreVariables, known_with_numbers}
 use Rattle.just_constants.proofs.Judging.{breaks_known, keeps_known}
-use Rattle.just_constants.proofs.Variables.{are_variables}
+use Rattle.just_constants.proofs.Resolving.{are_variables}
 use Rattle.just_constants.proofs.variables.resolve_variables.Goals as goal
 
 pub returns-in_err-resolved-clause-named : goal.returns-in_err-resolved-clause-named
