@@ -52,5 +52,4 @@ module _ (enabled : Item → Bool) where
 -- what docs read has a value where whatever is evaluated has one
 pub docs_covered : (variables : Variables) (values : Values) (m : Contents) → CoversAll variables values (constant_expressions m) → CoversAll variables values m.docs
 docs_covered variables values m covered e c =
-    let recipes = flat_map recipe_expressions m.recipes in
-    covered e (contained e (constant_expressions m) (in_right e (settings_expressions m) (recipes ++ m.docs) (in_right e recipes m.docs (is_in e m.docs c))))
+    covered e (contained e (constant_expressions m) (in_right e (settings_expressions m ++ flat_map recipe_expressions m.recipes) m.docs (is_in e m.docs c)))

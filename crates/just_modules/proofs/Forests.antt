@@ -177,7 +177,7 @@ module _ (given : Given) (entries : List (AstKey × Ast)) (d : AstKey) (files : 
     layers_same = ap (layers_at given) (ap path_in at.own_said ∙ path_same)
 
     inner_many : length at.labels ≡ length (targets joined.modules.items p)
-    inner_many = many_labels _ (labels_of_place given.syntax.enabled files joined p) at.labels at.evaluated.labels ∙ many k l
+    inner_many = many_labels _ (labels_of_place given.syntax.enabled files joined p) at.labels at.evaluated.documented ∙ many k l
 
     abbrev inner : List Justfile
     inner = with_labels (map justfile (targets joined.modules.items p)) at.labels
@@ -201,8 +201,8 @@ module _ (given : Given) (entries : List (AstKey × Ast)) (d : AstKey) (files : 
             it = e.it;
             evaluated = e.evaluated;
             settings = e.settings ∙ ap (λ x. x.settings) (sym out);
-            labels = labelled_documented _ _ at.labels (map justfile (targets joined.modules.items p)) (inner_many ∙ sym (length-map (targets joined.modules.items p) justfile)) e.labels;
-            overridden = e.overridden;
+            documented = labelled_documented _ _ at.labels (map justfile (targets joined.modules.items p)) (inner_many ∙ sym (length-map (targets joined.modules.items p) justfile)) e.documented;
+            overrides_are = e.overrides_are;
           }
 
     pub is_compiled : (label : Label) → IsCompiled given asts loaded m inner (made p) (labelled_as label (justfile p))
@@ -233,10 +233,10 @@ module _ (given : Given) (entries : List (AstKey × Ast)) (d : AstKey) (files : 
   abbrev pub Compiled : Forest → List Heading → List ℕ → Type 0
   Compiled f hs row = (labels : List Label) → length labels ≡ length row → AreCompiled given asts loaded built f (with_labels (map justfile row) labels)
 
-  no_more : Compiled Empty [] []
+  pub no_more : Compiled Empty [] []
   no_more labels many = none
 
-  one_more : (k : ℕ) (l : k < length order) (h : Heading) (inside after : Forest) (hs : List Heading) (row : List ℕ) → h.key ≡ key_at (slice_index order k) → Compiled inside (headings_in (the_module k l h)) (targets joined.modules.items (slice_index order k)) → Compiled after hs row
+  pub one_more : (k : ℕ) (l : k < length order) (h : Heading) (inside after : Forest) (hs : List Heading) (row : List ℕ) → h.key ≡ key_at (slice_index order k) → Compiled inside (headings_in (the_module k l h)) (targets joined.modules.items (slice_index order k)) → Compiled after hs row
       → Compiled (Tree (the_module k l h) inside after) (h ∷ hs) (slice_index order k ∷ row)
   one_more k l h inside after hs row e a b [] many = absurd (omega (arith, many))
   one_more k l h inside after hs row e a b (label ∷ labels) many =

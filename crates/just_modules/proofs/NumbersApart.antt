@@ -43,7 +43,7 @@ module _ (x : Text) (a : Assignment) where
   ]
 
   found_among : (vs : List Assignment) → find x (put_all name_of [] vs) ≡ Some a → In a vs × (name_of a ≡ x)
-  found_among vs e = elim (found vs [] e) [ inl h ↦ h | inr none ↦ (let wrong : None {A = Assignment} ≡ Some a = none in cc) ]
+  found_among vs e = elim (found vs [] e) [ inl h ↦ h | inr none ↦ (let wrong : None ≡ Some a = none in cc) ]
 
 -- one number is that of one variable
 one_of : (vs : List Assignment) → Once (assignment_numbers vs) → (a b : Assignment) → In a vs → In b vs → number_of a ≡ number_of b → a ≡ b

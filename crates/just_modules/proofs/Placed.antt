@@ -69,7 +69,7 @@ module _ (given : Given) (files : Files) (joined : Joined) (p : ℕ) (row : List
     labels_many = many_labels _ (labels_of_place given.syntax.enabled files joined p) it.labels.items is.labels
 
     pub variables_resolved : AreVariablesOf given.syntax (contents_in it.definitions) it.variables
-    variables_resolved = subst (λ n. AreVariablesOf given.syntax n it.variables) (sym is.contents) is.constants.variables
+    variables_resolved = subst (λ n. AreVariablesOf given.syntax n it.variables) (sym is.contents) is.constants.resolved
 
     -- so is what is broken of its recipes
     pub breaks_recipes : (c : Cause) → BreaksRecipes given.syntax it.constants.settings (contents_in it.definitions) c → BreaksPlace given files joined p c
@@ -84,6 +84,6 @@ module _ (given : Given) (files : Files) (joined : Joined) (p : ℕ) (row : List
       it = evaluated_in it.constants;
       evaluated = is.constants.evaluated;
       settings = sym same;
-      labels = is.labels;
-      overridden = is.constants.overridden;
+      documented = is.labels;
+      overrides_are = is.constants.overridden;
     }

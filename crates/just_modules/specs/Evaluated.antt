@@ -30,7 +30,7 @@ AreLabels layers m values = AreDocumented (value_among layers.evaluator m values
 
 -- The variables of a module are resolved, it has these constants and settings, with values for whatever is evaluated while compiling, and these values override its variables.
 pub record HasConstants (layers : Layers) (m : Contents) (variables : Variables) (constants : Constants) : Type 0 where
-  pub variables : AreVariablesOf layers.syntax m variables
+  pub resolved : AreVariablesOf layers.syntax m variables
   pub evaluated : IsEvaluated layers m (evaluated_in constants)
   pub covered : CoversAll variables (values_of constants.scope) (constant_expressions m)
   pub overridden : constants.overridden.items ≡ overridden_in layers m
@@ -47,5 +47,5 @@ pub record IsEvaluatedTo (layers : Layers) (m : Contents) (said labels : List La
   pub it : Evaluated
   pub evaluated : IsEvaluated layers m it
   pub settings : it.settings ≡ (out-Justfile j).settings
-  pub labels : AreLabels layers m it.constants said labels
-  pub overridden : overridden ≡ overridden_in layers m
+  pub documented : AreLabels layers m it.constants said labels
+  pub overrides_are : overridden ≡ overridden_in layers m

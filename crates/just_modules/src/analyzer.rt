@@ -81,7 +81,7 @@ pub fn analyze_module<'a, 'src, S: Syntax>(
     requires once { IsOnce (unresolved_numbers (recipes_in definitions.now)) }
     requires priors { All HasPriors (recipes_in definitions.now) }
     requires apart { AreNew recipes.old (recipes_in definitions.now) }
-    requires variables { AreVariablesOf (S.answers syntax.now) (contents_in definitions.now) variables.entry }
+    requires variables { AreVariablesOf (S.answers syntax.now) (contents_in definitions.now) variables }
     ensures kept { IfOk result (λ _. Keeps (BreaksRecipes (S.answers syntax.now) settings (contents_in definitions.now))) }
     ensures added { IfOk result (λ _. AreAdded (kept_recipes (recipes_in definitions.now)) ast.now.module_path recipes.old recipes.new) }
     ensures fields { IfOk result (IsOf (contents_in definitions.now) ast.now surroundings.entry.loaded surroundings.entry.source) }
@@ -142,7 +142,7 @@ fn analyze_modules<'src, S: Syntax, E: Evaluation>(
 ) -> Result<(Justfile<'src>, Gathered<'src>), Error<'src>>
     requires held { IsSome (get same_ast_key asts.now (module_path.now, root.now)) }
     requires asts { AreAnalyzable (S.answers syntax.now).enabled (get same_ast_key asts.now) }
-    requires label { label.entry.doc_expression ≡ None }
+    requires label { label.doc_expression ≡ None }
     ensures analyzed { let given = given_of (S.answers syntax.now) (E.answers evaluation.now) config.now.overrides in
         IfOk result (AnalyzesAt given asts.now loaded.now module_path.now root.now label.entry) }
     ensures named { let given = given_of (S.answers syntax.now) (E.answers evaluation.now) config.now.overrides in
@@ -183,7 +183,7 @@ fn insert_all(pairs: Vec<(Number, Text)>, overrides: &mut HashMap<Number, Text>)
 pub struct Analyzer;
 
 impl Analyzer {
-    ghost use Rattle.std.specs.Prelude.{◌≡◌, IfErr, IsSome, OnErr, OnOk};
+    ghost use Rattle.std.specs.Prelude.{◌≡◌, IfErr, IfOk, IsSome, OnErr};
     ghost use Rattle.std.specs.HashMap.{get};
     ghost use Rattle.std.specs.Str.{bytes_eq};
     ghost use Rattle.just_parts.specs.Asts.{same_ast_key};
@@ -222,7 +222,7 @@ impl Analyzer {
         requires paths { HavePaths (get same_ast_key asts.now) (get bytes_eq paths.now) }
         ensures made { let given = given_of (S.answers syntax.now) (E.answers evaluation.now) config.now.overrides in
             let top = label name.entry doc groups.now private in
-            OnOk result (λ made. Analyzes given asts.now loaded.now module_path.now root.now top overrides.old overrides.new made) }
+            IfOk result (λ made. Analyzes given asts.now loaded.now module_path.now root.now top overrides.old overrides.new made) }
         ensures named { let given = given_of (S.answers syntax.now) (E.answers evaluation.now) config.now.overrides in
             let top = label name.entry doc groups.now private in
             IfErr result (NamesAnalyzed given asts.now module_path.now root.now top) }

@@ -19,11 +19,11 @@ use Rattle.just_notes.specs.Labels.{label_by}
 use Rattle.just_parts.specs.Evaluator.{values_of}
 use Rattle.just_parts.specs.Layers.{given_of, layers_at}
 
-pub check_module-checked-requires-clause-modules : goal.check_module-checked-requires-clause-modules
-check_module-checked-requires-clause-modules g c = subst (λ (m : Contents). AreDifferent (texts_of_names m.modules)) (sym c.in_ok-definitions.ensures) c.requires.modules
+pub check_module-requires-clause-modules : goal.check_module-requires-clause-modules
+check_module-requires-clause-modules g c = subst (λ (m : Contents). AreDifferent (texts_of_names m.modules)) (sym c.in_ok-definitions.ensures) c.requires.modules
 
-pub check_module-checked-requires-clause-numbers : goal.check_module-checked-requires-clause-numbers
-check_module-checked-requires-clause-numbers g c = subst (λ (m : Contents). IsOnce (assignment_numbers m.variables)) (sym c.in_ok-definitions.ensures) c.requires.numbers
+pub check_module-requires-clause-numbers : goal.check_module-requires-clause-numbers
+check_module-requires-clause-numbers g c = subst (λ (m : Contents). IsOnce (assignment_numbers m.variables)) (sym c.in_ok-definitions.ensures) c.requires.numbers
 
 pub returns-in_err-checked-clause-named : goal.returns-in_err-checked-clause-named
 returns-in_err-checked-clause-named g c =
@@ -37,9 +37,10 @@ returns-in_err-labels-clause-named g c =
     let m = contents_in c.in_ok-definitions.definitions in
     let constants = c.in_ok-checked.checked.1 in
     let docs = Docs layers.syntax layers.evaluator m (values_of constants.scope) in
+    let named : Reports docs c.in_err-labels.field-0.0 = c.in_err-labels.ensures.named in
     IfErr-weaker c.from_residual-in_err-labels.result (Reports docs) _
     (λ e h. subst (λ n. Reports (BreaksContents layers n) e) c.in_ok-definitions.ensures
-    (reports_by docs (BreaksContents layers m) (docs_broken layers m (evaluated_in constants) c.in_ok-checked.ensures.constants.evaluated c.in_ok-checked.ensures.kept) e h)) (search rules)
+    (reports_by docs (BreaksContents layers m) (docs_broken layers m (evaluated_in constants) c.in_ok-checked.ensures.constants.evaluated c.in_ok-checked.ensures.kept) e h)) (search (rules, named, c.from_residual-in_err-labels.ensures.1, c.from_residual-in_err-labels.ensures.0))
 
 pub returns-clause-kept : goal.returns-clause-kept
 returns-clause-kept g c =

@@ -13,8 +13,8 @@ use Rattle.just_modules.proofs.Grounds.{before_bodies, before_constants, before_
 use Rattle.just_modules.proofs.NumbersApart.{numbers_apart}
 use Rattle.just_modules.proofs.checking.check_module.Goals as goal
 
-pub evaluate_constants-constants-requires-clause-apart : goal.evaluate_constants-constants-requires-clause-apart
-evaluate_constants-constants-requires-clause-apart g c = numbers_apart (g.S.Syntax.answers c.args.syntax.now) (contents_in c.args.definitions.now) c.requires.numbers
+pub evaluate_constants-requires-clause-apart : goal.evaluate_constants-requires-clause-apart
+evaluate_constants-requires-clause-apart g c = numbers_apart (g.S.Syntax.answers c.args.syntax.now) (contents_in c.args.definitions.now) c.requires.numbers
 
 pub returns-in_err-check_headers-clause-named : goal.returns-in_err-check_headers-clause-named
 returns-in_err-check_headers-clause-named g c =
@@ -52,4 +52,4 @@ returns-clause-kept g c =
 pub returns-clause-constants : goal.returns-clause-constants
 returns-clause-constants g c =
     let e = c.in_ok-constants.ensures in
-    record { variables = c.in_ok-variables.ensures.variables; evaluated = e.evaluated; covered = e.covered; overridden = e.overridden }
+    record { resolved = c.in_ok-variables.ensures.variables; evaluated = e.evaluated; covered = e.covered; overridden = e.overridden }

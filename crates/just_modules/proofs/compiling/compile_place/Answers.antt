@@ -27,18 +27,18 @@ use Rattle.just_modules.proofs.Placed.{breaks_place, breaks_recipes, contents_ar
 use Rattle.just_modules.proofs.compiling.compile_place.Goals as goal
 use Rattle.just_parts.specs.Layers.{given_of, layers_at}
 
-pub check_files-checked-requires-clause-places : goal.check_files-checked-requires-clause-places
-check_files-checked-requires-clause-places g c =
+pub check_files-requires-clause-places : goal.check_files-requires-clause-places
+check_files-requires-clause-places g c =
     let row = row_lent c.args.joined.now.files.items c.args.place c.index.result.now c.as_slice-row.result.now (omega (arith, c.requires.ready.there, c.requires.files)) c.index.ensures c.as_slice-row.ensures.value in
     subst (λ (xs : List ℕ). All (λ q. q < length c.args.files.now.asts.items) xs) (sym row) c.requires.ready.files_there
 
-pub check_files-checked-requires-clause-modules : goal.check_files-checked-requires-clause-modules
-check_files-checked-requires-clause-modules g c =
+pub check_files-requires-clause-modules : goal.check_files-requires-clause-modules
+check_files-requires-clause-modules g c =
     let row = row_lent c.args.joined.now.files.items c.args.place c.index.result.now c.as_slice-row.result.now (omega (arith, c.requires.ready.there, c.requires.files)) c.index.ensures c.as_slice-row.ensures.value in
     subst (λ (xs : List ℕ). AreDifferent (texts_of_names (said_from name_by (g.S.Syntax.answers c.args.syntax.now).enabled (asts_in c.args.files.now) xs))) (sym row) c.requires.ready.different
 
-pub check_files-checked-requires-clause-numbers : goal.check_files-checked-requires-clause-numbers
-check_files-checked-requires-clause-numbers g c =
+pub check_files-requires-clause-numbers : goal.check_files-requires-clause-numbers
+check_files-requires-clause-numbers g c =
     let row = row_lent c.args.joined.now.files.items c.args.place c.index.result.now c.as_slice-row.result.now (omega (arith, c.requires.ready.there, c.requires.files)) c.index.ensures c.as_slice-row.ensures.value in
     subst (λ (xs : List ℕ). IsOnce (assignment_numbers (said_from variable_by (g.S.Syntax.answers c.args.syntax.now).enabled (asts_in c.args.files.now) xs))) (sym row) c.requires.ready.variables
 
@@ -47,26 +47,26 @@ returns-in_err-checked-clause-named g c =
     let row = row_lent c.args.joined.now.files.items c.args.place c.index.result.now c.as_slice-row.result.now (omega (arith, c.requires.ready.there, c.requires.files)) c.index.ensures c.as_slice-row.ensures.value in
     let here = contents_from (g.S.Syntax.answers c.args.syntax.now).enabled (asts_in c.args.files.now) c.as_slice-row.result.now in
     let layers = layers_at (given_of (g.S.Syntax.answers c.args.syntax.now) (g.E.Evaluation.answers c.args.evaluation.now) c.args.config.now.overrides) c.ast_at-ast.result.now.module_path in
-    IfErr-weaker c.from_residual-in_err-checked.result (Reports (BreaksContents layers here)) _
+    IfErr-weaker c.from_residual.result (Reports (BreaksContents layers here)) _
     (reports_by _ _ (breaks_place (given_of (g.S.Syntax.answers c.args.syntax.now) (g.E.Evaluation.answers c.args.evaluation.now) c.args.config.now.overrides) c.args.files.now c.args.joined.now c.args.place c.as_slice-row.result.now row c.ast_at-ast.result.now c.ast_at-ast.ensures)) (search rules)
 
-pub take_inner-modules-requires-clause-inside : goal.take_inner-modules-requires-clause-inside
-take_inner-modules-requires-clause-inside g c =
+pub take_inner-requires-clause-inside : goal.take_inner-requires-clause-inside
+take_inner-requires-clause-inside g c =
     let inner_row = row_lent c.args.joined.now.modules.items c.args.place c.index-2.result.now c.as_slice.result.now (omega (arith, c.requires.ready.there, c.requires.modules)) c.index-2.ensures c.as_slice.ensures.value in
     subst (λ n. All (λ q. q < n) c.as_slice.result.now) (sym c.requires.room) (subst (λ (xs : List ℕ). All (λ q. q < length c.args.files.now.asts.items) xs) (sym inner_row) c.requires.ready.modules_there)
 
-pub take_inner-modules-requires-clause-once : goal.take_inner-modules-requires-clause-once
-take_inner-modules-requires-clause-once g c =
+pub take_inner-requires-clause-once : goal.take_inner-requires-clause-once
+take_inner-requires-clause-once g c =
     let inner_row = row_lent c.args.joined.now.modules.items c.args.place c.index-2.result.now c.as_slice.result.now (omega (arith, c.requires.ready.there, c.requires.modules)) c.index-2.ensures c.as_slice.ensures.value in
     subst IsOnce (sym inner_row) c.requires.ready.apart
 
-pub take_inner-modules-requires-clause-there : goal.take_inner-modules-requires-clause-there
-take_inner-modules-requires-clause-there g c =
+pub take_inner-requires-clause-there : goal.take_inner-requires-clause-there
+take_inner-requires-clause-there g c =
     let inner_row = row_lent c.args.joined.now.modules.items c.args.place c.index-2.result.now c.as_slice.result.now (omega (arith, c.requires.ready.there, c.requires.modules)) c.index-2.ensures c.as_slice.ensures.value in
     (c.requires.inner.0, c.requires.inner.1 ∙ ap (map (slot c.args.slots.now.items)) (sym inner_row))
 
-pub take_inner-modules-requires-clause-labels : goal.take_inner-modules-requires-clause-labels
-take_inner-modules-requires-clause-labels g c =
+pub take_inner-requires-clause-labels : goal.take_inner-requires-clause-labels
+take_inner-requires-clause-labels g c =
     let row = row_lent c.args.joined.now.files.items c.args.place c.index.result.now c.as_slice-row.result.now (omega (arith, c.requires.ready.there, c.requires.files)) c.index.ensures c.as_slice-row.ensures.value in
     let inner_row = row_lent c.args.joined.now.modules.items c.args.place c.index-2.result.now c.as_slice.result.now (omega (arith, c.requires.ready.there, c.requires.modules)) c.index-2.ensures c.as_slice.ensures.value in
     ap length c.as_slice-2.ensures.value ∙ labels_many (given_of (g.S.Syntax.answers c.args.syntax.now) (g.E.Evaluation.answers c.args.evaluation.now) c.args.config.now.overrides) c.args.files.now c.args.joined.now c.args.place c.as_slice-row.result.now row c.ast_at-ast.result.now c.ast_at-ast.ensures c.in_ok-checked.checked c.in_ok-checked.ensures.checked c.in_ok-checked.ensures.kept ∙ c.requires.ready.labels ∙ ap length (sym inner_row)
@@ -75,6 +75,9 @@ pub notes_at-requires : goal.notes_at-requires
 notes_at-requires g c =
     let row = row_lent c.args.joined.now.files.items c.args.place c.index.result.now c.as_slice-row.result.now (omega (arith, c.requires.ready.there, c.requires.files)) c.index.ensures c.as_slice-row.ensures.value in
     subst (λ (xs : List ℕ). All (λ q. q < length c.args.files.now.asts.items) xs) (sym row) c.requires.ready.files_there
+
+pub returns-in_err-append-clause-named : goal.returns-in_err-append-clause-named
+returns-in_err-append-clause-named g c = search (rules, c.from_residual-in_err-append.ensures.1, c.from_residual-in_err-append.ensures.0)
 
 pub analyze_module-requires-clause-once : goal.analyze_module-requires-clause-once
 analyze_module-requires-clause-once g c =
