@@ -8,6 +8,6 @@ use Rattle.just_modules.proofs.analyzer.insert_all.Given as goal
 
 abbrev pub invariant-loop-number : goal.invariant-loop-number
 invariant-loop-number l = record {
-  rest : (n : Number) → option_or (last_of l.number-iterator n) (get same_number l.overrides n) ≡ option_or (last_of l.fn.pairs.items n) (get same_number l.initial.overrides n);
-  room : length l.number-iterator ≤ spare l.overrides;
+  rest : (n : Number) → option_or (last_of l.number-iterator.rest.items n) (get same_number l.overrides n) ≡ option_or (last_of l.fn.pairs.items n) (get same_number l.initial.overrides n);
+  room : length l.number-iterator.rest.items ≤ spare l.overrides;
 }
