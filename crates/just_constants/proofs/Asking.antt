@@ -1,7 +1,7 @@
 -- What is asked of the evaluation about a module: by its tables with numbers, and by what its names stand for without.
-use Rattle.std.proofs.Common.{◌≡◌, ◌∙◌, ◌↔◌, ◌||◌, Bool, true, false, cond, List, [], ◌∷◌, map, length, Option, None, Some, refl, sym, ap, subst, inl, inr, ◌⊎◌}
+use Rattle.std.proofs.Common.{◌≡◌, ◌∙◌, ◌||◌, Bool, true, false, List, [], ◌∷◌, map, length, Option, None, Some, refl, sym, ap, subst}
 use Rattle.std.specs.Prelude.{if◌then◌else◌}
-use Rattle.std.specs.List.{Contains, list_any}
+use Rattle.std.specs.List.{Contains}
 use Rattle.std.specs.Option.{IsSome, is_some, option_and_then, option_map, option_map_or}
 use Rattle.std.specs.Str.{bytes_eq}
 use Rattle.std.proofs.lemmas.Bool.{false≢true}
@@ -15,24 +15,22 @@ use Rattle.just_index.specs.Index.{texts_of_names}
 use Rattle.just_joining.specs.Constants.{AsksFor, IsNeeded, functions_asked, is_overridden, overriding}
 use Rattle.just_joining.specs.Contents.{Contents}
 use Rattle.just_joining.specs.Known.{functions_under, known_of, variables_under}
-use Rattle.just_numbering.specs.Numbered.{name_of_assignment, number_under, numbered_assignment, numbered_assignments, numbered_function, numbered_functions}
+use Rattle.just_numbering.specs.Numbered.{number_under, numbered_assignment, numbered_assignments, numbered_function, numbered_functions}
 use Rattle.just_parts.specs.Bare.{bare_function, bare_function_parameter}
-use Rattle.just_parts.specs.Evaluator.{Functions, functions_by_name, needed_by, override_by, unnumbered, unnumbered_assignment, unnumbered_function, wanted_by}
+use Rattle.just_parts.specs.Evaluator.{functions_by_name, needed_by, override_by, unnumbered, unnumbered_assignment, unnumbered_function, wanted_by}
 use Rattle.just_parts.specs.Known.{Known, defines, hides, known, none_hidden, range_of, sources}
 use Rattle.just_parts.specs.Located.{located_assignment}
-use Rattle.just_parts.specs.Needs.{AreNeededBy, HaveNumbersApart, IsClosed, IsNumberIn, Needs, onward, overridden_by, starts}
-use Rattle.just_parts.specs.Reading.{IsEvaluationOrder, IsReadIn, Reads, ReadsOn, at_once, through}
+use Rattle.just_parts.specs.Needs.{AreNeededBy, HaveNumbersApart, IsClosed, Needs, onward, overridden_by, starts}
+use Rattle.just_parts.specs.Reading.{IsEvaluationOrder, IsReadIn, Reads, at_once, through}
 use Rattle.just_parts.specs.Syntax.{SyntaxAnswers}
 use Rattle.just_records.specs.declared.assignment.Assignment.{Assignment}
 use Rattle.just_records.specs.declared.expression.Expression.{Expression}
 use Rattle.just_records.specs.declared.function_definition.FunctionDefinition.{FunctionDefinition}
 use Rattle.just_records.specs.declared.function_definition.FunctionParameter.{FunctionParameter}
-use Rattle.just_references.specs.Numbers.{bare}
 use Rattle.just_references.specs.References.{references}
 use Rattle.just_references.proofs.Renumbering.{keeps_references, numbers_stay}
 use Rattle.just_table.specs.Entries.{find}
 use Rattle.just_variables.specs.Misnaming.{Misnames}
-use Rattle.just_variables.proofs.Alike.{changed}
 use Rattle.just_variables.proofs.Placed.{the_value}
 use Rattle.just_constants.specs.Variables.{AreVariables, known_with_numbers}
 use Rattle.just_constants.proofs.Judging.{bare_is, bare_of}

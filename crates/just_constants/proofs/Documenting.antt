@@ -1,26 +1,25 @@
 -- Labels with their docs evaluated, label after label.
-use Rattle.std.proofs.Common.{◌≡◌, ◌∙◌, ℕ, ◌+◌, ◌<◌, List, [], ◌∷◌, ◌++◌, Option, None, Some, ap, arith, get_or, length, refl, subst, sym, take, inl, inr}
-use Rattle.std.specs.List.{All, Contains}
+use Rattle.std.proofs.Common.{◌≡◌, ◌∙◌, Bool, List, [], ◌∷◌, ◌++◌, Option, None, Some, ap, refl, subst, sym, inl, inr}
+use Rattle.std.specs.List.{Contains}
 use Rattle.std.specs.Option.{option_to_list}
-use Rattle.std.proofs.lemmas.List.Elements.{All-contains, Contains-append_cases, Contains-append_left, Contains-append_right}
-use Rattle.std.proofs.lemmas.Option.{none-some, same_Some}
-use Rattle.just_errors.specs.Causes.{Cause, Keeps, Reports}
+use Rattle.std.proofs.lemmas.List.Elements.{Contains-append_cases, Contains-append_left, Contains-append_right}
+use Rattle.std.proofs.lemmas.Option.{same_Some}
+use Rattle.just_errors.specs.Causes.{Broken, Cause, Keeps, Reports}
 use Rattle.just_errors.specs.declared.error.Error.{Error}
-use Rattle.just_errors.specs.declared.error.CompileErrorKind.TheVariants as kind
+use Rattle.just_errors.specs.declared.error.Error.TheVariants as error
 use Rattle.just_errors.proofs.Lifts.{reports_by}
 use Rattle.just_joining.specs.Constants.{Docs, doc_fault, in_doc, value_among}
 use Rattle.just_joining.specs.Contents.{Contents}
-use Rattle.just_joining.specs.Known.{known_of}
 use Rattle.just_names.specs.Modulepath.{Text}
 use Rattle.just_needs.proofs.Looking.{is_the_one, not_in_none, the_one}
 use Rattle.just_notes.specs.declared.labels.Label.{Label}
-use Rattle.just_parts.specs.Evaluator.{Evaluator, Functions, Values}
+use Rattle.just_parts.specs.Evaluator.{Evaluator, FaultsAt, Values}
 use Rattle.just_parts.specs.Known.{Known, none_hidden}
 use Rattle.just_parts.specs.Syntax.{SyntaxAnswers}
 use Rattle.just_records.specs.declared.expression.Expression.{Expression}
 use Rattle.just_references.specs.Numbers.{bare}
 use Rattle.just_variables.specs.Misnaming.{Misnames}
-use Rattle.just_constants.specs.Documented.{AreDocumented, DocFault, HasDoc, IsDocumented, doc_expressions, known_by, misnamed, no_value, value_by}
+use Rattle.just_constants.specs.Documented.{AreDocumented, DocFault, HasDoc, IsDocumented, doc_expressions, doc_of_value, known_by, misnamed, no_value, value_by}
 use Rattle.just_constants.specs.Variables.{AreVariablesOf}
 use Rattle.just_constants.specs.declared.variables.Variables.{Variables}
 use Rattle.just_constants.proofs.Asking.{misnames_known, misnames_tables, tables_functions}
@@ -111,3 +110,24 @@ module _ (answers : SyntaxAnswers) (evaluator : Evaluator) (m : Contents) (varia
   label_told labels label said there told h =
       reports_by (DocFault (known_by answers variables) (value_by evaluator variables values) label.doc_expression) (Docs answers evaluator m values)
       (fault_said labels label said there label.doc_expression refl) told h
+
+-- the doc of one label, as its code has it
+module _ (m : Known) (value : Expression → Option (List Text)) (said : Option Expression) (e : Expression) (is : said ≡ Some e) where
+  pub no_value_told : (told : Error) → FaultsAt (value e) told → Reports (DocFault m value said) told
+  no_value_told (error.Compile told) h = subst (λ k. DocFault m value said (Broken told.token k)) (sym h.1.1) (no_value is h.0)
+  no_value_told error.Memory h = tt
+  no_value_told error.Exhausted h = absurd h
+  no_value_told (error.Load told) h = absurd h
+  no_value_told (error.Invocation told) h = absurd h
+  no_value_told (error.Run told) h = absurd h
+
+  pub misnamed_told : (hidden : Text → Bool) → hidden ≡ none_hidden → (told : Error) → Reports (Misnames m hidden e) told → Reports (DocFault m value said) told
+  misnamed_told hidden same told h =
+      reports_by (Misnames m hidden e) (DocFault m value said) (λ c b. misnamed is (subst (λ (x : Text → Bool). Misnames m x e c) same b)) told h
+
+  pub names_kept : (hidden : Text → Bool) → hidden ≡ none_hidden → Keeps (Misnames m hidden e) → (d : Expression) → said ≡ Some d → Keeps (Misnames m none_hidden d)
+  names_kept hidden same kept d is_d =
+      subst (λ (x : Expression). Keeps (Misnames m none_hidden x)) (same_Some e d (sym is ∙ is_d)) (subst (λ (x : Text → Bool). Keeps (Misnames m x e)) same kept)
+
+  pub doc_had : (texts : List Text) (doc : Option Text) (before : Option Text) → value e ≡ Some texts → doc ≡ doc_of_value texts → HasDoc value before said doc
+  doc_had texts doc before valued made = subst (λ (o : Option Expression). HasDoc value before o doc) (sym is) (texts, valued, made)

@@ -1,8 +1,8 @@
 -- The constants and the settings of a module are at fault or not.
-use Rattle.std.proofs.Common.{◌≡◌, ◌∙◌, ℕ, List, Option, None, Some, refl, sym, ap, subst}
+use Rattle.std.proofs.Common.{◌≡◌, ◌∙◌, ℕ, List, Some, sym, ap, subst}
 use Rattle.std.specs.List.{Contains}
 use Rattle.std.proofs.lemmas.Option.{none-some}
-use Rattle.just_errors.specs.Causes.{Broken, Cause, Keeps, Reports}
+use Rattle.just_errors.specs.Causes.{Broken, Keeps, Reports}
 use Rattle.just_errors.specs.declared.error.Error.{Error}
 use Rattle.just_errors.specs.declared.error.Error.TheVariants as error
 use Rattle.just_errors.proofs.Lifts.{reports_by}
@@ -14,7 +14,6 @@ use Rattle.just_parts.specs.Known.{none_hidden}
 use Rattle.just_parts.specs.Layers.{Layers}
 use Rattle.just_parts.specs.Syntax.{SyntaxAnswers}
 use Rattle.just_records.specs.declared.expression.Expression.{Expression}
-use Rattle.just_records.specs.declared.settings.Settings.{Settings}
 use Rattle.just_variables.specs.Misnaming.{Misnames}
 use Rattle.just_constants.proofs.Once.{constants_once, wanted_once}
 

@@ -1,7 +1,6 @@
 -- What is evaluated of a module is evaluated once.
-use Rattle.std.proofs.Common.{◌≡◌, ◌∙◌, ◌↔◌, Bool, true, false, List, Option, None, Some, refl, sym, ap}
-use Rattle.std.proofs.lemmas.Bool.{false≢true}
-use Rattle.just_graph.proofs.Index.{some_same}
+use Rattle.std.proofs.Common.{◌≡◌, ◌∙◌, Bool, true, false, List, Option, refl, sym, ap}
+use Rattle.std.proofs.lemmas.Option.{same_Some}
 use Rattle.just_names.specs.Modulepath.{Text}
 use Rattle.just_joining.specs.Constants.{AreConstants, AsksFor, Evaluated, IsEvaluated, settings_among}
 use Rattle.just_joining.specs.Contents.{Contents}
@@ -9,7 +8,6 @@ use Rattle.just_parts.specs.Evaluator.{Values, Wanted}
 use Rattle.just_parts.specs.Known.{Known}
 use Rattle.just_parts.specs.Layers.{Layers}
 use Rattle.just_records.specs.declared.expression.Expression.{Expression}
-use Rattle.just_records.specs.declared.settings.Settings.{Settings}
 
 same_truth : (b c : Bool) → (b ≡ true → c ≡ true) → (c ≡ true → b ≡ true) → b ≡ c
 same_truth true c to back = sym (to refl)
@@ -29,10 +27,10 @@ wanted_once k overrides es lists w v a b =
 
 module _ (layers : Layers) (m : Contents) where
   pub constants_once : (v w : Values) → AreConstants layers m v → AreConstants layers m w → v ≡ w
-  constants_once v w a b = some_same (sym a.answered ∙ (ap layers.evaluator.constants (wanted_once _ _ _ _ a.wanted b.wanted a.asked b.asked) ∙ b.answered))
+  constants_once v w a b = same_Some _ _ (sym a.answered ∙ (ap layers.evaluator.constants (wanted_once _ _ _ _ a.wanted b.wanted a.asked b.asked) ∙ b.answered))
 
   pub evaluated_once : (it other : Evaluated) → IsEvaluated layers m it → IsEvaluated layers m other → it ≡ other
   evaluated_once it other a b =
       let constants : it.constants ≡ other.constants = constants_once it.constants other.constants a.constants b.constants in
-      let settings : it.settings ≡ other.settings = some_same (sym a.settings ∙ (ap (settings_among layers m) constants ∙ b.settings)) in
+      let settings : it.settings ≡ other.settings = same_Some _ _ (sym a.settings ∙ (ap (settings_among layers m) constants ∙ b.settings)) in
       λ i. record { constants = constants i; settings = settings i }

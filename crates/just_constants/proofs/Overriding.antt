@@ -1,14 +1,11 @@
 -- The value that overrides a variable, by its number.
-use Rattle.std.proofs.Common.{◌≡◌, ◌∙◌, ℕ, zero, suc, ◌<◌, ◌+◌, Bool, true, false, cond, List, [], ◌∷◌, ◌++◌, map, length, get_or, take, Option, None, Some, refl, sym, ap, subst, inl, inr, ◌⊎◌, arith}
-use Rattle.std.specs.Prelude.{flat_map, if◌then◌else◌}
+use Rattle.std.proofs.Common.{◌≡◌, ◌∙◌, ℕ, zero, suc, ◌<◌, ◌+◌, Bool, true, false, cond, List, [], ◌∷◌, ◌++◌, map, length, get_or, take, Option, None, Some, refl, sym, ap, inl, inr, ◌⊎◌, arith}
+use Rattle.std.specs.Prelude.{if◌then◌else◌}
 use Rattle.std.specs.List.{All, AllByRecursion, slice_get}
 use Rattle.std.specs.Option.{option_or, option_to_list}
-use Rattle.std.proofs.lemmas.Bool.Decides.{Decides-eqb}
-use Rattle.std.proofs.lemmas.Cmp.{nat_eq_equiv}
 use Rattle.std.proofs.lemmas.List.Elements.{recursion_from_All}
 use Rattle.std.proofs.lemmas.List.{take_more}
-use Rattle.std.proofs.lemmas.Option.{slice_get-get_or}
-use Rattle.just_graph.proofs.Index.{some_same}
+use Rattle.std.proofs.lemmas.Option.{same_Some, slice_get-get_or}
 use Rattle.just_names.specs.Modulepath.{Text}
 use Rattle.just_names.specs.declared.number.Number.{Number}
 use Rattle.just_needs.proofs.Sets.{number_itself, one_number}
@@ -18,7 +15,7 @@ use Rattle.just_records.specs.declared.assignment.Assignment.{Assignment}
 use Rattle.just_table.specs.Entries.{IsSorted, find}
 use Rattle.just_variables.proofs.Alike.{changed}
 use Rattle.just_variables.proofs.Placed.{different, entry_at, entry_found}
-use Rattle.just_constants.specs.Overrides.{last_of, override_found, overrides_found}
+use Rattle.just_constants.specs.Overrides.{last_of, overrides_found}
 
 or_none : (o : Option Text) → option_or o None ≡ o
 or_none None = refl
@@ -75,7 +72,7 @@ module _ (overrides : Text → Option Text) (n : Number) where
     last_named : (es : List (Text × Assignment)) → AllByRecursion HasName es → (i : ℕ) (a : Assignment) → slice_get es i ≡ Some (name, a) → a.number ≡ n → last_of (overrides_found overrides es) n ≡ overrides name
     last_named [] all i a there is = cc
     last_named (e ∷ es) all zero a there is =
-        let same : e ≡ (name, a) = some_same there in
+        let same : e ≡ (name, a) = same_Some _ _ there in
         let number : e.1.number ≡ n = ap (λ (x : Text × Assignment). x.1.number) same ∙ is in
         met e es all.0 (ap (λ k. same_number k n) number ∙ number_itself n) (either es all.1)
     last_named (e ∷ es) all (suc i) a there is = kept e es all.0 (same_number e.1.number n) refl (last_named es all.1 i a there is)
@@ -117,3 +114,13 @@ last_more_put es i e d n got was h at so is =
     either_put : (b : Bool) → cond b (Some e.1) was ≡ option_or (if b then Some e.1 else None) was
     either_put true = refl
     either_put false = refl
+
+-- where nothing is overridden none is found
+pub nothing_found : (overrides : Text → Option Text) → ((name : Text) → overrides name ≡ None) → (es : List (Text × Assignment)) → overrides_found overrides es ≡ []
+nothing_found overrides none [] = refl
+nothing_found overrides none (e ∷ es) =
+    ap (λ o. map (λ (value : Text). (e.1.number, value)) (option_to_list o) ++ overrides_found overrides es) (none e.0) ∙ nothing_found overrides none es
+
+pub no_elements : {A : Type 0} (xs : List A) → length xs ≡ 0 → xs ≡ []
+no_elements [] e = refl
+no_elements (x ∷ xs) e = absurd (omega arith)

@@ -1,13 +1,11 @@
 -- What two modules have in common whose variables and functions differ in numbers, depths and marks alone, also in the numbers of their expressions.
-use Rattle.std.proofs.Common.{◌≡◌, ◌∙◌, ℕ, ◌<◌, ◌||◌, Bool, false, List, [], ◌∷◌, map, length, Option, None, Some, refl, sym, ap, subst}
-use Rattle.std.specs.List.{Contains, list_any}
+use Rattle.std.proofs.Common.{◌≡◌, ◌∙◌, ℕ, ◌||◌, Bool, List, map, length, Option, None, Some, refl, sym, ap, subst}
+use Rattle.std.specs.List.{Contains}
 use Rattle.std.specs.Option.{IsSome, is_some, option_map}
-use Rattle.std.specs.Str.{bytes_eq}
 use Rattle.just_errors.specs.Causes.{Cause}
 use Rattle.just_errors.specs.declared.wording.ArgumentRange.{ArgumentRange}
 use Rattle.just_names.specs.Modulepath.{Text}
 use Rattle.just_names.specs.Name.{text_of_name}
-use Rattle.just_names.specs.declared.number.Number.{Number}
 use Rattle.just_parts.specs.Known.{Known, defines, hides, known, range_of, range_with}
 use Rattle.just_parts.specs.Needs.{Needs, onward, starts}
 use Rattle.just_parts.specs.Reading.{IsEvaluationOrder, IsReadIn, Reads, ReadsOn, at_once, through}

@@ -1,5 +1,5 @@
 -- Tables that are made of values, and tables whose values are changed.
-use Rattle.std.proofs.Common.{◌≡◌, ◌∙◌, Bool, true, false, cond, List, [], ◌∷◌, map, Option, None, Some, refl, sym, ap, subst}
+use Rattle.std.proofs.Common.{◌≡◌, ◌∙◌, Bool, true, false, cond, List, [], ◌∷◌, Option, None, Some, refl, sym, ap, subst}
 use Rattle.std.specs.Cmp.Lexicographic.{nat_list_cmp_total, slice_cmp}
 use Rattle.std.specs.List.{AllByRecursion}
 use Rattle.std.specs.List.Sorted.{IsStrictlySortedBy}
@@ -9,7 +9,7 @@ use Rattle.std.specs.Ordering.{match_ordering, nat_cmp, ordering_reverse}
 use Rattle.std.specs.Str.{bytes_eq}
 use Rattle.std.specs.declared.cmp.Ordering.{Ordering}
 use Rattle.std.specs.declared.cmp.Ordering.TheVariants.{Equal, Greater, Less}
-use Rattle.just_graph.proofs.Index.{some_same}
+use Rattle.std.proofs.lemmas.Option.{same_Some}
 use Rattle.just_names.specs.Modulepath.{Text}
 use Rattle.just_table.specs.Entries.{IsSorted, find, put, put_all}
 use Rattle.just_variables.proofs.Alike.{changed}
@@ -25,22 +25,22 @@ module _ {V : Type 0} where
 
   put_below : (j k : Text) (v : V) (es : List (Text × V)) → slice_cmp nat_cmp j k ≡ Less → Below j es → Below j (put k v es)
   put_below j k v [] less below = (less, tt)
-  put_below j k v (e ∷ es) less below = by_order (slice_cmp nat_cmp k e.0)
+  put_below j k v (e ∷ es) less below = by_order (put_below j k v es less below.1) (slice_cmp nat_cmp k e.0)
     where
-      by_order : (o : Ordering) → Below j (match_ordering o ((k, v) ∷ e ∷ es) ((e.0, v) ∷ es) (e ∷ put k v es))
-      by_order Less = (less, below)
-      by_order Equal = below
-      by_order Greater = (below.0, put_below j k v es less below.1)
+      by_order : Below j (put k v es) → (o : Ordering) → Below j (match_ordering o ((k, v) ∷ e ∷ es) ((e.0, v) ∷ es) (e ∷ put k v es))
+      by_order rest Less = (less, below)
+      by_order rest Equal = below
+      by_order rest Greater = (below.0, rest)
 
   put_sorted : (k : Text) (v : V) (es : List (Text × V)) → IsSorted es → IsSorted (put k v es)
   unfolding IsStrictlySortedBy
   put_sorted k v [] sorted = (tt, tt)
-  put_sorted k v (e ∷ es) sorted = by_order (slice_cmp nat_cmp k e.0) refl
+  put_sorted k v (e ∷ es) sorted = by_order (put_sorted k v es sorted.1) (slice_cmp nat_cmp k e.0) refl
     where
-      by_order : (o : Ordering) → slice_cmp nat_cmp k e.0 ≡ o → IsSorted (match_ordering o ((k, v) ∷ e ∷ es) ((e.0, v) ∷ es) (e ∷ put k v es))
-      by_order Less o = ((o, below_all k e.0 es o sorted.0), sorted)
-      by_order Equal o = sorted
-      by_order Greater o = (put_below e.0 k v es (nat_list_cmp_total.antisymm e.0 k ∙ ap ordering_reverse o) sorted.0, put_sorted k v es sorted.1)
+      by_order : IsSorted (put k v es) → (o : Ordering) → slice_cmp nat_cmp k e.0 ≡ o → IsSorted (match_ordering o ((k, v) ∷ e ∷ es) ((e.0, v) ∷ es) (e ∷ put k v es))
+      by_order rest Less o = ((o, below_all k e.0 es o sorted.0), sorted)
+      by_order rest Equal o = sorted
+      by_order rest Greater o = (put_below e.0 k v es (nat_list_cmp_total.antisymm e.0 k ∙ ap ordering_reverse o) sorted.0, rest)
 
   pub all_sorted : (key : V → Text) (es : List (Text × V)) (vs : List V) → IsSorted es → IsSorted (put_all key es vs)
   all_sorted key es [] sorted = sorted
@@ -62,7 +62,7 @@ module _ {V W : Type 0} (f : V → W) where
 
   some_of : (o : Option V) (y : W) → option_map f o ≡ Some y → (x : V) × (o ≡ Some x) × (f x ≡ y)
   some_of None y e = cc
-  some_of (Some x) y e = (x, refl, some_same e)
+  some_of (Some x) y e = (x, refl, same_Some _ _ e)
 
   pub found_changed : (k : Text) (es : List (Text × V)) (y : W) → find k (changed f es) ≡ Some y → (x : V) × (find k es ≡ Some x) × (f x ≡ y)
   found_changed k es y e = some_of (find k es) y (sym (find_changed k es) ∙ e)

@@ -3,7 +3,7 @@ use Rattle.std.proofs.Common.{◌≡◌, ◌∙◌, ℕ, suc, ◌+◌, ◌<◌, 
 use Rattle.std.specs.Borrow.{Bor}
 use Rattle.just_joining.specs.Recipes.{lent}
 use Rattle.std.specs.List.{Contains, flat_map, list_any, slice_get}
-use Rattle.std.proofs.lemmas.List.{append-nil, drop_all, map-append}
+use Rattle.std.proofs.lemmas.List.{append-nil, drop_all, get_or-map, length-map, map-append}
 use Rattle.std.proofs.lemmas.Option.{get_or_from_slice_get, slice_get_read, slice_get_within}
 
 -- the rest from a place on
@@ -61,3 +61,8 @@ module _ {A : Type 0} (test : A → Bool) (xs : List A) where
 
   pub any_none : (i : ℕ) → list_any test xs ≡ list_any test (drop i xs) → length xs ≤ i → false ≡ list_any test xs
   any_none i so past = sym (so ∙ ap (list_any test) (drop_all i xs past))
+
+-- what is lent at a place
+pub lent_at : {A : Type 0} (rs : List (Bor A)) (i : ℕ) (r : Bor A) → i < length rs → r ≡ get_or rs i r → slice_get (lent rs) i ≡ Some r.now
+lent_at {A} rs i r inside is =
+    at_item (lent rs) i r.now (omega (arith, length-map rs (λ (b : Bor A). b.now))) (ap (λ (b : Bor A). b.now) is ∙ sym (get_or-map (λ (b : Bor A). b.now) rs i r r.now inside))

@@ -1,8 +1,8 @@
 //! What the constants and the settings of a module come to.
 
-ghost use Rattle.std.specs.Prelude.{◌≡◌, ◌∷◌, [], IfOk, IfErr, OnOk, Some};
-ghost use Rattle.std.specs.List.{Contains};
-ghost use Rattle.just_constants.specs.Constants.{CoversAll, evaluated_in};
+ghost use Rattle.std.specs.Prelude.{◌≡◌, ◌∷◌, [], IfOk, IfErr, OnOk, Some, flat_map, map};
+ghost use Rattle.std.specs.List.{All, Contains};
+ghost use Rattle.just_constants.specs.Constants.{CoversAll, NamesFaultIn, evaluated_in};
 ghost use Rattle.just_constants.specs.Overrides.{overrides_found};
 ghost use Rattle.just_constants.specs.Variables.{AreVariablesOf, known_with_numbers};
 ghost use Rattle.just_errors.specs.Causes.{Keeps, Reports};
@@ -10,8 +10,8 @@ ghost use Rattle.just_joining.specs.Constants as rule;
 ghost use Rattle.just_joining.specs.Definitions.{contents_in, sets_in};
 ghost use Rattle.just_joining.specs.Known.{variables_under};
 ghost use Rattle.just_joining.specs.Recipes.{lent};
-ghost use Rattle.just_parts.specs.Evaluator.{values_of};
-ghost use Rattle.just_parts.specs.Known.{none_hidden};
+ghost use Rattle.just_parts.specs.Evaluator.{Covers, FaultsAt, bare_set, functions_by_name, set_expressions, values_of};
+ghost use Rattle.just_parts.specs.Known.{none_hidden, sources};
 ghost use Rattle.just_parts.specs.Layers.{given_of, layers_at, override_at};
 ghost use Rattle.just_parts.specs.Needs.{HaveNumbersApart};
 ghost use Rattle.just_records.specs.declared.expression.Expression.{Expression};
@@ -83,18 +83,42 @@ fn sets_lists<'a, 'src>(definitions: &Definitions<'src, 'a>) -> bool
 fn check_expressions<'e, 'a, 'src, S: Syntax>(
     alloc: Global,
     known: &Known<'a, 'src, S>,
-    expressions: &[&'e Expression<'src>],
+    expressions: &Vec<&'e Expression<'src>>,
 ) -> Result<(), Error<'src>>
     ensures kept { let m = known_in (S.answers known.now.syntax.now) known.now in
-        OnOk result ((e : Expression) → Contains (lent expressions.now) e → Keeps (Misnames m none_hidden e)) }
+        OnOk result ((e : Expression) → Contains (lent expressions.now.items) e → Keeps (Misnames m none_hidden e)) }
     ensures named { let m = known_in (S.answers known.now.syntax.now) known.now in
-        IfErr result (λ error. (e : Expression) × Contains (lent expressions.now) e × Reports (Misnames m none_hidden e) error) }
+        IfErr result (NamesFaultIn m (lent expressions.now.items)) }
 {
     let hidden = HashSet::new(alloc);
-    for expression in expressions {
-        check_expression(alloc, known, &hidden, *expression)?;
+    for place in 0..expressions.len() {
+        check_expression(alloc, known, &hidden, &*expressions[place])?;
     }
     Ok(())
+}
+
+// The settings of a module whose constants have these values.
+fn settings_of<'a, 'src, E: Evaluation>(
+    alloc: Global,
+    definitions: &Definitions<'src, 'a>,
+    variables: &Variables<'src>,
+    constants: &Scope<'src>,
+    evaluation: &E,
+) -> Result<Settings, Error<'src>>
+    requires { All (Covers (sources variables.now.assignments variables.now.functions) (values_of constants.now)) (flat_map set_expressions (sets_in definitions.now)) }
+    ensures settings { let answer = (E.answers evaluation.now).settings (functions_by_name variables.now.functions) (values_of constants.now) in
+        IfOk result (λ made. answer (map bare_set (sets_in definitions.now)) ≡ Some made) }
+    ensures refused { let answer = (E.answers evaluation.now).settings (functions_by_name variables.now.functions) (values_of constants.now) in
+        IfErr result (FaultsAt (answer (map bare_set (sets_in definitions.now)))) }
+{
+    let sets = copied_sets(alloc, definitions)?;
+    evaluation.sets(
+        alloc,
+        constants,
+        &variables.assignments,
+        &variables.functions,
+        sets.as_slice(),
+    )
 }
 
 /// Evaluates what the settings, docs, helps and patterns of the module at a path need, and then its settings, with what the
@@ -125,11 +149,11 @@ pub fn evaluate_constants<'k, 'a, 'src, S: Syntax, E: Evaluation>(
         syntax,
     };
     let settings = settings_expressions(alloc, definitions)?;
-    check_expressions(alloc, &known, settings.as_slice())?;
+    check_expressions(alloc, &known, &settings)?;
     let overridden = overrides_of(alloc, config, path, &variables.assignments)?;
     let overrides = by_number(alloc, overridden.as_slice())?;
     let expressions = constant_expressions(alloc, definitions)?;
-    let references = needed_references(alloc, &known, &overrides, expressions.as_slice())?;
+    let references = needed_references(alloc, &known, &overrides, &expressions)?;
     let scope = evaluation.assignments_const(
         alloc,
         &variables.assignments,
@@ -139,14 +163,7 @@ pub fn evaluate_constants<'k, 'a, 'src, S: Syntax, E: Evaluation>(
         &references,
         sets_lists(definitions),
     )?;
-    let sets = copied_sets(alloc, definitions)?;
-    let settings = evaluation.sets(
-        alloc,
-        &scope,
-        &variables.assignments,
-        &variables.functions,
-        sets.as_slice(),
-    )?;
+    let settings = settings_of(alloc, definitions, variables, &scope, evaluation)?;
     Ok(Constants {
         scope,
         settings,

@@ -304,17 +304,17 @@ pub fn needed_references<'e, 'a, 'src, S: Syntax>(
     alloc: Global,
     known: &Known<'a, 'src, S>,
     overrides: &HashMap<Number, Text>,
-    expressions: &[&'e Expression<'src>],
+    expressions: &Vec<&'e Expression<'src>>,
 ) -> Result<HashSet<Number>, AllocError>
     ensures needed { let m = known_in (S.answers known.now.syntax.now) known.now in
-        IfOk result (λ found. AreNeededBy m (has_number overrides.now) (map (λ e. e.now) expressions.now) (contains same_number found)) }
+        IfOk result (λ found. AreNeededBy m (has_number overrides.now) (map (λ e. e.now) expressions.now.items) (contains same_number found)) }
 {
     let references = HashSet::new(alloc);
     let visited = HashSet::new(alloc);
     let mut stack = Vec::with_capacity(alloc, expressions.len())?;
-    for expression in expressions {
+    for place in 0..expressions.len() {
         stack.push(Waiting {
-            expression: &**expression,
+            expression: &*expressions[place],
             parameters: None,
         })?;
     }

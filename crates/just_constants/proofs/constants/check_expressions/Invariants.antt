@@ -8,6 +8,6 @@ use Rattle.just_variables.specs.Lent.{known_in}
 use Rattle.just_variables.specs.Misnaming.{Misnames}
 use Rattle.just_constants.proofs.constants.check_expressions.Given as goal
 
-abbrev pub invariant-loop-expression : goal.invariant-loop-expression
-invariant-loop-expression g l =
-    All (λ (e : Bor Expression). Keeps (Misnames (known_in (g.S.Syntax.answers l.known.syntax.now) l.known) none_hidden e.now)) (take l.expression-index l.expressions)
+abbrev pub invariant-loop-place : goal.invariant-loop-place
+invariant-loop-place g l =
+    All (λ (e : Bor Expression). Keeps (Misnames (known_in (g.S.Syntax.answers l.known.syntax.now) l.known) none_hidden e.now)) (take l.place l.expressions.items)

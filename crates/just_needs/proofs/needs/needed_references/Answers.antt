@@ -15,27 +15,27 @@ use Rattle.just_records.specs.declared.expression.Expression.{Expression}
 use Rattle.just_variables.specs.Lent.{known_in}
 use Rattle.just_variables.specs.Steps.{Scoped, scoped}
 
-pub loop-expression-preserved : goal.loop-expression-preserved
-loop-expression-preserved g c =
-    let item = c.expression-item.result in
+pub loop-place-preserved : goal.loop-place-preserved
+loop-place-preserved g c =
+    let item = c.index.result.now in
     let one : Bor Expression → Scoped = λ e. scoped none_hidden e.now in
-    let i = c.loop-expression.expression-index in
-    let es = c.args.expressions.now in
-    pushed c.loop-expression.stack.items c.push.new.self.items (record { expression = item; parameters = None }) (one item) c.in_ok-push.ensures.items refl
-    ∙ ap (λ (ss : List Scoped). ss ++ one item ∷ []) c.loop-expression.invariant
-    ∙ ap (λ (e : Bor Expression). map one (take i es) ++ one e ∷ []) c.expression-item.is
+    let i = c.loop-place.place in
+    let es = c.args.expressions.now.items in
+    pushed c.loop-place.stack.items c.push.new.self.items (record { expression = item; parameters = None }) (one item) c.in_ok-push.ensures.items refl
+    ∙ ap (λ (ss : List Scoped). ss ++ one item ∷ []) c.loop-place.invariant
+    ∙ ap (λ (e : Bor Expression). map one (take i es) ++ one e ∷ []) c.index.ensures
     ∙ sym (map-append one (take i es) (get_or es i item ∷ []))
     ∙ ap (map one) (sym (take_more es i item (omega arith)))
 
 pub returns : goal.returns
 returns g c =
     let m = known_in (g.S.Syntax.answers c.args.known.now.syntax.now) c.args.known.now in
-    let es = c.args.expressions.now in
+    let es = c.args.expressions.now.items in
     let one : Bor Expression → Scoped = λ e. scoped none_hidden e.now in
-    let all : map scoped_of c.loop-expression.stack.items ≡ map (scoped none_hidden) (map (λ e. e.now) es) =
-    c.loop-expression.invariant ∙ ap (map one) (take_all c.loop-expression.expression-index es (omega arith)) ∙ scoped_all es in
+    let all : map scoped_of c.loop-place.stack.items ≡ map (scoped none_hidden) (map (λ e. e.now) es) =
+    c.loop-place.invariant ∙ ap (map one) (take_all c.loop-place.place es (omega arith)) ∙ scoped_all es in
     record {
-      needed = found_by m (has_number c.args.overrides.now) (contains same_number c.new-references.result) (contains bytes_eq c.new-visited.result) c.in_ok-found.found (map scoped_of c.loop-expression.stack.items) (map (λ e. e.now) es)
+      needed = found_by m (has_number c.args.overrides.now) (contains same_number c.new-references.result) (contains bytes_eq c.new-visited.result) c.in_ok-found.found (map scoped_of c.loop-place.stack.items) (map (λ e. e.now) es)
           all c.in_ok-found.ensures.found c.in_ok-found.ensures.over
           (λ n. ap (list_any (same_number n)) c.new-references.ensures.empty) (λ x. ap (list_any (bytes_eq x)) c.new-visited.ensures.empty);
     }

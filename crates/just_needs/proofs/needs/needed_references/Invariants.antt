@@ -4,5 +4,5 @@ use Rattle.just_needs.proofs.needs.needed_references.Given as goal
 use Rattle.just_parts.specs.Known.{none_hidden}
 use Rattle.just_variables.specs.Steps.{scoped}
 
-abbrev pub invariant-loop-expression : goal.invariant-loop-expression
-invariant-loop-expression g l = map scoped_of l.stack.items ≡ map (λ e. scoped none_hidden e.now) (take l.expression-index l.expressions)
+abbrev pub invariant-loop-place : goal.invariant-loop-place
+invariant-loop-place g l = map scoped_of l.stack.items ≡ map (λ e. scoped none_hidden e.now) (take l.place l.expressions.items)
