@@ -59,7 +59,15 @@ fn compile_place<'a, 'src, S: Syntax, E: Evaluation>(
 {
     let row = joined.files[place].as_slice();
     let ast = ast_at(files, place);
-    let checked = check_files(alloc, config, &ast.module_path, files, syntax, evaluation, row)?;
+    let checked = check_files(
+        alloc,
+        config,
+        &ast.module_path,
+        files,
+        syntax,
+        evaluation,
+        row,
+    )?;
     let Checked {
         definitions,
         variables,
