@@ -169,6 +169,29 @@ def many_arguments(count):
     return bundle(f"f({parameters}) := x0", *(f"v{n} := 'a'" for n in range(count)), f"all := f({arguments})", "a:"), ["a"]
 
 
+def constants(count, width=10):
+    """Many modules, each with some variables that read one another and that a recipe's doc needs."""
+    text = "\n".join(["v0 := 'a'", *(f"v{n} := v{n - 1}" for n in range(1, width)), f"[doc(v{width - 1})]", "r:"])
+    return listed([f"mod m{n}" for n in range(count)] + ["a:"], [(f"/m{n}.just", text) for n in range(count)]), ["a"]
+
+
+def constant_chain(count):
+    """Many variables, each of which reads the next, and a doc that reads the first."""
+    return bundle(*(f"v{n} := v{n + 1}" for n in range(count - 1)), f"v{count - 1} := 'a'", "a:", "[doc(v0)]", "r:"), ["a"]
+
+
+def docs(count):
+    """Many modules whose docs read one variable each, of as many."""
+    lines = [line for n in range(count) for line in (f"v{n} := 'a'", f"[doc(v{n})]", f"mod m{n}")]
+    return listed(lines + ["a:"], [(f"/m{n}.just", "b:") for n in range(count)]), ["a"]
+
+
+def docs_through_functions(count):
+    """Functions that call each other in a chain, and as many recipes whose docs call the first."""
+    functions = [f"f{n}() := f{n + 1}()" for n in range(count - 1)] + [f"f{count - 1}() := 'a'"]
+    return bundle(*functions, *(line for n in range(count) for line in ("[doc(f0())]", f"r{n}:")), "a:"), ["a"]
+
+
 def variable_twice(count):
     """One variable, assigned many times in one file, as its setting allows."""
     return bundle("set allow-duplicate-variables", *(f"v := '{n}'" for n in range(count)), "a:"), ["a"]
@@ -265,6 +288,10 @@ INPUTS = {
     "circle of 20,000 variables": circle_of_variables(20_000),
     "list of 100,000 variables": many_reads(100_000),
     "call with 100,000 variables": many_arguments(100_000),
+    "2,000 modules with 10 constants each": constants(2_000),
+    "chain of 20,000 constants that a doc reads": constant_chain(20_000),
+    "2,000 modules, each with a doc that reads one of 2,000 variables": docs(2_000),
+    "2,000 docs of recipes that call the first of 2,000 functions in a chain": docs_through_functions(2_000),
     "a variable that is assigned 100,000 times": variable_twice(100_000),
     "1,000 recipes, each in every one of 100 files": duplicates(100_000),
     "a recipe that is defined 100,000 times over 100 files": one_name(100_000),

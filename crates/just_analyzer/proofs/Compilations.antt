@@ -1,5 +1,6 @@
 -- A compilation, and a refusal.
-use Rattle.std.proofs.Common.{List, Option, Result, Ok, Err, IfOk, IfErr}
+use Rattle.std.proofs.Common.{◌≡◌, ◌∙◌, List, None, Option, Result, Some, Ok, Err, IfOk, IfErr}
+use Rattle.std.specs.Option.{option_or}
 use Rattle.just_parts.specs.Asts.{AstKey}
 use Rattle.just_errors.specs.Causes.{Keeps, Reports}
 use Rattle.just_names.specs.Modulepath.{Text}
@@ -9,7 +10,7 @@ use Rattle.just_errors.specs.declared.error.Error.{Error}
 use Rattle.just_parts.specs.declared.recipe.Recipe.{Recipe}
 use Rattle.just_invoke.specs.declared.justfile.Justfile.{Justfile}
 use Rattle.just_parts.specs.Evaluator.{Evaluator}
-use Rattle.just_parts.specs.Layers.{layers_of}
+use Rattle.just_names.specs.declared.number.Number.{Number}
 use Rattle.just_loader.specs.Keys.{NamesInFiles}
 use Rattle.just_loader.specs.Loaded.{IsLoaded}
 use Rattle.just_loader.specs.Reached.{World}
@@ -17,36 +18,40 @@ use Rattle.just_loader.proofs.HeldKeys.{root_held}
 use Rattle.just_modules.specs.Analyzed.{IsAnalyzed}
 use Rattle.just_modules.proofs.Agreeing.{agreeing_kept, agreeing_unnamed}
 use Rattle.just_analyzer.specs.Compiled.{Compilation, Compiles}
-use Rattle.just_analyzer.specs.Readings.{root_heading}
+use Rattle.just_analyzer.specs.Readings.{Overrides, given_in, root_heading}
 use Rattle.just_analyzer.specs.Rules.{KeepsAll, Names, in_files, in_modules}
 use Rattle.just_analyzer.proofs.Readings.{are_analyzable, readings_agree}
 
-module _ (evaluator : Evaluator) (w : World) (asts : AstKey → Option Ast) (loaded : List Text) (is : IsLoaded w asts loaded) (files : Keeps (NamesInFiles w)) (justfile : Justfile) (recipes : List (Recipe Dependency))
-    (analyzed : IsAnalyzed (layers_of w.answers evaluator) asts loaded (root_heading w) justfile recipes) where
+module _ (evaluator : Evaluator) (overrides : Overrides) (w : World) (asts : AstKey → Option Ast) (loaded : List Text) (is : IsLoaded w asts loaded) (files : Keeps (NamesInFiles w)) (justfile : Justfile) (recipes : List (Recipe Dependency)) (overridden : List (Number × Text))
+    (analyzed : IsAnalyzed (given_in evaluator overrides w) asts loaded (root_heading w) justfile recipes overridden) where
   -- where the analysis succeeds, no rule is broken
-  pub all_kept : KeepsAll evaluator w
+  pub all_kept : KeepsAll evaluator overrides w
   all_kept = record {
     files = files;
-    modules = λ R f reads are. agreeing_kept w.answers.enabled asts (are_analyzable w asts loaded is) (layers_of w.answers evaluator) R (readings_agree w asts loaded is R reads) (root_heading w) (root_held w asts loaded is) _ analyzed.are_modules analyzed.kept f are;
+    modules = λ R f reads are. agreeing_kept w.answers.enabled asts (are_analyzable w asts loaded is) (given_in evaluator overrides w) R (readings_agree w asts loaded is R reads) (root_heading w) (root_held w asts loaded is) _ analyzed.are_modules analyzed.kept f are;
   }
 
   -- and none is named
-  pub none_named : Keeps (Names evaluator w)
+  pub none_named : Keeps (Names evaluator overrides w)
   none_named c (in_files n) = files c n
   none_named c (in_modules R kept reads n) =
-      agreeing_unnamed w.answers.enabled asts (are_analyzable w asts loaded is) (layers_of w.answers evaluator) R (readings_agree w asts loaded is R reads) (root_heading w) (root_held w asts loaded is) _ analyzed.are_modules analyzed.kept c n
+      agreeing_unnamed w.answers.enabled asts (are_analyzable w asts loaded is) (given_in evaluator overrides w) R (readings_agree w asts loaded is R reads) (root_heading w) (root_held w asts loaded is) _ analyzed.are_modules analyzed.kept c n
 
 -- a refusal that is named
-pub refused : (evaluator : Evaluator) (w : World) (r : Result Compilation Error) → IfOk r (λ _. ⊥) → IfErr r (Reports (Names evaluator w)) → Compiles evaluator w r
-refused evaluator w (Ok c) none h = absurd none
-refused evaluator w (Err e) none h = record {
+pub refused : (evaluator : Evaluator) (overrides : Overrides) (w : World) (r : Result Compilation Error) → IfOk r (λ _. ⊥) → IfErr r (Reports (Names evaluator overrides w)) → Compiles evaluator overrides w r
+refused evaluator overrides w (Ok c) none h = absurd none
+refused evaluator overrides w (Err e) none h = record {
   kept = tt;
   unnamed = tt;
   compiled = tt;
   closed = tt;
   all_closed = tt;
-  overrides = tt;
   root = tt;
   root_ast = tt;
   named = h;
 }
+
+-- what is put into nothing is all that is there
+pub put_in_none : (last put old : Option Text) → old ≡ None → put ≡ option_or last old → put ≡ last
+put_in_none None put old none e = e ∙ none
+put_in_none (Some text) put old none e = e

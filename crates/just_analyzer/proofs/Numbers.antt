@@ -1,16 +1,20 @@
--- The numbers of recipes in a text.
+-- The numbers of recipes and of variables in a text.
 use Rattle.std.proofs.Common.{◌≡◌, ℕ, ◌+◌, ◌≤◌, Bool, true, false, List, [], ◌∷◌, ◌++◌, get_or, ◌⊎◌, inl, inr, refl, sym, ap, subst, arith}
 use Rattle.std.specs.Prelude.{if◌then◌else◌}
 use Rattle.std.specs.List.{All}
 use Rattle.std.proofs.lemmas.List.Elements.{All-contains, Contains-get_or}
 use Rattle.just_graph.proofs.Leveling.{Once}
-use Rattle.just_graph.proofs.Members.{In, contained, from_map, in_flat, is_in}
+use Rattle.just_graph.proofs.Members.{In, contained, from_flat, from_map, in_flat, is_in}
 use Rattle.just_parts.specs.Bare.{bare_item}
 use Rattle.just_parts.specs.Syntax.{AreRising, PriorsAreDependencies, item_numbers, numbers, function_numbers, parameter_numbers}
 use Rattle.just_parts.specs.Items.{Item}
 use Rattle.just_parts.specs.declared.layers.ast.Item.TheVariants as item
 use Rattle.just_parts.specs.declared.layers.ast.UnresolvedDependency.{UnresolvedDependency}
 use Rattle.just_parts.specs.declared.recipe.Recipe.{Recipe}
+use Rattle.just_records.specs.declared.assignment.Assignment.{Assignment}
+use Rattle.just_notes.specs.Said.{said}
+use Rattle.just_joining.specs.Analyzable.{assignment_numbers}
+use Rattle.just_joining.specs.Named.{variable_by}
 use Rattle.just_joining.specs.Recipes.{recipes_of}
 use Rattle.just_joining.specs.Resolved.{HasPriors, unresolved_numbers}
 
@@ -64,3 +68,39 @@ all_by P xs f = λ k d h. f (get_or xs k d) (is_in (get_or xs k d) xs (Contains-
 -- recipes have no more priors than dependencies, where items have
 pub recipe_priors : (enabled : Item → Bool) (is : List Item) → All PriorsAreDependencies is → All HasPriors (recipes_of enabled is)
 recipe_priors enabled is all = all_by HasPriors (recipes_of enabled is) (λ r h. All-contains PriorsAreDependencies is (item.Recipe r) all (contained (item.Recipe r) is (recipe_item enabled r is h)))
+
+variable_if : (b : Bool) (i : Item) (a : Assignment) → In a (if b then variable_by i else []) → i ≡ item.Assignment a
+variable_if true (item.Assignment v) a (inl e) = ap item.Assignment (sym e)
+variable_if true (item.Assignment v) a (inr h) = absurd h
+variable_if true _ a h = absurd h
+variable_if false i a h = absurd h
+
+-- the number of a variable of items is one of theirs
+pub variable_number_in : (enabled : Item → Bool) (x : ℕ) (is : List Item) → In x (assignment_numbers (said variable_by enabled is)) → In x (numbers is)
+variable_number_in enabled x is h =
+    let a = from_map (λ (a : Assignment). a.number.0) x (said variable_by enabled is) h in
+    let i = from_flat (λ (i : Item). if enabled (bare_item i) then variable_by i else []) a.0 is a.1 in
+    let e = variable_if (enabled (bare_item i.0)) i.0 a.0 i.2 in
+    subst (λ n. In n (numbers is)) (sym a.2) (in_flat item_numbers a.0.number.0 (item.Assignment a.0) is (subst (λ (j : Item). In j is) e i.1) (inl refl))
+
+once_variable : (b : Bool) (a : Assignment) (vs : List Assignment) → (In a.number.0 (assignment_numbers vs) → ⊥) → Once (assignment_numbers vs) → Once (assignment_numbers ((if b then a ∷ [] else []) ++ vs))
+once_variable true a vs fresh once = (fresh, once)
+once_variable false a vs fresh once = once
+
+no_variable : (b : Bool) (i : Item) (vs : List Assignment) → variable_by i ≡ [] → Once (assignment_numbers vs) → Once (assignment_numbers ((if b then variable_by i else []) ++ vs))
+no_variable true i vs none once = subst (λ xs. Once (assignment_numbers (xs ++ vs))) (sym none) once
+no_variable false i vs none once = once
+
+-- variables of rising items have no number twice
+pub once_variables : (enabled : Item → Bool) (low : ℕ) (is : List Item) (high : ℕ) → AreRising low (numbers is) high → Once (assignment_numbers (said variable_by enabled is))
+once_variables enabled low [] high r = tt
+once_variables enabled low (item.Assignment a ∷ is) high r =
+    once_variable (enabled (bare_item (item.Assignment a))) a (said variable_by enabled is)
+    (λ h. let l : a.number.0 + 1 ≤ a.number.0 = rising_from (a.number.0 + 1) (numbers is) high a.number.0 r.1 (variable_number_in enabled a.number.0 is h) in absurd (omega (arith, l)))
+    (once_variables enabled (a.number.0 + 1) is high r.1)
+once_variables enabled low (item.Recipe q ∷ is) high r =
+    let after = rising_after (q.number.0 + 1) (parameter_numbers q.parameters) (numbers is) high r.1 in
+    no_variable (enabled (bare_item (item.Recipe q))) (item.Recipe q) (said variable_by enabled is) refl (once_variables enabled after.0 is high after.2)
+once_variables enabled low (item.Function f ∷ is) high r =
+    let after = rising_after low (function_numbers f) (numbers is) high r in no_variable (enabled (bare_item (item.Function f))) (item.Function f) (said variable_by enabled is) refl (once_variables enabled after.0 is high after.2)
+once_variables enabled low (i ∷ is) high r = no_variable (enabled (bare_item i)) i (said variable_by enabled is) refl (once_variables enabled low is high r)

@@ -3,6 +3,9 @@ use Rattle.std.specs.Prelude.{◌≡◌, false, ℕ, List, [], map, Option, None
 use Rattle.just_parts.specs.Asts.{root_ast_key}
 use Rattle.just_names.specs.Clean.{folder_of}
 use Rattle.just_names.specs.Modulepath.{Text}
+use Rattle.just_names.specs.declared.modulepath.Modulepath.{Modulepath}
+use Rattle.just_parts.specs.Evaluator.{Evaluator}
+use Rattle.just_parts.specs.Layers.{Given}
 use Rattle.just_parts.specs.Located.{with_depth}
 use Rattle.just_parts.specs.Items.{Ast, Item}
 use Rattle.just_records.specs.declared.list_use.ListUse.{ListUse}
@@ -31,3 +34,11 @@ IsReadingOf w R = (k : FileKey) (depth : ℕ) → IsLeastFileDepth w k depth →
 -- the root's module, which no item declares
 abbrev pub root_heading : World → Heading
 root_heading w = heading (root_ast_key w.root) (label None None [] false)
+
+-- the values that override variables, by the path of the module and the name of the variable
+abbrev pub Overrides : Type 0
+Overrides = Modulepath → Text → Option Text
+
+-- what is given to the analysis
+abbrev pub given_in : Evaluator → Overrides → World → Given
+given_in evaluator overrides w = record { syntax = w.answers; evaluator = evaluator; overrides = overrides }

@@ -2,20 +2,19 @@
 use Rattle.std.specs.Prelude.{[], ◌∷◌}
 use Rattle.just_errors.specs.Causes.{Cause, Keeps}
 use Rattle.just_parts.specs.Evaluator.{Evaluator}
-use Rattle.just_parts.specs.Layers.{layers_of}
 use Rattle.just_loader.specs.Keys.{NamesInFiles}
 use Rattle.just_loader.specs.Reached.{World}
 use Rattle.just_modules.specs.Groups.{KeepsModules, NamesModules}
 use Rattle.just_modules.specs.Modules.{AreModules, Forest}
 use Rattle.just_joining.specs.Reading.{Reading}
-use Rattle.just_analyzer.specs.Readings.{IsReadingOf, root_heading}
+use Rattle.just_analyzer.specs.Readings.{IsReadingOf, Overrides, given_in, root_heading}
 
 -- What a compilation breaks: a rule of files; or where these are kept, one of a module that is reached from the root's.
-pub data Names (evaluator : Evaluator) (w : World) : Cause → Type 0 where
-  in_files : {c : Cause} → NamesInFiles w c → Names evaluator w c
-  in_modules : {c : Cause} (R : Reading) → Keeps (NamesInFiles w) → IsReadingOf w R → NamesModules (layers_of w.answers evaluator) R (root_heading w) c → Names evaluator w c
+pub data Names (evaluator : Evaluator) (overrides : Overrides) (w : World) : Cause → Type 0 where
+  in_files : {c : Cause} → NamesInFiles w c → Names evaluator overrides w c
+  in_modules : {c : Cause} (R : Reading) → Keeps (NamesInFiles w) → IsReadingOf w R → NamesModules (given_in evaluator overrides w) R (root_heading w) c → Names evaluator overrides w c
 
 -- No rule is broken: those of files are kept, and so are all groups in the root's module and in those in it.
-pub record KeepsAll (evaluator : Evaluator) (w : World) : Type 0 where
+pub record KeepsAll (evaluator : Evaluator) (overrides : Overrides) (w : World) : Type 0 where
   pub files : Keeps (NamesInFiles w)
-  pub modules : (R : Reading) (f : Forest) → IsReadingOf w R → AreModules R (root_heading w ∷ []) f → KeepsModules (layers_of w.answers evaluator) f
+  pub modules : (R : Reading) (f : Forest) → IsReadingOf w R → AreModules R (root_heading w ∷ []) f → KeepsModules (given_in evaluator overrides w) f

@@ -17,7 +17,7 @@ pub struct Compilation<'src, A = Ast<'src>> {
     pub justfile: Justfile<'src>,
     /// The recipes of all modules, each after those that it depends on.
     pub recipes: Recipes<'src>,
-    /// The overridden assignments. There are none yet.
+    /// The values that override variables, each under the number of its variable.
     pub overrides: HashMap<Number, Text>,
     /// The path of the root file.
     pub root: Text,

@@ -5,6 +5,7 @@ ghost use Rattle.just_names.specs.Clean.{IsClean};
 ghost use Rattle.just_parts.specs.Asts.{same_ast_key};
 ghost use Rattle.just_loader.specs.ModuleFile.{TellsSeveral, module_files};
 ghost use Rattle.just_loader.specs.Reached.{world_of};
+ghost use Rattle.just_parts.specs.Layers.{override_at};
 ghost use Rattle.just_analyzer.specs.Compiled.{Compiles};
 ghost use Rattle.just_analyzer.specs.Paths.{AreRelative};
 
@@ -57,9 +58,12 @@ impl Compiler {
 
     /// Compiles the file at `root` and those that it reaches, or names a rule that is broken. Where it succeeds no rule
     /// is broken, and each recipe that the compilation names is held, after those that it depends on. What the expressions of
-    /// settings, recipes and attributes read is not judged yet.
+    /// recipes and of their attributes read is not judged yet.
     ///
-    /// The evaluation is asked for the settings of each module.
+    /// The evaluation is asked for the constants of each module: the values of the variables that its settings need, and
+    /// the docs, helps and patterns of its attributes, each with whatever it reads. A variable that the configuration
+    /// overrides has that value, and its own is not evaluated. Then it is asked for the settings of each module, and for
+    /// the docs of the modules that it declares. The compilation has the values that override variables, by their numbers.
     pub fn compile<'src, S: Syntax, E: Evaluation>(
         alloc: Global,
         config: &Config,
@@ -69,7 +73,7 @@ impl Compiler {
         root: &str,
     ) -> Result<Compilation<'src>, Error<'src>>
         requires { IsClean root.now }
-        ensures { Compiles (E.answers evaluation.now) (world_of sources.now config.now (S.answers syntax.now) root.now) result }
+        ensures { Compiles (E.answers evaluation.now) (override_at config.now.overrides) (world_of sources.now config.now (S.answers syntax.now) root.now) result }
     {
         let path = Text::from_str(alloc, root)?;
         let Loaded { asts, loaded } = load(alloc, config, syntax, sources, root)?;

@@ -1,7 +1,6 @@
 pub mod Answers
 pub mod Bundle
 pub mod Conflicts
-pub mod Evaluated
 pub mod Numbering
 pub mod Promises
 pub mod Refusal

@@ -8,7 +8,6 @@ mod numbering;
 pub mod plain_evaluation;
 pub mod plain_syntax;
 pub mod recorder;
-mod settings;
 mod sigils;
 pub mod stop_writer;
 

@@ -221,10 +221,14 @@ fn answer_just(alloc: Global, bundle: &str, line: &str) -> Result<String, AllocE
     Ok(answer)
 }
 
-// Answers a line `$ variable` over a bundle.
-fn answer_variable(alloc: Global, bundle: &str, name: &str) -> Result<String, AllocError> {
+// Answers a line `$ variable` over a bundle. The first word is the name.
+fn answer_variable(alloc: Global, bundle: &str, line: &str) -> Result<String, AllocError> {
     let mut answer = String::new(alloc);
-    let asked = read_asked(alloc, "")?;
+    let asked = read_asked(alloc, line)?;
+    let name = match asked.words.first() {
+        Some(word) => word.as_str(),
+        None => "",
+    };
     match read_sources(alloc, bundle) {
         Ok(sources) => add_of_variable(&mut answer, alloc, &sources, &asked, name)?,
         Err(error) => writeln!(answer, "error Bundle: {error}")?,

@@ -1,23 +1,51 @@
 //! The lines that tell what a compilation has.
 use just_analyzer::layers::Number;
 use just_analyzer::{Compilation, Justfile, Recipe};
+use just_data::Text;
 use just_lines::lists::{add_list, next};
+use just_records::Interpreter;
 use std::alloc::{AllocError, Global};
-use std::collections::HashSet;
+use std::collections::{HashMap, HashSet};
 
 // What is told of the modules and the recipes so far.
 #[derive(Drop)]
 struct Lines {
     modules: String,
     labels: String,
+    docs: String,
     absent: String,
     settings: String,
+    shells: String,
+    scripts: String,
     variables: String,
+    overridden: String,
     order: String,
     recipes: String,
     entrances: String,
     numbers: HashSet<u64>,
     count: u64,
+}
+
+impl Lines {
+    // Nothing.
+    fn new(alloc: Global) -> Lines {
+        Lines {
+            modules: String::new(alloc),
+            labels: String::new(alloc),
+            docs: String::new(alloc),
+            absent: String::new(alloc),
+            settings: String::new(alloc),
+            shells: String::new(alloc),
+            scripts: String::new(alloc),
+            variables: String::new(alloc),
+            overridden: String::new(alloc),
+            order: String::new(alloc),
+            recipes: String::new(alloc),
+            entrances: String::new(alloc),
+            numbers: HashSet::new(alloc),
+            count: 0,
+        }
+    }
 }
 
 // Adds a recipe's path from the root.
@@ -63,10 +91,24 @@ fn add_module(module: &Justfile, lines: &mut Lines) -> Result<(), AllocError> {
     )
 }
 
+// Adds a module's own file.
+fn add_source(module: &Justfile, text: &mut String) -> Result<(), AllocError> {
+    text.push_str(next(text))?;
+    text.push_str(module.source.as_str())
+}
+
+// Adds the doc of a module, behind its own file.
+fn add_doc(module: &Justfile, text: &mut String) -> Result<(), AllocError> {
+    add_source(module, text)?;
+    match &module.doc {
+        Some(doc) => write!(text, " '{doc}'"),
+        None => Ok(()),
+    }
+}
+
 // Adds what the declaration of a module says of it, behind its own file.
 fn add_label(module: &Justfile, text: &mut String) -> Result<(), AllocError> {
-    text.push_str(next(text))?;
-    text.push_str(module.source.as_str())?;
+    add_source(module, text)?;
     if module.private {
         text.push_str(" private")?;
     }
@@ -78,8 +120,7 @@ fn add_label(module: &Justfile, text: &mut String) -> Result<(), AllocError> {
 
 // Adds the names of the optional modules without a file, behind a module's own file.
 fn add_absent(module: &Justfile, text: &mut String) -> Result<(), AllocError> {
-    text.push_str(next(text))?;
-    text.push_str(module.source.as_str())?;
+    add_source(module, text)?;
     for name in module.absent_modules.values() {
         write!(text, " {name}")?;
     }
@@ -88,8 +129,7 @@ fn add_absent(module: &Justfile, text: &mut String) -> Result<(), AllocError> {
 
 // Adds the settings of a module that are on, behind its own file.
 fn add_settings(module: &Justfile, text: &mut String) -> Result<(), AllocError> {
-    text.push_str(next(text))?;
-    text.push_str(module.source.as_str())?;
+    add_source(module, text)?;
     let settings = &module.settings;
     let flags = [
         ("allow-duplicate-recipes", settings.allow_duplicate_recipes),
@@ -112,10 +152,45 @@ fn add_settings(module: &Justfile, text: &mut String) -> Result<(), AllocError> 
     Ok(())
 }
 
+// Adds a program and its arguments, behind a module's own file.
+fn add_program(
+    module: &Justfile,
+    program: &Option<Interpreter<Text>>,
+    text: &mut String,
+) -> Result<(), AllocError> {
+    add_source(module, text)?;
+    let Some(program) = program else {
+        return Ok(());
+    };
+    write!(text, " '{}'", program.command)?;
+    for argument in program.arguments.as_slice() {
+        write!(text, " '{argument}'")?;
+    }
+    Ok(())
+}
+
+// Adds the paths of the variables of a module that are overridden.
+fn add_overridden(
+    module: &Justfile,
+    overrides: &HashMap<Number, Text>,
+    text: &mut String,
+) -> Result<(), AllocError> {
+    for variable in module.assignments.values() {
+        if !overrides.contains_key(&variable.number) {
+            continue;
+        }
+        text.push(' ')?;
+        if module.is_submodule() {
+            write!(text, "{}::", module.module_path)?;
+        }
+        write!(text, "{}", variable.name)?;
+    }
+    Ok(())
+}
+
 // Adds the variables of a module with the depths of their files and their values, behind its own file.
 fn add_variables(module: &Justfile, text: &mut String) -> Result<(), AllocError> {
-    text.push_str(next(text))?;
-    text.push_str(module.source.as_str())?;
+    add_source(module, text)?;
     for variable in module.assignments.values() {
         write!(
             text,
@@ -128,8 +203,7 @@ fn add_variables(module: &Justfile, text: &mut String) -> Result<(), AllocError>
 
 // Adds the variables of a module in the order of their evaluation, behind its own file.
 fn add_order(module: &Justfile, text: &mut String) -> Result<(), AllocError> {
-    text.push_str(next(text))?;
-    text.push_str(module.source.as_str())?;
+    add_source(module, text)?;
     for name in module.evaluation_order.as_slice() {
         write!(text, " {name}")?;
     }
@@ -151,33 +225,37 @@ fn add_recipes<'src>(
     Ok(())
 }
 
+// Adds a module with its recipes.
+fn add_whole<'src>(
+    compilation: &Compilation<'src>,
+    module: &Justfile<'src>,
+    alloc: Global,
+    lines: &mut Lines,
+) -> Result<(), AllocError> {
+    let settings = &module.settings;
+    add_module(module, lines)?;
+    add_label(module, &mut lines.labels)?;
+    add_doc(module, &mut lines.docs)?;
+    add_absent(module, &mut lines.absent)?;
+    add_settings(module, &mut lines.settings)?;
+    add_program(module, &settings.shell, &mut lines.shells)?;
+    add_program(module, &settings.script_interpreter, &mut lines.scripts)?;
+    add_variables(module, &mut lines.variables)?;
+    add_overridden(module, &compilation.overrides, &mut lines.overridden)?;
+    add_order(module, &mut lines.order)?;
+    add_recipes(compilation, module, alloc, lines)
+}
+
 // The modules of a compilation with their recipes, each before those that it declares.
 fn lines_of(compilation: &Compilation, alloc: Global) -> Result<Lines, AllocError> {
-    let mut lines = Lines {
-        modules: String::new(alloc),
-        labels: String::new(alloc),
-        absent: String::new(alloc),
-        settings: String::new(alloc),
-        variables: String::new(alloc),
-        order: String::new(alloc),
-        recipes: String::new(alloc),
-        entrances: String::new(alloc),
-        numbers: HashSet::new(alloc),
-        count: 0,
-    };
+    let mut lines = Lines::new(alloc);
     let mut left = Vec::new(alloc);
     left.push(&compilation.justfile)?;
     for _ in 0..u64::MAX {
         let Some(module) = left.pop() else {
             break;
         };
-        add_module(module, &mut lines)?;
-        add_label(module, &mut lines.labels)?;
-        add_absent(module, &mut lines.absent)?;
-        add_settings(module, &mut lines.settings)?;
-        add_variables(module, &mut lines.variables)?;
-        add_order(module, &mut lines.order)?;
-        add_recipes(compilation, module, alloc, &mut lines)?;
+        add_whole(compilation, module, alloc, &mut lines)?;
         for inner in module.modules.as_slice().iter().rev() {
             left.push(inner)?;
         }
@@ -185,8 +263,8 @@ fn lines_of(compilation: &Compilation, alloc: Global) -> Result<Lines, AllocErro
     Ok(lines)
 }
 
-/// Adds what a compilation has: the loaded files, how many texts were read, the modules, and of the recipes the depths,
-/// the files and how many different numbers they have.
+/// Adds what a compilation has: the loaded files, how many texts were read, the modules with their docs, settings and
+/// variables, and of the recipes the depths, the files and how many different numbers they have.
 pub fn add_compilation(
     compilation: &Compilation,
     alloc: Global,
@@ -198,9 +276,13 @@ pub fn add_compilation(
     let lines = lines_of(compilation, alloc)?;
     writeln!(text, "modules{}", lines.modules)?;
     writeln!(text, "labels{}", lines.labels)?;
+    writeln!(text, "docs{}", lines.docs)?;
     writeln!(text, "absent{}", lines.absent)?;
     writeln!(text, "settings{}", lines.settings)?;
+    writeln!(text, "shells{}", lines.shells)?;
+    writeln!(text, "scripts{}", lines.scripts)?;
     writeln!(text, "variables{}", lines.variables)?;
+    writeln!(text, "overridden{}", lines.overridden)?;
     writeln!(text, "order{}", lines.order)?;
     writeln!(text, "recipes{}", lines.recipes)?;
     writeln!(text, "entrances{}", lines.entrances)?;

@@ -122,9 +122,9 @@ impl<'src> Justfile<'src> {
     ghost use Rattle.std.specs.Prelude.{◌≡◌, is_some, IfOk, IfSome};
     ghost use Rattle.std.specs.HashSet.{contains};
     ghost use Rattle.just_invoke.specs.declared.justfile.Justfile.{out-Justfile};
-    ghost use Rattle.just_needs.specs.Needs.{AreNeeded, has_number, same_number};
+    ghost use Rattle.just_parts.specs.Needs.{AreNeeded, has_number, same_number};
     ghost use Rattle.just_table.specs.Entries.{find};
-    ghost use Rattle.just_variables.specs.Known.{known};
+    ghost use Rattle.just_parts.specs.Known.{known};
 
     /// The numbers of the variables that a variable of the module needs: its own, and unless it is overridden those of what
     /// its value reads, also through functions, and so on. None where the module has no variable of the name.

@@ -1,6 +1,6 @@
 -- Recipes that are alike in what the rules read break the same rules.
 use Rattle.std.proofs.Common.{◌≡◌, ℕ, zero, suc, ◌+◌, ◌<◌, Bool, true, false, ◌||◌, ◌&&◌, not, List, [], ◌∷◌, ◌++◌, map, length, get_or, Option, None, Some, refl, sym, ◌∙◌, ap, subst}
-use Rattle.std.specs.Prelude.{◌≢◌, ◌≤◌, if◌then◌else◌}
+use Rattle.std.specs.Prelude.{◌≢◌, ◌≤◌, flat_map, if◌then◌else◌}
 use Rattle.std.specs.Cmp.Lexicographic.{slice_cmp}
 use Rattle.std.specs.Ordering.{nat_cmp}
 use Rattle.std.specs.declared.cmp.Ordering.TheVariants.{Less}
@@ -20,9 +20,10 @@ use Rattle.just_records.specs.declared.list_use.ListUse.{ListUse}
 use Rattle.just_records.specs.declared.setting.Set.{Set}
 use Rattle.just_records.specs.declared.settings.Settings.{Settings}
 use Rattle.just_parts.specs.Bare.{bare_function, bare_function_parameter}
-use Rattle.just_parts.specs.Evaluator.{functions_by_name}
+use Rattle.just_parts.specs.Evaluator.{Values, Wanted, bare_set, functions_by_name, set_expressions}
 use Rattle.just_parts.specs.Layers.{Layers}
 use Rattle.just_parts.specs.Located.{located_assignment}
+use Rattle.just_references.specs.Numbers.{bare}
 use Rattle.just_parts.specs.Script.{is_script, is_shell}
 use Rattle.just_parts.specs.Syntax.{SyntaxAnswers}
 use Rattle.just_parts.specs.declared.layers.ast.UnresolvedDependency.{UnresolvedDependency}
@@ -32,16 +33,18 @@ use Rattle.just_names.specs.declared.name.Namepath.{Namepath}
 use Rattle.just_errors.specs.declared.error.Definition.TheVariants as definition
 use Rattle.just_joining.specs.Contents.{Contents, Defined, Signature, all_defined, defined, defined_in, defined_recipe, function_names, module_of_name, signature, signatures, variable_names}
 use Rattle.just_index.specs.Index.{texts_of_names, Repeats}
-use Rattle.just_joining.specs.Groups.{Breaks, Group, OfAliases, OfBodies, OfConstants, OfDependencies, OfExpressions, OfHeaders, OfNames, functions_under, known_of, settings_of, variables_under}
-use Rattle.just_variables.specs.Known.{Known, known}
-use Rattle.just_variables.specs.Misnaming.{Expressions}
+use Rattle.just_joining.specs.Constants.{AreConstants, AsksConstants, AsksFor, Constants, Docs, Evaluated, IsEvaluated, attribute_expressions, constant_expressions, constants_fault, doc_fault, functions_asked, in_doc, in_setting, recipe_expressions, settings_among, settings_expressions, settings_fault, sets_lists, value_among}
+use Rattle.just_joining.specs.Groups.{BodiesAndDocs, Breaks, Group, OfAliases, OfBodies, OfConstants, OfDependencies, OfExpressions, OfHeaders, OfNames, in_bodies, in_docs}
+use Rattle.just_joining.specs.Known.{functions_under, known_of, variables_under}
+use Rattle.just_parts.specs.Known.{Known, known, none_hidden}
+use Rattle.just_variables.specs.Misnaming.{Expressions, Misnames}
 use Rattle.just_joining.specs.Defaults.{Defaults, IsLater, duplicate_default, is_default, is_marked}
 use Rattle.just_joining.specs.Kept.{claim_of_recipe, gives_way, kept_recipes, left_of}
 use Rattle.just_joining.specs.Settings.{allows_variables}
 use Rattle.just_joining.specs.Shells.{Lines, ScriptAttribute, ShellRecipe, Shells, invalid_attribute, of_attributes, of_lines, of_recipe}
 use Rattle.just_joining.specs.declared.kept.Claim.{Claim}
 use Rattle.just_joining.specs.Recipes.{name_of, line_of, token_of, named_parameters, parameter_names, is_defaulted, is_needed, FollowsDefault, named_paths, dependency_paths, least_of, most_of, no_recipe, recipe_at, Depends, DependsOn}
-use Rattle.just_joining.specs.Rules.{Bodies, Constants, Dependencies, Functions, Headers, IsCircleOf, Lists, Modules, Names, Parameters, Redefined, Sets, Under, Unexports, Variables, argument_count, circular, duplicate_parameter, of_defined, of_functions, of_lists, of_modules, of_parameters, of_sets, of_shells, of_unexports, of_variables, required_after_default, unknown_dependency}
+use Rattle.just_joining.specs.Rules.{Bodies, Dependencies, Functions, Headers, IsCircleOf, Lists, Modules, Names, Parameters, Redefined, Sets, Under, Unexports, Variables, argument_count, circular, duplicate_parameter, of_defined, of_functions, of_lists, of_modules, of_parameters, of_sets, of_shells, of_unexports, of_variables, required_after_default, under, unknown_dependency}
 
 -- What the rules read of a recipe.
 pub record Outline : Type 0 where
@@ -206,12 +209,13 @@ module _ (rs qs : List (Recipe UnresolvedDependency)) (alike : AreAlike rs qs) w
       argument_count i j (inside i h) (inside j l) (named i dependency c) (is ∙ ap (λ n. n ∷ []) (name j)) none
       (ap (λ (o : Outline). o.least) (sym (at j)) ∙ least) (ap (λ (o : Outline). o.most lists) (sym (at j)) ∙ most) wrong
 
--- Contents that are alike: so are their recipes, and their functions and variables without numbers, their names, what they set and where they need lists are the same.
+-- Contents that are alike: so are their recipes, and their functions and variables without numbers, their names, the docs of their modules, what they set and where they need lists are the same.
 pub record AreAlikeContents (m n : Contents) : Type 0 where
   pub recipes : AreAlike m.recipes n.recipes
   pub functions : map bare_function m.functions ≡ map bare_function n.functions
   pub variables : map located_assignment m.variables ≡ map located_assignment n.variables
   pub modules : m.modules ≡ n.modules
+  pub docs : m.docs ≡ n.docs
   pub unexports : m.unexports ≡ n.unexports
   pub sets : m.sets ≡ n.sets
   pub lists : m.lists ≡ n.lists
@@ -254,9 +258,13 @@ outlines_left all (x ∷ xs) =
 kept_alike_recipes : (rs qs : List (Recipe UnresolvedDependency)) → AreAlike rs qs → AreAlike (kept_recipes rs) (kept_recipes qs)
 kept_alike_recipes rs qs alike = outlines_left rs rs ∙ (λ i. left_of claim_by (alike i) (alike i)) ∙ sym (outlines_left qs qs)
 
-under_each : (o : Option Settings) (broken other : Settings → Cause → Type 0) → ((s : Settings) (c : Cause) → broken s c → other s c) → (c : Cause) → Under o broken c → Under o other c
-under_each None broken other f c b = b
-under_each (Some s) broken other f c b = f s c b
+-- the expressions of recipes that are evaluated while compiling are told by their outlines
+abbrev outline_expressions : Outline → List Expression
+outline_expressions o = flat_map (λ (named : NamedAttribute Expression). attribute_expressions named.attribute) o.attributes
+
+expressions_read : (rs : List (Recipe UnresolvedDependency)) → flat_map recipe_expressions rs ≡ flat_map outline_expressions (outlines_of rs)
+expressions_read [] = refl
+expressions_read (r ∷ rs) = ap (λ es. recipe_expressions r ++ es) (expressions_read rs)
 
 -- they break the same rules
 module _ (layers : Layers) (m n : Contents) (alike : AreAlikeContents m n) where
@@ -271,9 +279,6 @@ module _ (layers : Layers) (m n : Contents) (alike : AreAlikeContents m n) where
 
   defined_same : defined_in m ≡ defined_in n
   defined_same = ap (λ ns. all_defined ns m.recipes) alike.modules ∙ defined_alike m.recipes n.recipes alike.recipes n.modules
-
-  pub settings_alike : settings_of layers.evaluator m ≡ settings_of layers.evaluator n
-  settings_alike = λ i. layers.evaluator.settings (functions_by_name (functions_under (alike.functions i))) (λ _. None) (alike.sets i)
 
   known_alike : known_of layers.syntax m ≡ known_of layers.syntax n
   known_alike = λ i. known layers.syntax (variables_under (alike.variables i)) (functions_under (alike.functions i))
@@ -292,18 +297,60 @@ module _ (layers : Layers) (m n : Contents) (alike : AreAlikeContents m n) where
       (subst (λ (ss : List Signature). Lists s.lists (texts_of_names (function_names ss)) m.lists c) signed_alike b))
   bodies_alike s c (of_defined b) = of_defined (subst (λ ds. Redefined s.allow_duplicate_recipes ds c) defined_same b)
 
-  under_alike : (broken other : Settings → Cause → Type 0) → ((s : Settings) (c : Cause) → broken s c → other s c) → (c : Cause) → Under (settings_of layers.evaluator m) broken c → Under (settings_of layers.evaluator n) other c
-  under_alike broken other alike_under c b = under_each (settings_of layers.evaluator n) broken other alike_under c (subst (λ (o : Option Settings). Under o broken c) settings_alike b)
+  -- they have the same constants
+  constants_same : constant_expressions m ≡ constant_expressions n
+  constants_same =
+      let recipes : flat_map recipe_expressions m.recipes ≡ flat_map recipe_expressions n.recipes = expressions_read m.recipes ∙ ap (flat_map outline_expressions) alike.recipes ∙ sym (expressions_read n.recipes) in
+      λ i. flat_map set_expressions (alike.sets i) ++ recipes i ++ alike.docs i
+
+  asks_alike : (wanted : Wanted) → AsksConstants layers m wanted → AsksConstants layers n wanted
+  asks_alike wanted asks =
+      subst (λ (k : Known). AsksFor k layers.overrides (constant_expressions n) (sets_lists n.sets) wanted) known_alike
+      (subst (λ es. AsksFor (known_of layers.syntax m) layers.overrides es (sets_lists n.sets) wanted) constants_same
+      (subst (λ (ss : List Set). AsksFor (known_of layers.syntax m) layers.overrides (constant_expressions m) (sets_lists ss) wanted) alike.sets asks))
+
+  constants_alike : (values : Values) → AreConstants layers m values → AreConstants layers n values
+  constants_alike values c = record { wanted = c.wanted; asked = asks_alike c.wanted c.asked; answered = c.answered }
+
+  functions_alike : functions_asked m ≡ functions_asked n
+  functions_alike = λ i. functions_by_name (functions_under (alike.functions i))
+
+  settings_alike : (values : Values) → settings_among layers m values ≡ settings_among layers n values
+  settings_alike values = λ i. layers.evaluator.settings (functions_alike i) values (map bare_set (alike.sets i))
+
+  -- they are evaluated to the same
+  pub evaluated_alike : (it : Evaluated) → IsEvaluated layers m it → IsEvaluated layers n it
+  evaluated_alike it is = record { constants = constants_alike it.constants is.constants; settings = sym (settings_alike it.constants) ∙ is.settings }
+
+  values_alike : (c : Cause) → Constants layers m c → Constants layers n c
+  values_alike c (in_setting {e} there b) =
+      in_setting (subst (λ (ss : List Set). Contains (flat_map set_expressions ss) e) alike.sets there) (subst (λ (k : Known). Misnames k none_hidden e c) known_alike b)
+  values_alike _ (constants_fault {wanted} asks none) = constants_fault (asks_alike wanted asks) none
+  values_alike _ (settings_fault {values} are none) = settings_fault (constants_alike values are) (sym (settings_alike values) ∙ none)
+
+  pub docs_alike : (values : Values) (c : Cause) → Docs layers.syntax layers.evaluator m values c → Docs layers.syntax layers.evaluator n values c
+  docs_alike values c (in_doc {e} there b) =
+      in_doc (subst (λ (es : List Expression). Contains es e) alike.docs there) (subst (λ (k : Known). Misnames k none_hidden e c) known_alike b)
+  docs_alike values _ (doc_fault {e} there none) =
+      doc_fault (subst (λ (es : List Expression). Contains es e) alike.docs there)
+      ((λ i. layers.evaluator.value (sym functions_alike i) values (bare e)) ∙ none)
+
+  bodies_and_docs_alike : (it : Evaluated) (c : Cause) → BodiesAndDocs layers m it c → BodiesAndDocs layers n it c
+  bodies_and_docs_alike it c (in_docs b) = in_docs (docs_alike it.constants c b)
+  bodies_and_docs_alike it c (in_bodies b) = in_bodies (bodies_alike it.settings c b)
+
+  under_alike : (broken other : Evaluated → Cause → Type 0) → ((it : Evaluated) (c : Cause) → broken it c → other it c) → (c : Cause) → Under (IsEvaluated layers m) broken c → Under (IsEvaluated layers n) other c
+  under_alike broken other each c (under {a = it} is b) = under (evaluated_alike it is) (each it c b)
 
   pub breaks_alike : (g : Group) (c : Cause) → Breaks layers g m c → Breaks layers g n c
   breaks_alike OfHeaders c b = headers_alike c b
   breaks_alike OfNames c b = names_alike c b
   breaks_alike OfExpressions c b = subst (λ (k : Known). Expressions k c) known_alike b
-  breaks_alike OfConstants c b = subst (λ (o : Option Settings). Constants o c) settings_alike b
-  breaks_alike OfBodies c b = under_alike (λ s. Bodies layers.syntax s m) (λ s. Bodies layers.syntax s n) bodies_alike c b
+  breaks_alike OfConstants c b = values_alike c b
+  breaks_alike OfBodies c b = under_alike (BodiesAndDocs layers m) (BodiesAndDocs layers n) bodies_and_docs_alike c b
   breaks_alike OfAliases c b = defaults_alike (kept_recipes m.recipes) (kept_recipes n.recipes) (kept_alike_recipes m.recipes n.recipes alike.recipes) c b
-  breaks_alike OfDependencies c b = under_alike (λ s. Dependencies s.lists (kept_recipes m.recipes)) (λ s. Dependencies s.lists (kept_recipes n.recipes))
-      (λ s. dependencies_alike (kept_recipes m.recipes) (kept_recipes n.recipes) (kept_alike_recipes m.recipes n.recipes alike.recipes) s.lists) c b
+  breaks_alike OfDependencies c b = under_alike (λ it. Dependencies it.settings.lists (kept_recipes m.recipes)) (λ it. Dependencies it.settings.lists (kept_recipes n.recipes))
+      (λ it. dependencies_alike (kept_recipes m.recipes) (kept_recipes n.recipes) (kept_alike_recipes m.recipes n.recipes alike.recipes) it.settings.lists) c b
 
 pub alike_back : (m n : Contents) → AreAlikeContents m n → AreAlikeContents n m
 alike_back m n alike = record {
@@ -311,6 +358,7 @@ alike_back m n alike = record {
   functions = sym alike.functions;
   variables = sym alike.variables;
   modules = sym alike.modules;
+  docs = sym alike.docs;
   unexports = sym alike.unexports;
   sets = sym alike.sets;
   lists = sym alike.lists;

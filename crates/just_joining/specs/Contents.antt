@@ -1,9 +1,10 @@
 -- What the rules read of a module.
-use Rattle.std.specs.Prelude.{List, [], ◌++◌, map}
+use Rattle.std.specs.Prelude.{List, [], ◌∷◌, ◌++◌, map}
 use Rattle.just_names.specs.Modulepath.{Text}
 use Rattle.just_names.specs.Name.{text_of_name}
 use Rattle.just_names.specs.declared.name.Name.{Name}
 use Rattle.just_records.specs.declared.assignment.Assignment.{Assignment}
+use Rattle.just_records.specs.declared.expression.Expression.{Expression}
 use Rattle.just_records.specs.declared.function_definition.FunctionDefinition.{FunctionDefinition}
 use Rattle.just_records.specs.declared.list_use.ListUse.{ListUse}
 use Rattle.just_records.specs.declared.setting.Set.{Set}
@@ -13,12 +14,13 @@ use Rattle.just_errors.specs.declared.error.Definition.TheVariants as definition
 use Rattle.just_parts.specs.declared.layers.ast.UnresolvedDependency.{UnresolvedDependency}
 use Rattle.just_parts.specs.declared.recipe.Recipe.{Recipe}
 
--- The recipes, the functions and the variables of a module, the names of the modules that it declares and of the variables that it unexports, what it sets, and where it needs lists, in the order of its files and then of their texts.
+-- The recipes, the functions and the variables of a module, the names of the modules that it declares and what their docs are evaluated from, the names of the variables that it unexports, what it sets, and where it needs lists, in the order of its files and then of their texts.
 pub record Contents : Type 0 where
   pub recipes : List (Recipe UnresolvedDependency)
   pub functions : List FunctionDefinition
   pub variables : List Assignment
   pub modules : List Name
+  pub docs : List Expression
   pub unexports : List Name
   pub sets : List Set
   pub lists : List ListUse
@@ -50,9 +52,13 @@ variable_names = map (λ (a : Assignment). a.name)
 abbrev pub with_lists : Contents → List ListUse → Contents
 with_lists m uses = record m { lists = m.lists ++ uses }
 
+-- the same contents, with one more module, and what its doc is evaluated from
+abbrev pub with_module : Contents → Name → List Expression → Contents
+with_module m name docs = record m { modules = m.modules ++ name ∷ []; docs = m.docs ++ docs }
+
 -- of a module without files
 abbrev pub no_contents : Contents
-no_contents = record { recipes = []; functions = []; variables = []; modules = []; unexports = []; sets = []; lists = [] }
+no_contents = record { recipes = []; functions = []; variables = []; modules = []; docs = []; unexports = []; sets = []; lists = [] }
 
 -- What is defined, and its name.
 pub record Defined : Type 0 where

@@ -4,6 +4,7 @@ use Rattle.just_joining.specs.declared.definitions.Definitions.{Definitions}
 use Rattle.just_parts.specs.declared.layers.ast.UnresolvedDependency.{UnresolvedDependency}
 use Rattle.just_parts.specs.declared.recipe.Recipe.{Recipe}
 use Rattle.just_records.specs.declared.assignment.Assignment.{Assignment}
+use Rattle.just_records.specs.declared.expression.Expression.{Expression}
 use Rattle.just_records.specs.declared.function_definition.FunctionDefinition.{FunctionDefinition}
 use Rattle.just_records.specs.declared.list_use.ListUse.{ListUse}
 use Rattle.just_records.specs.declared.setting.Set.{Set}
@@ -25,12 +26,16 @@ lists_in m = lent m.lists.items
 abbrev pub sets_in : Definitions → List Set
 sets_in m = lent m.sets.items
 
+abbrev pub docs_in : Definitions → List Expression
+docs_in m = lent m.docs.items
+
 abbrev pub contents_in : Definitions → Contents
 contents_in m = record {
   recipes = recipes_in m;
   functions = functions_in m;
   variables = variables_in m;
   modules = m.modules.items;
+  docs = docs_in m;
   unexports = m.unexports.items;
   sets = sets_in m;
   lists = lists_in m;

@@ -1,39 +1,19 @@
 -- The rules of a module, group by group.
-use Rattle.std.specs.Prelude.{◌<◌, ℕ, List, [], map, Option, None}
-use Rattle.just_table.specs.Entries.{put_all}
-use Rattle.just_names.specs.Modulepath.{Text}
-use Rattle.just_names.specs.Name.{text_of_name}
-use Rattle.just_records.specs.declared.assignment.Assignment.{Assignment}
-use Rattle.just_records.specs.declared.function_definition.FunctionDefinition.{FunctionDefinition}
-use Rattle.just_records.specs.declared.settings.Settings.{Settings}
+use Rattle.std.specs.Prelude.{◌<◌, ℕ}
 use Rattle.just_errors.specs.Causes.{Cause, Keeps}
-use Rattle.just_parts.specs.Bare.{bare_function}
-use Rattle.just_parts.specs.Evaluator.{Evaluator, functions_by_name}
 use Rattle.just_parts.specs.Layers.{Layers}
-use Rattle.just_parts.specs.Located.{located_assignment}
-use Rattle.just_parts.specs.Syntax.{SyntaxAnswers}
-use Rattle.just_variables.specs.Known.{Known, known}
 use Rattle.just_variables.specs.Misnaming.{Expressions}
+use Rattle.just_joining.specs.Constants.{Constants, Docs, Evaluated, IsEvaluated}
 use Rattle.just_joining.specs.Contents.{Contents}
 use Rattle.just_joining.specs.Defaults.{Defaults}
-use Rattle.just_joining.specs.Kept.{kept_recipes, kept_variables}
-use Rattle.just_joining.specs.Rules.{Bodies, Constants, Dependencies, Headers, Names, Under}
+use Rattle.just_joining.specs.Kept.{kept_recipes}
+use Rattle.just_joining.specs.Known.{known_of}
+use Rattle.just_joining.specs.Rules.{Bodies, Dependencies, Headers, Names, Under}
 
--- functions under their names
-abbrev pub functions_under : List FunctionDefinition → List (Text × FunctionDefinition)
-functions_under = put_all (λ f. text_of_name f.name) []
-
--- variables under their names, those that are kept
-abbrev pub variables_under : List Assignment → List (Text × Assignment)
-variables_under assignments = put_all (λ (a : Assignment). text_of_name a.name) [] (kept_variables assignments)
-
--- what names stand for in the expressions of a module, whatever its definitions have for numbers
-abbrev pub known_of : SyntaxAnswers → Contents → Known
-known_of answers m = known answers (variables_under (map located_assignment m.variables)) (functions_under (map bare_function m.functions))
-
--- the settings of a module, as they are evaluated; none where one has no value
-abbrev pub settings_of : Evaluator → Contents → Option Settings
-settings_of evaluator m = evaluator.settings (functions_by_name (functions_under (map bare_function m.functions))) (λ _. None) m.sets
+-- What is broken in the bodies of a module, or in the docs of the modules that it declares, as it is evaluated.
+pub data BodiesAndDocs (layers : Layers) (m : Contents) (it : Evaluated) : Cause → Type 0 where
+  in_docs : {c : Cause} → Docs layers.syntax layers.evaluator m it.constants c → BodiesAndDocs layers m it c
+  in_bodies : {c : Cause} → Bodies layers.syntax it.settings m c → BodiesAndDocs layers m it c
 
 -- The groups of rules, in the order in which they are read.
 pub data Group : Type 0 where
@@ -59,9 +39,9 @@ abbrev pub Breaks : Layers → Group → Contents → Cause → Type 0
 Breaks layers OfHeaders m = Headers layers.syntax.conflicts m
 Breaks layers OfNames m = Names m
 Breaks layers OfExpressions m = Expressions (known_of layers.syntax m)
-Breaks layers OfConstants m = Constants (settings_of layers.evaluator m)
-Breaks layers OfBodies m = Under (settings_of layers.evaluator m) (λ s. Bodies layers.syntax s m)
-Breaks layers OfDependencies m = Under (settings_of layers.evaluator m) (λ s. Dependencies s.lists (kept_recipes m.recipes))
+Breaks layers OfConstants m = Constants layers m
+Breaks layers OfBodies m = Under (IsEvaluated layers m) (BodiesAndDocs layers m)
+Breaks layers OfDependencies m = Under (IsEvaluated layers m) (λ (it : Evaluated). Dependencies it.settings.lists (kept_recipes m.recipes))
 Breaks layers OfAliases m = Defaults (kept_recipes m.recipes)
 
 -- all groups are kept

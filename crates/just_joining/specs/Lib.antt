@@ -1,4 +1,5 @@
 pub mod Analyzable
+pub mod Constants
 pub mod Contents
 pub mod Defaults
 pub mod Definitions
@@ -6,6 +7,7 @@ pub mod Files
 pub mod Groups
 pub mod Joined
 pub mod Kept
+pub mod Known
 pub mod Named
 pub mod OfPlaces
 pub mod Reading

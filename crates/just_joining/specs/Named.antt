@@ -11,6 +11,7 @@ use Rattle.just_records.specs.declared.list_use.ListUse.{ListUse}
 use Rattle.just_records.specs.declared.setting.Set.{Set}
 use Rattle.just_names.specs.declared.modulepath.Modulepath.{Modulepath}
 use Rattle.just_parts.specs.declared.recipe.Recipe.{Recipe}
+use Rattle.just_notes.specs.Labels.{doc_by}
 use Rattle.just_notes.specs.Said.{said_in}
 use Rattle.just_joining.specs.Files.{asts_in}
 use Rattle.just_joining.specs.Kept.{kept_recipes}
@@ -72,6 +73,7 @@ contents_from enabled asts files = record {
   functions = said_from function_by enabled asts files;
   variables = said_from variable_by enabled asts files;
   modules = said_from name_by enabled asts files;
+  docs = said_from doc_by enabled asts files;
   unexports = said_from unexported_by enabled asts files;
   sets = said_from set_by enabled asts files;
   lists = lists_from asts files;

@@ -14,7 +14,6 @@ use Rattle.just_names.specs.declared.name.Name.{Name}
 use Rattle.just_records.specs.declared.list_use.ListUse.{ListUse}
 use Rattle.just_records.specs.declared.setting.Set.{Set}
 use Rattle.just_records.specs.declared.settings.Settings.{Settings}
-use Rattle.just_errors.specs.declared.error.Fault.{Fault}
 use Rattle.just_parts.specs.Syntax.{SyntaxAnswers}
 use Rattle.just_parts.specs.declared.layers.ast.UnresolvedDependency.{UnresolvedDependency}
 use Rattle.just_parts.specs.declared.recipe.Recipe.{Recipe}
@@ -110,10 +109,6 @@ pub data Names (m : Contents) : Cause → Type 0 where
   of_variables : {c : Cause} → VariablesOf m c → Names m c
   of_functions : {c : Cause} → Functions (signatures m.functions) c → Names m c
 
--- The settings of a module have no value.
-pub data Constants (settings : Option Settings) : Cause → Type 0 where
-  settings_fault : {place : Place} {fault : Fault} → settings ≡ None → Constants settings (Broken place (kind.Evaluate fault))
-
 -- Two of these definitions have one name, and they are not two recipes that may have it.
 pub data Redefined (allowed : Bool) (ds : List Defined) : Cause → Type 0 where
   redefinition : {place : Place} {told : CompileErrorKind} (r : Redefines ds place told) → (allowed ≡ true → r.first.sort ≡ definition.Module) → Redefined allowed ds (Broken place told)
@@ -135,10 +130,9 @@ pub data Bodies (answers : SyntaxAnswers) (settings : Settings) (m : Contents) :
   of_defined : {c : Cause} → Redefined settings.allow_duplicate_recipes (defined_in m) c → Bodies answers settings m c
   of_shells : {c : Cause} → Shells answers settings m.recipes c → Bodies answers settings m c
 
--- what is broken under settings, where these have a value
-abbrev pub Under : Option Settings → (Settings → Cause → Type 0) → Cause → Type 0
-Under None broken c = ⊥
-Under (Some settings) broken c = broken settings c
+-- what is broken under something that there is
+pub data Under {A : Type 0} (Is : A → Type 0) (broken : A → Cause → Type 0) : Cause → Type 0 where
+  under : {a : A} {c : Cause} → Is a → broken a c → Under Is broken c
 
 -- A circle of names: it begins and ends with one name, each recipe depends on the next, and `recipe` is the last that does.
 pub record IsCircleOf (recipes : List (Recipe UnresolvedDependency)) (recipe : List ℕ) (circle : List (List ℕ)) : Type 0 where

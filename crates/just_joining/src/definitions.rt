@@ -2,9 +2,11 @@ ghost use Rattle.std.specs.Prelude.{◌≡◌, ◌<◌, IfOk, Some, length, slic
 ghost use Rattle.just_joining.specs.Recipes.{recipes_of, recipe_at};
 ghost use Rattle.just_joining.specs.Definitions.{functions_in, lists_in, recipes_in, sets_in, variables_in};
 
-use just_notes::is_enabled;
+use just_notes::{doc_of, is_enabled};
 use just_parts::UnresolvedRecipe;
-use just_parts::layers::{Assignment, FunctionDefinition, Item, ListUse, Name, Set, Syntax};
+use just_parts::layers::{
+    Assignment, Expression, FunctionDefinition, Item, ListUse, Name, NamedAttribute, Set, Syntax,
+};
 use std::alloc::{AllocError, Global};
 
 /// What the files of a module say of it, file after file, before its recipes are resolved.
@@ -18,6 +20,8 @@ pub struct Definitions<'src, 'a> {
     pub variables: Vec<&'a Assignment<'src>>,
     /// The names of the modules in it.
     pub modules: Vec<Name<'src>>,
+    /// What the docs of these are evaluated from.
+    pub docs: Vec<&'a Expression<'src>>,
     /// The names of the variables that it unexports.
     pub unexports: Vec<Name<'src>>,
     /// What it sets.
@@ -27,10 +31,11 @@ pub struct Definitions<'src, 'a> {
 }
 
 impl<'a, 'src> Definitions<'src, 'a> {
-    ghost use Rattle.std.specs.Prelude.{◌++◌, [], OnOk};
-    ghost use Rattle.just_joining.specs.Contents.{no_contents, with_lists};
-    ghost use Rattle.just_joining.specs.Definitions.{contents_in, functions_in, lists_in, recipes_in, sets_in, variables_in};
+    ghost use Rattle.std.specs.Prelude.{◌++◌, [], OnOk, option_to_list};
+    ghost use Rattle.just_joining.specs.Contents.{no_contents, with_lists, with_module};
+    ghost use Rattle.just_joining.specs.Definitions.{contents_in, docs_in, functions_in, lists_in, recipes_in, sets_in, variables_in};
     ghost use Rattle.just_joining.specs.Named.{function_by, name_by, set_by, unexported_by, variable_by};
+    ghost use Rattle.just_notes.specs.Labels.{doc_by, doc_of};
     ghost use Rattle.just_notes.specs.Said.{said};
 
     /// Nothing.
@@ -42,6 +47,7 @@ impl<'a, 'src> Definitions<'src, 'a> {
             functions: Vec::new(alloc),
             variables: Vec::new(alloc),
             modules: Vec::new(alloc),
+            docs: Vec::new(alloc),
             unexports: Vec::new(alloc),
             sets: Vec::new(alloc),
             lists: Vec::new(alloc),
@@ -54,6 +60,7 @@ impl<'a, 'src> Definitions<'src, 'a> {
         ensures functions { OnOk result (functions_in self.new ≡ functions_in self.old ++ said function_by (S.answers syntax.now).enabled items.now) }
         ensures variables { OnOk result (variables_in self.new ≡ variables_in self.old ++ said variable_by (S.answers syntax.now).enabled items.now) }
         ensures modules { OnOk result (self.new.modules.items ≡ self.old.modules.items ++ said name_by (S.answers syntax.now).enabled items.now) }
+        ensures docs { OnOk result (docs_in self.new ≡ docs_in self.old ++ said doc_by (S.answers syntax.now).enabled items.now) }
         ensures unexports { OnOk result (self.new.unexports.items ≡ self.old.unexports.items ++ said unexported_by (S.answers syntax.now).enabled items.now) }
         ensures sets { OnOk result (sets_in self.new ≡ sets_in self.old ++ said set_by (S.answers syntax.now).enabled items.now) }
         ensures lists { OnOk result (lists_in self.new ≡ lists_in self.old) }
@@ -69,12 +76,28 @@ impl<'a, 'src> Definitions<'src, 'a> {
                 Item::Module {
                     name,
                     absolute: Some(_),
+                    attributes,
                     ..
-                } => self.modules.push(name.copied())?,
+                } => self.add_module(name, attributes.as_slice())?,
                 Item::Unexport { name } => self.unexports.push(name.copied())?,
                 Item::Setting(set) => self.sets.push(set)?,
                 _ => continue,
             }
+        }
+        Ok(())
+    }
+
+    // Adds a module that is declared under a name, with these attributes.
+    fn add_module(
+        &mut self,
+        name: &Name<'src>,
+        attributes: &'a [NamedAttribute<'src>],
+    ) -> Result<(), AllocError>
+        ensures { OnOk result (contents_in self.new ≡ with_module (contents_in self.old) name.now (option_to_list (doc_of attributes.now))) }
+    {
+        self.modules.push(name.copied())?;
+        if let Some(expression) = doc_of(attributes) {
+            self.docs.push(expression)?;
         }
         Ok(())
     }

@@ -1,6 +1,7 @@
 //! What a line `$ just` asks.
 use crate::written::unmarked;
 use just_data::Text;
+use just_names::Modulepath;
 use just_parts::layers::Config;
 use std::alloc::{AllocError, Global};
 
@@ -11,13 +12,25 @@ enum Part {
     Home,
     Root,
     Conflicts,
+    Override,
     Word,
+}
+
+// The path of the module of these names, which are joined by `::`; where there are none it is the root's.
+fn module_path(alloc: Global, names: &str) -> Result<Modulepath, AllocError> {
+    let mut path = Modulepath::root(alloc);
+    for name in names.split("::") {
+        if !name.is_empty() {
+            path = path.join(name)?;
+        }
+    }
+    Ok(path)
 }
 
 /// A root, a configuration and words.
 #[derive(Drop)]
 pub struct Asked {
-    /// What `--one` and `--home` say.
+    /// What `--one`, `--home` and `--override` say.
     pub config: Config,
     /// The path of the root, which may be one that is not clean.
     pub root: String,
@@ -32,7 +45,7 @@ impl Asked {
     // The root `/justfile`, the configuration without options, and no words.
     fn new(alloc: Global) -> Result<Asked, AllocError> {
         Ok(Asked {
-            config: Config::default(),
+            config: Config::new(alloc),
             root: String::from_str(alloc, "/justfile")?,
             conflicts: String::new(alloc),
             words: Vec::new(alloc),
@@ -47,11 +60,24 @@ impl Asked {
             "--home" => self.next = Part::Home,
             "--justfile" => self.next = Part::Root,
             "--conflicts" => self.next = Part::Conflicts,
+            "--override" => self.next = Part::Override,
             _ => {
                 self.next = Part::Word;
                 self.words.push(unmarked(alloc, part)?)?;
             }
         }
+        Ok(())
+    }
+
+    // The path of a variable and the value that overrides it, with `=` between the two.
+    fn take_override(&mut self, alloc: Global, part: &str) -> Result<(), AllocError> {
+        let (path, value) = part.split_once('=').unwrap_or((part, ""));
+        let (names, name) = path.rsplit_once("::").unwrap_or(("", path));
+        let key = (module_path(alloc, names)?, Text::from_str(alloc, name)?);
+        let value = unmarked(alloc, value)?;
+        self.config
+            .overrides
+            .insert(key, Text::from_string(value)?)?;
         Ok(())
     }
 
@@ -62,6 +88,7 @@ impl Asked {
             Part::Home => self.config.home = Some(Text::from_str(alloc, part)?),
             Part::Root => self.root = unmarked(alloc, part)?,
             Part::Conflicts => write!(self.conflicts, "{part} ")?,
+            Part::Override => self.take_override(alloc, part)?,
             Part::Word => {
                 self.words.push(unmarked(alloc, part)?)?;
                 return Ok(());
@@ -72,7 +99,8 @@ impl Asked {
     }
 }
 
-/// What stands behind `$ just`: the options `--one`, `--home PATH`, `--justfile PATH` and `--conflicts A,B`, then words.
+/// What stands behind `$ just`: the options `--one`, `--home PATH`, `--justfile PATH`, `--conflicts A,B` and
+/// `--override PATH=VALUE`, then words.
 pub fn read_asked(alloc: Global, line: &str) -> Result<Asked, AllocError> {
     let mut asked = Asked::new(alloc)?;
     for part in line.split_whitespace() {

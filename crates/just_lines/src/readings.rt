@@ -95,18 +95,33 @@ fn add_function(function: &FunctionDefinition, text: &mut String) -> Result<(), 
     write!(text, ") := {}", function.body.text)
 }
 
-// What a setting is set to.
-fn value(set: &Set) -> bool {
-    match set.value {
-        Setting::AllowDuplicateRecipes(value)
-        | Setting::AllowDuplicateVariables(value)
-        | Setting::Export(value)
-        | Setting::IgnoreComments(value)
-        | Setting::Lazy(value)
-        | Setting::Lists(value)
-        | Setting::PositionalArguments(value)
-        | Setting::Quiet(value) => value,
+// Whether a setting that is on or off is on.
+fn is_on(setting: &Setting) -> bool {
+    match setting {
+        Setting::AllowDuplicateRecipes(on)
+        | Setting::AllowDuplicateVariables(on)
+        | Setting::Export(on)
+        | Setting::IgnoreComments(on)
+        | Setting::Lazy(on)
+        | Setting::Lists(on)
+        | Setting::PositionalArguments(on)
+        | Setting::Quiet(on) => *on,
         _ => false,
+    }
+}
+
+// Adds a setting, and what it is set to.
+fn add_set(set: &Set, text: &mut String) -> Result<(), AllocError> {
+    write!(text, "set {}", set.name)?;
+    match &set.value {
+        Setting::Shell(program) | Setting::ScriptInterpreter(program) => {
+            write!(text, " [{}", program.command.text)?;
+            for argument in program.arguments.as_slice() {
+                write!(text, ", {}", argument.text)?;
+            }
+            text.push(']')
+        }
+        setting => write!(text, " {}", is_on(setting)),
     }
 }
 
@@ -135,7 +150,7 @@ fn add_item(item: &Item, text: &mut String) -> Result<(), AllocError> {
             Ok(())
         }
         Item::Recipe(recipe) => add_recipe(recipe, text),
-        Item::Setting(set) => write!(text, "set {} {}", set.name, value(set)),
+        Item::Setting(set) => add_set(set, text),
         Item::Unexport { name } => write!(text, "unexport {name}"),
         Item::Comment(_) | Item::Newline => text.push_str("nothing"),
     }

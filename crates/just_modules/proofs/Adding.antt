@@ -8,7 +8,7 @@ use Rattle.just_records.specs.declared.list_use.ListUse.{ListUse}
 use Rattle.just_names.specs.Modulepath.{Text}
 use Rattle.just_records.specs.declared.unstable_feature.UnstableFeature.{UnstableFeature}
 use Rattle.just_table.specs.Entries.{put, put_all}
-use Rattle.just_notes.specs.Labels.{label_by}
+use Rattle.just_notes.specs.Labels.{doc_by, label_by}
 use Rattle.just_notes.specs.Notes.{absent_by, features_by, noted, warnings_by}
 use Rattle.just_joining.specs.Contents.{Contents, with_lists}
 use Rattle.just_joining.specs.Named.{contents_from, function_by, lists_by, name_by, recipes_by, said_from, set_by, unexported_by, variable_by}
@@ -46,15 +46,16 @@ module _ (enabled : Item → Bool) (asts : List Ast) (places : List ℕ) (n plac
       more field say read known says is = is ∙ (λ i. field (same i) ++ say (are i)) ∙ (λ i. known i ++ says i) ∙ sym (next read)
 
       pub contents_more : added.recipes ≡ before.recipes ++ recipes_of enabled items → added.functions ≡ before.functions ++ said function_by enabled items
-          → added.variables ≡ before.variables ++ said variable_by enabled items → added.modules ≡ before.modules ++ said name_by enabled items
+          → added.variables ≡ before.variables ++ said variable_by enabled items → added.modules ≡ before.modules ++ said name_by enabled items → added.docs ≡ before.docs ++ said doc_by enabled items
           → added.unexports ≡ before.unexports ++ said unexported_by enabled items → added.sets ≡ before.sets ++ said set_by enabled items → added.lists ≡ before.lists
           → with_lists added uses ≡ contents_from enabled asts (take (n + 1) places)
-      contents_more recipes functions variables modules unexports sets lists =
+      contents_more recipes functions variables modules docs unexports sets lists =
           let lists_are = (λ i. lists i ++ need i) ∙ (λ i. (same i).lists ++ ast.list_features) ∙ sym (next lists_by) in λ i. record {
             recipes = more (λ m. m.recipes) (recipes_of enabled) (recipes_by enabled) refl refl recipes i;
             functions = more (λ m. m.functions) (said function_by enabled) (said_in function_by enabled) refl refl functions i;
             variables = more (λ m. m.variables) (said variable_by enabled) (said_in variable_by enabled) refl refl variables i;
             modules = more (λ m. m.modules) (said name_by enabled) (said_in name_by enabled) refl refl modules i;
+            docs = more (λ m. m.docs) (said doc_by enabled) (said_in doc_by enabled) refl refl docs i;
             unexports = more (λ m. m.unexports) (said unexported_by enabled) (said_in unexported_by enabled) refl refl unexports i;
             sets = more (λ m. m.sets) (said set_by enabled) (said_in set_by enabled) refl refl sets i;
             lists = lists_are i;

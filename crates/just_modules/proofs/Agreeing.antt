@@ -15,11 +15,11 @@ use Rattle.just_joining.specs.Analyzable.{AreAnalyzable}
 use Rattle.just_joining.specs.Files.{all_led, led, led_by}
 use Rattle.just_joining.specs.Groups.{Breaks}
 use Rattle.just_modules.specs.Groups.{KeepsModules, NamesModules, in_module}
-use Rattle.just_modules.specs.Modules.{AreModules, Empty, Forest, HasModule, Heading, IsHeading, IsModule, Module, Tree, a_module, after_it, contents_of, first, heading_of, headings_in, in_it, no_module, of_module, of_root}
+use Rattle.just_modules.specs.Modules.{AreModules, Empty, Forest, HasModule, Heading, IsHeading, IsModule, Module, Tree, a_module, after_it, contents_of, first, heading_of, headings_in, in_it, no_module, of_module, of_root, path_of}
 use Rattle.just_joining.specs.Reading.{Reading, Submodule, declared, imported, imports_of, items_in, located_ast, reading_of, submodules_of}
 use Rattle.just_joining.proofs.FilePlaces.{keys_flat, led_counted}
 use Rattle.just_joining.proofs.Holding.{led_counts, some_value}
-use Rattle.just_parts.specs.Layers.{Layers}
+use Rattle.just_parts.specs.Layers.{Given, layers_at}
 
 -- lists of values are one where they are found alike
 all_same : {A : Type 0} (xs ys : List A) → map Some xs ≡ map Some ys → xs ≡ ys
@@ -158,23 +158,23 @@ module _ (R S : Reading) (Q : AstKey → Type 0) (agree : (k : AstKey) → Q k �
       let up = same_heading q r in
       (of_module up.0 (same_module h m up.1 is) c, inner_known h m up.1 is s (is_in s m.modules c))
 
-  module _ (layers : Layers) (root : Heading) (q : Q root.key) (f : Forest) (are : AreModules S (root ∷ []) f) (kept : KeepsModules layers f) where
+  module _ (given : Given) (root : Heading) (q : Q root.key) (f : Forest) (are : AreModules S (root ∷ []) f) (kept : KeepsModules given f) where
     root_known : (h : Heading) → In h (root ∷ []) → Q h.key
     root_known h (inl e) = subst (λ (x : Heading). Q x.key) (sym e) q
     root_known h (inr i) = absurd i
 
     -- what is kept over one reading is kept over the other
-    pub same_kept : (g : Forest) → AreModules R (root ∷ []) g → KeepsModules layers g
-    same_kept g b = subst (KeepsModules layers) (one_forest S are (same_forest root_known b)) kept
+    pub same_kept : (g : Forest) → AreModules R (root ∷ []) g → KeepsModules given g
+    same_kept g b = subst (KeepsModules given) (one_forest S are (same_forest root_known b)) kept
 
-    pub same_unnamed : Keeps (NamesModules layers R root)
+    pub same_unnamed : Keeps (NamesModules given R root)
     same_unnamed named (in_module {c} {h} {m} {inside} g r modules ground breaks) =
         let up = same_heading q r in
         let t = cut R modules h [] refl in
         let is : IsModule S h m = subst (λ x. IsModule S h x) (let e : t.m ≡ m = cc in e) (same_module h t.m up.1 t.is) in
         let x = find_reached S are up.0 in
         let same : x.m ≡ m = one_module S h x.m m x.is is in
-        kept x.m x.inside x.has g c (subst (λ y. Breaks layers g (contents_of y) c) (sym same) breaks)
+        kept x.m x.inside x.has g c (subst (λ y. Breaks (layers_at given (path_of y)) g (contents_of y) c) (sym same) breaks)
 
 -- What asts hold leads to what they hold.
 module _ (enabled : Item → Bool) (asts : AstKey → Option Ast) (can : AreAnalyzable enabled asts) where
@@ -197,10 +197,10 @@ module _ (enabled : Item → Bool) (asts : AstKey → Option Ast) (can : AreAnal
   modules_held : (k : AstKey) (s : Submodule) → Holds k → In s (submodules_of S k) → Holds s.key
   modules_held k s held h = led_held true k s.key held (subst (In s.key) (keys_flat k.0 (items_in (S k))) (in_map (λ (x : Submodule). x.key) s (submodules_of S k) h))
 
-  module _ (layers : Layers) (R : Reading) (agree : (k : AstKey) → Holds k → R k ≡ S k) (root : Heading) (held : Holds root.key) (f : Forest) (are : AreModules S (root ∷ []) f) (kept : KeepsModules layers f) where
+  module _ (given : Given) (R : Reading) (agree : (k : AstKey) → Holds k → R k ≡ S k) (root : Heading) (held : Holds root.key) (f : Forest) (are : AreModules S (root ∷ []) f) (kept : KeepsModules given f) where
     -- a reading that agrees with what asts hold keeps what they keep
-    pub agreeing_kept : (g : Forest) → AreModules R (root ∷ []) g → KeepsModules layers g
-    agreeing_kept = same_kept R S Holds agree (led_held false) modules_held layers root held f are kept
+    pub agreeing_kept : (g : Forest) → AreModules R (root ∷ []) g → KeepsModules given g
+    agreeing_kept = same_kept R S Holds agree (led_held false) modules_held given root held f are kept
 
-    pub agreeing_unnamed : Keeps (NamesModules layers R root)
-    agreeing_unnamed = same_unnamed R S Holds agree (led_held false) modules_held layers root held f are kept
+    pub agreeing_unnamed : Keeps (NamesModules given R root)
+    agreeing_unnamed = same_unnamed R S Holds agree (led_held false) modules_held given root held f are kept

@@ -1,5 +1,5 @@
 -- What an analysis answers, from what is compiled in an order.
-use Rattle.std.proofs.Common.{◌≡◌, ◌<◌, ◌≤◌, ℕ, List, [], ◌∷◌, ◌++◌, map, take, length, get_or, slice_index, Option, Some, refl, sym, ap, subst, ◌∙◌, inl, inr, arith}
+use Rattle.std.proofs.Common.{◌≡◌, ◌<◌, ◌≤◌, ℕ, List, [], ◌∷◌, ◌++◌, map, take, length, get_or, slice_index, Option, None, Some, refl, sym, ap, subst, ◌∙◌, inl, inr, arith}
 use Rattle.std.specs.Prelude.{flat_map, slice_get}
 use Rattle.std.specs.List.{All, Contains}
 use Rattle.std.specs.Map.{keys_of, lookup}
@@ -20,14 +20,15 @@ use Rattle.just_parts.specs.Items.{Ast}
 use Rattle.just_names.specs.declared.modulepath.Modulepath.{Modulepath}
 use Rattle.just_parts.specs.declared.recipe.Recipe.{Recipe}
 use Rattle.just_running.specs.Recipes.{IsResolved}
-use Rattle.just_invoke.specs.declared.justfile.Justfile.{Justfile}
+use Rattle.just_invoke.specs.declared.justfile.Justfile.{Justfile, out-Justfile, out-roll-Justfile}
 use Rattle.just_joining.specs.Analyzable.{AreAnalyzable}
 use Rattle.just_modules.specs.Analyzed.{ComeAfter, IsAnalyzed}
 use Rattle.just_index.specs.Index.{texts_of_names, AreDifferent}
 use Rattle.just_joining.specs.Files.{ArePlaced, AreRows}
 use Rattle.just_modules.specs.Groups.{KeepsGroups, NamesModules}
 use Rattle.just_joining.specs.Joined.{AreArranged, AreJoined, GoDeeper, IsJoined}
-use Rattle.just_modules.specs.Justfiles.{AreCompiled, Built, labelled_as, slot}
+use Rattle.just_modules.specs.Justfiles.{AreCompiled, Built, Made, label_in, labelled_as, recipes_of_all, slot}
+use Rattle.just_notes.specs.declared.labels.Label.{Label}
 use Rattle.just_modules.specs.Modules.{AreModules, Empty, Forest, HasModule, Heading, IsHeading, Module, Tree, a_module, after_it, first, in_it, no_module}
 use Rattle.just_joining.specs.Reading.{Reading, reading_of}
 use Rattle.just_joining.specs.OfPlaces.{RepeatsNames, labels_of_place, names_of_place}
@@ -44,29 +45,29 @@ use Rattle.just_modules.proofs.Keeping.{keeps_groups, keeps_listed, names_next, 
 use Rattle.just_modules.proofs.ModulePaths.{below_root, deeper, ends_same, entered, not_root, one_path}
 use Rattle.just_modules.proofs.ModulePlaces.{IsListed, file_inside, module_of, nobody}
 use Rattle.just_modules.proofs.Ready.{edge_joined}
-use Rattle.just_parts.specs.Layers.{Layers}
+use Rattle.just_parts.specs.Layers.{Given}
 
-pair_flat : {A : Type 0} (f : ℕ → A) (made : ℕ → List (Recipe Dependency)) (xs : List ℕ) → flat_map made xs ≡ flat_map (λ (b : A × List (Recipe Dependency)). b.1) (map (λ q. (f q, made q)) xs)
-pair_flat f made [] = refl
-pair_flat f made (x ∷ xs) = ap (λ rs. made x ++ rs) (pair_flat f made xs)
+pair_flat : {A B : Type 0} (of : Made → List B) (f : ℕ → A) (made : ℕ → Made) (xs : List ℕ) → flat_map (λ q. of (made q)) xs ≡ flat_map (λ (b : A × Made). of b.1) (map (λ q. (f q, made q)) xs)
+pair_flat of f made [] = refl
+pair_flat of f made (x ∷ xs) = ap (λ rs. of (made x) ++ rs) (pair_flat of f made xs)
 
-module _ (layers : Layers) (entries : List (AstKey × Ast)) (d : AstKey) (files : Files) (placed : ArePlaced entries files) (rows : Rows) (are : AreRows layers.syntax.enabled files rows)
-    (can : AreAnalyzable layers.syntax.enabled (λ k. lookup (same_ast_key k) entries)) where
+module _ (given : Given) (entries : List (AstKey × Ast)) (d : AstKey) (files : Files) (placed : ArePlaced entries files) (rows : Rows) (are : AreRows given.syntax.enabled files rows)
+    (can : AreAnalyzable given.syntax.enabled (λ k. lookup (same_ast_key k) entries)) where
   abbrev n : ℕ
   n = length (keys_of entries)
 
   pub rows_many : length rows.imports.items ≡ n
-  rows_many = are.imports.count ∙ count layers.syntax.enabled entries d files placed rows are can.paths
+  rows_many = are.imports.count ∙ count given.syntax.enabled entries d files placed rows are can.paths
 
   -- modules in a module lie deeper
   pub go_deeper : (joined : Joined) → AreJoined rows (length rows.imports.items) joined → GoDeeper joined
   go_deeper joined all =
       let aj = subst (λ m. AreJoined rows m joined) rows_many all in
-      (λ p. length (get_or (keys_of entries) p d).0.components, deeper layers.syntax.enabled entries d files placed rows are can.paths joined (edge_joined layers.syntax.enabled entries d files placed rows are can.paths joined aj))
+      (λ p. length (get_or (keys_of entries) p d).0.components, deeper given.syntax.enabled entries d files placed rows are can.paths joined (edge_joined given.syntax.enabled entries d files placed rows are can.paths joined aj))
 
   module _ (root : ℕ) (inside : root < n) (joined : Joined) (order : List ℕ) (arr : AreArranged rows root joined order) (top : Heading) (is_top : top.key ≡ get_or (keys_of entries) root d) where
     abbrev R : Reading
-    R = reading_of layers.syntax.enabled (λ k. lookup (same_ast_key k) entries)
+    R = reading_of given.syntax.enabled (λ k. lookup (same_ast_key k) entries)
 
     abbrev key_at : ℕ → AstKey
     key_at p = get_or (keys_of entries) p d
@@ -78,7 +79,7 @@ module _ (layers : Layers) (entries : List (AstKey × Ast)) (d : AstKey) (files 
     IsReached = Reached (HasEdge joined.modules.items) (root ∷ []) []
 
     stand : (p : ℕ) → IsReached p → (p < n) × IsJoined rows joined p
-    stand p r = stands layers.syntax.enabled entries d files placed rows are can joined aj root inside arr.root_joined arr.inner_joined r
+    stand p r = stands given.syntax.enabled entries d files placed rows are can joined aj root inside arr.root_joined arr.inner_joined r
 
     reached : (k : ℕ) → k < length order → IsReached (slice_index order k)
     reached k l = arr.reached k 0 l
@@ -90,46 +91,46 @@ module _ (layers : Layers) (entries : List (AstKey × Ast)) (d : AstKey) (files 
     joins k l = (stand (slice_index order k) (reached k l)).1
 
     heading : (k : ℕ) → k < length order → (h : Heading) × IsHeading R top h × (h.key ≡ key_at (slice_index order k))
-    heading k l = heading_at layers.syntax.enabled entries d files placed rows are can.paths joined root stand top is_top (reached k l)
+    heading k l = heading_at given.syntax.enabled entries d files placed rows are can.paths joined root stand top is_top (reached k l)
 
     -- the files of a listed module have places
     pub files_there : (k : ℕ) → k < length order → All (λ q. q < length files.asts.items) (targets joined.files.items (slice_index order k))
     files_there k l = λ i x h.
-        let in_files = file_inside layers.syntax.enabled entries d files placed rows are can.paths joined (slice_index order k) (below k l) (joins k l) in
+        let in_files = file_inside given.syntax.enabled entries d files placed rows are can.paths joined (slice_index order k) (below k l) (joins k l) in
         let row = targets joined.files.items (slice_index order k) in
-        omega (arith, in_files (get_or row i x) (is_in (get_or row i x) row (Contains-get_or row i x h)), count layers.syntax.enabled entries d files placed rows are can.paths)
+        omega (arith, in_files (get_or row i x) (is_in (get_or row i x) row (Contains-get_or row i x h)), count given.syntax.enabled entries d files placed rows are can.paths)
 
     -- two modules of one name are named
-    pub repeats_named : (c : Cause) → RepeatsNames layers.syntax.enabled files joined order c → NamesModules layers R top c
+    pub repeats_named : (c : Cause) → RepeatsNames given.syntax.enabled files joined order c → NamesModules given R top c
     repeats_named c r =
         let h = heading r.at r.there in
-        names_repeated layers entries d files placed rows are can.paths joined order below joins arr.ordered.steps_first top r.at r.there h.0 h.2 h.1 c r.broken
+        names_repeated given entries d files placed rows are can.paths joined order below joins arr.ordered.steps_first top r.at r.there h.0 h.2 h.1 c r.broken
 
-    module _ (different : (k : ℕ) → k < length order → AreDifferent (texts_of_names (names_of_place layers.syntax.enabled files joined (slice_index order k)))) where
-      pub all_can : CanCompileAll layers.syntax.enabled files joined order
-      all_can = can_compile_all layers.syntax.enabled entries d files placed rows are can joined aj root inside arr.root_joined arr.inner_joined order arr.ordered arr.reached different
+    module _ (different : (k : ℕ) → k < length order → AreDifferent (texts_of_names (names_of_place given.syntax.enabled files joined (slice_index order k)))) where
+      pub all_can : CanCompileAll given.syntax.enabled files joined order
+      all_can = can_compile_all given.syntax.enabled entries d files placed rows are can joined aj root inside arr.root_joined arr.inner_joined order arr.ordered arr.reached different
 
       -- a broken rule of recipes is named
-      pub broken_named : (c : Cause) → BreaksInOrder layers files joined order c → NamesModules layers R top c
+      pub broken_named : (c : Cause) → BreaksInOrder given files joined order c → NamesModules given R top c
       broken_named c r =
           let h = heading r.at r.there in
-          names_next layers entries d files placed rows are can.paths joined order below joins arr.ordered.steps_first top r.at r.there h.0 h.2 h.1 c r.before r.broken
+          names_next given entries d files placed rows are can.paths joined order below joins arr.ordered.steps_first top r.at r.there h.0 h.2 h.1 c r.before r.broken
 
       -- the root's place in the order
       root_listed : (k : ℕ) × (k < length order) × (slice_index order k ≡ root)
       root_listed =
-          let c = listed layers.syntax.enabled entries d files placed rows are can joined aj root inside arr.root_joined arr.inner_joined order arr.ordered arr.reached different (from_start (0, omega arith, refl)) in
+          let c = listed given.syntax.enabled entries d files placed rows are can joined aj root inside arr.root_joined arr.inner_joined order arr.ordered arr.reached different (from_start (0, omega arith, refl)) in
           (c.0, c.1, sym (get_or_default order c.0 root 0 c.1) ∙ c.2)
 
-      module _ (loaded : List Text) (slots : List (Option Justfile)) (recipes : List (Recipe Dependency)) (so : HaveCompiled layers files joined loaded order (length order) slots recipes) where
+      module _ (loaded : List Text) (slots : List (Option Justfile)) (added : Made) (so : HaveCompiled given files joined loaded order (length order) slots added) where
         -- the root's module is held
         pub root_held : slot slots root ≡ Some (so.justfile root)
         root_held =
             let k = root_listed in
             subst (λ q. slot slots q ≡ Some (so.justfile q)) k.2 (so.held k.0 k.1 (λ i l e.
-            not_root layers.syntax.enabled entries d files placed rows are can.paths joined (edge_joined layers.syntax.enabled entries d files placed rows are can.paths joined aj) root (reached i l) (subst (HasEdge joined.modules.items (slice_index order i)) k.2 e) refl))
+            not_root given.syntax.enabled entries d files placed rows are can.paths joined (edge_joined given.syntax.enabled entries d files placed rows are can.paths joined aj) root (reached i l) (subst (HasEdge joined.modules.items (slice_index order i)) k.2 e) refl))
 
-        many : (k : ℕ) → k < length order → length (labels_of_place layers.syntax.enabled files joined (slice_index order k)) ≡ length (targets joined.modules.items (slice_index order k))
+        many : (k : ℕ) → k < length order → length (labels_of_place given.syntax.enabled files joined (slice_index order k)) ≡ length (targets joined.modules.items (slice_index order k))
         many k l = (all_can.each k l).labels
 
         abbrev k0 : ℕ
@@ -142,44 +143,49 @@ module _ (layers : Layers) (entries : List (AstKey × Ast)) (d : AstKey) (files 
         e0 = is_top ∙ ap key_at (sym root_listed.2)
 
         abbrev m0 : Module
-        m0 = module_of layers.syntax.enabled entries d files placed rows are can.paths joined order below joins arr.ordered.steps_first k0 l0 top
+        m0 = module_of given.syntax.enabled entries d files placed rows are can.paths joined order below joins arr.ordered.steps_first k0 l0 top
 
         abbrev built : List Built
         built = map (λ q. (key_at q, so.made q)) order
 
         inside0 : Forest
-        inside0 = (forest_at layers entries d files placed rows are can.paths joined order below joins arr.ordered.steps_first loaded so.made so.justfile so.each many k0 l0 top e0).inside
+        inside0 = (forest_at given entries d files placed rows are can.paths joined order below joins arr.ordered.steps_first loaded so.made so.justfile so.each many k0 l0 top e0).inside
 
-        known : (k : ℕ) (x : Module) → IsListed layers.syntax.enabled entries d files placed rows are can.paths joined order below joins arr.ordered.steps_first k x → k ≤ length order → KeepsGroups layers x
-        known k x i b = keeps_listed layers entries d files placed rows are can.paths joined order below joins arr.ordered.steps_first k x (λ j l. (so.each j (omega (arith, l, b))).kept) i
+        known : (k : ℕ) (x : Module) → IsListed given.syntax.enabled entries d files placed rows are can.paths joined order below joins arr.ordered.steps_first k x → k ≤ length order → KeepsGroups given x
+        known k x i b = keeps_listed given entries d files placed rows are can.paths joined order below joins arr.ordered.steps_first k x (λ j l. (so.each j (omega (arith, l, b))).kept) i
 
-        kept : (x : Module) (below' : Forest) → HasModule (Tree m0 inside0 Empty) x below' → KeepsGroups layers x
+        kept : (x : Module) (below' : Forest) → HasModule (Tree m0 inside0 Empty) x below' → KeepsGroups given x
         unfolding inside0
-        kept x below' first = keeps_groups layers entries d files placed rows are can.paths joined order below joins arr.ordered.steps_first k0 l0 top (so.each k0 l0).kept
-        kept x below' (in_it i) = known k0 x ((forest_at layers entries d files placed rows are can.paths joined order below joins arr.ordered.steps_first loaded so.made so.justfile so.each many k0 l0 top e0).known x below' i) (omega (arith, l0))
+        kept x below' first = keeps_groups given entries d files placed rows are can.paths joined order below joins arr.ordered.steps_first k0 l0 top e0 (so.each k0 l0).kept
+        kept x below' (in_it i) = known k0 x ((forest_at given entries d files placed rows are can.paths joined order below joins arr.ordered.steps_first loaded so.made so.justfile so.each many k0 l0 top e0).known x below' i) (omega (arith, l0))
         kept x below' (after_it i) = absurd (nobody i refl)
 
         are_modules : AreModules R (top ∷ []) (Tree m0 inside0 Empty)
         unfolding inside0
         are_modules =
-            let t = forest_at layers entries d files placed rows are can.paths joined order below joins arr.ordered.steps_first loaded so.made so.justfile so.each many k0 l0 top e0 in
+            let t = forest_at given entries d files placed rows are can.paths joined order below joins arr.ordered.steps_first loaded so.made so.justfile so.each many k0 l0 top e0 in
             a_module t.is t.are_modules no_module
 
-        compiled : AreCompiled layers (λ k. lookup (same_ast_key k) entries) loaded built (Tree m0 inside0 Empty) (labelled_as top.label (so.justfile root) ∷ [])
+        compiled : AreCompiled given (λ k. lookup (same_ast_key k) entries) loaded built (Tree m0 inside0 Empty) (labelled_as top.label (so.justfile root) ∷ [])
         unfolding inside0
         compiled =
-            subst (λ q. AreCompiled layers (λ k. lookup (same_ast_key k) entries) loaded built (Tree m0 (forest_at layers entries d files placed rows are can.paths joined order below joins arr.ordered.steps_first loaded so.made so.justfile so.each many k0 l0 top e0).inside Empty) (labelled_as top.label (so.justfile q) ∷ [])) root_listed.2
-            (tree_compiled layers entries d files placed rows are can.paths joined order below joins arr.ordered.steps_first loaded so.made so.justfile so.each many k0 l0 top e0)
+            subst (λ q. AreCompiled given (λ k. lookup (same_ast_key k) entries) loaded built (Tree m0 (forest_at given entries d files placed rows are can.paths joined order below joins arr.ordered.steps_first loaded so.made so.justfile so.each many k0 l0 top e0).inside Empty) (labelled_as top.label (so.justfile q) ∷ [])) root_listed.2
+            (tree_compiled given entries d files placed rows are can.paths joined order below joins arr.ordered.steps_first loaded so.made so.justfile so.each many k0 l0 top e0)
 
-        all : recipes ≡ flat_map (λ (b : Built). b.1) built
-        all = so.all ∙ ap (flat_map so.made) (take_all (length order) order (omega arith)) ∙ pair_flat key_at so.made order
+        -- all that is added of each kind
+        module _ {B : Type 0} (of : Made → List B) where
+          all : of added ≡ flat_map (λ q. of (so.made q)) (take (length order) order) → of added ≡ flat_map (λ (b : Built). of b.1) built
+          all before = before ∙ ap (flat_map (λ q. of (so.made q))) (take_all (length order) order (omega arith)) ∙ pair_flat of key_at so.made order
 
-        resolved : All IsResolved recipes
+        all_recipes : added.recipes ≡ recipes_of_all built
+        all_recipes = all (λ (x : Made). x.recipes) so.recipes
+
+        resolved : All IsResolved added.recipes
         resolved = λ i x l.
-            let r = get_or recipes i x in
-            let q = from_flat so.made r (take (length order) order) (subst (In r) so.all (is_in r recipes (Contains-get_or recipes i x l))) in
+            let r = get_or added.recipes i x in
+            let q = from_flat (λ q. (so.made q).recipes) r (take (length order) order) (subst (In r) so.recipes (is_in r added.recipes (Contains-get_or added.recipes i x l))) in
             let k = in_take order (length order) q.0 (omega arith) (contained q.0 (take (length order) order) q.1) in
-            All-contains IsResolved (so.made (slice_index order k.0)) r (so.each k.0 k.1).resolved.resolved (subst (λ p. Contains (so.made p) r) (sym k.2) (contained r (so.made q.0) q.2))
+            All-contains IsResolved (so.made (slice_index order k.0)).recipes r (so.each k.0 k.1).resolved.resolved (subst (λ p. Contains (so.made p).recipes r) (sym k.2) (contained r (so.made q.0).recipes q.2))
 
         -- what stands at a place of the list
         built_at : (i : ℕ) (b : Built) → slice_get built i ≡ Some b → (i < length order) × (b ≡ (key_at (slice_index order i), so.made (slice_index order i)))
@@ -193,8 +199,8 @@ module _ (layers : Layers) (entries : List (AstKey × Ast)) (d : AstKey) (files 
             let y = get_map (λ (b : Built). b.0) built j k b in
             let p = built_at i x.0 x.1 in
             let q = built_at j y.0 y.1 in
-            one_at layers.syntax.enabled entries d files placed rows are can joined aj root inside arr.root_joined arr.inner_joined order arr.ordered arr.reached different i j p.0 q.0
-            (one_place layers.syntax.enabled entries d files placed rows are can.paths (slice_index order i) (slice_index order j) (below i p.0) (below j q.0) (sym (ap (λ (b : Built). b.0) p.1) ∙ sym x.2 ∙ y.2 ∙ ap (λ (b : Built). b.0) q.1))
+            one_at given.syntax.enabled entries d files placed rows are can joined aj root inside arr.root_joined arr.inner_joined order arr.ordered arr.reached different i j p.0 q.0
+            (one_place given.syntax.enabled entries d files placed rows are can.paths (slice_index order i) (slice_index order j) (below i p.0) (below j q.0) (sym (ap (λ (b : Built). b.0) p.1) ∙ sym x.2 ∙ y.2 ∙ ap (λ (b : Built). b.0) q.1))
 
         each : (b : Built) → Contains built b → (h : Heading) × IsHeading R top h × (h.key ≡ b.0)
         each b c =
@@ -209,23 +215,23 @@ module _ (layers : Layers) (entries : List (AstKey × Ast)) (d : AstKey) (files 
         one_spacing (from_start {a} c) = elim (is_in a (root ∷ []) c) [ inl e ↦ ap (λ p. (key_at p).0.spaced) e | inr wrong ↦ absurd wrong ]
         one_spacing (from_member {a} {b} r on e) =
             let s = stand a r in
-            let x = entered layers.syntax.enabled entries d files placed rows are can.paths joined a s.0 s.1 b e in
+            let x = entered given.syntax.enabled entries d files placed rows are can.paths joined a s.0 s.1 b e in
             ap (λ (m : Modulepath). m.spaced) x.path ∙ one_spacing r
 
         -- a module whose path is one name longer is in it
         inner_before : (i : ℕ) (l : i < length order) {q : ℕ} → IsReached q → (name : Text) → (key_at q).0.components ≡ (key_at (slice_index order i)).0.components ++ name ∷ [] → (j : ℕ) × (j < i) × (slice_index order j ≡ q)
         inner_before i l (from_start {a} c) name e =
             let same : a ≡ root = elim (is_in a (root ∷ []) c) [ inl s ↦ s | inr wrong ↦ absurd wrong ] in
-            let low = below_root layers.syntax.enabled entries d files placed rows are can.paths joined (edge_joined layers.syntax.enabled entries d files placed rows are can.paths joined aj) root (reached i l) in
+            let low = below_root given.syntax.enabled entries d files placed rows are can.paths joined (edge_joined given.syntax.enabled entries d files placed rows are can.paths joined aj) root (reached i l) in
             absurd (omega (arith, low, ap length (ap (λ p. (key_at p).0.components) (sym same) ∙ e), length-append (key_at (slice_index order i)).0.components (name ∷ [])))
         inner_before i l (from_member {a} {b} r on e) name is =
             let p = slice_index order i in
             let s = stand a r in
-            let x = entered layers.syntax.enabled entries d files placed rows are can.paths joined a s.0 s.1 b e in
+            let x = entered given.syntax.enabled entries d files placed rows are can.paths joined a s.0 s.1 b e in
             let parts = ends_same (key_at a).0.components (key_at p).0.components (text_of_name x.sub.name) name (ap (λ (m : Modulepath). m.components) (sym x.path) ∙ is) in
             let path : (key_at a).0 ≡ (key_at p).0 = λ y. record { components = parts.0 y; spaced = (one_spacing r ∙ sym (one_spacing (reached i l))) y } in
-            let outer : a ≡ p = one_path layers.syntax.enabled entries d files placed rows are can.paths joined (edge_joined layers.syntax.enabled entries d files placed rows are can.paths joined aj) root
-            (subs_differ layers.syntax.enabled entries d files placed rows are can joined aj root inside arr.root_joined arr.inner_joined order arr.ordered arr.reached different) r (reached i l) path in
+            let outer : a ≡ p = one_path given.syntax.enabled entries d files placed rows are can.paths joined (edge_joined given.syntax.enabled entries d files placed rows are can.paths joined aj) root
+            (subs_differ given.syntax.enabled entries d files placed rows are can joined aj root inside arr.root_joined arr.inner_joined order arr.ordered arr.reached different) r (reached i l) path in
             in_take order i b (omega (arith, l)) (arr.ordered.steps_first i b l (subst (λ y. HasEdge joined.modules.items y b) outer e))
 
         after : ComeAfter built
@@ -233,11 +239,16 @@ module _ (layers : Layers) (entries : List (AstKey × Ast)) (d : AstKey) (files 
             let x = built_at i b at_i in
             let y = built_at j inner at_j in
             let k = inner_before i x.0 (reached j y.0) name (ap (λ (z : Built). z.0.0.components) (sym y.1) ∙ is ∙ ap (λ (z : Built). z.0.0.components ++ name ∷ []) x.1) in
-            let same = one_at layers.syntax.enabled entries d files placed rows are can joined aj root inside arr.root_joined arr.inner_joined order arr.ordered arr.reached different k.0 j (omega (arith, k.1, x.0)) y.0 k.2 in
+            let same = one_at given.syntax.enabled entries d files placed rows are can joined aj root inside arr.root_joined arr.inner_joined order arr.ordered arr.reached different k.0 j (omega (arith, k.1, x.0)) y.0 k.2 in
             omega (arith, same, k.1)
 
-        pub is_analyzed : IsAnalyzed layers (λ k. lookup (same_ast_key k) entries) loaded top (labelled_as top.label (so.justfile root)) recipes
-        is_analyzed = record {
+        labelled : top.label.doc_expression ≡ None → label_in (labelled_as top.label (so.justfile root)) ≡ top.label
+        labelled undocumented =
+            let out = out-roll-Justfile (record (out-Justfile (so.justfile root)) { name = top.label.name; doc = top.label.doc; groups = top.label.groups; private = top.label.private }) in
+            ap (λ x. let label : Label = record { name = x.name; doc = x.doc; doc_expression = None; groups = x.groups; private = x.private } in label) out ∙ (λ i. record top.label { doc_expression = sym undocumented i })
+
+        pub is_analyzed : top.label.doc_expression ≡ None → IsAnalyzed given (λ k. lookup (same_ast_key k) entries) loaded top (labelled_as top.label (so.justfile root)) added.recipes added.overridden
+        is_analyzed undocumented = record {
           m = m0;
           inside = inside0;
           are_modules = are_modules;
@@ -246,7 +257,9 @@ module _ (layers : Layers) (entries : List (AstKey × Ast)) (d : AstKey) (files 
           once = once;
           after = after;
           each = each;
-          all = all;
+          all = all_recipes;
+          overrides = all (λ (x : Made). x.overridden) so.overridden;
+          label = labelled undocumented;
           compiled = compiled;
-          closed = forest_closed layers (λ k. lookup (same_ast_key k) entries) loaded built recipes all resolved compiled (labelled_as top.label (so.justfile root)) (inl refl);
+          closed = forest_closed given (λ k. lookup (same_ast_key k) entries) loaded built added.recipes all_recipes resolved compiled (labelled_as top.label (so.justfile root)) (inl refl);
         }

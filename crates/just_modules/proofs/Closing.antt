@@ -22,7 +22,7 @@ use Rattle.just_running.specs.Recipes.{find_number, numbers}
 use Rattle.just_invoke.specs.declared.justfile.Justfile.{Justfile, out-Justfile}
 use Rattle.just_invoke.specs.declared.justfile.RecipeKey.{RecipeKey}
 use Rattle.just_modules.specs.Analysis.{IsDefaultAmong, IsDefaultOf, IsKeyOf}
-use Rattle.just_modules.specs.Justfiles.{AreCompiled, Built, IsCompiled, by_name, held_by_name, none, one, recipes_in}
+use Rattle.just_modules.specs.Justfiles.{AreCompiled, Built, Made, IsCompiled, by_name, held_by_name, none, one, recipes_in, recipes_of_all}
 use Rattle.just_modules.specs.Modules.{Forest, Module}
 use Rattle.just_graph.proofs.Index.{some_same}
 use Rattle.std.specs.Option.{option_map}
@@ -32,7 +32,7 @@ use Rattle.just_joining.specs.Recipes.{recipes_of}
 use Rattle.just_joining.specs.Resolved.{number_at, unresolved_numbers}
 use Rattle.just_modules.proofs.Keys.{each_found}
 use Rattle.just_modules.proofs.TableValues.{put_cases}
-use Rattle.just_parts.specs.Layers.{Layers}
+use Rattle.just_parts.specs.Layers.{Given}
 
 -- the start stands in what is joined
 module _ {X : Type 0} (same : X → X → Bool) (itself : (x : X) → same x x ≡ true) where
@@ -79,22 +79,22 @@ number_in rs n h =
     (c.0, omega (arith, c.1, length-map rs (λ (r : Recipe UnresolvedDependency). r.number.0)), get_or_default (unresolved_numbers rs) c.0 0 n c.1 ∙ c.2)
 
 abbrev made_by : Built → List (Recipe Dependency)
-made_by b = b.1
+made_by b = b.1.recipes
 
-module _ (layers : Layers) (asts : AstKey → Option Ast) (loaded : List Text) (built : List Built) (recipes : List (Recipe Dependency)) (all : recipes ≡ flat_map (λ (b : Built). b.1) built) (resolved : All IsResolved recipes) where
-  number_held : (b : Built) → Contains built b → (n : ℕ) → Contains (numbers b.1) n → IsSome (find_number recipes n)
+module _ (given : Given) (asts : AstKey → Option Ast) (loaded : List Text) (built : List Built) (recipes : List (Recipe Dependency)) (all : recipes ≡ recipes_of_all built) (resolved : All IsResolved recipes) where
+  number_held : (b : Built) → Contains built b → (n : ℕ) → Contains (numbers b.1.recipes) n → IsSome (find_number recipes n)
   number_held b c n d =
-      let r = from_map (λ (q : Recipe Dependency). q.number.0) n b.1 (is_in n (numbers b.1) d) in
+      let r = from_map (λ (q : Recipe Dependency). q.number.0) n b.1.recipes (is_in n (numbers b.1.recipes) d) in
       let i : In r.0 (flat_map made_by built) = in_flat made_by r.0 b built (is_in b built c) r.1 in
       let j : In r.0 recipes = subst (λ (rs : List (Recipe Dependency)). In r.0 rs) (sym all) i in
       number_found recipes n (subst (λ m. In m (numbers recipes)) (sym r.2) (in_map (λ (q : Recipe Dependency). q.number.0) r.0 recipes j))
 
-  module _ {m : Module} {inner : List Justfile} {made : List (Recipe Dependency)} {j : Justfile} (there : Contains built (m.heading.key, made)) (is : IsCompiled layers asts loaded m inner made j) where
+  module _ {m : Module} {inner : List Justfile} {made : Made} {j : Justfile} (there : Contains built (m.heading.key, made)) (is : IsCompiled given asts loaded m inner made j) where
     abbrev rs : List (Recipe UnresolvedDependency)
-    rs = kept_recipes (recipes_in layers.syntax.enabled asts m.files)
+    rs = kept_recipes (recipes_in given.syntax.enabled asts m.files)
 
     abbrev own_rs : List (Recipe UnresolvedDependency)
-    own_rs = recipes_of layers.syntax.enabled is.own.items
+    own_rs = recipes_of given.syntax.enabled is.own.items
 
     place_held : (place : ℕ) → place < length rs → IsSome (find_number recipes (number_at rs place))
     place_held place h = number_held (m.heading.key, made) there (number_at rs place) (is.resolved.there place h)
@@ -127,7 +127,7 @@ module _ (layers : Layers) (asts : AstKey → Option Ast) (loaded : List Text) (
     }
 
   -- the modules of a forest, with those in them
-  pub forest_closed : {f : Forest} {js : List Justfile} → AreCompiled layers asts loaded built f js → (j : Justfile) → In j js → AreClosed recipes j
+  pub forest_closed : {f : Forest} {js : List Justfile} → AreCompiled given asts loaded built f js → (j : Justfile) → In j js → AreClosed recipes j
   forest_closed none j h = absurd h
   forest_closed (one made there below is after) j (inl e) =
       subst (AreClosed recipes) (sym e) (all_closed (module_closed there is) (λ inner c. forest_closed below inner (named_in _ inner (subst (In inner) is.modules (is_in inner _ c)))))

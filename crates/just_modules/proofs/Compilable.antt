@@ -24,6 +24,7 @@ use Rattle.just_joining.proofs.FilePlaces.{count, key_count}
 use Rattle.just_modules.proofs.ModulePaths.{file_path, one_outer, one_path, row_once, subs_at}
 use Rattle.just_modules.proofs.ModulePlaces.{file_inside, inner_keys}
 use Rattle.just_joining.proofs.Numbers.{have_priors, levels_once, numbers_apart, numbers_once}
+use Rattle.just_modules.proofs.VariableNumbers.{variables_once}
 use Rattle.just_modules.proofs.Ready.{edge_joined, labels_are, names_are, reached_joined}
 
 module _ (enabled : Item → Bool) (entries : List (AstKey × Ast)) (d : AstKey) (files : Files) (placed : ArePlaced entries files) (rows : Rows) (are : AreRows enabled files rows)
@@ -62,6 +63,7 @@ module _ (enabled : Item → Bool) (entries : List (AstKey × Ast)) (d : AstKey)
         files_there = λ k x l. omega (arith, in_files (get_or (targets joined.files.items p) k x) (is_in (get_or (targets joined.files.items p) k x) (targets joined.files.items p) (Contains-get_or (targets joined.files.items p) k x l)), many);
         modules_there = λ k x l. omega (arith, many, (stands (from_member r refl (Contains-get_or (targets joined.modules.items p) k x l))).0);
         numbers = numbers_once enabled entries d files placed rows are can (targets joined.files.items p) (levels_once (targets rows.imports.items) p (targets joined.files.items p) s.1.files) in_files;
+        variables = variables_once enabled entries d files placed rows are can (targets joined.files.items p) (levels_once (targets rows.imports.items) p (targets joined.files.items p) s.1.files) in_files;
         priors = have_priors enabled entries d files placed rows are can (targets joined.files.items p) in_files;
         apart = row_once enabled entries d files placed rows are can.paths joined p s.0 s.1 (different_subs r different);
         labels = ap length (labels_same r) ∙ length-map (subs_at enabled entries d files placed rows are can.paths joined p) (λ (s : Submodule). s.label)

@@ -1,37 +1,17 @@
 -- The groups of rules that are kept before another.
-use Rattle.std.proofs.Common.{◌≡◌, Option, None, Some, arith, subst, sym}
-use Rattle.just_graph.proofs.Index.{some_same}
-use Rattle.just_records.specs.declared.settings.Settings.{Settings}
+use Rattle.std.proofs.Common.{◌≡◌, arith, subst}
 use Rattle.just_errors.specs.Causes.{Cause, Keeps}
 use Rattle.just_parts.specs.Layers.{Layers}
+use Rattle.just_parts.specs.Syntax.{SyntaxAnswers}
+use Rattle.just_records.specs.declared.settings.Settings.{Settings}
+use Rattle.just_constants.proofs.Once.{evaluated_once}
+use Rattle.just_joining.specs.Constants.{Docs, Evaluated, IsEvaluated}
 use Rattle.just_joining.specs.Contents.{Contents}
-use Rattle.just_joining.specs.Groups.{Breaks, BreaksContents, KeepsBefore, KeepsContents, OfAliases, OfBodies, OfConstants, OfDependencies, OfExpressions, OfHeaders, OfNames, settings_of}
 use Rattle.just_joining.specs.Defaults.{Defaults}
+use Rattle.just_joining.specs.Groups.{BodiesAndDocs, Breaks, BreaksContents, KeepsBefore, KeepsContents, OfAliases, OfBodies, OfConstants, OfDependencies, OfExpressions, OfHeaders, OfNames, in_docs, in_bodies as in_body}
 use Rattle.just_joining.specs.Kept.{kept_recipes}
-use Rattle.just_joining.specs.Rules.{Bodies, Constants, Dependencies, Under, settings_fault}
-use Rattle.just_modules.specs.Analysis.{BreaksRecipes, in_bodies, in_dependencies}
-
--- settings that have a value
-pub constants_kept : (o : Option Settings) (s : Settings) → o ≡ Some s → Keeps (Constants o)
-constants_kept o s is _ (settings_fault none) = cc
-
--- what is kept, or broken, under settings that have a value
-module _ (broken : Settings → Cause → Type 0) where
-  under_kept : (o : Option Settings) (s : Settings) → o ≡ Some s → Keeps (broken s) → Keeps (Under o broken)
-  under_kept None s is kept c b = b
-  under_kept (Some t) s is kept c b = kept c (subst (λ (x : Settings). broken x c) (some_same is) b)
-
-  under_broken : (o : Option Settings) (s : Settings) (c : Cause) → o ≡ Some s → broken s c → Under o broken c
-  under_broken None s c is b = cc
-  under_broken (Some t) s c is b = subst (λ (x : Settings). broken x c) (sym (some_same is)) b
-
-module _ (layers : Layers) (m : Contents) (s : Settings) (is : settings_of layers.evaluator m ≡ Some s) where
-  -- bodies and dependencies that are kept under the settings of a module
-  pub bodies_under : Keeps (Bodies layers.syntax s m) → Keeps (Breaks layers OfBodies m)
-  bodies_under kept = under_kept (λ t. Bodies layers.syntax t m) (settings_of layers.evaluator m) s is kept
-
-  pub dependencies_under : Keeps (Dependencies s.lists (kept_recipes m.recipes)) → Keeps (Breaks layers OfDependencies m)
-  dependencies_under kept = under_kept (λ t. Dependencies t.lists (kept_recipes m.recipes)) (settings_of layers.evaluator m) s is kept
+use Rattle.just_joining.specs.Rules.{Bodies, Dependencies, Under, under}
+use Rattle.just_modules.specs.Analysis.{BreaksRecipes, in_bodies, in_defaults, in_dependencies}
 
 module _ (layers : Layers) (m : Contents) where
   pub before_names : Keeps (Breaks layers OfHeaders m) → KeepsBefore layers OfNames m
@@ -89,25 +69,55 @@ module _ (layers : Layers) (m : Contents) where
     before_aliases bodies dependencies OfConstants lt = earlier OfConstants (omega arith)
     before_aliases bodies dependencies OfAliases lt = absurd (omega (arith, lt))
 
-    -- what is broken of recipes is broken of the module
-    pub recipes_broken : (s : Settings) → settings_of layers.evaluator m ≡ Some s → (c : Cause) → BreaksRecipes layers.syntax s m c → BreaksContents layers m c
-    recipes_broken s is c (in_bodies b) = record { group = OfBodies; earlier = earlier; broken = under_broken (λ t. Bodies layers.syntax t m) (settings_of layers.evaluator m) s c is b }
-    recipes_broken s is c (in_dependencies bodies b) = record {
-      group = OfDependencies;
-      earlier = before_dependencies (bodies_under layers m s is bodies);
-      broken = under_broken (λ t. Dependencies t.lists (kept_recipes m.recipes)) (settings_of layers.evaluator m) s c is b;
-    }
-
-    -- so is what is broken of defaults
-    pub defaults_broken : Keeps (Breaks layers OfBodies m) → Keeps (Breaks layers OfDependencies m) → (c : Cause) → Defaults (kept_recipes m.recipes) c → BreaksContents layers m c
-    defaults_broken bodies dependencies c b = record { group = OfAliases; earlier = before_aliases bodies dependencies; broken = b }
-
     -- all groups are kept
-    pub all_kept : Keeps (Breaks layers OfBodies m) → Keeps (Breaks layers OfDependencies m) → Keeps (Breaks layers OfAliases m) → KeepsContents layers m
-    all_kept bodies dependencies aliases OfHeaders = earlier OfHeaders (omega arith)
-    all_kept bodies dependencies aliases OfNames = earlier OfNames (omega arith)
-    all_kept bodies dependencies aliases OfExpressions = earlier OfExpressions (omega arith)
-    all_kept bodies dependencies aliases OfConstants = earlier OfConstants (omega arith)
-    all_kept bodies dependencies aliases OfBodies = bodies
-    all_kept bodies dependencies aliases OfDependencies = dependencies
-    all_kept bodies dependencies aliases OfAliases = aliases
+    groups_kept : Keeps (Breaks layers OfBodies m) → Keeps (Breaks layers OfDependencies m) → Keeps (Breaks layers OfAliases m) → KeepsContents layers m
+    groups_kept bodies dependencies aliases OfHeaders = earlier OfHeaders (omega arith)
+    groups_kept bodies dependencies aliases OfNames = earlier OfNames (omega arith)
+    groups_kept bodies dependencies aliases OfExpressions = earlier OfExpressions (omega arith)
+    groups_kept bodies dependencies aliases OfConstants = earlier OfConstants (omega arith)
+    groups_kept bodies dependencies aliases OfBodies = bodies
+    groups_kept bodies dependencies aliases OfDependencies = dependencies
+    groups_kept bodies dependencies aliases OfAliases = aliases
+
+-- what is kept of recipes
+pub recipes_kept : (answers : SyntaxAnswers) (s : Settings) (m : Contents) → Keeps (Bodies answers s m) → Keeps (Dependencies s.lists (kept_recipes m.recipes)) → Keeps (Defaults (kept_recipes m.recipes)) → Keeps (BreaksRecipes answers s m)
+recipes_kept answers s m bodies dependencies defaults c (in_bodies b) = bodies c b
+recipes_kept answers s m bodies dependencies defaults c (in_dependencies kept b) = dependencies c b
+recipes_kept answers s m bodies dependencies defaults c (in_defaults kept also b) = defaults c b
+
+-- what is kept of a module as it is evaluated, and what is broken
+module _ (layers : Layers) (m : Contents) (it : Evaluated) (is : IsEvaluated layers m it) where
+  under_kept : (broken : Evaluated → Cause → Type 0) → Keeps (broken it) → Keeps (Under (IsEvaluated layers m) broken)
+  under_kept broken kept c (under {a} other b) = kept c (subst (λ (x : Evaluated). broken x c) (evaluated_once layers m a it other is) b)
+
+  abbrev DocsKept : Type 0
+  DocsKept = Keeps (Docs layers.syntax layers.evaluator m it.constants)
+
+  both_kept : DocsKept → Keeps (Bodies layers.syntax it.settings m) → Keeps (BodiesAndDocs layers m it)
+  both_kept docs bodies c (in_docs b) = docs c b
+  both_kept docs bodies c (in_body b) = bodies c b
+
+  bodies_under : DocsKept → Keeps (Bodies layers.syntax it.settings m) → Keeps (Breaks layers OfBodies m)
+  bodies_under docs bodies = under_kept (BodiesAndDocs layers m) (both_kept docs bodies)
+
+  dependencies_under : Keeps (Dependencies it.settings.lists (kept_recipes m.recipes)) → Keeps (Breaks layers OfDependencies m)
+  dependencies_under kept = under_kept (λ (x : Evaluated). Dependencies x.settings.lists (kept_recipes m.recipes)) kept
+
+  module _ (earlier : KeepsBefore layers OfBodies m) where
+    -- what is broken of docs is broken of the module
+    pub docs_broken : (c : Cause) → Docs layers.syntax layers.evaluator m it.constants c → BreaksContents layers m c
+    docs_broken c b = record { group = OfBodies; earlier = earlier; broken = under is (in_docs b) }
+
+    -- so is what is broken of recipes, where docs are kept
+    pub recipes_broken : DocsKept → (c : Cause) → BreaksRecipes layers.syntax it.settings m c → BreaksContents layers m c
+    recipes_broken docs c (in_bodies b) = record { group = OfBodies; earlier = earlier; broken = under is (in_body b) }
+    recipes_broken docs c (in_dependencies bodies b) = record { group = OfDependencies; earlier = before_dependencies layers m earlier (bodies_under docs bodies); broken = under is b }
+    recipes_broken docs c (in_defaults bodies dependencies b) =
+        record { group = OfAliases; earlier = before_aliases layers m earlier (bodies_under docs bodies) (dependencies_under dependencies); broken = b }
+
+    -- all groups are kept where both are
+    pub all_kept : DocsKept → Keeps (BreaksRecipes layers.syntax it.settings m) → KeepsContents layers m
+    all_kept docs recipes =
+        let bodies : Keeps (Bodies layers.syntax it.settings m) = λ c b. recipes c (in_bodies b) in
+        let dependencies : Keeps (Dependencies it.settings.lists (kept_recipes m.recipes)) = λ c b. recipes c (in_dependencies bodies b) in
+        groups_kept layers m earlier (bodies_under docs bodies) (dependencies_under dependencies) (λ c b. recipes c (in_defaults bodies dependencies b))

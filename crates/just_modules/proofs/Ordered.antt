@@ -15,17 +15,16 @@ use Rattle.just_errors.proofs.Lifts.{reports_by}
 use Rattle.just_parts.specs.declared.recipe.Recipe.{Recipe}
 use Rattle.just_running.specs.Recipes.{numbers}
 use Rattle.just_invoke.specs.declared.justfile.Justfile.{Justfile, roll-Justfile}
-use Rattle.just_modules.specs.Justfiles.{slot}
-use Rattle.just_joining.specs.Groups.{BreaksContents}
+use Rattle.just_modules.specs.Justfiles.{Made, slot}
 use Rattle.just_joining.specs.Kept.{kept_recipes}
 use Rattle.just_joining.proofs.Keeping.{kept_number}
 use Rattle.just_joining.specs.Resolved.{unresolved_numbers}
-use Rattle.just_joining.specs.OfPlaces.{contents_of_place, recipes_of_place}
-use Rattle.just_modules.specs.Steps.{BreaksInOrder, CanCompileAll, CompilesPlace, HaveCompiled, IsCompiledAt}
+use Rattle.just_joining.specs.OfPlaces.{recipes_of_place}
+use Rattle.just_modules.specs.Steps.{BreaksInOrder, BreaksPlace, CanCompileAll, CompilesPlace, HaveCompiled, IsCompiledAt}
 use Rattle.just_joining.specs.declared.files.Files.{Files}
 use Rattle.just_joining.specs.declared.joined.Joined.{Joined}
 use Rattle.just_modules.proofs.Makings.{made_numbers}
-use Rattle.just_parts.specs.Layers.{Layers}
+use Rattle.just_parts.specs.Layers.{Given}
 use Rattle.just_records.specs.declared.settings.Settings.{Settings}
 
 -- a function that is changed at a place
@@ -54,8 +53,8 @@ flat_end : {A : Type 0} (f : ℕ → List A) (xs : List ℕ) (x : ℕ) → flat_
 flat_end f [] x = append-nil (f x)
 flat_end f (y ∷ xs) x = ap (λ ys. f y ++ ys) (flat_end f xs x) ∙ sym (append_assoc (f y) (flat_map f xs) (f x))
 
-module _ (layers : Layers) (files : Files) (joined : Joined) (loaded : List Text) (order : List ℕ) (can : CanCompileAll layers.syntax.enabled files joined order) (n : ℕ) (h : n < length order)
-    (slots : List (Option Justfile)) (recipes : List (Recipe Dependency)) (so : HaveCompiled layers files joined loaded order n slots recipes) where
+module _ (given : Given) (files : Files) (joined : Joined) (loaded : List Text) (order : List ℕ) (can : CanCompileAll given.syntax.enabled files joined order) (n : ℕ) (h : n < length order)
+    (slots : List (Option Justfile)) (added : Made) (so : HaveCompiled given files joined loaded order n slots added) where
   abbrev p : ℕ
   p = slice_index order n
 
@@ -88,18 +87,18 @@ module _ (layers : Layers) (files : Files) (joined : Joined) (loaded : List Text
   inner_there = map_map Some so.justfile (row p) ∙ map_same (λ q. Some (so.justfile q)) (slot slots) (row p) (λ q i. sym (inner_held q i))
 
   -- their numbers are not those of the next
-  pub numbers_apart : (m : ℕ) → Contains (numbers recipes) m → Contains (unresolved_numbers (recipes_of_place layers.syntax.enabled files joined p)) m → ⊥
+  pub numbers_apart : (m : ℕ) → Contains (numbers added.recipes) m → Contains (unresolved_numbers (recipes_of_place given.syntax.enabled files joined p)) m → ⊥
   numbers_apart m a b =
-      let r = from_map (λ (x : Recipe Dependency). x.number.0) m recipes (is_in m (numbers recipes) a) in
-      let q = from_flat so.made r.0 (take n order) (subst (In r.0) so.all r.1) in
+      let r = from_map (λ (x : Recipe Dependency). x.number.0) m added.recipes (is_in m (numbers added.recipes) a) in
+      let q = from_flat (λ q. (so.made q).recipes) r.0 (take n order) (subst (In r.0) so.recipes r.1) in
       let k = in_take order n q.0 (omega (arith, h)) (contained q.0 (take n order) q.1) in
       let at = so.each k.0 k.1 in
-      let made : In m (numbers (so.made (place k.0))) = subst (λ y. In m (numbers (so.made y))) (sym k.2) (subst (λ y. In y (numbers (so.made q.0))) (sym r.2) (in_map (λ (x : Recipe Dependency). x.number.0) r.0 (so.made q.0) q.2)) in
-      let known = kept_number (recipes_of_place layers.syntax.enabled files joined (place k.0)) m (made_numbers (kept_recipes (recipes_of_place layers.syntax.enabled files joined (place k.0))) at.own.module_path at.resolved.order (so.made (place k.0)) at.resolved.made_of m made) in
-      can.apart k.0 n m k.1 h (contained m (unresolved_numbers (recipes_of_place layers.syntax.enabled files joined (place k.0))) known) b
+      let made : In m (numbers (so.made (place k.0)).recipes) = subst (λ y. In m (numbers (so.made y).recipes)) (sym k.2) (subst (λ y. In y (numbers (so.made q.0).recipes)) (sym r.2) (in_map (λ (x : Recipe Dependency). x.number.0) r.0 (so.made q.0).recipes q.2)) in
+      let known = kept_number (recipes_of_place given.syntax.enabled files joined (place k.0)) m (made_numbers (kept_recipes (recipes_of_place given.syntax.enabled files joined (place k.0))) at.own.module_path at.resolved.order (so.made (place k.0)).recipes at.resolved.made_of m made) in
+      can.apart k.0 n m k.1 h (contained m (unresolved_numbers (recipes_of_place given.syntax.enabled files joined (place k.0))) known) b
 
-  module _ (new : List (Option Justfile)) (after : List (Recipe Dependency)) (step : CompilesPlace layers files joined loaded p slots new recipes after) where
-    abbrev made : ℕ → List (Recipe Dependency)
+  module _ (new : List (Option Justfile)) (after : Made) (step : CompilesPlace given files joined loaded p slots new added after) where
+    abbrev made : ℕ → Made
     made = put_at p step.made so.made
 
     abbrev justfile : ℕ → Justfile
@@ -108,36 +107,39 @@ module _ (layers : Layers) (files : Files) (joined : Joined) (loaded : List Text
     made_before : (q : ℕ) → In q (take n order) → so.made q ≡ made q
     made_before q i = let k = in_take order n q (omega (arith, h)) (contained q (take n order) i) in sym (put_there p q step.made so.made (λ e. apart_from k.0 k.1 (k.2 ∙ e)))
 
-    all : after ≡ flat_map made (take (n + 1) order)
-    all =
-        step.appended ∙ (λ i. (so.all ∙ flat_same so.made made (take n order) made_before) i ++ sym (put_here p step.made so.made) i)
-        ∙ sym (ap (flat_map made) (take_more order n 0 h) ∙ flat_end made (take n order) p)
+    -- what is added of each kind
+    module _ {A : Type 0} (of : Made → List A) where
+      all : of after ≡ of added ++ of step.made → of added ≡ flat_map (λ q. of (so.made q)) (take n order) → of after ≡ flat_map (λ q. of (made q)) (take (n + 1) order)
+      all appended before =
+          appended ∙ (λ i. (before ∙ flat_same (λ q. of (so.made q)) (λ q. of (made q)) (take n order) (λ q c. ap of (made_before q c))) i ++ of (sym (put_here p step.made so.made) i))
+          ∙ sym (ap (flat_map (λ q. of (made q))) (take_more order n 0 h) ∙ flat_end (λ q. of (made q)) (take n order) p)
 
     inner_same : (k : ℕ) → k < n + 1 → map so.justfile (row (place k)) ≡ map justfile (row (place k))
     inner_same k l = map_same so.justfile justfile (row (place k)) (λ q i. sym (put_there p q step.justfile so.justfile (inner_apart k l q i)))
 
-    each_before : (k : ℕ) → k < n → IsCompiledAt layers files joined loaded (place k) (map justfile (row (place k))) (made (place k)) (justfile (place k))
+    each_before : (k : ℕ) → k < n → IsCompiledAt given files joined loaded (place k) (map justfile (row (place k))) (made (place k)) (justfile (place k))
     each_before k l =
         let ne : place k ≡ p → ⊥ = apart_from k l in
-        subst (λ js. IsCompiledAt layers files joined loaded (place k) js (made (place k)) (justfile (place k))) (inner_same k (omega (arith, l)))
-        (subst (λ ms. IsCompiledAt layers files joined loaded (place k) (map so.justfile (row (place k))) ms (justfile (place k))) (sym (put_there p (place k) step.made so.made ne))
-        (subst (λ j. IsCompiledAt layers files joined loaded (place k) (map so.justfile (row (place k))) (so.made (place k)) j) (sym (put_there p (place k) step.justfile so.justfile ne)) (so.each k l)))
+        subst (λ js. IsCompiledAt given files joined loaded (place k) js (made (place k)) (justfile (place k))) (inner_same k (omega (arith, l)))
+        (subst (λ ms. IsCompiledAt given files joined loaded (place k) (map so.justfile (row (place k))) ms (justfile (place k))) (sym (put_there p (place k) step.made so.made ne))
+        (subst (λ j. IsCompiledAt given files joined loaded (place k) (map so.justfile (row (place k))) (so.made (place k)) j) (sym (put_there p (place k) step.justfile so.justfile ne)) (so.each k l)))
 
-    each_here : IsCompiledAt layers files joined loaded p (map justfile (row p)) (made p) (justfile p)
+    each_here : IsCompiledAt given files joined loaded p (map justfile (row p)) (made p) (justfile p)
     each_here =
-        subst (λ js. IsCompiledAt layers files joined loaded p js (made p) (justfile p)) (inner_same n (omega arith))
-        (subst (λ ms. IsCompiledAt layers files joined loaded p (map so.justfile (row p)) ms (justfile p)) (sym (put_here p step.made so.made))
-        (subst (λ j. IsCompiledAt layers files joined loaded p (map so.justfile (row p)) step.made j) (sym (put_here p step.justfile so.justfile)) (step.compiled (map so.justfile (row p)) inner_there)))
+        subst (λ js. IsCompiledAt given files joined loaded p js (made p) (justfile p)) (inner_same n (omega arith))
+        (subst (λ ms. IsCompiledAt given files joined loaded p (map so.justfile (row p)) ms (justfile p)) (sym (put_here p step.made so.made))
+        (subst (λ j. IsCompiledAt given files joined loaded p (map so.justfile (row p)) step.made j) (sym (put_here p step.justfile so.justfile)) (step.compiled (map so.justfile (row p)) inner_there)))
 
     -- one more is compiled
-    pub compiled_more : HaveCompiled layers files joined loaded order (n + 1) new after
+    pub compiled_more : HaveCompiled given files joined loaded order (n + 1) new after
     compiled_more = record {
       made = made;
       justfile = justfile;
-      all = all;
+      recipes = all (λ (x : Made). x.recipes) step.recipes so.recipes;
+      overridden = all (λ (x : Made). x.overridden) step.overridden so.overridden;
       each = λ k l. elim (cases_lt k n) [
         | inl b ↦ each_before k b
-        | inr b ↦ let same : n ≡ k = omega (arith, l, b) in subst (λ i. IsCompiledAt layers files joined loaded (place i) (map justfile (row (place i))) (made (place i)) (justfile (place i))) same each_here
+        | inr b ↦ let same : n ≡ k = omega (arith, l, b) in subst (λ i. IsCompiledAt given files joined loaded (place i) (map justfile (row (place i))) (made (place i)) (justfile (place i))) same each_here
       ];
       held = λ k l free. elim (cases_lt k n) [
         | inl b ↦
@@ -172,20 +174,21 @@ no_justfile : Justfile
 no_justfile = roll-Justfile (record { absent_modules = []; assignments = []; default = None; doc = None; evaluation_order = []; functions = []; groups = []; loaded = []; module_path = record { components = []; spaced = false }; modules = []; name = None; private = false; recipes = []; settings = no_settings; source = []; unexports = []; unstable_features = []; warnings = []; working_directory = [] })
 
 -- none is compiled
-pub compiled_none : (layers : Layers) (files : Files) (joined : Joined) (loaded : List Text) (order : List ℕ) (slots : List (Option Justfile)) (recipes : List (Recipe Dependency)) → length slots ≡ length files.asts.items → recipes ≡ []
-    → HaveCompiled layers files joined loaded order 0 slots recipes
-compiled_none layers files joined loaded order slots recipes room none = record {
-  made = λ q. [];
+pub compiled_none : (given : Given) (files : Files) (joined : Joined) (loaded : List Text) (order : List ℕ) (slots : List (Option Justfile)) (added : Made) → length slots ≡ length files.asts.items → added.recipes ≡ [] → added.overridden ≡ []
+    → HaveCompiled given files joined loaded order 0 slots added
+compiled_none given files joined loaded order slots added room no_recipes not_overridden = record {
+  made = λ q. record { recipes = []; overridden = [] };
   justfile = λ q. no_justfile;
-  all = none;
+  recipes = no_recipes;
+  overridden = not_overridden;
   each = λ k l. absurd (omega (arith, l));
   held = λ k l free. absurd (omega (arith, l));
   room = room;
 }
 
 -- what the next breaks
-pub breaks_next : (layers : Layers) (files : Files) (joined : Joined) (loaded : List Text) (order : List ℕ) (n : ℕ) → n < length order → (slots : List (Option Justfile)) (recipes : List (Recipe Dependency)) → HaveCompiled layers files joined loaded order n slots recipes
-    → (e : Error) → Reports (BreaksContents layers (contents_of_place layers.syntax.enabled files joined (slice_index order n))) e → Reports (BreaksInOrder layers files joined order) e
-breaks_next layers files joined loaded order n h slots recipes so e r =
-    reports_by (BreaksContents layers (contents_of_place layers.syntax.enabled files joined (slice_index order n))) (BreaksInOrder layers files joined order)
+pub breaks_next : (given : Given) (files : Files) (joined : Joined) (loaded : List Text) (order : List ℕ) (n : ℕ) → n < length order → (slots : List (Option Justfile)) (added : Made) → HaveCompiled given files joined loaded order n slots added
+    → (e : Error) → Reports (BreaksPlace given files joined (slice_index order n)) e → Reports (BreaksInOrder given files joined order) e
+breaks_next given files joined loaded order n h slots added so e r =
+    reports_by (BreaksPlace given files joined (slice_index order n)) (BreaksInOrder given files joined order)
     (λ c b. record { at = n; there = h; before = λ k l. (so.each k l).kept; broken = b }) e r

@@ -12,7 +12,7 @@ use Rattle.just_graph.specs.Graph.{HasEdge, targets}
 use Rattle.just_graph.specs.Steps.{Reached, from_member, from_start}
 use Rattle.just_graph.proofs.Members.{In, contained, from_flat, is_in}
 use Rattle.just_parts.specs.Asts.{AstKey, same_ast_key}
-use Rattle.just_parts.specs.Bare.{bare_function, bare_item}
+use Rattle.just_parts.specs.Bare.{bare_function, bare_function_parameter, bare_item}
 use Rattle.just_parts.specs.Located.{located_assignment, located_item}
 use Rattle.just_parts.specs.Items.{Ast, Item}
 use Rattle.just_parts.specs.declared.layers.ast.Item.TheVariants as item
@@ -21,10 +21,11 @@ use Rattle.just_names.specs.declared.name.Name.{Name}
 use Rattle.just_names.specs.declared.modulepath.Modulepath.{Modulepath}
 use Rattle.just_parts.specs.declared.recipe.Recipe.{Recipe}
 use Rattle.just_records.specs.declared.function_definition.FunctionDefinition.{FunctionDefinition}
+use Rattle.just_records.specs.declared.function_definition.FunctionParameter.{FunctionParameter}
 use Rattle.just_joining.specs.Files.{ArePlaced, AreRows, asts_in}
 use Rattle.just_joining.specs.Joined.{AreJoined, IsJoined}
 use Rattle.just_joining.specs.Named.{function_by, lists_by, lists_from, name_by, said_from, recipes_by, recipes_from, set_by, unexported_by, variable_by}
-use Rattle.just_notes.specs.Labels.{label_by}
+use Rattle.just_notes.specs.Labels.{doc_by, label_by}
 use Rattle.just_notes.specs.declared.labels.Label.{Label}
 use Rattle.just_notes.specs.Said.{said, said_in}
 use Rattle.just_joining.specs.Recipes.{recipes_of, recipes_said}
@@ -36,7 +37,6 @@ use Rattle.just_joining.proofs.Alike.{AreAlike, outline_of, outlines_of}
 use Rattle.just_joining.proofs.BareOutlines.{outline_located}
 use Rattle.just_joining.proofs.FilePlaces.{are_graphs, says}
 use Rattle.just_modules.specs.Modules.{items_of}
-use Rattle.just_modules.proofs.Evaluating.{function_bare}
 use Rattle.just_modules.proofs.ModulePlaces.{no_ast}
 
 abbrev name_of : Submodule → Name
@@ -72,9 +72,22 @@ unexport_located : (i : Item) → unexported_by (located_item i) ≡ unexported_
 unexport_located (item.Unexport name) = refl
 unexport_located _ = refl
 
+doc_located : (i : Item) → doc_by (located_item i) ≡ doc_by i
+doc_located (item.Module name relative None attributes doc optional) = refl
+doc_located (item.Module name relative (Some file) attributes doc optional) = refl
+doc_located _ = refl
+
 set_located : (i : Item) → set_by (located_item i) ≡ set_by i
 set_located (item.Setting s) = refl
 set_located _ = refl
+
+-- a function without numbers has none to lose
+bare_parameters : (ps : List FunctionParameter) → map bare_function_parameter (map bare_function_parameter ps) ≡ map bare_function_parameter ps
+bare_parameters [] = refl
+bare_parameters (p ∷ ps) = ap (λ (qs : List FunctionParameter). bare_function_parameter p ∷ qs) (bare_parameters ps)
+
+function_bare : (f : FunctionDefinition) → bare_function (bare_function f) ≡ bare_function f
+function_bare f = λ i. record f { parameters = bare_parameters f.parameters i }
 
 function_located : (i : Item) → map bare_function (function_by (located_item i)) ≡ map bare_function (function_by i)
 function_located (item.Function f) = ap (λ (g : FunctionDefinition). g ∷ []) (function_bare f)
@@ -189,6 +202,10 @@ module _ (enabled : Item → Bool) (entries : List (AstKey × Ast)) (d : AstKey)
   -- what a module unexports
   pub unexports_are : (xs : List ℕ) → ((q : ℕ) → In q xs → q < n) → said_from unexported_by enabled (asts_in files) xs ≡ flat_map unexported_by (items_of (map (λ k. unwrap_or (R k) no_ast) (map key_at xs)))
   unexports_are = same_are unexported_by unexport_located
+
+  -- what the docs of its modules are evaluated from
+  pub docs_are : (xs : List ℕ) → ((q : ℕ) → In q xs → q < n) → said_from doc_by enabled (asts_in files) xs ≡ flat_map doc_by (items_of (map (λ k. unwrap_or (R k) no_ast) (map key_at xs)))
+  docs_are = same_are doc_by doc_located
 
   -- what it sets
   pub sets_are : (xs : List ℕ) → ((q : ℕ) → In q xs → q < n) → said_from set_by enabled (asts_in files) xs ≡ flat_map set_by (items_of (map (λ k. unwrap_or (R k) no_ast) (map key_at xs)))

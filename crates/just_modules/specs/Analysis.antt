@@ -1,28 +1,22 @@
 -- What a module's recipes are compiled to.
-use Rattle.std.specs.Prelude.{◌≡◌, ◌≢◌, ◌⊎◌, ℕ, ◌<◌, ◌≤◌, Bool, true, List, length, slice_get, Option, Some, None}
+use Rattle.std.specs.Prelude.{◌≡◌, ◌≢◌, ◌⊎◌, ℕ, ◌<◌, ◌≤◌, Bool, true, List, length, Option, Some, None}
 use Rattle.std.specs.Cmp.Lexicographic.{slice_cmp}
 use Rattle.std.specs.List.{AllByRecursion, Contains}
 use Rattle.std.specs.Option.{option_map}
 use Rattle.std.specs.Ordering.{nat_cmp}
 use Rattle.std.specs.declared.cmp.Ordering.TheVariants.{Less}
 use Rattle.just_table.specs.Entries.{find}
-use Rattle.just_names.specs.Modulepath.{Text}
 use Rattle.just_records.specs.declared.settings.Settings.{Settings}
-use Rattle.just_parts.specs.Items.{Ast, Item}
+use Rattle.just_parts.specs.Items.{Ast}
 use Rattle.just_names.specs.declared.number.Number.{Number}
 use Rattle.just_invoke.specs.declared.justfile.Justfile.{Justfile, out-Justfile}
 use Rattle.just_parts.specs.declared.layers.ast.UnresolvedDependency.{UnresolvedDependency}
 use Rattle.just_parts.specs.declared.recipe.Recipe.{Recipe}
 use Rattle.just_errors.specs.Causes.{Cause, Keeps}
-use Rattle.just_parts.specs.Layers.{Layers}
 use Rattle.just_parts.specs.Syntax.{SyntaxAnswers}
 use Rattle.just_invoke.specs.declared.justfile.RecipeKey.{RecipeKey}
 use Rattle.just_joining.specs.Contents.{Contents}
-use Rattle.just_joining.specs.Defaults.{NoneMarked, is_marked}
-use Rattle.just_joining.specs.Files.{asts_in}
-use Rattle.just_joining.specs.Groups.{BreaksContents, KeepsContents, settings_of}
-use Rattle.just_joining.specs.Named.{contents_from, recipes_by}
-use Rattle.just_joining.specs.declared.files.Files.{Files}
+use Rattle.just_joining.specs.Defaults.{Defaults, NoneMarked, is_marked}
 use Rattle.just_joining.specs.Recipes.{name_of, line_of, recipe_at}
 use Rattle.just_joining.specs.Kept.{kept_recipes}
 use Rattle.just_joining.specs.Resolved.{number_at, unresolved_numbers}
@@ -93,31 +87,8 @@ pub record IsOf (m : Contents) (ast : Ast) (loaded : List (List ℕ)) (source : 
   pub module_path : (out-Justfile justfile).module_path ≡ ast.module_path
   pub working_directory : (out-Justfile justfile).working_directory ≡ ast.working_directory
 
--- a module has what these files say, of which one is its own
-abbrev pub IsOfFiles : (Item → Bool) → Files → ℕ → List ℕ → List Text → Text → Justfile → Type 0
-IsOfFiles enabled files own places loaded source j = (ast : Ast) → slice_get (asts_in files) own ≡ Some ast
-    → IsOf (contents_from enabled (asts_in files) places) ast loaded source j
-
--- its default is one of its own file
-abbrev pub HasDefaultOf : (Item → Bool) → Files → ℕ → List ℕ → Justfile → Type 0
-HasDefaultOf enabled files own places j = (ast : Ast) → slice_get (asts_in files) own ≡ Some ast
-    → HasDefault (contents_from enabled (asts_in files) places) (recipes_by enabled (Some ast)) j
-
--- it has its settings as they are evaluated
-abbrev pub HasSettings : Layers → Contents → Justfile → Type 0
-HasSettings layers m j = settings_of layers.evaluator m ≡ Some (out-Justfile j).settings
-
-abbrev pub HasSettingsOf : Layers → Files → List ℕ → Justfile → Type 0
-HasSettingsOf layers files places = HasSettings layers (contents_from layers.syntax.enabled (asts_in files) places)
-
--- all groups of a module of these files are kept, or a rule of one is broken
-abbrev pub KeepsFiles : Layers → Files → List ℕ → Type 0
-KeepsFiles layers files places = KeepsContents layers (contents_from layers.syntax.enabled (asts_in files) places)
-
-abbrev pub BreaksFiles : Layers → Files → List ℕ → Cause → Type 0
-BreaksFiles layers files places = BreaksContents layers (contents_from layers.syntax.enabled (asts_in files) places)
-
--- What is broken of recipes under settings: in their bodies, or where these are kept in their dependencies.
+-- What is broken of recipes under settings: in their bodies, or where these are kept in their dependencies, or where these are kept too in which is the default.
 pub data BreaksRecipes (answers : SyntaxAnswers) (settings : Settings) (m : Contents) : Cause → Type 0 where
   in_bodies : {c : Cause} → Bodies answers settings m c → BreaksRecipes answers settings m c
   in_dependencies : {c : Cause} → Keeps (Bodies answers settings m) → Dependencies settings.lists (kept_recipes m.recipes) c → BreaksRecipes answers settings m c
+  in_defaults : {c : Cause} → Keeps (Bodies answers settings m) → Keeps (Dependencies settings.lists (kept_recipes m.recipes)) → Defaults (kept_recipes m.recipes) c → BreaksRecipes answers settings m c

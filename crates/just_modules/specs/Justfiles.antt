@@ -4,26 +4,29 @@ use Rattle.std.specs.Map.{values_of}
 use Rattle.just_parts.specs.Asts.{AstKey}
 use Rattle.just_table.specs.Entries.{put}
 use Rattle.just_names.specs.Modulepath.{Text}
+use Rattle.just_names.specs.declared.number.Number.{Number}
 use Rattle.just_parts.specs.declared.dependency.Dependency.{Dependency}
 use Rattle.just_parts.specs.Items.{Ast, Item}
-use Rattle.just_parts.specs.Layers.{Layers}
+use Rattle.just_parts.specs.Layers.{Given, layers_at}
 use Rattle.just_parts.specs.declared.layers.ast.UnresolvedDependency.{UnresolvedDependency}
 use Rattle.just_parts.specs.declared.recipe.Recipe.{Recipe}
 use Rattle.std.specs.List.{Contains}
 use Rattle.just_invoke.specs.Module.{module_name}
 use Rattle.just_invoke.specs.declared.justfile.Justfile.{Justfile, out-Justfile, roll-Justfile}
-use Rattle.just_modules.specs.Analysis.{HasDefault, HasSettings, IsOf}
+use Rattle.just_modules.specs.Analysis.{HasDefault, IsOf}
+use Rattle.just_modules.specs.Evaluated.{IsEvaluatedTo}
+use Rattle.just_notes.specs.Labels.{doc_by}
 use Rattle.just_notes.specs.Notes.{absent_by, features_by, notes_of, warnings_by}
 use Rattle.just_notes.specs.declared.labels.Label.{Label}
 use Rattle.just_notes.specs.declared.notes.Notes.{Notes}
-use Rattle.just_modules.specs.Modules.{Module, Forest, Empty, Tree}
+use Rattle.just_modules.specs.Modules.{Module, Forest, Empty, Tree, path_of}
 use Rattle.just_modules.specs.Variables.{HasVariables}
 use Rattle.just_joining.specs.Contents.{Contents}
 use Rattle.just_joining.specs.Kept.{kept_recipes}
 use Rattle.just_joining.specs.Named.{function_by, lists_by, name_by, set_by, unexported_by, variable_by}
 use Rattle.just_notes.specs.Said.{said_in}
 use Rattle.just_joining.specs.Recipes.{recipes_of}
-use Rattle.just_joining.specs.Reading.{items_in}
+use Rattle.just_joining.specs.Reading.{Submodule, items_in}
 use Rattle.just_joining.specs.Resolved.{AreResolved}
 
 -- the recipes that files say, file after file
@@ -37,6 +40,7 @@ contents_in enabled asts files = record {
   functions = flat_map (λ k. said_in function_by enabled (asts k)) files;
   variables = flat_map (λ k. said_in variable_by enabled (asts k)) files;
   modules = flat_map (λ k. said_in name_by enabled (asts k)) files;
+  docs = flat_map (λ k. said_in doc_by enabled (asts k)) files;
   unexports = flat_map (λ k. said_in unexported_by enabled (asts k)) files;
   sets = flat_map (λ k. said_in set_by enabled (asts k)) files;
   lists = flat_map (λ k. lists_by (asts k)) files;
@@ -60,33 +64,44 @@ held_by_name held (j ∷ js) = held_by_name (put (module_name j) j held) js
 abbrev pub by_name : List Justfile → List Justfile
 by_name js = values_of (held_by_name [] js)
 
--- the label that a justfile has
+-- the label that a justfile has, whose doc is evaluated
 abbrev pub label_in : Justfile → Label
-label_in j = record { name = (out-Justfile j).name; doc = (out-Justfile j).doc; groups = (out-Justfile j).groups; private = (out-Justfile j).private }
+label_in j = record { name = (out-Justfile j).name; doc = (out-Justfile j).doc; doc_expression = None; groups = (out-Justfile j).groups; private = (out-Justfile j).private }
 
--- The recipes of modules that are compiled, each module under its key.
+-- What a module adds to a compilation: its recipes, and the values that override its variables, each with the number of its variable.
+pub record Made : Type 0 where
+  pub recipes : List (Recipe Dependency)
+  pub overridden : List (Number × Text)
+
+-- what modules that are compiled add, each under its key
 abbrev pub Built : Type 0
-Built = AstKey × List (Recipe Dependency)
+Built = AstKey × Made
 
--- What a module is compiled to: its recipes, those that are kept, each once, resolved and after those that it depends on, and its justfile, with the modules in it.
-pub record IsCompiled (layers : Layers) (asts : AstKey → Option Ast) (loaded : List Text) (m : Module) (inner : List Justfile) (made : List (Recipe Dependency)) (j : Justfile) : Type 0 where
+-- all that modules add, one after another
+abbrev pub recipes_of_all : List Built → List (Recipe Dependency)
+recipes_of_all = flat_map (λ (b : Built). b.1.recipes)
+
+abbrev pub overridden_of_all : List Built → List (Number × Text)
+overridden_of_all = flat_map (λ (b : Built). b.1.overridden)
+
+-- What a module is compiled to: its recipes, those that are kept, each once, resolved and after those that it depends on, what is evaluated of it, and its justfile, with the modules in it, which have the labels of their declarations.
+pub record IsCompiled (given : Given) (asts : AstKey → Option Ast) (loaded : List Text) (m : Module) (inner : List Justfile) (made : Made) (j : Justfile) : Type 0 where
   pub own : Ast
   pub own_said : asts m.heading.key ≡ Some own
   pub own_there : Contains m.files m.heading.key
-  pub resolved : AreResolved (kept_recipes (recipes_in layers.syntax.enabled asts m.files)) m.heading.key.0 made
-  pub settings : HasSettings layers (contents_in layers.syntax.enabled asts m.files) j
-  pub variables : HasVariables layers (contents_in layers.syntax.enabled asts m.files) j
-  pub default : HasDefault (contents_in layers.syntax.enabled asts m.files) (recipes_of layers.syntax.enabled own.items) j
-  pub fields : IsOf (contents_in layers.syntax.enabled asts m.files) own loaded m.heading.key.1 j
-  pub notes : notes_in j ≡ notes_said layers.syntax.enabled asts m.files
-  pub label : label_in j ≡ m.heading.label
+  pub resolved : AreResolved (kept_recipes (recipes_in given.syntax.enabled asts m.files)) (path_of m) made.recipes
+  pub evaluated : IsEvaluatedTo (layers_at given (path_of m)) (contents_in given.syntax.enabled asts m.files) (map (λ (s : Submodule). s.label) m.modules) (map label_in inner) made.overridden j
+  pub variables : HasVariables given.syntax (contents_in given.syntax.enabled asts m.files) j
+  pub default : HasDefault (contents_in given.syntax.enabled asts m.files) (recipes_of given.syntax.enabled own.items) j
+  pub fields : IsOf (contents_in given.syntax.enabled asts m.files) own loaded m.heading.key.1 j
+  pub notes : notes_in j ≡ notes_said given.syntax.enabled asts m.files
   pub modules : (out-Justfile j).modules ≡ by_name inner
 
 -- The modules of a forest are compiled to justfiles, one by one.
-pub data AreCompiled (layers : Layers) (asts : AstKey → Option Ast) (loaded : List Text) (built : List Built) : Forest → List Justfile → Type 0 where
-  none : AreCompiled layers asts loaded built Empty []
-  one : {m : Module} {inside after : Forest} {inner js : List Justfile} {j : Justfile} (made : List (Recipe Dependency)) → Contains built (m.heading.key, made) → AreCompiled layers asts loaded built inside inner
-      → IsCompiled layers asts loaded m inner made j → AreCompiled layers asts loaded built after js → AreCompiled layers asts loaded built (Tree m inside after) (j ∷ js)
+pub data AreCompiled (given : Given) (asts : AstKey → Option Ast) (loaded : List Text) (built : List Built) : Forest → List Justfile → Type 0 where
+  none : AreCompiled given asts loaded built Empty []
+  one : {m : Module} {inside after : Forest} {inner js : List Justfile} {j : Justfile} (made : Made) → Contains built (m.heading.key, made) → AreCompiled given asts loaded built inside inner
+      → IsCompiled given asts loaded m inner made j → AreCompiled given asts loaded built after js → AreCompiled given asts loaded built (Tree m inside after) (j ∷ js)
 
 -- a justfile under a label
 abbrev pub labelled_as : Label → Justfile → Justfile

@@ -1,5 +1,6 @@
 pub mod Analysis
 pub mod Analyzed
+pub mod Evaluated
 pub mod Groups
 pub mod Justfiles
 pub mod Modules

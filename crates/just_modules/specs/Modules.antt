@@ -1,9 +1,10 @@
 -- The modules of a compilation, as data.
-use Rattle.std.specs.Prelude.{◌≡◌, Bool, List, [], ◌∷◌, map, flat_map, Option, Some}
+use Rattle.std.specs.Prelude.{◌≡◌, Bool, List, [], ◌∷◌, map, flat_map, Option, None, Some}
 use Rattle.std.specs.List.{Contains}
 use Rattle.just_graph.specs.Levels.{AreLevels}
 use Rattle.just_parts.specs.Asts.{AstKey, same_ast_key}
 use Rattle.just_names.specs.Modulepath.{Text}
+use Rattle.just_names.specs.declared.modulepath.Modulepath.{Modulepath}
 use Rattle.just_parts.specs.Items.{Ast, Item}
 use Rattle.just_records.specs.declared.string_literal.StringLiteral.{StringLiteral}
 use Rattle.just_names.specs.declared.name.Name.{Name}
@@ -11,10 +12,12 @@ use Rattle.just_joining.specs.Contents.{Contents}
 use Rattle.just_joining.specs.Named.{function_by, set_by, unexported_by, variable_by}
 use Rattle.just_joining.specs.Recipes.{recipes_said}
 use Rattle.just_joining.specs.Reading.{Reading, Submodule, imports_of, submodules_of}
+use Rattle.just_notes.specs.Labels.{doc_by}
 use Rattle.just_notes.specs.declared.labels.Label.{Label}
 
+-- a label whose doc is not evaluated
 abbrev pub label : Option Name → Option Text → List StringLiteral → Bool → Label
-label name doc groups private = record { name = name; doc = doc; groups = groups; private = private }
+label name doc groups private = record { name = name; doc = doc; doc_expression = None; groups = groups; private = private }
 
 -- The path and the own file of a module, and its label.
 pub record Heading : Type 0 where
@@ -42,6 +45,10 @@ headings_in m = map heading_of m.modules
 abbrev pub items_of : List Ast → List Item
 items_of = flat_map (λ (ast : Ast). ast.items)
 
+-- the path of a module
+abbrev pub path_of : Module → Modulepath
+path_of m = m.heading.key.0
+
 -- what the rules read of it
 abbrev pub contents_of : Module → Contents
 contents_of m = record {
@@ -49,6 +56,7 @@ contents_of m = record {
   functions = flat_map function_by (items_of m.asts);
   variables = flat_map variable_by (items_of m.asts);
   modules = map (λ (s : Submodule). s.name) m.modules;
+  docs = flat_map doc_by (items_of m.asts);
   unexports = flat_map unexported_by (items_of m.asts);
   sets = flat_map set_by (items_of m.asts);
   lists = flat_map (λ (ast : Ast). ast.list_features) m.asts;

@@ -1,43 +1,38 @@
 //! The analysis of a module, and of the modules in it.
 
-ghost use Rattle.std.specs.Prelude.{◌≡◌, ◌<◌, ℕ, IfErr, IfOk, IsSome, Some, length, slice_get};
-ghost use Rattle.std.specs.HashMap.{get};
-ghost use Rattle.std.specs.List.{All, Contains};
+ghost use Rattle.std.specs.Prelude.{◌≡◌, ◌≤◌, IfErr, IfOk, IsSome, None, Some, length};
+ghost use Rattle.std.specs.HashMap.{get, spare};
+ghost use Rattle.std.specs.List.{All};
 ghost use Rattle.just_graph.specs.Steps.{IsOnce};
 ghost use Rattle.just_parts.specs.Asts.{same_ast_key};
 ghost use Rattle.just_errors.specs.Causes.{Keeps, Reports};
-ghost use Rattle.just_running.specs.Recipes.{numbers};
-ghost use Rattle.just_invoke.specs.declared.justfile.Justfile.{Justfile, out-Justfile};
+ghost use Rattle.just_invoke.specs.declared.justfile.Justfile.{out-Justfile};
+ghost use Rattle.just_constants.specs.Variables.{AreVariablesOf};
 ghost use Rattle.just_joining.specs.Analyzable.{AreAnalyzable};
-ghost use Rattle.just_modules.specs.Analyzed.{Analyzes, NamesAnalyzed};
-ghost use Rattle.just_modules.specs.Justfiles.{notes_in};
 ghost use Rattle.just_joining.specs.Definitions.{contents_in, recipes_in};
-ghost use Rattle.just_joining.specs.Files.{asts_in};
-ghost use Rattle.just_modules.specs.Analysis.{BreaksFiles, BreaksRecipes, HasDefaultOf, HasSettingsOf, IsOfFiles, KeepsFiles};
-ghost use Rattle.just_modules.specs.Variables.{AreVariablesOf, HasVariablesOf};
-ghost use Rattle.just_joining.specs.Named.{AreAddedAt, contents_from, name_by, said_from, recipes_from};
-ghost use Rattle.just_joining.specs.Groups.{BreaksContents, KeepsBefore, OfBodies, settings_of};
+ghost use Rattle.just_modules.specs.Analysis.{BreaksRecipes, HasDefault, IsOf};
+ghost use Rattle.just_modules.specs.Analyzed.{AnalyzesAt, AreInserted, NamesAnalyzed};
+ghost use Rattle.just_modules.specs.Justfiles.{notes_in};
+ghost use Rattle.just_modules.specs.Variables.{HasVariables};
+ghost use Rattle.just_joining.specs.Named.{AreAdded, recipes_by};
 ghost use Rattle.just_joining.specs.Rules.{Bodies, Dependencies};
-ghost use Rattle.just_parts.specs.Layers.{layers_of};
-ghost use Rattle.just_index.specs.Index.{texts_of_names, AreDifferent};
 ghost use Rattle.just_joining.specs.Kept.{kept_recipes};
 ghost use Rattle.just_joining.specs.Resolved.{AreNew, AreResolved, HasPriors, unresolved_numbers};
+ghost use Rattle.just_parts.specs.Layers.{given_of};
 
-use crate::compiling::compile_in_order;
-use crate::constants::{Variables, evaluate_settings, resolve_variables};
+use crate::compiling::{Gathered, compile_in_order};
 use crate::inner::{labelled, take_at};
 use crate::making::{Surroundings, default_of, make_justfile};
+use just_constants::Variables;
 use just_data::{Sequence, Shared, Text};
 use just_invoke::{Justfile, Recipes};
 use just_joining::bodies::{check_bodies, index_recipes};
 use just_joining::definitions::Definitions;
-use just_joining::files::{Files, ast_at, file_rows, place_files, place_of};
-use just_joining::headers::check_headers;
+use just_joining::files::{file_rows, place_files, place_of};
 use just_joining::joined::arrange;
 use just_joining::kept::keep_recipes;
 use just_joining::module_names::check_module_names;
 use just_joining::recipe_resolver::{order_recipes, resolve_in_order};
-use just_joining::variables::check_names;
 use just_names::Modulepath;
 use just_notes::Label;
 use just_parts::layers::{
@@ -45,46 +40,6 @@ use just_parts::layers::{
 };
 use std::alloc::{AllocError, Global};
 use std::collections::HashMap;
-
-// What the files at places say of a module, file after file.
-fn definitions_at<'b, 'a, 'src, S: Syntax>(
-    alloc: Global,
-    files: &'b Files<'src, 'a>,
-    syntax: &S,
-    places: &[usize],
-) -> Result<Definitions<'src, 'b>, AllocError>
-    requires { All (λ p. p < length files.now.asts.items) places.now }
-    ensures { IfOk result (λ definitions. contents_in definitions ≡ contents_from (S.answers syntax.now).enabled (asts_in files.now) places.now) }
-{
-    let mut definitions = Definitions::new(alloc);
-    for place in places {
-        let ast = ast_at(files, *place);
-        definitions.add(ast.items.as_slice(), syntax)?;
-        definitions.add_lists(ast.list_features.as_slice())?;
-    }
-    Ok(definitions)
-}
-
-// The variables, the functions and the settings of a module that keeps the rules of headers, of names, of expressions and of
-// what is evaluated.
-fn check_module<'src, 'a, S: Syntax, E: Evaluation>(
-    alloc: Global,
-    definitions: &Definitions<'src, 'a>,
-    syntax: &S,
-    evaluation: &E,
-) -> Result<(Variables<'src>, Settings), Error<'src>>
-    requires { AreDifferent (texts_of_names definitions.now.modules.items) }
-    ensures kept { IfOk result (λ _. KeepsBefore (layers_of (S.answers syntax.now) (E.answers evaluation.now)) OfBodies (contents_in definitions.now)) }
-    ensures variables { IfOk result (λ it. AreVariablesOf (S.answers syntax.now) (contents_in definitions.now) it.0) }
-    ensures settings { IfOk result (λ it. settings_of (E.answers evaluation.now) (contents_in definitions.now) ≡ Some it.1) }
-    ensures named { IfErr result (Reports (BreaksContents (layers_of (S.answers syntax.now) (E.answers evaluation.now)) (contents_in definitions.now))) }
-{
-    check_headers(alloc, definitions, syntax)?;
-    check_names(alloc, definitions)?;
-    let variables = resolve_variables(alloc, definitions, syntax)?;
-    let settings = evaluate_settings(alloc, definitions, evaluation)?;
-    Ok((variables, settings))
-}
 
 // The recipes of the module at a path that are kept, with these settings, and the same resolved, each after those
 // that it depends on. An error names a rule that is broken in its bodies, or where these are kept in its dependencies.
@@ -111,40 +66,35 @@ fn resolve_recipes<'src, 'a, S: Syntax>(
     Ok((kept, made))
 }
 
-/// Analyzes the module of these files, whose own stands at `own`: checks what they say, evaluates what it sets, resolves
-/// its recipes, and adds them to the others. An error names a rule that is broken.
-pub fn analyze_module<'a, 'src, S: Syntax, E: Evaluation>(
+/// Analyzes the recipes of a module with these definitions, of which `ast` says its own file: checks them under its
+/// settings, resolves them, and adds them to the others. An error names a rule that is broken.
+pub fn analyze_module<'a, 'src, S: Syntax>(
     alloc: Global,
-    files: &Files<'src, 'a>,
+    definitions: &Definitions<'src, 'a>,
+    ast: &Ast<'src>,
     syntax: &S,
-    evaluation: &E,
-    places: &[usize],
-    own: usize,
+    variables: Variables<'src>,
+    settings: Settings,
     surroundings: Surroundings<'src>,
     recipes: &mut Recipes<'src>,
 ) -> Result<Justfile<'src>, Error<'src>>
-    requires places { All (λ p. p < length files.now.asts.items) places.now }
-    requires own { own < length files.now.asts.items }
-    requires once { IsOnce (unresolved_numbers (recipes_from (S.answers syntax.now).enabled (asts_in files.now) places.now)) }
-    requires priors { All HasPriors (recipes_from (S.answers syntax.now).enabled (asts_in files.now) places.now) }
-    requires apart { AreNew recipes.old (recipes_from (S.answers syntax.now).enabled (asts_in files.now) places.now) }
-    requires modules { AreDifferent (texts_of_names (said_from name_by (S.answers syntax.now).enabled (asts_in files.now) places.now)) }
-    ensures kept { IfOk result (λ _. KeepsFiles (layers_of (S.answers syntax.now) (E.answers evaluation.now)) files.now places.now) }
-    ensures added { IfOk result (λ _. AreAddedAt (S.answers syntax.now).enabled files.now own places.now recipes.old recipes.new) }
-    ensures fields { IfOk result (IsOfFiles (S.answers syntax.now).enabled files.now own places.now surroundings.entry.loaded surroundings.entry.source) }
-    ensures default { IfOk result (HasDefaultOf (S.answers syntax.now).enabled files.now own places.now) }
-    ensures settings { IfOk result (HasSettingsOf (layers_of (S.answers syntax.now) (E.answers evaluation.now)) files.now places.now) }
-    ensures variables { IfOk result (HasVariablesOf (layers_of (S.answers syntax.now) (E.answers evaluation.now)) files.now places.now) }
+    requires once { IsOnce (unresolved_numbers (recipes_in definitions.now)) }
+    requires priors { All HasPriors (recipes_in definitions.now) }
+    requires apart { AreNew recipes.old (recipes_in definitions.now) }
+    requires variables { AreVariablesOf (S.answers syntax.now) (contents_in definitions.now) variables }
+    ensures kept { IfOk result (λ _. Keeps (BreaksRecipes (S.answers syntax.now) settings (contents_in definitions.now))) }
+    ensures added { IfOk result (λ _. AreAdded (kept_recipes (recipes_in definitions.now)) ast.now.module_path recipes.old recipes.new) }
+    ensures fields { IfOk result (IsOf (contents_in definitions.now) ast.now surroundings.entry.loaded surroundings.entry.source) }
+    ensures default { IfOk result (HasDefault (contents_in definitions.now) (recipes_by (S.answers syntax.now).enabled (Some ast.now))) }
+    ensures settings { IfOk result (λ j. (out-Justfile j).settings ≡ settings) }
+    ensures variables { IfOk result (HasVariables (S.answers syntax.now) (contents_in definitions.now)) }
     ensures modules { IfOk result (λ j. (out-Justfile j).modules ≡ surroundings.entry.modules) }
     ensures notes { IfOk result (λ j. notes_in j ≡ surroundings.entry.notes) }
-    ensures named { IfErr result (Reports (BreaksFiles (layers_of (S.answers syntax.now) (E.answers evaluation.now)) files.now places.now)) }
+    ensures named { IfErr result (Reports (BreaksRecipes (S.answers syntax.now) settings (contents_in definitions.now))) }
 {
-    let definitions = definitions_at(alloc, files, syntax, places)?;
-    let ast = ast_at(files, own);
-    let (variables, settings) = check_module(alloc, &definitions, syntax, evaluation)?;
     let (kept, mut made) = resolve_recipes(
         alloc,
-        &definitions,
+        definitions,
         syntax,
         &settings,
         &ast.module_path,
@@ -153,7 +103,7 @@ pub fn analyze_module<'a, 'src, S: Syntax, E: Evaluation>(
     recipes.append(&mut made)?;
     let justfile = make_justfile(
         alloc,
-        &definitions,
+        definitions,
         &kept,
         ast,
         default,
@@ -178,29 +128,34 @@ fn literals<'src>(
     Ok(copies)
 }
 
-// The justfile of the module of a key, under a label, and the recipes of it and of the modules in it.
+// The justfile of the module of a key, under a label, and what it and the modules in it add.
 fn analyze_modules<'src, S: Syntax, E: Evaluation>(
     alloc: Global,
     asts: &HashMap<(Modulepath, Text), Ast<'src>>,
+    config: &Config,
     syntax: &S,
     evaluation: &E,
     loaded: &Shared<Sequence<Text>>,
     module_path: &Modulepath,
     root: &str,
     label: Label<'src>,
-) -> Result<(Justfile<'src>, Recipes<'src>), Error<'src>>
+) -> Result<(Justfile<'src>, Gathered<'src>), Error<'src>>
     requires held { IsSome (get same_ast_key asts.now (module_path.now, root.now)) }
     requires asts { AreAnalyzable (S.answers syntax.now).enabled (get same_ast_key asts.now) }
-    ensures analyzed { IfOk result (Analyzes (layers_of (S.answers syntax.now) (E.answers evaluation.now)) asts.now loaded.now module_path.now root.now label.entry) }
-    ensures named { IfErr result (NamesAnalyzed (layers_of (S.answers syntax.now) (E.answers evaluation.now)) asts.now module_path.now root.now label.entry) }
+    requires label { label.doc_expression ≡ None }
+    ensures analyzed { let given = given_of (S.answers syntax.now) (E.answers evaluation.now) config.now.overrides in
+        IfOk result (AnalyzesAt given asts.now loaded.now module_path.now root.now label.entry) }
+    ensures named { let given = given_of (S.answers syntax.now) (E.answers evaluation.now) config.now.overrides in
+        IfErr result (NamesAnalyzed given asts.now module_path.now root.now label.entry) }
 {
     let files = place_files(alloc, asts)?;
     let rows = file_rows(alloc, &files, syntax)?;
     let place = place_of(alloc, &files, module_path, root)?;
     let (joined, order) = arrange(alloc, &rows, place)?;
     check_module_names(alloc, &files, syntax, &joined, order.as_slice())?;
-    let (mut slots, recipes) = compile_in_order(
+    let (mut slots, gathered) = compile_in_order(
         alloc,
+        config,
         &files,
         syntax,
         evaluation,
@@ -209,28 +164,43 @@ fn analyze_modules<'src, S: Syntax, E: Evaluation>(
         order.as_slice(),
     )?;
     let justfile = take_at(&mut slots, place);
-    Ok((labelled(justfile, label), recipes))
+    Ok((labelled(justfile, label), gathered))
+}
+
+// Puts values in, each under its number, for which there is room; of several with one number the last.
+fn insert_all(pairs: Vec<(Number, Text)>, overrides: &mut HashMap<Number, Text>)
+    requires { length pairs.items ≤ spare overrides.old }
+    ensures { AreInserted pairs.items overrides.old overrides.new }
+{
+    for (number, value) in pairs {
+        let Ok(_) = overrides.insert(number, value) else {
+            unreachable!()
+        };
+    }
 }
 
 /// Analyzes modules.
 pub struct Analyzer;
 
 impl Analyzer {
-    ghost use Rattle.std.specs.Prelude.{◌≡◌, IfErr, IfOk, IsSome};
+    ghost use Rattle.std.specs.Prelude.{◌≡◌, IfErr, IfOk, IsSome, OnErr};
     ghost use Rattle.std.specs.HashMap.{get};
     ghost use Rattle.std.specs.Str.{bytes_eq};
     ghost use Rattle.just_parts.specs.Asts.{same_ast_key};
     ghost use Rattle.just_joining.specs.Analyzable.{AreAnalyzable, HavePaths};
-    ghost use Rattle.just_modules.specs.Analyzed.{Analyzes, NamesAnalyzed};
+    ghost use Rattle.just_modules.specs.Analyzed.{AreAsBefore, Analyzes, NamesAnalyzed};
     ghost use Rattle.just_modules.specs.Modules.{label};
-    ghost use Rattle.just_parts.specs.Layers.{layers_of};
+    ghost use Rattle.just_parts.specs.Layers.{given_of};
 
     /// The justfile of the module at `module_path`, whose own file is `root`, with the label that it is given (`name`,
     /// `doc`, `groups`, `private`), and the recipes of it and of the modules in it, those of a module after those of the
     /// modules in it. An error names a rule that one of them breaks.
     ///
-    /// `paths` leads from the clean path of each file to the one that is shown. Neither `config` nor `paths` is asked
-    /// anything yet, and `overrides` stays as it is.
+    /// The evaluation is asked for the constants of each module, as `config` overrides its variables, for its settings
+    /// among them, and for the docs of the modules that it declares. The values that override variables are put into
+    /// `overrides`, each under the number of its variable; after an error `overrides` is as it was.
+    ///
+    /// `paths` leads from the clean path of each file to the one that is shown, and is not asked anything yet.
     pub fn analyze<'src, S: Syntax, E: Evaluation>(
         alloc: Global,
         asts: &HashMap<(Modulepath, Text), Ast<'src>>,
@@ -250,26 +220,40 @@ impl Analyzer {
         requires held { IsSome (get same_ast_key asts.now (module_path.now, root.now)) }
         requires asts { AreAnalyzable (S.answers syntax.now).enabled (get same_ast_key asts.now) }
         requires paths { HavePaths (get same_ast_key asts.now) (get bytes_eq paths.now) }
-        ensures made { IfOk result (Analyzes (layers_of (S.answers syntax.now) (E.answers evaluation.now)) asts.now loaded.now module_path.now root.now (label name.entry doc groups.now private)) }
-        ensures named { IfErr result (NamesAnalyzed (layers_of (S.answers syntax.now) (E.answers evaluation.now)) asts.now module_path.now root.now (label name.entry doc groups.now private)) }
-        ensures overrides { overrides.new ≡ overrides.old }
+        ensures made { let given = given_of (S.answers syntax.now) (E.answers evaluation.now) config.now.overrides in
+            let top = label name.entry doc groups.now private in
+            IfOk result (λ made. Analyzes given asts.now loaded.now module_path.now root.now top overrides.old overrides.new made) }
+        ensures named { let given = given_of (S.answers syntax.now) (E.answers evaluation.now) config.now.overrides in
+            let top = label name.entry doc groups.now private in
+            IfErr result (NamesAnalyzed given asts.now module_path.now root.now top) }
+        ensures refused { OnErr result (AreAsBefore overrides.old overrides.new) }
     {
         let groups = literals(alloc, groups)?;
         let label = Label {
             name,
             doc,
+            doc_expression: None,
             groups,
             private,
         };
-        analyze_modules(
+        let analyzed = analyze_modules(
             alloc,
             asts,
+            config,
             syntax,
             evaluation,
             loaded,
             module_path,
             root,
             label,
-        )
+        )?;
+        let (justfile, gathered) = analyzed;
+        let Gathered {
+            recipes,
+            overridden,
+        } = gathered;
+        overrides.reserve(overridden.len())?;
+        insert_all(overridden, overrides);
+        Ok((justfile, recipes))
     }
 }

@@ -5,26 +5,37 @@ ghost use Rattle.just_graph.specs.Graph.{targets};
 ghost use Rattle.just_errors.specs.Causes.{Reports};
 ghost use Rattle.just_invoke.specs.declared.justfile.Justfile.{Justfile};
 ghost use Rattle.just_modules.specs.Justfiles.{slot};
-ghost use Rattle.just_parts.specs.Layers.{layers_of};
-ghost use Rattle.just_modules.specs.Analysis.{BreaksFiles};
+ghost use Rattle.just_parts.specs.Layers.{given_of};
 ghost use Rattle.just_joining.specs.Resolved.{AreNew};
 ghost use Rattle.just_joining.specs.OfPlaces.{recipes_of_place};
-ghost use Rattle.just_modules.specs.Steps.{BreaksInOrder, CanCompile, CanCompileAll, CompilesAt, HaveCompiledAll};
+ghost use Rattle.just_modules.specs.Steps.{BreaksInOrder, BreaksPlace, CanCompile, CanCompileAll, CompilesAt, HaveCompiledAll};
 
 use crate::analyzer::analyze_module;
+use crate::checking::{Checked, check_files};
 use crate::inner::take_inner;
 use crate::making::Surroundings;
-use crate::noted::{labels_at, notes_at};
+use crate::noted::notes_at;
+use just_constants::Constants;
 use just_data::{Sequence, Shared, Text};
 use just_invoke::{Justfile, Recipes};
-use just_joining::files::Files;
+use just_joining::files::{Files, ast_at};
 use just_joining::joined::Joined;
-use just_parts::layers::{Error, Evaluation, Syntax};
+use just_parts::layers::{Config, Error, Evaluation, Number, Syntax};
 use std::alloc::{AllocError, Global};
+
+/// What modules that are compiled add.
+#[derive(Drop)]
+pub struct Gathered<'src> {
+    /// Their recipes, one module after another.
+    pub recipes: Recipes<'src>,
+    /// The values that override their variables, each with the number of its variable.
+    pub overridden: Vec<(Number, Text)>,
+}
 
 // Compiles the module whose own file stands at a place, from those in it.
 fn compile_place<'a, 'src, S: Syntax, E: Evaluation>(
     alloc: Global,
+    config: &Config,
     files: &Files<'src, 'a>,
     syntax: &S,
     evaluation: &E,
@@ -32,7 +43,7 @@ fn compile_place<'a, 'src, S: Syntax, E: Evaluation>(
     loaded: &Shared<Sequence<Text>>,
     place: usize,
     slots: &mut Vec<Option<Justfile<'src>>>,
-    recipes: &mut Recipes<'src>,
+    gathered: &mut Gathered<'src>,
 ) -> Result<(), Error<'src>>
     requires keys { length files.now.keys.items ≡ length files.now.asts.items }
     requires files { length joined.now.files.items ≡ length files.now.asts.items }
@@ -40,12 +51,34 @@ fn compile_place<'a, 'src, S: Syntax, E: Evaluation>(
     requires room { length slots.old.items ≡ length files.now.asts.items }
     requires ready { CanCompile (S.answers syntax.now).enabled files.now joined.now place }
     requires inner { (js : List Justfile) × (map Some js ≡ map (slot slots.old.items) (targets joined.now.modules.items place)) }
-    requires apart { AreNew recipes.old (recipes_of_place (S.answers syntax.now).enabled files.now joined.now place) }
-    ensures compiled { OnOk result (CompilesAt (layers_of (S.answers syntax.now) (E.answers evaluation.now)) files.now joined.now loaded.now place slots.old slots.new recipes.old recipes.new) }
-    ensures named { IfErr result (Reports (BreaksFiles (layers_of (S.answers syntax.now) (E.answers evaluation.now)) files.now (targets joined.now.files.items place))) }
+    requires apart { AreNew gathered.old.recipes (recipes_of_place (S.answers syntax.now).enabled files.now joined.now place) }
+    ensures compiled { let given = given_of (S.answers syntax.now) (E.answers evaluation.now) config.now.overrides in
+        OnOk result (CompilesAt given files.now joined.now loaded.now place slots.old slots.new gathered.old gathered.new) }
+    ensures named { let given = given_of (S.answers syntax.now) (E.answers evaluation.now) config.now.overrides in
+        IfErr result (Reports (BreaksPlace given files.now joined.now place)) }
 {
     let row = joined.files[place].as_slice();
-    let labels = labels_at(alloc, files, syntax, row)?;
+    let ast = ast_at(files, place);
+    let checked = check_files(
+        alloc,
+        config,
+        &ast.module_path,
+        files,
+        syntax,
+        evaluation,
+        row,
+    )?;
+    let Checked {
+        definitions,
+        variables,
+        constants,
+        labels,
+    } = checked;
+    let Constants {
+        settings,
+        mut overridden,
+        ..
+    } = constants;
     let modules = take_inner(
         alloc,
         slots,
@@ -58,15 +91,16 @@ fn compile_place<'a, 'src, S: Syntax, E: Evaluation>(
         notes: notes_at(alloc, files, syntax, row)?,
         source: Text::from_str(alloc, files.keys[place].1.as_str())?,
     };
+    gathered.overridden.append(&mut overridden)?;
     let justfile = analyze_module(
         alloc,
-        files,
+        &definitions,
+        ast,
         syntax,
-        evaluation,
-        row,
-        place,
+        variables,
+        settings,
         surroundings,
-        recipes,
+        &mut gathered.recipes,
     )?;
     slots[place] = Some(justfile);
     Ok(())
@@ -84,25 +118,32 @@ fn no_slots<'src>(alloc: Global, count: usize) -> Result<Vec<Option<Justfile<'sr
 }
 
 /// Compiles the modules whose own files stand at the places of an order: the justfiles of those that stand in no other,
-/// without a name, and the recipes of all, one module after another.
+/// without a name, and what all add, one module after another.
 pub fn compile_in_order<'a, 'src, S: Syntax, E: Evaluation>(
     alloc: Global,
+    config: &Config,
     files: &Files<'src, 'a>,
     syntax: &S,
     evaluation: &E,
     joined: &Joined,
     loaded: &Shared<Sequence<Text>>,
     order: &[usize],
-) -> Result<(Vec<Option<Justfile<'src>>>, Recipes<'src>), Error<'src>>
+) -> Result<(Vec<Option<Justfile<'src>>>, Gathered<'src>), Error<'src>>
     requires { CanCompileAll (S.answers syntax.now).enabled files.now joined.now order.now }
-    ensures compiled { IfOk result (HaveCompiledAll (layers_of (S.answers syntax.now) (E.answers evaluation.now)) files.now joined.now loaded.now order.now) }
-    ensures named { IfErr result (Reports (BreaksInOrder (layers_of (S.answers syntax.now) (E.answers evaluation.now)) files.now joined.now order.now)) }
+    ensures compiled { let given = given_of (S.answers syntax.now) (E.answers evaluation.now) config.now.overrides in
+        IfOk result (HaveCompiledAll given files.now joined.now loaded.now order.now) }
+    ensures named { let given = given_of (S.answers syntax.now) (E.answers evaluation.now) config.now.overrides in
+        IfErr result (Reports (BreaksInOrder given files.now joined.now order.now)) }
 {
     let mut slots = no_slots(alloc, files.asts.len())?;
-    let mut recipes = Recipes::new(alloc);
+    let mut gathered = Gathered {
+        recipes: Recipes::new(alloc),
+        overridden: Vec::new(alloc),
+    };
     for place in order {
         compile_place(
             alloc,
+            config,
             files,
             syntax,
             evaluation,
@@ -110,8 +151,8 @@ pub fn compile_in_order<'a, 'src, S: Syntax, E: Evaluation>(
             loaded,
             *place,
             &mut slots,
-            &mut recipes,
+            &mut gathered,
         )?;
     }
-    Ok((slots, recipes))
+    Ok((slots, gathered))
 }

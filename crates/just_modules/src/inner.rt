@@ -22,6 +22,7 @@ pub fn labelled<'src>(justfile: Justfile<'src>, label: Label<'src>) -> Justfile<
         doc,
         groups,
         private,
+        ..
     } = label;
     Justfile {
         name,

@@ -2,8 +2,8 @@
 #![tactic(auto)]
 
 mod analyzer;
+mod checking;
 mod compiling;
-mod constants;
 mod inner;
 mod making;
 mod noted;

@@ -13,7 +13,7 @@ ghost use Rattle.just_joining.specs.Kept.{kept_recipes};
 ghost use Rattle.just_joining.specs.Named.{recipes_by};
 ghost use Rattle.just_joining.specs.Recipes.{names_of};
 
-use crate::constants::Variables;
+use just_constants::Variables;
 use just_data::{Sequence, Shared, Text};
 use just_invoke::{Justfile, RecipeKey, Recipes};
 use just_joining::defaults::marked_place;

@@ -4,3 +4,4 @@ pub mod Looking
 pub mod LookingAt
 pub mod Searching
 pub mod Sets
+pub mod Starts

@@ -8,7 +8,7 @@ use Rattle.std.proofs.lemmas.Slice.Eq.{bytes_eq-Decides}
 use Rattle.std.proofs.lemmas.Option.{same_Some}
 use Rattle.just_names.specs.Modulepath.{Text}
 use Rattle.just_names.specs.declared.number.Number.{Number}
-use Rattle.just_needs.specs.Needs.{same_number}
+use Rattle.just_parts.specs.Needs.{same_number}
 use Rattle.just_needs.specs.Search.{Found, LeadsOn, Looks, LooksSoFar, Says, SaysCall, functions_left, to_body, to_value, variables_left}
 use Rattle.just_needs.proofs.Fewer.{fewer_functions, fewer_variables, one_function_fewer, one_variable_fewer}
 use Rattle.just_needs.proofs.Sets.{number_itself, one_number}
@@ -17,7 +17,7 @@ use Rattle.just_records.specs.declared.function_definition.FunctionDefinition.{F
 use Rattle.just_references.specs.Body.{Calls, Mention, Names, mention_of}
 use Rattle.just_references.specs.declared.references.Reference.{Reference}
 use Rattle.just_table.specs.Entries.{find}
-use Rattle.just_variables.specs.Known.{Known}
+use Rattle.just_parts.specs.Known.{Known}
 use Rattle.just_variables.specs.Steps.{Scoped, body_scoped, value_scoped}
 
 pub the_one : {A : Type 0} (x y : A) → Contains (x ∷ []) y → x ≡ y

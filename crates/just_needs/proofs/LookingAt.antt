@@ -15,7 +15,7 @@ use Rattle.just_names.specs.Modulepath.{Text}
 use Rattle.just_names.specs.Name.{text_of_name}
 use Rattle.just_names.specs.declared.name.Name.{Name}
 use Rattle.just_names.specs.declared.number.Number.{Number}
-use Rattle.just_needs.specs.Needs.{same_number}
+use Rattle.just_parts.specs.Needs.{same_number}
 use Rattle.just_needs.specs.Search.{Found, Looks, LooksAtCall, LooksAtName, Searches, found_in, functions_left, hidden_by, scoped_of, unfound, variables_left}
 use Rattle.just_needs.specs.declared.needs.Search.{Search}
 use Rattle.just_needs.specs.declared.needs.Waiting.{Waiting}
@@ -28,8 +28,8 @@ use Rattle.just_references.specs.Body.{Calls, Names, mention_of}
 use Rattle.just_references.specs.declared.references.Reference.{Reference}
 use Rattle.just_references.specs.declared.references.Reference.TheVariants as reference
 use Rattle.just_table.specs.Entries.{find}
-use Rattle.just_variables.specs.Known.{Known}
-use Rattle.just_variables.specs.Reading.{mentions}
+use Rattle.just_parts.specs.Known.{Known}
+use Rattle.just_parts.specs.Reading.{mentions}
 use Rattle.just_variables.specs.Steps.{Scoped, body_scoped, value_scoped}
 
 -- what a set or a map answers at a key
@@ -113,17 +113,17 @@ module _ (m : Known) (overridden : Number → Bool) (hidden : Text → Bool) (re
       answer (λ l. l hidden visited shown) looks)
 
 -- a search, by what its code holds
-module _ (m : Known) (overridden : Number → Bool) (first : Waiting) (references : Number → Bool) (visited : Text → Bool) where
-  pub searches_first : (s : Search) → s.numbers.keys ≡ [] → s.functions.keys ≡ [] → s.stack.items ≡ first ∷ []
-      → Searches m overridden (scoped_of first) references visited (found_in references visited s)
+module _ (m : Known) (overridden : Number → Bool) (firsts : List Waiting) (references : Number → Bool) (visited : Text → Bool) where
+  pub searches_first : (s : Search) → s.numbers.keys ≡ [] → s.functions.keys ≡ [] → s.stack.items ≡ firsts
+      → Searches m overridden (map scoped_of firsts) references visited (found_in references visited s)
   searches_first s numbers functions stack =
-      search_begins m overridden (scoped_of first) references visited (found_in references visited s)
+      search_begins m overridden (map scoped_of firsts) references visited (found_in references visited s)
       (λ n. or_nothing (references n) (contains same_number s.numbers n) (ap (list_any (same_number n)) numbers))
       (λ name. or_nothing (visited name) (contains bytes_eq s.functions name) (ap (list_any (bytes_eq name)) functions))
       (ap (map scoped_of) stack)
 
   module _ (old popped new : Search) (next : Waiting) (numbers : popped.numbers ≡ old.numbers) (functions : popped.functions ≡ old.functions) (pop : old.stack.items ≡ popped.stack.items ++ next ∷ [])
-      (search : Searches m overridden (scoped_of first) references visited (found_in references visited old))
+      (search : Searches m overridden (map scoped_of firsts) references visited (found_in references visited old))
       (looks : Looks m overridden (hidden_by next.parameters) (mentions next.expression.now) (found_in references visited popped) (found_in references visited new)) where
     same_numbers : (n : Number) → (references n || contains same_number popped.numbers n) ≡ (references n || contains same_number old.numbers n)
     same_numbers n = ap (λ s. references n || contains same_number s n) numbers
@@ -131,22 +131,22 @@ module _ (m : Known) (overridden : Number → Bool) (first : Waiting) (reference
     same_functions : (name : Text) → (visited name || contains bytes_eq popped.functions name) ≡ (visited name || contains bytes_eq old.functions name)
     same_functions name = ap (λ s. visited name || contains bytes_eq s name) functions
 
-    pub searches_next : Searches m overridden (scoped_of first) references visited (found_in references visited new)
+    pub searches_next : Searches m overridden (map scoped_of firsts) references visited (found_in references visited new)
     searches_next =
-        search_goes_on m overridden (scoped_of first) references visited (found_in references visited old) (found_in references visited popped) (found_in references visited new) (scoped_of next)
+        search_goes_on m overridden (map scoped_of firsts) references visited (found_in references visited old) (found_in references visited popped) (found_in references visited new) (scoped_of next)
         search (pushed popped.stack.items old.stack.items next (scoped_of next) pop refl) same_numbers same_functions looks
 
     pub searches_less : unfound m (found_in references visited new) + length new.stack.items < unfound m (found_in references visited old) + length old.stack.items
     searches_less =
         let same : unfound m (found_in references visited popped) ≡ unfound m (found_in references visited old) =
         (λ i. variables_left m (λ n. same_numbers n i) + functions_left m (λ name. same_functions name i)) in
-        let less = search_ends m overridden (scoped_of first) references visited (found_in references visited old) (found_in references visited popped) (found_in references visited new) (scoped_of next)
+        let less = search_ends m overridden (map scoped_of firsts) references visited (found_in references visited old) (found_in references visited popped) (found_in references visited new) (scoped_of next)
         search (pushed popped.stack.items old.stack.items next (scoped_of next) pop refl) same_numbers same_functions looks same in
         omega (arith, less, length-map new.stack.items scoped_of, length-map old.stack.items scoped_of)
 
   -- where nothing is popped it stays as it is
   pub searches_still : (old new : Search) → new.numbers ≡ old.numbers → new.functions ≡ old.functions → old.stack.items ≡ new.stack.items ++ []
-      → Searches m overridden (scoped_of first) references visited (found_in references visited old) → Searches m overridden (scoped_of first) references visited (found_in references visited new)
+      → Searches m overridden (map scoped_of firsts) references visited (found_in references visited old) → Searches m overridden (map scoped_of firsts) references visited (found_in references visited new)
   searches_still old new numbers functions stack search =
       let items : old.stack.items ≡ new.stack.items = stack ∙ append-nil new.stack.items in
       let same : found_in references visited old ≡ found_in references visited new =
@@ -155,4 +155,4 @@ module _ (m : Known) (overridden : Number → Bool) (first : Waiting) (reference
         function = λ name. visited name || contains bytes_eq (sym functions i) name;
         waiting = map scoped_of (items i);
       }) in
-      subst (Searches m overridden (scoped_of first) references visited) same search
+      subst (Searches m overridden (map scoped_of firsts) references visited) same search

@@ -1,5 +1,5 @@
--- A search from an expression: as it begins, after each expression that is looked into, and at its end.
-use Rattle.std.proofs.Common.{◌≡◌, ◌↔◌, ◌+◌, ◌<◌, Bool, true, false, cond, [], ◌∷◌, ◌++◌, length, Some, refl, sym, ◌∙◌, ap, subst, arith, inl, inr, ◌⊎◌, length-append}
+-- A search from some expressions: as it begins, after each expression that is looked into, and at its end.
+use Rattle.std.proofs.Common.{◌≡◌, ◌↔◌, ◌+◌, ◌<◌, Bool, true, false, cond, List, [], ◌∷◌, ◌++◌, length, Some, refl, sym, ◌∙◌, ap, subst, arith, inl, inr, ◌⊎◌, length-append}
 use Rattle.std.specs.List.{Contains}
 use Rattle.std.specs.Option.{is_some, option_map_or}
 use Rattle.std.proofs.lemmas.Bool.{false≢true}
@@ -7,39 +7,37 @@ use Rattle.std.proofs.lemmas.List.Elements.{Contains-append_cases, Contains-appe
 use Rattle.std.proofs.lemmas.Option.{same_Some}
 use Rattle.just_names.specs.Modulepath.{Text}
 use Rattle.just_names.specs.declared.number.Number.{Number}
-use Rattle.just_needs.specs.Needs.{Gains, GainsAll, HaveNumbersApart, IsClosed, IsNumberIn, Needs, onward, overridden_by, same_number, starts}
-use Rattle.just_needs.specs.Search.{Found, IsCovered, IsDone, LeadsOn, Looks, Says, Searches, to_body, to_value, unfound}
+use Rattle.just_parts.specs.Needs.{Gains, GainsAll, HaveNumbersApart, IsClosed, IsNumberIn, Needs, onward, overridden_by, same_number, starts}
+use Rattle.just_needs.specs.Search.{Found, IsCovered, IsDone, IsReadFrom, LeadsOn, Looks, Says, Searches, to_body, to_value, unfound}
 use Rattle.just_needs.proofs.Looking.{added, is_the_one, kept, not_in_none, the_one}
 use Rattle.just_needs.proofs.Sets.{number_itself, one_number}
 use Rattle.just_records.specs.declared.assignment.Assignment.{Assignment}
 use Rattle.just_records.specs.declared.expression.Expression.{Expression}
 use Rattle.just_records.specs.declared.function_definition.FunctionDefinition.{FunctionDefinition}
 use Rattle.just_table.specs.Entries.{find}
-use Rattle.just_variables.specs.Known.{Known, none_hidden}
-use Rattle.just_variables.specs.Reading.{Reads, at_once, mentions, through}
+use Rattle.just_parts.specs.Known.{Known, none_hidden}
+use Rattle.just_parts.specs.Reading.{Reads, at_once, mentions, through}
 use Rattle.just_variables.specs.Steps.{Scoped, body_scoped, value_scoped}
 
 pub not_overridden : (overridden : Number → Bool) (m : Known) (name : Text) (a : Assignment) → find name m.assignments ≡ Some a → overridden a.number ≡ false → overridden_by overridden m name ≡ false
 not_overridden overridden m name a is on = ap (λ o. option_map_or (λ (x : Assignment). overridden x.number) o false) is ∙ on
 
-module _ (m : Known) (overridden : Number → Bool) (first : Scoped) (old : Number → Bool) (visited : Text → Bool) where
+module _ (m : Known) (overridden : Number → Bool) (firsts : List Scoped) (old : Number → Bool) (visited : Text → Bool) where
   abbrev IsNeeded : Text → Type 0
-  IsNeeded = Needs m (overridden_by overridden m) (Reads m first.hidden first.expression)
+  IsNeeded = Needs m (overridden_by overridden m) (IsReadFrom m firsts)
 
   -- as it begins
-  pub search_begins : (f : Found) → ((n : Number) → f.number n ≡ old n) → ((name : Text) → f.function name ≡ visited name) → f.waiting ≡ first ∷ [] → Searches m overridden first old visited f
+  pub search_begins : (f : Found) → ((n : Number) → f.number n ≡ old n) → ((name : Text) → f.function name ≡ visited name) → f.waiting ≡ firsts → Searches m overridden firsts old visited f
   search_begins f numbers functions waits = record {
     keeps = λ n h. numbers n ∙ h;
     only = λ n h. inl (sym (numbers n) ∙ h);
-    needed = λ s c name r.
-        let same : first ≡ s = the_one first s (subst (λ ss. Contains ss s) waits c) in
-        starts (subst (λ (t : Scoped). Reads m t.hidden t.expression name) (sym same) r);
-    start = inl (subst (λ ss. Contains ss first) (sym waits) (is_the_one first));
+    needed = λ s c name r. starts (record { from = s; there = subst (λ ss. Contains ss s) waits c; reads = r });
+    start = λ s there. inl (subst (λ ss. Contains ss s) (sym waits) there);
     bodies = λ name d is h. inl (sym (functions name) ∙ h);
     values = λ apart name a is on h. inl (sym (numbers a.number) ∙ h);
   }
 
-  module _ (f popped g : Found) (s : Scoped) (search : Searches m overridden first old visited f) (pops : f.waiting ≡ popped.waiting ++ s ∷ [])
+  module _ (f popped g : Found) (s : Scoped) (search : Searches m overridden firsts old visited f) (pops : f.waiting ≡ popped.waiting ++ s ∷ [])
       (numbers : (n : Number) → popped.number n ≡ f.number n) (functions : (name : Text) → popped.function name ≡ f.function name) (looks : Looks m overridden s.hidden (mentions s.expression) popped g) where
     waits_still : (t : Scoped) → Contains popped.waiting t → Contains f.waiting t
     waits_still t c = subst (λ ss. Contains ss t) (sym pops) (Contains-append_left popped.waiting (s ∷ []) t c)
@@ -69,7 +67,7 @@ module _ (m : Known) (overridden : Number → Bool) (first : Scoped) (old : Numb
     needed_on t (to_body call) name r = search.needed s waited name (through call.arguments call.among call.is r)
 
     -- after an expression is looked into
-    pub search_goes_on : Searches m overridden first old visited g
+    pub search_goes_on : Searches m overridden firsts old visited g
     search_goes_on = record {
       keeps = λ n h. looks.keeps_numbers n (numbers n ∙ search.keeps n h);
       only = λ n h. elim (looks.new_number n h) [
@@ -80,7 +78,7 @@ module _ (m : Known) (overridden : Number → Bool) (first : Scoped) (old : Numb
         | inl still ↦ search.needed t (waits_still t still) name r
         | inr leads ↦ needed_on t leads name r
       ];
-      start = covered_on first search.start;
+      start = λ t there. covered_on t (search.start t there);
       bodies = λ name d is h. elim (looks.new_function name d is h) [
         | inl was ↦ elim (search.bodies name d is (sym (functions name) ∙ was)) [ inl before ↦ inl before | inr c ↦ inr (covered_on (body_scoped d) c) ]
         | inr c ↦ inr (inl c)
@@ -102,8 +100,8 @@ module _ (m : Known) (overridden : Number → Bool) (first : Scoped) (old : Numb
         omega arith
 
   -- at its end
-  module _ (f : Found) (search : Searches m overridden first old visited f) (over : f.waiting ≡ []) where
-    pub search_gains : (new : Number → Bool) → ((n : Number) → new n ≡ f.number n) → Gains m overridden (Reads m first.hidden first.expression) old new
+  module _ (f : Found) (search : Searches m overridden firsts old visited f) (over : f.waiting ≡ []) where
+    pub search_gains : (new : Number → Bool) → ((n : Number) → new n ≡ f.number n) → Gains m overridden (IsReadFrom m firsts) old new
     search_gains new are = record {
       keeps = λ n h. are n ∙ search.keeps n h;
       only = λ n h. search.only n (sym (are n) ∙ h);
@@ -126,7 +124,7 @@ module _ (m : Known) (overridden : Number → Bool) (first : Scoped) (old : Numb
 
       module _ (apart : HaveNumbersApart m) (closed : IsClosed m overridden old) where
         needed_found : {name : Text} → IsNeeded name → (a : Assignment) → find name m.assignments ≡ Some a → f.number a.number ≡ true
-        needed_found (starts r) a is = reads_found (done_at_last first search.start) r a is
+        needed_found (starts r) a is = reads_found (done_at_last r.from (search.start r.from r.there)) r.reads a is
         needed_found (onward {name = from} {next = to} need on step) a is =
             let free : overridden step.assigned.number ≡ false = sym (ap (λ o. option_map_or (λ (x : Assignment). overridden x.number) o false) step.is) ∙ on in
             elim (search.values apart from step.assigned step.is free (needed_found need step.assigned step.is)) [
@@ -134,7 +132,7 @@ module _ (m : Known) (overridden : Number → Bool) (first : Scoped) (old : Numb
               | inr c ↦ reads_found (done_at_last (value_scoped step.assigned) c) step.reads a is
             ]
 
-      pub search_gains_all : (new : Number → Bool) → ((n : Number) → new n ≡ f.number n) → GainsAll m overridden (Reads m first.hidden first.expression) old new
+      pub search_gains_all : (new : Number → Bool) → ((n : Number) → new n ≡ f.number n) → GainsAll m overridden (IsReadFrom m firsts) old new
       search_gains_all new are apart closed n is =
           are n ∙ subst (λ k. f.number k ≡ true) is.number (needed_found apart closed is.there is.assigned is.is)
 

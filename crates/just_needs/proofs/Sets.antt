@@ -3,7 +3,7 @@ use Rattle.std.proofs.Common.{◌≡◌, ℕ, Bool, true, false, cond, ◌||◌,
 use Rattle.std.proofs.lemmas.Bool.Decides.{Decides-eqb}
 use Rattle.std.proofs.lemmas.Cmp.{nat_eq_equiv}
 use Rattle.just_names.specs.declared.number.Number.{Number}
-use Rattle.just_needs.specs.Needs.{same_number}
+use Rattle.just_parts.specs.Needs.{same_number}
 
 pub number_itself : (n : Number) → same_number n n ≡ true
 number_itself n = nat_eq_equiv.refl n.0

@@ -1,2 +1,1 @@
-pub mod Needs
 pub mod Search

@@ -8,15 +8,15 @@ use Rattle.just_names.specs.Modulepath.{Text}
 use Rattle.just_names.specs.declared.number.Number.{Number}
 use Rattle.just_needs.specs.declared.needs.Search.{Search}
 use Rattle.just_needs.specs.declared.needs.Waiting.{Waiting}
-use Rattle.just_needs.specs.Needs.{HaveNumbersApart, IsNumberIn, Needs, overridden_by, same_number}
+use Rattle.just_parts.specs.Needs.{HaveNumbersApart, IsNumberIn, Needs, overridden_by, same_number}
 use Rattle.just_records.specs.declared.assignment.Assignment.{Assignment}
 use Rattle.just_records.specs.declared.function_definition.FunctionDefinition.{FunctionDefinition}
 use Rattle.just_records.specs.declared.function_definition.FunctionParameter.{FunctionParameter}
 use Rattle.just_references.specs.Body.{Calls, Mention, Names, mention_of}
 use Rattle.just_references.specs.declared.references.Reference.{Reference}
 use Rattle.just_table.specs.Entries.{find}
-use Rattle.just_variables.specs.Known.{Known, hides, none_hidden}
-use Rattle.just_variables.specs.Reading.{Reads, mentions}
+use Rattle.just_parts.specs.Known.{Known, hides, none_hidden}
+use Rattle.just_parts.specs.Reading.{Reads, mentions}
 use Rattle.just_variables.specs.Steps.{Scoped, body_scoped, scoped, value_scoped}
 
 -- Which numbers and which functions are found, and the expressions that are looked into next.
@@ -117,15 +117,21 @@ pub record IsDone (m : Known) (f : Found) (s : Scoped) : Type 0 where
 abbrev pub IsCovered : Known → Found → Scoped → Type 0
 IsCovered m f s = Contains f.waiting s ⊎ IsDone m f s
 
--- A search from an expression, with numbers and functions that were there before it.
-pub record Searches (m : Known) (overridden : Number → Bool) (first : Scoped) (old : Number → Bool) (visited : Text → Bool) (f : Found) : Type 0 where
+-- A variable that one of some expressions reads, each in its scope.
+pub record IsReadFrom (m : Known) (firsts : List Scoped) (name : Text) : Type 0 where
+  pub from : Scoped
+  pub there : Contains firsts from
+  pub reads : Reads m from.hidden from.expression name
+
+-- A search from some expressions, with numbers and functions that were there before it.
+pub record Searches (m : Known) (overridden : Number → Bool) (firsts : List Scoped) (old : Number → Bool) (visited : Text → Bool) (f : Found) : Type 0 where
   pub keeps : (n : Number) → old n ≡ true → f.number n ≡ true
-  pub only : (n : Number) → f.number n ≡ true → (old n ≡ true) ⊎ IsNumberIn m (Needs m (overridden_by overridden m) (Reads m first.hidden first.expression)) n
+  pub only : (n : Number) → f.number n ≡ true → (old n ≡ true) ⊎ IsNumberIn m (Needs m (overridden_by overridden m) (IsReadFrom m firsts)) n
   -- whatever is read by what waits is needed
   pub needed : (s : Scoped) → Contains f.waiting s → (name : Text) → Reads m s.hidden s.expression name
-      → Needs m (overridden_by overridden m) (Reads m first.hidden first.expression) name
+      → Needs m (overridden_by overridden m) (IsReadFrom m firsts) name
   -- where it starts, each function that it found, and each variable that it found and that is not overridden, are looked into or wait
-  pub start : IsCovered m f first
+  pub start : (s : Scoped) → Contains firsts s → IsCovered m f s
   pub bodies : (name : Text) (d : FunctionDefinition) → find name m.functions ≡ Some d → f.function name ≡ true
       → (visited name ≡ true) ⊎ IsCovered m f (body_scoped d)
   pub values :

@@ -3,4 +3,4 @@
 
 mod needs;
 
-pub use needs::{assignment_references, collect_references};
+pub use needs::{assignment_references, collect_references, needed_references};

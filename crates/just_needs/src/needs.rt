@@ -1,15 +1,16 @@
 //! What variables an expression needs, by their numbers.
 
-ghost use Rattle.std.specs.Prelude.{◌≡◌, ◌≤◌, ◌∷◌, [], is_some, IfOk, IfSome, OnErr, OnOk};
+ghost use Rattle.std.specs.Prelude.{◌≡◌, ◌≤◌, ◌∷◌, [], is_some, map, IfOk, IfSome, OnErr, OnOk};
 ghost use Rattle.std.specs.HashSet.{contains, hash_set_len, spare};
 ghost use Rattle.std.specs.Str.{bytes_eq};
 ghost use Rattle.just_names.specs.Name.{text_of_name};
-ghost use Rattle.just_needs.specs.Needs.{AreNeeded, Gains, GainsAll, GainsThose, HasNone, IsSame, KeepsAll, has_number, same_number};
+ghost use Rattle.just_parts.specs.Needs.{AreNeeded, AreNeededBy, Gains, GainsAll, GainsThose, HasNone, IsSame, KeepsAll, has_number, same_number};
 ghost use Rattle.just_needs.specs.Search.{Looks, LooksAtCall, LooksAtName, Searches, found_in, hidden_by, scoped_of};
 ghost use Rattle.just_references.specs.Body.{mention_of};
 ghost use Rattle.just_table.specs.Entries.{find};
-ghost use Rattle.just_variables.specs.Known.{hides, known_in};
-ghost use Rattle.just_variables.specs.Reading.{Reads, mentions};
+ghost use Rattle.just_parts.specs.Known.{hides};
+ghost use Rattle.just_variables.specs.Lent.{known_in};
+ghost use Rattle.just_parts.specs.Reading.{Reads, mentions};
 
 use just_data::{BorrowedText, Text};
 use just_parts::layers::{Expression, FunctionParameter, Name, Number, Syntax};
@@ -160,27 +161,26 @@ fn look_into<'w, 'a, 'src, S: Syntax>(
     Ok(())
 }
 
-// Searches from an expression until nothing waits.
+// Searches from what waits until nothing does.
 fn search_from<'w, 'a, 'src, S: Syntax>(
     alloc: Global,
     known: &'w Known<'a, 'src, S>,
     overrides: &HashMap<Number, Text>,
     references: &HashSet<Number>,
     visited: &HashSet<BorrowedText<'src>>,
-    first: Waiting<'w, 'src>,
+    stack: Vec<Waiting<'w, 'src>>,
 ) -> Result<Search<'w, 'src>, AllocError>
     ensures found { let m = known_in (S.answers known.now.syntax.now) known.now in
         let old = contains same_number references.now in
         let visited = contains bytes_eq visited.now in
-        IfOk result (λ search. Searches m (has_number overrides.now) (scoped_of first.entry) old visited (found_in old visited search)) }
+        IfOk result (λ search. Searches m (has_number overrides.now) (map scoped_of stack.entry.items) old visited (found_in old visited search)) }
     ensures over { IfOk result (λ search. search.stack.items ≡ []) }
 {
     let mut search = Search {
         numbers: HashSet::new(alloc),
         functions: HashSet::new(alloc),
-        stack: Vec::new(alloc),
+        stack,
     };
-    search.stack.push(first)?;
     while let Some(next) = search.stack.pop() {
         look_into(
             alloc,
@@ -250,7 +250,9 @@ pub fn collect_references<'a, 'src, S: Syntax>(
         expression,
         parameters: Some(parameters),
     };
-    let found = search_from(alloc, known, overrides, &*references, &*visited, first)?;
+    let mut stack = Vec::new(alloc);
+    stack.push(first)?;
+    let found = search_from(alloc, known, overrides, &*references, &*visited, stack)?;
     let Search {
         numbers,
         functions,
@@ -294,4 +296,29 @@ pub fn assignment_references<'a, 'src, S: Syntax>(
     }
     references.insert(assignment.number)?;
     Ok(Some(references))
+}
+
+/// The numbers of the variables that these expressions need: those that one of them reads, and whatever such a one reads,
+/// unless it is overridden, and so on. No parameters are in scope.
+pub fn needed_references<'e, 'a, 'src, S: Syntax>(
+    alloc: Global,
+    known: &Known<'a, 'src, S>,
+    overrides: &HashMap<Number, Text>,
+    expressions: &Vec<&'e Expression<'src>>,
+) -> Result<HashSet<Number>, AllocError>
+    ensures needed { let m = known_in (S.answers known.now.syntax.now) known.now in
+        IfOk result (λ found. AreNeededBy m (has_number overrides.now) (map (λ e. e.now) expressions.now.items) (contains same_number found)) }
+{
+    let references = HashSet::new(alloc);
+    let visited = HashSet::new(alloc);
+    let mut stack = Vec::with_capacity(alloc, expressions.len())?;
+    for place in 0..expressions.len() {
+        stack.push(Waiting {
+            expression: &*expressions[place],
+            parameters: None,
+        })?;
+    }
+    let found = search_from(alloc, known, overrides, &references, &visited, stack)?;
+    let Search { numbers, .. } = found;
+    Ok(numbers)
 }

@@ -2,12 +2,14 @@
 ghost use Rattle.std.specs.Prelude.{◌≡◌, ◌++◌, IfOk, OnOk};
 ghost use Rattle.std.specs.List.{list_any};
 ghost use Rattle.std.specs.Option.{option_copied};
-ghost use Rattle.just_notes.specs.Labels.{group_in, groups_of, is_private, label_by, label_said};
+ghost use Rattle.just_notes.specs.Labels.{doc_in, doc_of, group_in, groups_of, is_private, label_by, label_said};
 ghost use Rattle.just_notes.specs.Said.{said};
 
 use crate::enabled::is_enabled;
 use just_data::{Exact, Sequence, Text};
-use just_parts::layers::{Attribute, Item, Name, NamedAttribute, StringLiteral, Syntax};
+use just_parts::layers::{
+    Attribute, Expression, Item, Name, NamedAttribute, StringLiteral, Syntax,
+};
 use std::alloc::{AllocError, Global};
 
 /// What the declaration of a module says of it.
@@ -15,8 +17,10 @@ use std::alloc::{AllocError, Global};
 pub struct Label<'src> {
     /// The name; the root's module has none.
     pub name: Option<Name<'src>>,
-    /// What a listing says of it.
+    /// What a listing says of it, where nothing is evaluated for that.
     pub doc: Option<Text>,
+    /// What that is evaluated from, where an attribute says it.
+    pub doc_expression: Option<Expression<'src>>,
     /// The groups that a listing has it in.
     pub groups: Sequence<StringLiteral<'src>>,
     /// Whether a listing leaves it out.
@@ -55,6 +59,28 @@ fn groups_of<'src>(
     Ok(groups)
 }
 
+// The expression of a doc that an attribute names.
+fn doc_in<'a, 'src>(attribute: &'a Attribute<'src>) -> Option<&'a Expression<'src>>
+    ensures { option_copied result ≡ doc_in attribute.now }
+{
+    match attribute {
+        Attribute::Doc(expression) => expression.as_ref(),
+        _ => None,
+    }
+}
+
+/// The expression of the doc that attributes name: that of the first which has one.
+pub fn doc_of<'a, 'src>(attributes: &'a [NamedAttribute<'src>]) -> Option<&'a Expression<'src>>
+    ensures { option_copied result ≡ doc_of attributes.now }
+{
+    for named in attributes {
+        if let Some(expression) = doc_in(&named.attribute) {
+            return Some(expression);
+        }
+    }
+    None
+}
+
 // Whether an attribute says that a listing leaves it out.
 fn is_private(attributes: &[NamedAttribute]) -> bool
     ensures { result ≡ list_any is_private attributes.now }
@@ -75,9 +101,14 @@ fn label_said<'src>(
 {
     let groups = groups_of(alloc, attributes)?;
     let doc = doc.clone()?;
+    let doc_expression = match doc_of(attributes) {
+        Some(expression) => Some(expression.clone()?),
+        None => None,
+    };
     Ok(Label {
         name: Some(name.copied()),
         doc,
+        doc_expression,
         groups,
         private: is_private(attributes),
     })

@@ -7,5 +7,5 @@ mod labels;
 mod notes;
 
 pub use enabled::is_enabled;
-pub use labels::{Label, push_labels};
+pub use labels::{Label, doc_of, push_labels};
 pub use notes::Notes;

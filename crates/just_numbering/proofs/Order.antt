@@ -13,8 +13,8 @@ use Rattle.just_records.specs.declared.assignment.Assignment.{Assignment}
 use Rattle.just_table.specs.Entries.{IsKeyed, IsSorted}
 use Rattle.just_numbering.specs.Numbered.{name_of_assignment}
 use Rattle.just_numbering.specs.Resolved.{AreInOrder}
-use Rattle.just_variables.specs.Known.{Known}
-use Rattle.just_variables.specs.Reading.{IsEvaluationOrder}
+use Rattle.just_parts.specs.Known.{Known}
+use Rattle.just_parts.specs.Reading.{IsEvaluationOrder}
 use Rattle.just_variables.specs.Steps.{names_of}
 use Rattle.just_variables.proofs.Placed.{different, entry_at}
 

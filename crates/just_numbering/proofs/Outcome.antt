@@ -13,8 +13,8 @@ use Rattle.just_numbering.specs.Numbered.{AreBindings, assignment_by, assignment
 use Rattle.just_numbering.specs.Resolved.{IsResolved}
 use Rattle.just_numbering.proofs.Order.{name_of, order_named}
 use Rattle.just_numbering.proofs.Tables.{put_map}
-use Rattle.just_variables.specs.Known.{Known}
-use Rattle.just_variables.specs.Reading.{IsEvaluationOrder}
+use Rattle.just_parts.specs.Known.{Known}
+use Rattle.just_parts.specs.Reading.{IsEvaluationOrder}
 use Rattle.just_variables.specs.Steps.{names_of}
 use Rattle.just_variables.proofs.Alike.{changed}
 

@@ -10,7 +10,7 @@ use Rattle.just_records.specs.declared.function_definition.FunctionDefinition.{F
 use Rattle.just_records.specs.declared.function_definition.FunctionParameter.{FunctionParameter}
 use Rattle.just_references.specs.Numbers.{with_numbers}
 use Rattle.just_table.specs.Entries.{IsKeyed, find, put_all}
-use Rattle.just_variables.specs.Known.{Known, number_of}
+use Rattle.just_parts.specs.Known.{Known, number_of}
 
 -- the number of the last parameter of a name
 abbrev pub parameter_number : List FunctionParameter → Text → Option Number

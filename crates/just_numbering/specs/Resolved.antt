@@ -14,8 +14,8 @@ use Rattle.just_records.specs.declared.assignment.Assignment.{Assignment}
 use Rattle.just_records.specs.declared.function_definition.FunctionDefinition.{FunctionDefinition}
 use Rattle.just_table.specs.Entries.{IsKeyed, find}
 use Rattle.just_numbering.specs.Numbered.{name_of_assignment, name_of_function, numbered_assignments, numbered_functions}
-use Rattle.just_variables.specs.Known.{Known, number_of}
-use Rattle.just_variables.specs.Reading.{IsEvaluationOrder}
+use Rattle.just_parts.specs.Known.{Known, number_of}
+use Rattle.just_parts.specs.Reading.{IsEvaluationOrder}
 
 -- Names of variables in an evaluation order, each as it is assigned.
 pub record AreInOrder (m : Known) (order : List Name) : Type 0 where

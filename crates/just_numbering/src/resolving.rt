@@ -7,7 +7,7 @@ ghost use Rattle.just_errors.specs.Causes.{Keeps, Reports};
 ghost use Rattle.just_numbering.specs.Numbering.{assignments_here, functions_here};
 ghost use Rattle.just_numbering.specs.Resolved.{ResolvesTo};
 ghost use Rattle.just_table.specs.Entries.{IsSorted};
-ghost use Rattle.just_variables.specs.Known.{known};
+ghost use Rattle.just_parts.specs.Known.{known};
 ghost use Rattle.just_variables.specs.Misnaming.{Expressions};
 
 use crate::numbering::{numbered_assignment, numbered_function, variable_numbers};

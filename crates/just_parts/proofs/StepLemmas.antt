@@ -1,13 +1,13 @@
 -- Steps after steps.
-use Rattle.std.proofs.Common.{◌≡◌, ◌⊎◌, List, [], ◌∷◌, ◌++◌, Option, Some, refl, sym, ◌∙◌, ap, subst, inl, inr, append_assoc, Ok, Err}
+use Rattle.std.proofs.Common.{◌≡◌, ◌⊎◌, List, [], ◌∷◌, Option, refl, sym, ◌∙◌, ap, subst, inl, inr, append_assoc, Ok, Err}
 use Rattle.std.specs.Prelude.{Result}
 use Rattle.std.proofs.lemmas.List.{append-nil}
 use Rattle.just_errors.specs.declared.halt.Halt.{Halt}
 use Rattle.just_errors.specs.declared.halt.Halt.TheVariants.{Memory}
 use Rattle.just_parts.specs.declared.layers.host.Entry.{Entry}
 use Rattle.just_parts.specs.Evaluation.{Inquiry}
-use Rattle.just_parts.specs.Host.{Answer, Answers, KeepsPromises, kept}
-use Rattle.just_parts.specs.Steps.{Question, ToHost, ToEvaluator, both, Steps, Give, Fail, Asks, and_then, Gives, after, Took, path, outcome, IsSteady, calls, IsBeginning, Follows}
+use Rattle.just_parts.specs.Host.{Answer, KeepsPromises}
+use Rattle.just_parts.specs.Steps.{Question, ToHost, ToEvaluator, both, Steps, Give, Fail, Asks, and_then, Gives, after, Took, path, outcome, IsSteady, calls, Follows}
 
 -- promises
 pub keeps-then : {Q : Type 0} (a b c : Q → Option Answer) → KeepsPromises a b → KeepsPromises b c → KeepsPromises a c

@@ -6,8 +6,11 @@ pub mod Evaluator
 pub mod Groups
 pub mod Host
 pub mod Items
+pub mod Known
 pub mod Layers
 pub mod Located
+pub mod Needs
+pub mod Reading
 pub mod Resolved
 pub mod Script
 pub mod Steps

@@ -7,6 +7,7 @@ pub mod evaluation;
 pub mod host;
 pub mod output;
 pub mod syntax;
+pub mod value;
 
 pub use ast::{Ast, Item, UnresolvedDependency};
 pub use config::Config;
@@ -27,3 +28,4 @@ pub use just_records::{
 };
 pub use output::{Output, WriteFailed};
 pub use syntax::Syntax;
+pub use value::joined;

@@ -12,10 +12,14 @@ use Rattle.std.proofs.lemmas.Slice.Eq.{bytes_eq-Decides}
 use Rattle.just_names.specs.Token.{Place, lexeme}
 use Rattle.just_names.specs.declared.name.Name.{Name}
 use Rattle.just_records.specs.declared.assignment.Assignment.{Assignment}
+use Rattle.just_records.specs.declared.expression.Expression.{Expression}
 use Rattle.just_records.specs.declared.function_definition.FunctionDefinition.{FunctionDefinition}
+use Rattle.just_records.specs.declared.interpreter.Interpreter.{Interpreter}
 use Rattle.just_records.specs.declared.parameter.Parameter.{Parameter}
 use Rattle.just_records.specs.declared.parameter.ParameterKind.TheVariants as parameter_kind
 use Rattle.just_records.specs.declared.setting.Set.{Set}
+use Rattle.just_records.specs.declared.setting.Setting.{Setting}
+use Rattle.just_records.specs.declared.setting.Setting.TheVariants as settings
 use Rattle.just_records.specs.declared.string_literal.StringLiteral.{StringLiteral}
 use Rattle.just_lexer.specs.declared.lexer.Kind.{Kind}
 use Rattle.just_lexer.specs.declared.lexer.Kind.TheVariants as kind
@@ -307,13 +311,30 @@ module _ (all : List Lexeme) where
   set_third false true false t value two assign h = absurd (none-some value h)
   set_third false true true t value two assign h = ap goes_on (standing is_assign kind.Assign assign_is (slice_get all 2) assign)
 
-  set_value : (value : Option Bool) (name : Name) (s : Set) → value ≡ definitions.set_to all → definitions.set_named name value ≡ Some s → goes_on third ≡ false
+  switched_third : (value : Option Bool) (name : List ℕ) (s : Setting) → value ≡ definitions.set_to all → definitions.switched name value ≡ Some s → goes_on third ≡ false
+  switched_third None name s is h = absurd (none-some s h)
+  switched_third (Some value) name s is h = set_third (length all == 2) (length all == 4) (stands is_assign all 2) (definitions.truth_at all 3) value refl refl (sym is)
+
+  program_third : (p : Interpreter Expression) → definitions.program all ≡ Some p → goes_on third ≡ false
+  program_third p h = ap goes_on (standing is_assign kind.Assign assign_is (slice_get all 2) (chosen (stands is_assign all 2) (definitions.listed_by (definitions.whole_expression all 3)) p h).0)
+
+  setting_third : (b c : Bool) (name : List ℕ) (s : Setting)
+      → (if b then option_map settings.Shell (definitions.program all)
+      else (if c then option_map settings.ScriptInterpreter (definitions.program all) else definitions.switched name (definitions.set_to all))) ≡ Some s
+      → goes_on third ≡ false
+  setting_third true c name s h = let found = mapped settings.Shell (definitions.program all) s h in program_third found.0 found.1
+  setting_third false true name s h = let found = mapped settings.ScriptInterpreter (definitions.program all) s h in program_third found.0 found.1
+  setting_third false false name s h = switched_third (definitions.set_to all) name s refl h
+
+  set_value : (value : Option Setting) (name : Name) (s : Set) → value ≡ definitions.setting_by all (lexeme name.token) → definitions.named_set name value ≡ Some s → goes_on third ≡ false
   set_value None name s is h = absurd (none-some s h)
-  set_value (Some value) name s is h = set_third (length all == 2) (length all == 4) (stands is_assign all 2) (definitions.truth_at all 3) value refl refl (sym is)
+  set_value (Some value) name s is h =
+      let text = lexeme name.token in
+      setting_third (bytes_eq text (codes "shell")) (bytes_eq text (codes "script-interpreter")) text value (sym is)
 
   set_second : (name : Option Name) (s : Set) → name ≡ name_at all 1 → definitions.set_by all name ≡ Some s → named_sort all ≡ by_word word
   set_second None s is h = absurd (none-some s h)
-  set_second (Some name) s is h = by_name second third word false (named (slice_get all 1) name (sym is)).0 (set_value (definitions.set_to all) name s refl h)
+  set_second (Some name) s is h = by_name second third word false (named (slice_get all 1) name (sym is)).0 (set_value (definitions.setting_by all (lexeme name.token)) name s refl h)
 
   pub set_sort : (s : Set) → definitions.set all ≡ Some s → sort all ≡ a_setting
   set_sort s h =

@@ -7,4 +7,5 @@ pub mod Heads
 pub mod Joined
 pub mod Listed
 pub mod Names
+pub mod Programs
 pub mod Props

@@ -7,8 +7,11 @@ use Rattle.just_names.specs.declared.name.Name.{Name}
 use Rattle.just_names.specs.Number.{no_number}
 use Rattle.just_records.specs.declared.assignment.Assignment.{Assignment}
 use Rattle.just_records.specs.declared.expression.Expression.{Expression}
+use Rattle.just_records.specs.declared.expression.Shape.{Shape, out-Shape}
+use Rattle.just_records.specs.declared.expression.Shape.TheOpen.{Shape-F}
 use Rattle.just_records.specs.declared.function_definition.FunctionDefinition.{FunctionDefinition}
 use Rattle.just_records.specs.declared.function_definition.FunctionParameter.{FunctionParameter}
+use Rattle.just_records.specs.declared.interpreter.Interpreter.{Interpreter}
 use Rattle.just_records.specs.declared.setting.Set.{Set}
 use Rattle.just_records.specs.declared.setting.Setting.{Setting}
 use Rattle.just_records.specs.declared.setting.Setting.TheVariants as settings
@@ -37,7 +40,7 @@ whole_expression all at = ends_line all (expression true all at)
 abbrev pub after_part : List Lexeme → ℕ → Option ℕ
 after_part all at = if stands is_comma all at then Some (at + 1) else (if stands is_paren_close all at then Some at else None)
 
--- the setting of a name
+-- the setting of a name that is on or off
 abbrev pub setting : List ℕ → Bool → Option Setting
 setting name value =
     if bytes_eq name (codes "allow-duplicate-recipes") then Some (settings.AllowDuplicateRecipes value)
@@ -58,17 +61,45 @@ truth_at all at = if word_at (codes "true") all at then Some true else (if word_
 abbrev pub set_to : List Lexeme → Option Bool
 set_to all = if length all == 2 then Some true else (if length all == 4 then (if stands is_assign all 2 then truth_at all 3 else None) else None)
 
+abbrev pub switched : List ℕ → Option Bool → Option Setting
+switched name None = None
+switched name (Some value) = setting name value
+
+-- the first of some expressions is a program, the others are its arguments
+abbrev pub program_of : List Expression → Option (Interpreter Expression)
+program_of [] = None
+program_of (command ∷ arguments) = Some (record { command = command; arguments = arguments })
+
+-- the program that a list is
+abbrev pub listed_layer : Shape-F Shape Expression → Option (Interpreter Expression)
+listed_layer (Shape-F.List elements) = program_of elements
+listed_layer _ = None
+
+unfoldable pub listed : Shape → Option (Interpreter Expression)
+listed shape = listed_layer (out-Shape shape)
+
+abbrev pub listed_by : Option Expression → Option (Interpreter Expression)
+listed_by None = None
+listed_by (Some e) = listed e.shape
+
+-- after the name stands `:=` and such a list
+abbrev pub program : List Lexeme → Option (Interpreter Expression)
+program all = if stands is_assign all 2 then listed_by (whole_expression all 3) else None
+
+-- the setting of a name, to what stands after it
+abbrev pub setting_by : List Lexeme → List ℕ → Option Setting
+setting_by all name =
+    if bytes_eq name (codes "shell") then option_map settings.Shell (program all)
+    else (if bytes_eq name (codes "script-interpreter") then option_map settings.ScriptInterpreter (program all)
+    else switched name (set_to all))
+
 abbrev pub named_set : Name → Option Setting → Option Set
 named_set name None = None
 named_set name (Some value) = Some (record { name = name; value = value })
 
-abbrev pub set_named : Name → Option Bool → Option Set
-set_named name None = None
-set_named name (Some value) = named_set name (setting (lexeme name.token) value)
-
 abbrev pub set_by : List Lexeme → Option Name → Option Set
 set_by all None = None
-set_by all (Some name) = set_named name (set_to all)
+set_by all (Some name) = named_set name (setting_by all (lexeme name.token))
 
 -- `set NAME` or `set NAME := ..`
 abbrev pub set : List Lexeme → Option Set

@@ -1,5 +1,5 @@
 -- What a line says.
-use Rattle.std.specs.Prelude.{ℕ, ◌+◌, ◌==◌, Bool, false, if◌then◌else◌, List, [], ◌∷◌, length, codes, Option, Some, None}
+use Rattle.std.specs.Prelude.{ℕ, ◌+◌, ◌==◌, Bool, false, if◌then◌else◌, List, [], ◌∷◌, length, drop, codes, Option, Some, None}
 use Rattle.std.specs.Option.{option_map}
 use Rattle.just_names.specs.declared.name.Name.{Name}
 use Rattle.just_records.specs.declared.list_use.ListUse.{ListUse}
@@ -17,7 +17,7 @@ use Rattle.just_phrases.specs.declared.meaning.Statement.TheVariants as statemen
 use Rattle.just_phrases.specs.Attributes.{attribute}
 use Rattle.just_phrases.specs.Definitions as definitions
 use Rattle.just_phrases.specs.Heading.{heading}
-use Rattle.just_phrases.specs.Places.{literal_at, name_at, word_at, is_question}
+use Rattle.just_phrases.specs.Places.{literal_at, name_at, stands, word_at, is_assign, is_question}
 
 -- `?` stands right after the first word
 abbrev pub is_optional : List Lexeme → Bool
@@ -87,10 +87,13 @@ sorted all =
     (or_else (option_map meaning.States (statement all))
     (option_map meaning.Begins (heading all)))))
 
--- where it needs lists; the bracket that an attribute begins with is no list
+-- the place after the bracket that an attribute begins with, or after that of what a setting is set to
+abbrev pub after_bracket : List Lexeme → ℕ
+after_bracket all = if word_at (codes "set") all 0 then (if stands is_assign all 2 then 4 else 1) else 1
+
+-- where it needs lists; such a bracket is no list
 abbrev pub lists_of : List Lexeme → List ListUse
-lists_of [] = []
-lists_of (l ∷ rest) = list_features rest
+lists_of all = list_features (drop (after_bracket all) all)
 
 abbrev pub said_by : List Lexeme → Said
 said_by all = record { meaning = sorted all; lists = lists_of all }

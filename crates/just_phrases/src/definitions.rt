@@ -8,7 +8,9 @@ use just_lexer::lexer::Lexeme;
 use just_lexer::spelling::Spelling;
 use just_names::{Name, Number};
 use just_plain::expressions::{Found, read_expression};
-use just_records::{Assignment, Expression, FunctionDefinition, FunctionParameter, Set, Setting};
+use just_records::{
+    Assignment, Expression, FunctionDefinition, FunctionParameter, Interpreter, Set, Setting, Shape,
+};
 use std::alloc::{AllocError, Global};
 
 /// Whether a name begins with `_`.
@@ -51,7 +53,7 @@ pub fn after_part<'src>(lexemes: &[Lexeme<'src>], at: usize) -> Option<usize>
     }
 }
 
-// The setting of a name, to this value.
+// The setting of a name that is on or off, to this value.
 fn setting<'src>(name: &str, value: bool) -> Option<Setting<'src>>
     ensures { result ≡ spec.setting name.now value }
 {
@@ -87,17 +89,104 @@ fn set_to<'src>(lexemes: &[Lexeme<'src>]) -> Option<bool>
     None
 }
 
-/// The setting that the lexemes of a line are: `set NAME`, which is set to true, or `set NAME := true` or `false`.
-pub fn read_set<'src>(lexemes: &[Lexeme<'src>]) -> Option<Set<'src>>
-    ensures { result ≡ spec.set lexemes.now }
+// Expressions, once more.
+fn copied<'src>(
+    alloc: Global,
+    expressions: &[Expression<'src>],
+) -> Result<Sequence<Expression<'src>>, AllocError>
+    ensures { IfOk result (λ copies. copies ≡ expressions.now) }
 {
-    if !word_at(lexemes, 0, "set") {
-        return None;
+    let mut copies = Sequence::new(alloc);
+    for expression in expressions {
+        copies.push(expression.clone()?)?;
     }
-    let name = name_at(lexemes, 1)?;
-    let value = set_to(lexemes)?;
-    let value = setting(name.lexeme(), value)?;
-    Some(Set { name, value })
+    Ok(copies)
+}
+
+// The first of some expressions as a program, with the others as its arguments.
+fn program_of<'src>(
+    alloc: Global,
+    expressions: &[Expression<'src>],
+) -> Result<Option<Interpreter<Expression<'src>>>, AllocError>
+    ensures { IfOk result (λ found. found ≡ spec.program_of expressions.now) }
+{
+    match expressions.split_first() {
+        None => Ok(None),
+        Some((command, arguments)) => Ok(Some(Interpreter {
+            command: command.clone()?,
+            arguments: copied(alloc, arguments)?,
+        })),
+    }
+}
+
+// The program that a list is.
+#[tactic(auto, using(crate::proofs::Programs::list_listed, crate::proofs::Programs::other_unlisted))]
+fn listed<'src>(
+    alloc: Global,
+    shape: &Shape<'src>,
+) -> Result<Option<Interpreter<Expression<'src>>>, AllocError>
+    ensures { IfOk result (λ found. found ≡ spec.listed shape.now) }
+{
+    match shape {
+        Shape::List { elements } => program_of(alloc, elements.as_slice()),
+        _ => Ok(None),
+    }
+}
+
+// The program that a setting is set to, from the place after its name on.
+fn program<'src>(
+    spelling: &Spelling<'src>,
+) -> Result<Option<Interpreter<Expression<'src>>>, AllocError>
+    ensures { IfOk result (λ found. found ≡ spec.program spelling.now) }
+{
+    if !assign_at(spelling.as_slice(), 2) {
+        return Ok(None);
+    }
+    match whole_expression(spelling, 3)? {
+        Some(expression) => listed(spelling.alloc(), expression.shape.get()),
+        None => Ok(None),
+    }
+}
+
+// The setting of a name, to what stands after it.
+fn setting_by<'src>(
+    spelling: &Spelling<'src>,
+    name: &str,
+) -> Result<Option<Setting<'src>>, AllocError>
+    ensures { IfOk result (λ found. found ≡ spec.setting_by spelling.now name.now) }
+{
+    match name {
+        "shell" => match program(spelling)? {
+            Some(program) => Ok(Some(Setting::Shell(program))),
+            None => Ok(None),
+        },
+        "script-interpreter" => match program(spelling)? {
+            Some(program) => Ok(Some(Setting::ScriptInterpreter(program))),
+            None => Ok(None),
+        },
+        _ => match set_to(spelling.as_slice()) {
+            Some(value) => Ok(setting(name, value)),
+            None => Ok(None),
+        },
+    }
+}
+
+/// The setting that the lexemes of a line are: `set NAME`, which is set to true, `set NAME := true` or `false`, or
+/// `set NAME := [E, ..]` for one that names a program. The error is want of memory.
+pub fn read_set<'src>(spelling: &Spelling<'src>) -> Result<Option<Set<'src>>, AllocError>
+    ensures { IfOk result (λ found. found ≡ spec.set spelling.now) }
+{
+    let lexemes = spelling.as_slice();
+    if !word_at(lexemes, 0, "set") {
+        return Ok(None);
+    }
+    let Some(name) = name_at(lexemes, 1) else {
+        return Ok(None);
+    };
+    match setting_by(spelling, name.lexeme())? {
+        Some(value) => Ok(Some(Set { name, value })),
+        None => Ok(None),
+    }
 }
 
 /// The name that is not exported, where the lexemes of a line say so: `unexport NAME`.

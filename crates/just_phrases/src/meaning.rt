@@ -6,7 +6,7 @@ ghost use Rattle.just_phrases.specs.Meaning as spec;
 use crate::attributes::{Mark, read_attribute};
 use crate::definitions::{read_assignment, read_function, read_set, read_unexport};
 use crate::heading::{Heading, read_heading};
-use crate::places::{literal_at, name_at, question_at, word_at};
+use crate::places::{assign_at, literal_at, name_at, question_at, word_at};
 use just_data::Sequence;
 use just_lexer::lexer::{Lexeme, is_blank, lex};
 use just_lexer::lines::TextLine;
@@ -175,7 +175,7 @@ fn read_statement<'src>(spelling: &Spelling<'src>) -> Result<Option<Statement<'s
     if let Some(import) = read_import(spelling)? {
         return Ok(Some(import));
     }
-    if let Some(set) = read_set(spelling.as_slice()) {
+    if let Some(set) = read_set(spelling)? {
         return Ok(Some(Statement::Sets(set)));
     }
     match read_unexport(spelling.as_slice()) {
@@ -204,16 +204,27 @@ fn read_lexemes<'src>(spelling: &Spelling<'src>) -> Result<Meaning<'src>, AllocE
     }
 }
 
-// The uses of lists in a line; the bracket that an attribute begins with is none.
+// The place after the bracket that an attribute begins with, or after that of what a setting is set to.
+fn after_bracket<'src>(lexemes: &[Lexeme<'src>]) -> usize
+    ensures { result ≡ spec.after_bracket lexemes.now }
+{
+    if word_at(lexemes, 0, "set") && assign_at(lexemes, 2) {
+        4
+    } else {
+        1
+    }
+}
+
+// The uses of lists in a line; the bracket that an attribute begins with is none, nor is that of a setting.
 fn lists_of<'src>(
     alloc: Global,
     lexemes: &[Lexeme<'src>],
 ) -> Result<Sequence<ListUse<'src>>, AllocError>
     ensures { IfOk result (λ lists. lists ≡ spec.lists_of lexemes.now) }
 {
-    match lexemes.split_first() {
+    match lexemes.get(after_bracket(lexemes)..) {
         None => Ok(Sequence::new(alloc)),
-        Some((_, rest)) => list_features(alloc, rest),
+        Some(rest) => list_features(alloc, rest),
     }
 }
 

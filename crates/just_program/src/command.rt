@@ -119,7 +119,7 @@ fn run_sources<'src, W: Write>(
 ) -> Result<(), Fault<'src>>
     requires { IsClean root.now }
 {
-    let config = Config::default();
+    let config = Config::new(alloc);
     match compile(alloc, sources, &config, root) {
         Ok(compilation) => run_compilation(alloc, &compilation, &config, words, output),
         Err(error) => Err(Fault::Analyzer(error)),

@@ -4,7 +4,7 @@ use just_bench::{PlainSyntax, Recorder};
 use just_data::{Exact, Sequence, Text};
 use just_lines::faults::add_fault;
 use just_names::Modulepath;
-use just_parts::layers::{Config, Error, Groups, Host};
+use just_parts::layers::{Error, Groups, Host};
 use std::alloc::{AllocError, Global};
 
 // Adds whether a copy of a value is equal to it.
@@ -53,23 +53,15 @@ fn add_call(alloc: Global, text: &mut String) -> Result<(), AllocError> {
     Ok(())
 }
 
-// Adds what becomes of a configuration, and of numbers.
+// Adds what becomes of numbers.
 fn add_data(alloc: Global, text: &mut String) -> Result<(), AllocError> {
-    let home = Some(Text::from_str(alloc, "/h")?);
-    let config = Config { home, one: true };
-    let is_same = config.clone()? == config;
-    text.push_str(if is_same {
-        "copied configuration\n"
-    } else {
-        "differs configuration\n"
-    })?;
     let mut numbers = Sequence::from_slice(alloc, &[1u64, 2, 3])?;
     numbers.append(Sequence::from_slice(alloc, &[4])?)?;
     add_copy(&numbers, "numbers", text)
 }
 
-/// Answers whether copies of the items of a text, of their source, of a call, of a configuration and of numbers are equal
-/// to what they are of.
+/// Answers whether copies of the items of a text, of their source, of a call and of numbers are equal to what they are
+/// of.
 pub fn answer_copy(alloc: Global, read: &str) -> Result<String, AllocError> {
     let mut answer = String::new(alloc);
     if let Err(error) = add_items(alloc, read, &mut answer) {

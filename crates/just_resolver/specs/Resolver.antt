@@ -4,12 +4,13 @@ use Rattle.std.specs.HashMap.{get}
 use Rattle.std.specs.Str.{bytes_eq}
 use Rattle.just_names.specs.Modulepath.{Text}
 use Rattle.just_names.specs.declared.number.Number.{Number}
-use Rattle.just_needs.specs.Needs.{has_number}
+use Rattle.just_parts.specs.Needs.{has_number}
 use Rattle.just_numbering.specs.Numbered.{number_by}
 use Rattle.just_parts.specs.Syntax.{SyntaxAnswers}
 use Rattle.just_records.specs.declared.function_definition.FunctionParameter.{FunctionParameter}
 use Rattle.just_resolver.specs.declared.variable_resolver.VariableResolver.{VariableResolver}
-use Rattle.just_variables.specs.Known.{Known, known_in}
+use Rattle.just_parts.specs.Known.{Known}
+use Rattle.just_variables.specs.Lent.{known_in}
 
 -- what names stand for
 abbrev pub known_by : {A : Type 0} → SyntaxAnswers → VariableResolver A → Known

@@ -4,13 +4,13 @@ ghost use Rattle.std.specs.Prelude.{◌≡◌, IfErr, IfOk, OnErr, OnOk};
 ghost use Rattle.std.specs.HashSet.{contains};
 ghost use Rattle.std.specs.Str.{bytes_eq};
 ghost use Rattle.just_errors.specs.Causes.{Keeps, Reports};
-ghost use Rattle.just_needs.specs.Needs.{Gains, GainsAll, HasNone, IsSame, KeepsAll, same_number};
+ghost use Rattle.just_parts.specs.Needs.{Gains, GainsAll, HasNone, IsSame, KeepsAll, same_number};
 ghost use Rattle.just_numbering.specs.Resolved.{ResolvesTo};
 ghost use Rattle.just_references.specs.Numbers.{with_numbers};
 ghost use Rattle.just_resolver.specs.Resolver.{known_by, number_here, overridden};
-ghost use Rattle.just_variables.specs.Known.{hides, known};
+ghost use Rattle.just_parts.specs.Known.{hides, known};
 ghost use Rattle.just_variables.specs.Misnaming.{Expressions, Misnames, MisnamesCall};
-ghost use Rattle.just_variables.specs.Reading.{Reads};
+ghost use Rattle.just_parts.specs.Reading.{Reads};
 
 use just_data::{BorrowedText, Text};
 use just_numbering::{parameter_numbers, resolve_assignments};

@@ -42,7 +42,7 @@ fn compile<'src>(
     requires { IsClean root.now }
     ensures { IfOk result (λ c. IsClosed c.justfile c.recipes) }
 {
-    let config = Config::default();
+    let config = Config::new(alloc);
     Compiler::compile(
         alloc,
         &config,
@@ -64,7 +64,7 @@ fn run<'src>(
     let mut writer = StopWriter::new(alloc, 0)?;
     compilation.justfile.run(
         alloc,
-        &Config::default(),
+        &Config::new(alloc),
         &compilation.recipes,
         &PlainSyntax::new(),
         &mut PlainEvaluation,

@@ -25,9 +25,9 @@ use Rattle.just_records.specs.declared.function_definition.FunctionDefinition.{F
 use Rattle.just_records.specs.declared.function_definition.FunctionParameter.{FunctionParameter}
 use Rattle.just_references.specs.declared.references.Reference.{Reference}
 use Rattle.just_table.specs.Entries.{find, put, put_all}
-use Rattle.just_variables.specs.Known.{Known, defines, hides, known, none_hidden, range_of, range_with}
+use Rattle.just_parts.specs.Known.{Known, defines, hides, known, none_hidden, range_of, range_with}
 use Rattle.just_variables.specs.Misnaming.{Expressions, IsCircleOf, Misnames, MisnamesAt, argument_count, circular_variables, in_body, in_value, undefined_function, undefined_variable}
-use Rattle.just_variables.specs.Reading.{IsEvaluationOrder, Reads, ReadsOn, at_once, through}
+use Rattle.just_parts.specs.Reading.{IsEvaluationOrder, Reads, ReadsOn, at_once, through}
 use Rattle.just_variables.proofs.Placed.{at_place, the_value}
 
 abbrev pub parameter_names : FunctionDefinition → List Name
@@ -49,14 +49,14 @@ hides_named [] name = refl
 hides_named (p ∷ ps) name = ap (λ b. bytes_eq (text_of_name p.name) name || b) (hides_named ps name)
 
 -- parameters of the same names hide the same
-same_hidden : (f g : FunctionDefinition) → parameter_names g ≡ parameter_names f → hides f.parameters ≡ hides g.parameters
+pub same_hidden : (f g : FunctionDefinition) → parameter_names g ≡ parameter_names f → hides f.parameters ≡ hides g.parameters
 same_hidden f g e =
     let at : ((name : Text) → hides f.parameters name ≡ hides g.parameters name) =
     (λ name. hides_named f.parameters name ∙ (ap (list_any (λ (x : Name). bytes_eq (text_of_name x) name)) (sym e) ∙ sym (hides_named g.parameters name))) in
     λ i name. at name i
 
 -- and are as many
-same_count : (f g : FunctionDefinition) → parameter_names g ≡ parameter_names f → length f.parameters ≡ length g.parameters
+pub same_count : (f g : FunctionDefinition) → parameter_names g ≡ parameter_names f → length f.parameters ≡ length g.parameters
 same_count f g e =
     sym (length-map f.parameters (λ (p : FunctionParameter). p.name)) ∙ (ap length (sym e) ∙ length-map g.parameters (λ (p : FunctionParameter). p.name))
 
@@ -138,7 +138,7 @@ changed {V} {W} f es = map {B = Text × W} (λ (e : Text × V). (e.0, f e.1)) es
 
 module _ {V W : Type 0} (f : V → W) where
   -- what is found in a changed table
-  find_changed : (k : Text) (es : List (Text × V)) → find k (changed f es) ≡ option_map f (find k es)
+  pub find_changed : (k : Text) (es : List (Text × V)) → find k (changed f es) ≡ option_map f (find k es)
   find_changed k [] = refl
   find_changed k (e ∷ es) = by_test (bytes_eq k e.0) (find_changed k es)
     where
@@ -154,10 +154,10 @@ module _ {V W : Type 0} (f : V → W) where
   none_of None e = refl
   none_of (Some x) e = cc
 
-  some_found : (k : Text) (es : List (Text × V)) (y : W) → find k (changed f es) ≡ Some y → (x : V) × (find k es ≡ Some x) × (f x ≡ y)
+  pub some_found : (k : Text) (es : List (Text × V)) (y : W) → find k (changed f es) ≡ Some y → (x : V) × (find k es ≡ Some x) × (f x ≡ y)
   some_found k es y e = some_of (find k es) y (sym (find_changed k es) ∙ e)
 
-  none_found : (k : Text) (es : List (Text × V)) → find k (changed f es) ≡ None → find k es ≡ None
+  pub none_found : (k : Text) (es : List (Text × V)) → find k (changed f es) ≡ None → find k es ≡ None
   none_found k es e = none_of (find k es) (sym (find_changed k es) ∙ e)
 
   -- its values

@@ -13,7 +13,7 @@ use Rattle.just_names.specs.Name.{text_of_name}
 use Rattle.just_names.specs.Token.{Place}
 use Rattle.just_names.specs.declared.name.Name.{Name}
 use Rattle.just_references.specs.declared.references.Reference.TheVariants as reference
-use Rattle.just_variables.specs.Known.{Known, defines, none_hidden, range_of}
+use Rattle.just_parts.specs.Known.{Known, defines, none_hidden, range_of}
 use Rattle.just_variables.specs.Misnaming.{MisnamesAt, MisnamesCall, undefined_function, argument_count, undefined_variable}
 
 -- how many arguments a function takes, which was asked by an equal text

@@ -16,8 +16,8 @@ use Rattle.just_names.specs.Modulepath.{Text}
 use Rattle.just_records.specs.declared.assignment.Assignment.{Assignment}
 use Rattle.just_records.specs.declared.function_definition.FunctionDefinition.{FunctionDefinition}
 use Rattle.just_references.specs.Body.{Calls, Mention, Names}
-use Rattle.just_variables.specs.Known.{Known}
-use Rattle.just_variables.specs.Reading.{mentions}
+use Rattle.just_parts.specs.Known.{Known}
+use Rattle.just_parts.specs.Reading.{mentions}
 use Rattle.just_variables.specs.Steps.{AreRowsOf, Scoped, body_scoped, nodes_of, rows_of, solid_of, target_of, targets_of, value_scoped}
 use Rattle.just_variables.proofs.Placed.{at_left, at_place, at_right}
 

@@ -8,7 +8,7 @@ use Rattle.std.proofs.lemmas.Grind.{common_steps}
 use Rattle.just_names.specs.Modulepath.{Text}
 use Rattle.just_records.specs.declared.function_definition.FunctionDefinition.{FunctionDefinition}
 use Rattle.just_records.specs.declared.function_definition.FunctionParameter.{FunctionParameter}
-use Rattle.just_variables.specs.Known.{hides}
+use Rattle.just_parts.specs.Known.{hides}
 use Rattle.just_variables.specs.Steps.{Scoped, body_scoped, rows_of, scoped, targets_of}
 
 -- the row of one more body

@@ -1,5 +1,4 @@
-pub mod Known
+pub mod Lent
 pub mod Misnaming
 pub mod Places
-pub mod Reading
 pub mod Steps

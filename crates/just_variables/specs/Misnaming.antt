@@ -16,8 +16,8 @@ use Rattle.just_references.specs.References.{references}
 use Rattle.just_references.specs.declared.references.Reference.{Reference}
 use Rattle.just_references.specs.declared.references.Reference.TheVariants as reference
 use Rattle.just_table.specs.Entries.{find}
-use Rattle.just_variables.specs.Known.{Known, defines, hides, none_hidden, range_of}
-use Rattle.just_variables.specs.Reading.{ReadsOn}
+use Rattle.just_parts.specs.Known.{Known, defines, hides, none_hidden, range_of}
+use Rattle.just_parts.specs.Reading.{ReadsOn}
 
 -- A call names no function, or has too few or too many arguments, or a variable is no parameter, no assignment and no constant. It is told at the name.
 pub data MisnamesAt (m : Known) (hidden : Text → Bool) : Reference → Cause → Type 0 where

@@ -11,9 +11,9 @@ use Rattle.just_records.specs.declared.assignment.Assignment.{Assignment}
 use Rattle.just_records.specs.declared.expression.Expression.{Expression}
 use Rattle.just_records.specs.declared.function_definition.FunctionDefinition.{FunctionDefinition}
 use Rattle.just_references.specs.Body.{Calls, Mention, Names}
-use Rattle.just_variables.specs.Known.{Known, hides, none_hidden}
+use Rattle.just_parts.specs.Known.{Known, hides, none_hidden}
 use Rattle.just_variables.specs.Misnaming.{IsCircleOf}
-use Rattle.just_variables.specs.Reading.{IsEvaluationOrder, mentions}
+use Rattle.just_parts.specs.Reading.{IsEvaluationOrder, mentions}
 
 -- An expression, and which names are hidden in its scope.
 pub record Scoped : Type 0 where

@@ -5,7 +5,8 @@ ghost use Rattle.std.specs.HashSet.{contains};
 ghost use Rattle.std.specs.Str.{bytes_eq};
 ghost use Rattle.just_errors.specs.Causes.{Keeps, Reports};
 ghost use Rattle.just_names.specs.Name.{text_of_name};
-ghost use Rattle.just_variables.specs.Known.{defines, hides, known_in, range_of};
+ghost use Rattle.just_parts.specs.Known.{defines, hides, range_of};
+ghost use Rattle.just_variables.specs.Lent.{known_in};
 ghost use Rattle.just_variables.specs.Misnaming.{Expressions, HaveFunctionNames, HaveNames, Misnames, MisnamesAt, MisnamesCall, MisnamesVariable};
 
 use just_data::BorrowedText;

@@ -8,7 +8,7 @@ ghost use Rattle.std.specs.Str.{bytes_eq};
 ghost use Rattle.just_index.specs.Index.{IsIndex};
 ghost use Rattle.just_references.specs.Body.{mention_of};
 ghost use Rattle.just_table.specs.Entries.{IsSorted};
-ghost use Rattle.just_variables.specs.Known.{known_in};
+ghost use Rattle.just_variables.specs.Lent.{known_in};
 ghost use Rattle.just_variables.specs.Places.{Fit, target_in, targets_in};
 ghost use Rattle.just_variables.specs.Steps.{AreRowsOf, body_scoped, rows_of, scoped, solid_of, value_scoped};
 

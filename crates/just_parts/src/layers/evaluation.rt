@@ -1,15 +1,27 @@
 //! The layer that evaluates expressions.
-ghost use Rattle.std.specs.Prelude.{◌≡◌, Option, Some, IfOk, IfErr};
+ghost use Rattle.std.specs.Prelude.{◌≡◌, Option, Some, IfOk, IfErr, flat_map, map};
+ghost use Rattle.std.specs.HashMap.{get};
+ghost use Rattle.std.specs.HashSet.{contains};
+ghost use Rattle.std.specs.List.{All};
+ghost use Rattle.just_index.specs.Index.{texts_of_names};
 ghost use Rattle.just_parts.specs.Evaluation.{Inquiry};
-ghost use Rattle.just_parts.specs.Evaluator.{Evaluator, FaultsAt, functions_by_name, values_of};
+ghost use Rattle.just_parts.specs.Evaluator.{Binds, Covers, Evaluator, FaultsAt, bare_set, functions_by_name, set_expressions, values_of, wanted_by};
 ghost use Rattle.just_parts.specs.Host.{Answer};
+ghost use Rattle.just_parts.specs.Known.{sources};
+ghost use Rattle.just_parts.specs.Needs.{IsClosed, has_number, same_number};
+ghost use Rattle.just_parts.specs.Reading.{IsEvaluationOrder};
+ghost use Rattle.just_references.specs.Numbers.{bare};
 
+use just_data::{Sequence, Text};
 use just_errors::Error;
-use just_records::{FunctionDefinition, Scope, Set, Settings};
+use just_names::{Name, Number};
+use just_records::{Assignment, Expression, FunctionDefinition, Scope, Set, Settings};
 use just_table::Table;
 use std::alloc::Global;
+use std::collections::{HashMap, HashSet};
 
-/// What evaluates expressions. While compiling what it answers is a function of what it is asked, numbers aside.
+/// What evaluates expressions. While compiling what it answers is a function of what it is asked in names: numbers, and the
+/// order in which variables are evaluated, make no difference. Each question asks that what is read is bound.
 pub trait Evaluation {
     /// The answer to a question of a run, where that is fixed for good.
     ghost promised: { Self → Inquiry → Option Answer };
@@ -17,14 +29,51 @@ pub trait Evaluation {
     /// The answers while compiling.
     ghost answers: { Self → Evaluator };
 
+    /// The constants of a module: those of its variables whose numbers are in `references`, an overridden one as it is
+    /// overridden, each other one evaluated after all that it reads, as the names in `order` stand. `lists` tells whether
+    /// values are lists. Where one has no value a fault is told.
+    fn assignments_const<'src>(
+        &self,
+        alloc: Global,
+        assignments: &Table<'src, Assignment<'src>>,
+        functions: &Table<'src, FunctionDefinition<'src>>,
+        order: &[Name<'src>],
+        overrides: &HashMap<Number, Text>,
+        references: &HashSet<Number>,
+        lists: bool,
+    ) -> Result<Scope<'src>, Error<'src>>
+        requires order { IsEvaluationOrder (sources assignments.now functions.now) (texts_of_names order.now) }
+        requires closed { IsClosed (sources assignments.now functions.now) (has_number overrides.now) (contains same_number references.now) }
+        ensures constants { let wanted = wanted_by assignments.now functions.now (get same_number overrides.now) (contains same_number references.now) lists in
+            IfOk result (λ scope. (answers self.now).constants wanted ≡ Some (values_of scope)) }
+        ensures binds { let wanted = wanted_by assignments.now functions.now (get same_number overrides.now) (contains same_number references.now) lists in
+            IfOk result (Binds assignments.now wanted) }
+        ensures refused { let wanted = wanted_by assignments.now functions.now (get same_number overrides.now) (contains same_number references.now) lists in
+            IfErr result (FaultsAt ((answers self.now).constants wanted)) };
+
+    /// The value of an expression among constants. Where it has none a fault is told.
+    fn value_const<'src>(
+        &self,
+        alloc: Global,
+        constants: &Scope<'src>,
+        assignments: &Table<'src, Assignment<'src>>,
+        functions: &Table<'src, FunctionDefinition<'src>>,
+        expression: &Expression<'src>,
+    ) -> Result<Sequence<Text>, Error<'src>>
+        requires covered { Covers (sources assignments.now functions.now) (values_of constants.now) expression.now }
+        ensures value { IfOk result (λ value. (answers self.now).value (functions_by_name functions.now) (values_of constants.now) (bare expression.now) ≡ Some value) }
+        ensures refused { IfErr result (FaultsAt ((answers self.now).value (functions_by_name functions.now) (values_of constants.now) (bare expression.now))) };
+
     /// The settings of a module that sets these, and has the others by default. Where one has no value a fault is told.
     fn sets<'src>(
         &self,
         alloc: Global,
         constants: &Scope<'src>,
+        assignments: &Table<'src, Assignment<'src>>,
         functions: &Table<'src, FunctionDefinition<'src>>,
         sets: &[Set<'src>],
     ) -> Result<Settings, Error<'src>>
-        ensures settings { IfOk result (λ made. (answers self.now).settings (functions_by_name functions.now) (values_of constants.now) sets.now ≡ Some made) }
-        ensures refused { IfErr result (FaultsAt ((answers self.now).settings (functions_by_name functions.now) (values_of constants.now) sets.now)) };
+        requires covered { All (Covers (sources assignments.now functions.now) (values_of constants.now)) (flat_map set_expressions sets.now) }
+        ensures settings { IfOk result (λ made. (answers self.now).settings (functions_by_name functions.now) (values_of constants.now) (map bare_set sets.now) ≡ Some made) }
+        ensures refused { IfErr result (FaultsAt ((answers self.now).settings (functions_by_name functions.now) (values_of constants.now) (map bare_set sets.now))) };
 }

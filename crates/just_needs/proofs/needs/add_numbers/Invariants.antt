@@ -2,7 +2,7 @@ use Rattle.std.proofs.Common.{◌≡◌, ◌≤◌, ◌||◌, length}
 use Rattle.std.specs.HashSet.{contains, spare}
 use Rattle.std.specs.List.{list_any}
 use Rattle.just_names.specs.declared.number.Number.{Number}
-use Rattle.just_needs.specs.Needs.{same_number}
+use Rattle.just_parts.specs.Needs.{same_number}
 use Rattle.just_needs.proofs.needs.add_numbers.Given as goal
 
 abbrev pub invariant-loop-number : goal.invariant-loop-number

@@ -3,13 +3,14 @@ use Rattle.std.specs.HashSet.{contains}
 use Rattle.std.specs.List.{list_any}
 use Rattle.std.specs.Str.{bytes_eq}
 use Rattle.just_names.specs.declared.number.Number.{Number}
-use Rattle.just_needs.specs.Needs.{Gains, GainsAll, has_number, same_number}
+use Rattle.just_parts.specs.Needs.{Gains, GainsAll, has_number, same_number}
 use Rattle.just_needs.proofs.LookingAt.{found_some}
 use Rattle.just_needs.proofs.Searching.{CollectsValue, needs_of_name, value_collected, value_stopped}
 use Rattle.just_needs.proofs.needs.assignment_references.Goals as goal
 use Rattle.just_needs.proofs.needs.assignment_references.Goals.{then-not-contains_key+in_ok-collect_references, else-not-contains_key}
-use Rattle.just_variables.specs.Known.{hides, known_in}
-use Rattle.just_variables.specs.Reading.{Reads}
+use Rattle.just_parts.specs.Known.{hides}
+use Rattle.just_variables.specs.Lent.{known_in}
+use Rattle.just_parts.specs.Reading.{Reads}
 
 pub returns-clause-needed : goal.returns-clause-needed
 returns-clause-needed g c =

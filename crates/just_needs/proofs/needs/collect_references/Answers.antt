@@ -1,22 +1,43 @@
+use Rattle.std.proofs.Common.{◌≡◌, List, [], ◌∷◌, ◌++◌, map, Some, ◌∙◌, ap}
 use Rattle.std.specs.HashSet.{contains}
 use Rattle.std.specs.Str.{bytes_eq}
-use Rattle.just_needs.specs.Needs.{has_number, same_number}
+use Rattle.just_parts.specs.Known.{hides}
+use Rattle.just_parts.specs.Needs.{has_number, same_number}
+use Rattle.just_needs.specs.Search.{scoped_of}
+use Rattle.just_needs.specs.declared.needs.Waiting.{Waiting}
 use Rattle.just_needs.proofs.Collecting.{collected, collected_all, keeps_gained}
+use Rattle.just_needs.proofs.Starts.{gains_all_one, gains_one, searches_from}
 use Rattle.just_needs.proofs.needs.collect_references.Goals as goal
-use Rattle.just_variables.specs.Known.{hides, known_in}
+use Rattle.just_variables.specs.Lent.{known_in}
 use Rattle.just_variables.specs.Steps.{scoped}
 
 pub returns-clause-gains : goal.returns-clause-gains
 returns-clause-gains g c =
     let m = known_in (g.S.Syntax.answers c.args.known.now.syntax.now) c.args.known.now in
-    collected m (has_number c.args.overrides.now) (scoped (hides c.args.parameters.now) c.args.expression.now) (contains same_number c.args.references.now) (contains bytes_eq c.args.visited.now)
-    c.in_ok-found.found c.in_ok-found.ensures.found c.in_ok-found.ensures.over (contains same_number c.reserve.new.self) (contains same_number c.add_numbers.new.references) c.in_ok-reserve.ensures.keys.2 c.add_numbers.ensures
+    let old = contains same_number c.args.references.now in
+    let visited = contains bytes_eq c.args.visited.now in
+    let overridden = has_number c.args.overrides.now in
+    let hidden = hides c.args.parameters.now in
+    let e = c.args.expression.now in
+    gains_one m overridden old (contains same_number c.add_numbers.new.references) hidden e
+    (collected m overridden (scoped hidden e ∷ []) old visited c.in_ok-found.found
+    (searches_from m overridden old visited c.in_ok-found.found (map scoped_of c.push.new.self.items) (scoped hidden e ∷ [])
+    (ap (map scoped_of) (c.in_ok-push.ensures.items ∙ ap (λ (xs : List Waiting). xs ++ (record { expression = c.args.expression; parameters = Some c.args.parameters }) ∷ []) c.new-stack.ensures.items)) c.in_ok-found.ensures.found)
+    c.in_ok-found.ensures.over (contains same_number c.reserve.new.self) (contains same_number c.add_numbers.new.references) c.in_ok-reserve.ensures.keys.2 c.add_numbers.ensures)
 
 pub returns-clause-all : goal.returns-clause-all
-returns-clause-all g c =
+returns-clause-all g c none =
     let m = known_in (g.S.Syntax.answers c.args.known.now.syntax.now) c.args.known.now in
-    collected_all m (has_number c.args.overrides.now) (scoped (hides c.args.parameters.now) c.args.expression.now) (contains same_number c.args.references.now) (contains bytes_eq c.args.visited.now)
-    c.in_ok-found.found c.in_ok-found.ensures.found c.in_ok-found.ensures.over (contains same_number c.reserve.new.self) (contains same_number c.add_numbers.new.references) c.in_ok-reserve.ensures.keys.2 c.add_numbers.ensures
+    let old = contains same_number c.args.references.now in
+    let visited = contains bytes_eq c.args.visited.now in
+    let overridden = has_number c.args.overrides.now in
+    let hidden = hides c.args.parameters.now in
+    let e = c.args.expression.now in
+    gains_all_one m overridden old (contains same_number c.add_numbers.new.references) hidden e
+    (collected_all m overridden (scoped hidden e ∷ []) old visited c.in_ok-found.found
+    (searches_from m overridden old visited c.in_ok-found.found (map scoped_of c.push.new.self.items) (scoped hidden e ∷ [])
+    (ap (map scoped_of) (c.in_ok-push.ensures.items ∙ ap (λ (xs : List Waiting). xs ++ (record { expression = c.args.expression; parameters = Some c.args.parameters }) ∷ []) c.new-stack.ensures.items)) c.in_ok-found.ensures.found)
+    c.in_ok-found.ensures.over (contains same_number c.reserve.new.self) (contains same_number c.add_numbers.new.references) c.in_ok-reserve.ensures.keys.2 c.add_numbers.ensures none)
 
 pub returns-clause-visited : goal.returns-clause-visited
 returns-clause-visited g c =

@@ -2,11 +2,11 @@ use Rattle.std.proofs.Common.{◌∙◌, true, false}
 use Rattle.std.specs.HashSet.{contains}
 use Rattle.std.specs.Str.{bytes_eq}
 use Rattle.just_names.specs.Name.{text_of_name}
-use Rattle.just_needs.specs.Needs.{has_number, same_number}
+use Rattle.just_parts.specs.Needs.{has_number, same_number}
 use Rattle.just_needs.specs.Search.{found_in}
 use Rattle.just_needs.proofs.LookingAt.{asked, reference_called, reference_hidden, reference_named}
 use Rattle.just_needs.proofs.needs.look_at.Goals as goal
-use Rattle.just_variables.specs.Known.{known_in}
+use Rattle.just_variables.specs.Lent.{known_in}
 
 pub returns-in-Call : goal.returns-in-Call
 returns-in-Call g c =

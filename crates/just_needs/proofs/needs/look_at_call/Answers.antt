@@ -5,7 +5,8 @@ use Rattle.just_names.specs.Name.{text_of_name}
 use Rattle.just_needs.proofs.LookingAt.{asked, call_found, call_settled, call_unknown, found_none, found_some}
 use Rattle.just_needs.proofs.Sets.{or_left, or_right}
 use Rattle.just_needs.proofs.needs.look_at_call.Goals as goal
-use Rattle.just_variables.specs.Known.{hides, known_in}
+use Rattle.just_parts.specs.Known.{hides}
+use Rattle.just_variables.specs.Lent.{known_in}
 use Rattle.just_variables.specs.Steps.{scoped}
 
 pub returns-in_default : goal.returns-in_default

@@ -1,11 +1,11 @@
 use Rattle.std.proofs.Common.{◌∙◌, refl, sym}
 use Rattle.std.specs.HashSet.{contains}
 use Rattle.just_names.specs.Name.{text_of_name}
-use Rattle.just_needs.specs.Needs.{has_number, same_number}
+use Rattle.just_parts.specs.Needs.{has_number, same_number}
 use Rattle.just_needs.proofs.LookingAt.{found_none, found_some, name_overridden, name_settled, name_unknown, name_waits}
 use Rattle.just_needs.proofs.Sets.{or_left, or_right}
 use Rattle.just_needs.proofs.needs.look_at_name.Goals as goal
-use Rattle.just_variables.specs.Known.{known_in}
+use Rattle.just_variables.specs.Lent.{known_in}
 
 pub returns-in_default : goal.returns-in_default
 returns-in_default g c =

@@ -1,13 +1,13 @@
 use Rattle.std.proofs.Common.{◌∙◌, ap}
 use Rattle.std.specs.HashSet.{contains}
 use Rattle.std.specs.Str.{bytes_eq}
-use Rattle.just_needs.specs.Needs.{has_number, same_number}
+use Rattle.just_parts.specs.Needs.{has_number, same_number}
 use Rattle.just_needs.specs.Search.{found_in, hidden_by}
 use Rattle.just_needs.proofs.Looking.{looked_all, looked_more, looked_none}
 use Rattle.just_needs.proofs.needs.look_into.Goals as goal
 use Rattle.just_references.specs.Body.{mention_of}
-use Rattle.just_variables.specs.Known.{known_in}
-use Rattle.just_variables.specs.Reading.{mentions}
+use Rattle.just_variables.specs.Lent.{known_in}
+use Rattle.just_parts.specs.Reading.{mentions}
 use Rattle.std.specs.Prelude.{map}
 
 pub loop-reference-init : goal.loop-reference-init

@@ -4,7 +4,7 @@ use Rattle.std.specs.List.{slice_get}
 use Rattle.std.specs.Str.{bytes_eq}
 use Rattle.just_numbering.proofs.Outcome.{resolved}
 use Rattle.just_numbering.proofs.resolving.resolve_assignments.Goals as goal
-use Rattle.just_variables.specs.Known.{known}
+use Rattle.just_parts.specs.Known.{known}
 
 pub returns-clause-resolved : goal.returns-clause-resolved
 returns-clause-resolved g c =

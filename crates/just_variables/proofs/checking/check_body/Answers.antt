@@ -3,7 +3,8 @@ use Rattle.std.specs.HashSet.{contains}
 use Rattle.std.specs.Str.{bytes_eq}
 use Rattle.just_errors.specs.Causes.{Keeps, Reports}
 use Rattle.just_names.specs.Modulepath.{Text}
-use Rattle.just_variables.specs.Known.{hides, known_in}
+use Rattle.just_parts.specs.Known.{hides}
+use Rattle.just_variables.specs.Lent.{known_in}
 use Rattle.just_variables.specs.Misnaming.{Misnames}
 use Rattle.just_variables.proofs.checking.check_body.Goals as goal
 

@@ -1,6 +1,7 @@
 use Rattle.std.proofs.Common.{◌∙◌, sym, None, Some}
 use Rattle.just_names.specs.Name.{text_of_name}
-use Rattle.just_variables.specs.Known.{known_in, none_hidden}
+use Rattle.just_parts.specs.Known.{none_hidden}
+use Rattle.just_variables.specs.Lent.{known_in}
 use Rattle.just_variables.proofs.Checked.{range_asked, no_function_told, count_told}
 use Rattle.just_variables.proofs.checking.check_call.Goals as goal
 

@@ -1,7 +1,7 @@
 use Rattle.std.proofs.Common.{◌∙◌, sym}
 use Rattle.std.specs.HashSet.{contains}
 use Rattle.std.specs.Str.{bytes_eq}
-use Rattle.just_variables.specs.Known.{known_in}
+use Rattle.just_variables.specs.Lent.{known_in}
 use Rattle.just_variables.proofs.Checked.{variable_told}
 use Rattle.just_variables.proofs.checking.check_variable.Goals as goal
 

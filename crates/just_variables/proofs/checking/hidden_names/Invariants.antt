@@ -1,7 +1,7 @@
 use Rattle.std.proofs.Common.{◌≡◌, ℕ, List, take}
 use Rattle.std.specs.HashSet.{contains}
 use Rattle.std.specs.Str.{bytes_eq}
-use Rattle.just_variables.specs.Known.{hides}
+use Rattle.just_parts.specs.Known.{hides}
 use Rattle.just_variables.proofs.checking.hidden_names.Given as goal
 
 abbrev pub invariant-loop-parameter : goal.invariant-loop-parameter

@@ -3,7 +3,7 @@ use Rattle.std.specs.List.{All, Contains}
 use Rattle.just_graph.specs.Graph.{HasEdge, IsGraph}
 use Rattle.just_graph.specs.Steps.{IsCircle}
 use Rattle.just_through.specs.Through.{IsOrderThrough, Reads}
-use Rattle.just_variables.specs.Known.{known_in}
+use Rattle.just_variables.specs.Lent.{known_in}
 use Rattle.just_variables.proofs.Between.{is_graph}
 use Rattle.just_variables.proofs.Circles.{circle_at, circle_in}
 use Rattle.just_variables.proofs.Edges.{variables_within}

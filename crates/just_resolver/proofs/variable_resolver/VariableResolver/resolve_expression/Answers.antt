@@ -5,7 +5,7 @@ use Rattle.std.specs.Str.{bytes_eq}
 use Rattle.just_errors.specs.Causes.{Keeps, Reports}
 use Rattle.just_names.specs.Modulepath.{Text}
 use Rattle.just_resolver.specs.Resolver.{known_by}
-use Rattle.just_variables.specs.Known.{hides}
+use Rattle.just_parts.specs.Known.{hides}
 use Rattle.just_variables.specs.Misnaming.{Misnames}
 use Rattle.just_resolver.proofs.variable_resolver.VariableResolver.resolve_expression.Goals as goal
 

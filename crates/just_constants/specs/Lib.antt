@@ -1,0 +1,4 @@
+pub mod Constants
+pub mod Documented
+pub mod Overrides
+pub mod Variables

@@ -1,0 +1,14 @@
+pub mod AllOf
+pub mod Alike
+pub mod BareSets
+pub mod Branches
+pub mod Called
+pub mod Ended
+pub mod Measure
+pub mod Put
+pub mod Read
+pub mod Scoped
+pub mod Settled
+pub mod Shapes
+pub mod Steps
+pub mod Told
