@@ -26,7 +26,7 @@ use Rattle.just_loader.specs.Reached.{World}
 use Rattle.just_loader.proofs.HeldKeys.{closed, held_key, held_path, key_held, path_led, said}
 use Rattle.just_joining.specs.Analyzable.{AreAnalyzable, assignment_numbers}
 use Rattle.just_joining.specs.Named.{variable_by}
-use Rattle.just_notes.specs.Said.{said}
+use Rattle.just_notes.specs.Said.{said as said_of}
 use Rattle.just_joining.specs.Files.{led}
 use Rattle.just_joining.specs.Recipes.{recipes_of}
 use Rattle.just_joining.specs.Reading.{Reading, ast_of_both, enabled_items, located_ast, reading_of}
@@ -90,14 +90,14 @@ module _ (w : World) (asts : AstKey → Option Ast) (loaded : List Text) (is : I
       (contained m (numbers a.items) (recipe_number_in enabled m a.items (is_in m (unresolved_numbers (recipes_of enabled a.items)) in_a)))
       (contained m (numbers b.items) (recipe_number_in enabled m b.items (is_in m (unresolved_numbers (recipes_of enabled b.items)) in_b)))
 
-  variables_once : (k : AstKey) (ast : Ast) → asts k ≡ Some ast → IsOnce (assignment_numbers (said variable_by enabled ast.items))
-  variables_once k ast e = let r = is.numbers.rising k ast e in is_once (assignment_numbers (said variable_by enabled ast.items)) (once_variables enabled r.0 ast.items r.1 r.2)
+  variables_once : (k : AstKey) (ast : Ast) → asts k ≡ Some ast → IsOnce (assignment_numbers (said_of variable_by enabled ast.items))
+  variables_once k ast e = let r = is.numbers.rising k ast e in is_once (assignment_numbers (said_of variable_by enabled ast.items)) (once_variables enabled r.0 ast.items r.1 r.2)
 
-  variables_apart : (k l : AstKey) (a b : Ast) (m : ℕ) → asts k ≡ Some a → asts l ≡ Some b → (k ≡ l → ⊥) → Contains (assignment_numbers (said variable_by enabled a.items)) m → Contains (assignment_numbers (said variable_by enabled b.items)) m → ⊥
+  variables_apart : (k l : AstKey) (a b : Ast) (m : ℕ) → asts k ≡ Some a → asts l ≡ Some b → (k ≡ l → ⊥) → Contains (assignment_numbers (said_of variable_by enabled a.items)) m → Contains (assignment_numbers (said_of variable_by enabled b.items)) m → ⊥
   variables_apart k l a b m held_a held_b other in_a in_b =
       is.numbers.apart k l a b m held_a held_b (false_from_ne_true (same_ast_key k l) (λ t. other ((key_same k l).0 t)))
-      (contained m (numbers a.items) (variable_number_in enabled m a.items (is_in m (assignment_numbers (said variable_by enabled a.items)) in_a)))
-      (contained m (numbers b.items) (variable_number_in enabled m b.items (is_in m (assignment_numbers (said variable_by enabled b.items)) in_b)))
+      (contained m (numbers a.items) (variable_number_in enabled m a.items (is_in m (assignment_numbers (said_of variable_by enabled a.items)) in_a)))
+      (contained m (numbers b.items) (variable_number_in enabled m b.items (is_in m (assignment_numbers (said_of variable_by enabled b.items)) in_b)))
 
   pub are_analyzable : AreAnalyzable enabled asts
   are_analyzable = record {
