@@ -1,7 +1,7 @@
 -- Settings that may not stand beside one another.
 use Rattle.std.specs.Prelude.{ℕ, List, [], ◌∷◌, codes, if◌then◌else◌}
 use Rattle.std.specs.Str.{bytes_eq}
-use Rattle.just_records.specs.declared.keyword.Keyword.{Keyword}
+use Rattle.just_attributes.specs.declared.keyword.Keyword.{Keyword}
 use Rattle.just_records.specs.declared.setting.Setting.{Setting}
 use Rattle.just_records.specs.declared.setting.Setting.TheVariants as setting
 

@@ -5,8 +5,8 @@ use Rattle.just_names.specs.Token.{lexeme}
 use Rattle.just_records.specs.declared.line.Fragment.{Fragment}
 use Rattle.just_records.specs.declared.line.Fragment.TheVariants as fragment
 use Rattle.just_records.specs.declared.line.Line.{Line}
-use Rattle.just_records.specs.declared.sigil.Sigil.{Sigil}
-use Rattle.just_records.specs.declared.sigil.Sigil.TheVariants as sigil
+use Rattle.just_attributes.specs.declared.sigil.Sigil.{Sigil}
+use Rattle.just_attributes.specs.declared.sigil.Sigil.TheVariants as sigil
 
 -- the text of a part, where it is text
 abbrev pub text_of : Option Fragment → List ℕ

@@ -24,13 +24,13 @@ use Rattle.just_parts.specs.Needs.{AreNeededBy, HaveNumbersApart, IsClosed, Need
 use Rattle.just_parts.specs.Reading.{IsEvaluationOrder, IsReadIn, Reads, at_once, through}
 use Rattle.just_parts.specs.Syntax.{SyntaxAnswers}
 use Rattle.just_records.specs.declared.assignment.Assignment.{Assignment}
-use Rattle.just_records.specs.declared.expression.Expression.{Expression}
+use Rattle.just_expressions.specs.declared.expression.Expression.{Expression}
 use Rattle.just_records.specs.declared.function_definition.FunctionDefinition.{FunctionDefinition}
 use Rattle.just_records.specs.declared.function_definition.FunctionParameter.{FunctionParameter}
 use Rattle.just_references.specs.References.{references}
 use Rattle.just_references.proofs.Renumbering.{keeps_references, numbers_stay}
 use Rattle.just_table.specs.Entries.{find}
-use Rattle.just_variables.specs.Misnaming.{Misnames}
+use Rattle.just_parts.specs.Misnaming.{Misnames}
 use Rattle.just_variables.proofs.Placed.{the_value}
 use Rattle.just_constants.specs.Variables.{AreVariables, known_with_numbers}
 use Rattle.just_constants.proofs.Judging.{bare_is, bare_of}

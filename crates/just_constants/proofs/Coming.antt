@@ -19,13 +19,13 @@ use Rattle.just_parts.specs.Known.{Known, known, none_hidden, sources}
 use Rattle.just_parts.specs.Layers.{Layers}
 use Rattle.just_parts.specs.Needs.{AreNeededBy, HaveNumbersApart, IsClosed, has_number, same_number}
 use Rattle.just_records.specs.declared.assignment.Assignment.{Assignment}
-use Rattle.just_records.specs.declared.expression.Expression.{Expression}
+use Rattle.just_expressions.specs.declared.expression.Expression.{Expression}
 use Rattle.just_records.specs.declared.function_definition.FunctionDefinition.{FunctionDefinition}
-use Rattle.just_records.specs.declared.scope.Scope.{Scope}
+use Rattle.just_attributes.specs.declared.scope.Scope.{Scope}
 use Rattle.just_records.specs.declared.setting.Set.{Set}
-use Rattle.just_records.specs.declared.settings.Settings.{Settings}
+use Rattle.just_attributes.specs.declared.settings.Settings.{Settings}
 use Rattle.just_table.specs.Entries.{IsSorted, find}
-use Rattle.just_variables.specs.Misnaming.{Misnames}
+use Rattle.just_parts.specs.Misnaming.{Misnames}
 use Rattle.just_constants.specs.Overrides.{last_of, overrides_found}
 use Rattle.just_constants.specs.Variables.{AreVariables, known_with_numbers}
 use Rattle.just_constants.proofs.Asking.{misnames_known, misnames_tables, tables_apart, tables_ask, tables_closed, tables_functions, tables_read}

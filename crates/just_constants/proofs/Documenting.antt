@@ -16,9 +16,9 @@ use Rattle.just_notes.specs.declared.labels.Label.{Label}
 use Rattle.just_parts.specs.Evaluator.{Evaluator, FaultsAt, Values}
 use Rattle.just_parts.specs.Known.{Known, none_hidden}
 use Rattle.just_parts.specs.Syntax.{SyntaxAnswers}
-use Rattle.just_records.specs.declared.expression.Expression.{Expression}
+use Rattle.just_expressions.specs.declared.expression.Expression.{Expression}
 use Rattle.just_references.specs.Numbers.{bare}
-use Rattle.just_variables.specs.Misnaming.{Misnames}
+use Rattle.just_parts.specs.Misnaming.{Misnames}
 use Rattle.just_constants.specs.Documented.{AreDocumented, DocFault, HasDoc, IsDocumented, doc_expressions, doc_of_value, known_by, misnamed, no_value, value_by}
 use Rattle.just_constants.specs.Variables.{AreVariablesOf}
 use Rattle.just_constants.specs.declared.variables.Variables.{Variables}

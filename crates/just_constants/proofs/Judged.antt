@@ -13,8 +13,8 @@ use Rattle.just_parts.specs.Evaluator.{Evaluator, FaultsAt, Values, Wanted}
 use Rattle.just_parts.specs.Known.{none_hidden}
 use Rattle.just_parts.specs.Layers.{Layers}
 use Rattle.just_parts.specs.Syntax.{SyntaxAnswers}
-use Rattle.just_records.specs.declared.expression.Expression.{Expression}
-use Rattle.just_variables.specs.Misnaming.{Misnames}
+use Rattle.just_expressions.specs.declared.expression.Expression.{Expression}
+use Rattle.just_parts.specs.Misnaming.{Misnames}
 use Rattle.just_constants.proofs.Once.{constants_once, wanted_once}
 
 module _ (layers : Layers) (m : Contents) where

@@ -12,7 +12,7 @@ use Rattle.just_records.specs.declared.function_definition.FunctionDefinition.{F
 use Rattle.just_records.specs.declared.function_definition.FunctionParameter.{FunctionParameter}
 use Rattle.just_table.specs.Entries.{put_all}
 use Rattle.just_parts.specs.Known.{Known, known}
-use Rattle.just_variables.specs.Misnaming.{Expressions}
+use Rattle.just_parts.specs.Misnaming.{Expressions}
 use Rattle.just_variables.proofs.Alike.{alike_changed, changed, changed_alike, expressions_alike, parameter_names, put_changed}
 use Rattle.just_joining.specs.Contents.{Contents}
 use Rattle.just_joining.specs.Known.{functions_under, known_of, variables_under}

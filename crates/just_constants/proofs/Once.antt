@@ -7,7 +7,7 @@ use Rattle.just_joining.specs.Contents.{Contents}
 use Rattle.just_parts.specs.Evaluator.{Values, Wanted}
 use Rattle.just_parts.specs.Known.{Known}
 use Rattle.just_parts.specs.Layers.{Layers}
-use Rattle.just_records.specs.declared.expression.Expression.{Expression}
+use Rattle.just_expressions.specs.declared.expression.Expression.{Expression}
 
 same_truth : (b c : Bool) → (b ≡ true → c ≡ true) → (c ≡ true → b ≡ true) → b ≡ c
 same_truth true c to back = sym (to refl)

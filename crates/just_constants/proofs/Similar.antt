@@ -11,13 +11,13 @@ use Rattle.just_parts.specs.Needs.{Needs, onward, starts}
 use Rattle.just_parts.specs.Reading.{IsEvaluationOrder, IsReadIn, Reads, ReadsOn, at_once, through}
 use Rattle.just_parts.specs.Syntax.{SyntaxAnswers}
 use Rattle.just_records.specs.declared.assignment.Assignment.{Assignment}
-use Rattle.just_records.specs.declared.expression.Expression.{Expression}
+use Rattle.just_expressions.specs.declared.expression.Expression.{Expression}
 use Rattle.just_records.specs.declared.function_definition.FunctionDefinition.{FunctionDefinition}
 use Rattle.just_references.specs.Body.{Calls, Names, mention_of}
 use Rattle.just_references.specs.References.{references}
 use Rattle.just_references.specs.declared.references.Reference.{Reference}
 use Rattle.just_table.specs.Entries.{find}
-use Rattle.just_variables.specs.Misnaming.{Misnames, MisnamesAt, argument_count, undefined_function, undefined_variable}
+use Rattle.just_parts.specs.Misnaming.{Misnames, MisnamesAt, argument_count, undefined_function, undefined_variable}
 use Rattle.just_variables.proofs.Alike.{changed}
 use Rattle.just_variables.proofs.Placed.{the_value}
 use Rattle.just_constants.proofs.Tables.{find_changed, found_changed}

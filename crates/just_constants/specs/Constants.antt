@@ -8,8 +8,8 @@ use Rattle.just_errors.specs.declared.error.Error.{Error}
 use Rattle.just_joining.specs.Constants.{Evaluated}
 use Rattle.just_parts.specs.Evaluator.{Covers, Values, values_of}
 use Rattle.just_parts.specs.Known.{Known, none_hidden, sources}
-use Rattle.just_records.specs.declared.expression.Expression.{Expression}
-use Rattle.just_variables.specs.Misnaming.{Misnames}
+use Rattle.just_expressions.specs.declared.expression.Expression.{Expression}
+use Rattle.just_parts.specs.Misnaming.{Misnames}
 
 abbrev pub evaluated_in : Constants → Evaluated
 evaluated_in it = record { constants = values_of it.scope; settings = it.settings }

@@ -9,10 +9,10 @@ use Rattle.just_parts.specs.Evaluator.{Evaluator, Values, functions_by_name}
 use Rattle.just_parts.specs.Known.{Known, known, none_hidden}
 use Rattle.just_parts.specs.Syntax.{SyntaxAnswers}
 use Rattle.just_references.specs.Numbers.{bare}
-use Rattle.just_variables.specs.Misnaming.{Misnames}
+use Rattle.just_parts.specs.Misnaming.{Misnames}
 use Rattle.just_constants.specs.declared.variables.Variables.{Variables}
 use Rattle.just_notes.specs.declared.labels.Label.{Label}
-use Rattle.just_records.specs.declared.expression.Expression.{Expression}
+use Rattle.just_expressions.specs.declared.expression.Expression.{Expression}
 
 -- the doc that a value is: its texts with a blank between them, and none where it has none
 abbrev pub doc_of_value : List Text → Option Text

@@ -14,9 +14,9 @@ ghost use Rattle.just_parts.specs.Evaluator.{Covers, FaultsAt, bare_set, functio
 ghost use Rattle.just_parts.specs.Known.{none_hidden, sources};
 ghost use Rattle.just_parts.specs.Layers.{given_of, layers_at, override_at};
 ghost use Rattle.just_parts.specs.Needs.{HaveNumbersApart};
-ghost use Rattle.just_records.specs.declared.expression.Expression.{Expression};
+ghost use Rattle.just_expressions.specs.declared.expression.Expression.{Expression};
 ghost use Rattle.just_variables.specs.Lent.{known_in};
-ghost use Rattle.just_variables.specs.Misnaming.{Misnames};
+ghost use Rattle.just_parts.specs.Misnaming.{Misnames};
 
 use crate::expressions::{constant_expressions, settings_expressions};
 use crate::overrides::{by_number, overrides_of};
@@ -125,12 +125,12 @@ fn settings_of<'a, 'src, E: Evaluation>(
 /// configuration overrides. An error names a fault of the evaluation, or what is at fault with a name in a setting.
 pub fn evaluate_constants<'k, 'a, 'src, S: Syntax, E: Evaluation>(
     alloc: Global,
-    config: &Config,
-    path: &Modulepath,
     definitions: &Definitions<'src, 'a>,
     variables: &'k Variables<'src>,
     syntax: &'k S,
     evaluation: &E,
+    config: &Config,
+    path: &Modulepath,
 ) -> Result<Constants<'src>, Error<'src>>
     requires variables { AreVariablesOf (S.answers syntax.now) (contents_in definitions.now) variables.now }
     requires apart { HaveNumbersApart (known_with_numbers (S.answers syntax.now) (contents_in definitions.now)) }
@@ -150,7 +150,7 @@ pub fn evaluate_constants<'k, 'a, 'src, S: Syntax, E: Evaluation>(
     };
     let settings = settings_expressions(alloc, definitions)?;
     check_expressions(alloc, &known, &settings)?;
-    let overridden = overrides_of(alloc, config, path, &variables.assignments)?;
+    let overridden = overrides_of(alloc, &variables.assignments, config, path)?;
     let overrides = by_number(alloc, overridden.as_slice())?;
     let expressions = constant_expressions(alloc, definitions)?;
     let references = needed_references(alloc, &known, &overrides, &expressions)?;

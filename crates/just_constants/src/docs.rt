@@ -9,8 +9,8 @@ ghost use Rattle.just_joining.specs.Constants.{Docs, value_among};
 ghost use Rattle.just_joining.specs.Definitions.{contents_in, docs_in};
 ghost use Rattle.just_parts.specs.Evaluator.{Covers, values_of};
 ghost use Rattle.just_parts.specs.Known.{none_hidden, sources};
-ghost use Rattle.just_records.specs.declared.expression.Expression.{Expression};
-ghost use Rattle.just_variables.specs.Misnaming.{Misnames};
+ghost use Rattle.just_expressions.specs.declared.expression.Expression.{Expression};
+ghost use Rattle.just_parts.specs.Misnaming.{Misnames};
 
 use crate::variables::{Variables, copied};
 use just_data::Text;

@@ -17,9 +17,9 @@ use std::collections::HashMap;
 /// names.
 pub fn overrides_of<'src>(
     alloc: Global,
+    assignments: &Table<'src, Assignment<'src>>,
     config: &Config,
     path: &Modulepath,
-    assignments: &Table<'src, Assignment<'src>>,
 ) -> Result<Vec<(Number, Text)>, AllocError>
     ensures { IfOk result (λ found. found.items ≡ overrides_found (override_at config.now.overrides path.now) assignments.now) }
 {

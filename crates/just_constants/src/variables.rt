@@ -7,7 +7,7 @@ ghost use Rattle.just_table.specs.Entries.{put_all};
 ghost use Rattle.just_joining.specs.Definitions.{contents_in, functions_in, variables_in};
 ghost use Rattle.just_joining.specs.Known.{functions_under, known_of};
 ghost use Rattle.just_constants.specs.Variables.{AreVariablesOf};
-ghost use Rattle.just_variables.specs.Misnaming.{Expressions};
+ghost use Rattle.just_parts.specs.Misnaming.{Expressions};
 
 use just_data::{Exact, Sequence};
 use just_joining::definitions::{Definitions, function_at, variable_at};

@@ -15,10 +15,10 @@ use Rattle.just_parts.specs.Syntax.{IsPlain, NamesParameter}
 use Rattle.just_parts.specs.declared.layers.ast.Item.TheVariants as item
 use Rattle.just_parts.specs.declared.layers.ast.UnresolvedDependency.{UnresolvedDependency}
 use Rattle.just_parts.specs.declared.recipe.Recipe.{Recipe}
-use Rattle.just_records.specs.declared.attribute.Attribute.{Attribute}
-use Rattle.just_records.specs.declared.attribute.Attribute.TheVariants as attribute
-use Rattle.just_records.specs.declared.attribute.NamedAttribute.{NamedAttribute}
-use Rattle.just_records.specs.declared.expression.Expression.{Expression}
+use Rattle.just_attributes.specs.declared.attribute.Attribute.{Attribute}
+use Rattle.just_attributes.specs.declared.attribute.Attribute.TheVariants as attribute
+use Rattle.just_attributes.specs.declared.attribute.NamedAttribute.{NamedAttribute}
+use Rattle.just_expressions.specs.declared.expression.Expression.{Expression}
 use Rattle.just_records.specs.declared.parameter.Parameter.{Parameter}
 use Rattle.just_records.specs.declared.parameter.ParameterKind.{ParameterKind}
 use Rattle.just_records.specs.declared.parameter.ParameterKind.TheVariants as parameter_kind

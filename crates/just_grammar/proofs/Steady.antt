@@ -10,17 +10,17 @@ use Rattle.just_parts.specs.Items.{Item}
 use Rattle.just_parts.specs.declared.layers.ast.Item.TheVariants as item
 use Rattle.just_parts.specs.declared.layers.ast.UnresolvedDependency.{UnresolvedDependency}
 use Rattle.just_parts.specs.declared.recipe.Recipe.{Recipe}
-use Rattle.just_records.specs.declared.attribute.Attribute.{Attribute}
-use Rattle.just_records.specs.declared.attribute.Attribute.TheVariants as attribute
-use Rattle.just_records.specs.declared.attribute.NamedAttribute.{NamedAttribute}
+use Rattle.just_attributes.specs.declared.attribute.Attribute.{Attribute}
+use Rattle.just_attributes.specs.declared.attribute.Attribute.TheVariants as attribute
+use Rattle.just_attributes.specs.declared.attribute.NamedAttribute.{NamedAttribute}
 use Rattle.just_records.specs.declared.assignment.Assignment.{Assignment}
-use Rattle.just_records.specs.declared.expression.Expression.{Expression}
+use Rattle.just_expressions.specs.declared.expression.Expression.{Expression}
 use Rattle.just_records.specs.declared.function_definition.FunctionDefinition.{FunctionDefinition}
 use Rattle.just_records.specs.declared.function_definition.FunctionParameter.{FunctionParameter}
 use Rattle.just_records.specs.declared.line.Line.{Line}
-use Rattle.just_records.specs.declared.list_use.ListUse.{ListUse}
+use Rattle.just_attributes.specs.declared.list_use.ListUse.{ListUse}
 use Rattle.just_records.specs.declared.setting.Set.{Set}
-use Rattle.just_records.specs.declared.string_literal.StringLiteral.{StringLiteral}
+use Rattle.just_attributes.specs.declared.string_literal.StringLiteral.{StringLiteral}
 use Rattle.just_lexer.specs.declared.lexer.Lexeme.{Lexeme}
 use Rattle.just_lexer.specs.declared.lines.TextLine.{TextLine}
 use Rattle.just_lexer.specs.Lexemes.{is_blank, lexemes}

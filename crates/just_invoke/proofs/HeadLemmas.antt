@@ -11,7 +11,7 @@ use Rattle.just_parts.specs.declared.dependency.Dependency.{Dependency}
 use Rattle.just_parts.specs.declared.recipe.Recipe.{Recipe}
 use Rattle.just_invoke.specs.declared.justfile.Justfile.{Justfile}
 use Rattle.just_invoke.specs.Closed.{IsHeld}
-use Rattle.just_running.specs.Recipes.{find_number}
+use Rattle.just_parts.specs.Recipes.{find_number}
 use Rattle.just_invoke.specs.Cause.{Cause}
 use Rattle.just_invoke.specs.Head.{Held, WordsLead, WordsMislead, IsHead, has_colon, is_empty, PathLeads, NoPath, NoHead}
 

@@ -5,7 +5,7 @@ use Rattle.std.specs.List.{Contains}
 use Rattle.just_parts.specs.declared.dependency.Dependency.{Dependency}
 use Rattle.just_parts.specs.declared.recipe.Recipe.{Recipe}
 use Rattle.just_running.specs.Pairs.{place_of}
-use Rattle.just_running.specs.Recipes.{numbers, IsNew, IsPlaceOf}
+use Rattle.just_parts.specs.Recipes.{numbers, IsNew, IsPlaceOf}
 
 pub placed-some : (rs : List (Recipe Dependency)) (n : ℕ) (o : Option ℕ) → Contains (numbers rs) n → IfNone o (IsNew rs n) → IsSome o
 placed-some rs n (Some k) c h = refl

@@ -7,7 +7,7 @@ use Rattle.just_parts.specs.declared.dependency.Dependency.{Dependency}
 use Rattle.just_parts.specs.declared.recipe.Recipe.{Recipe}
 use Rattle.just_invoke.specs.declared.justfile.Justfile.{Justfile, out-Justfile}
 use Rattle.just_invoke.specs.declared.justfile.RecipeKey.{RecipeKey}
-use Rattle.just_running.specs.Recipes.{find_number, IsResolved}
+use Rattle.just_parts.specs.Recipes.{find_number, IsResolved}
 
 -- the recipe is held, under its number
 abbrev pub IsHeld : List (Recipe Dependency) → Recipe Dependency → Type 0

@@ -16,17 +16,17 @@ use Rattle.just_parts.specs.Reading.{IsReadIn}
 use Rattle.just_parts.specs.Syntax.{SyntaxAnswers}
 use Rattle.just_parts.specs.declared.layers.ast.UnresolvedDependency.{UnresolvedDependency}
 use Rattle.just_parts.specs.declared.recipe.Recipe.{Recipe}
-use Rattle.just_records.specs.declared.attribute.ArgumentProperty.{ArgumentProperty}
-use Rattle.just_records.specs.declared.attribute.Attribute.{Attribute}
-use Rattle.just_records.specs.declared.attribute.Attribute.TheVariants as attribute
-use Rattle.just_records.specs.declared.attribute.NamedAttribute.{NamedAttribute}
-use Rattle.just_records.specs.declared.expression.Expression.{Expression}
+use Rattle.just_attributes.specs.declared.attribute.ArgumentProperty.{ArgumentProperty}
+use Rattle.just_attributes.specs.declared.attribute.Attribute.{Attribute}
+use Rattle.just_attributes.specs.declared.attribute.Attribute.TheVariants as attribute
+use Rattle.just_attributes.specs.declared.attribute.NamedAttribute.{NamedAttribute}
+use Rattle.just_expressions.specs.declared.expression.Expression.{Expression}
 use Rattle.just_records.specs.declared.setting.Set.{Set}
 use Rattle.just_records.specs.declared.setting.Setting.{Setting}
 use Rattle.just_records.specs.declared.setting.Setting.TheVariants as setting
-use Rattle.just_records.specs.declared.settings.Settings.{Settings}
+use Rattle.just_attributes.specs.declared.settings.Settings.{Settings}
 use Rattle.just_references.specs.Numbers.{bare}
-use Rattle.just_variables.specs.Misnaming.{Misnames}
+use Rattle.just_parts.specs.Misnaming.{Misnames}
 use Rattle.just_joining.specs.Contents.{Contents}
 use Rattle.just_joining.specs.Known.{functions_under, known_of}
 

@@ -2,7 +2,7 @@
 use Rattle.std.specs.Prelude.{◌<◌, ℕ}
 use Rattle.just_errors.specs.Causes.{Cause, Keeps}
 use Rattle.just_parts.specs.Layers.{Layers}
-use Rattle.just_variables.specs.Misnaming.{Expressions}
+use Rattle.just_parts.specs.Misnaming.{Expressions}
 use Rattle.just_joining.specs.Constants.{Constants, Docs, Evaluated, IsEvaluated}
 use Rattle.just_joining.specs.Contents.{Contents}
 use Rattle.just_joining.specs.Defaults.{Defaults}

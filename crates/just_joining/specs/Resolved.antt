@@ -6,8 +6,8 @@ use Rattle.just_parts.specs.declared.dependency.Dependency.{Dependency}
 use Rattle.just_parts.specs.declared.layers.ast.UnresolvedDependency.{UnresolvedDependency}
 use Rattle.just_names.specs.declared.modulepath.Modulepath.{Modulepath}
 use Rattle.just_parts.specs.declared.recipe.Recipe.{Recipe}
-use Rattle.just_running.specs.Recipes.{numbers}
-use Rattle.just_running.specs.Recipes.{IsResolved}
+use Rattle.just_parts.specs.Recipes.{numbers}
+use Rattle.just_parts.specs.Recipes.{IsResolved}
 use Rattle.just_joining.specs.Rows.{IsRow, IsOrderOf}
 
 -- the numbers of recipes that are not resolved

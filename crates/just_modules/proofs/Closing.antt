@@ -16,9 +16,9 @@ use Rattle.just_parts.specs.declared.layers.ast.UnresolvedDependency.{Unresolved
 use Rattle.just_names.specs.declared.number.Number.{Number}
 use Rattle.just_parts.specs.declared.recipe.Recipe.{Recipe}
 use Rattle.just_invoke.specs.Closed.{AreClosed, IsClosed, all_closed, recipe_of_key, recipe_of_number}
-use Rattle.just_running.specs.Recipes.{IsResolved}
+use Rattle.just_parts.specs.Recipes.{IsResolved}
 use Rattle.just_invoke.specs.Module.{module_name}
-use Rattle.just_running.specs.Recipes.{find_number, numbers}
+use Rattle.just_parts.specs.Recipes.{find_number, numbers}
 use Rattle.just_invoke.specs.declared.justfile.Justfile.{Justfile, out-Justfile}
 use Rattle.just_invoke.specs.declared.justfile.RecipeKey.{RecipeKey}
 use Rattle.just_modules.specs.Analysis.{IsDefaultAmong, IsDefaultOf, IsKeyOf}
@@ -26,7 +26,7 @@ use Rattle.just_modules.specs.Justfiles.{AreCompiled, Built, Made, IsCompiled, b
 use Rattle.just_modules.specs.Modules.{Forest, Module}
 use Rattle.just_graph.proofs.Index.{some_same}
 use Rattle.std.specs.Option.{option_map}
-use Rattle.just_joining.proofs.Later.{marked_or_none}
+use Rattle.just_rules.proofs.Later.{marked_or_none}
 use Rattle.just_joining.specs.Kept.{kept_recipes}
 use Rattle.just_joining.specs.Recipes.{recipes_of}
 use Rattle.just_joining.specs.Resolved.{number_at, unresolved_numbers}

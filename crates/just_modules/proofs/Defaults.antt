@@ -10,13 +10,13 @@ use Rattle.std.proofs.lemmas.Cmp.{nat_list_cmp_total, tied_itself}
 use Rattle.just_parts.specs.declared.dependency.Dependency.{Dependency}
 use Rattle.just_parts.specs.declared.layers.ast.UnresolvedDependency.{UnresolvedDependency}
 use Rattle.just_parts.specs.declared.recipe.Recipe.{Recipe}
-use Rattle.just_running.specs.Recipes.{find_number, numbers}
+use Rattle.just_parts.specs.Recipes.{find_number, numbers}
 use Rattle.just_running.proofs.Places.{found-number}
 use Rattle.just_names.specs.declared.number.Number.{Number}
 use Rattle.just_joining.specs.Defaults.{IsMarkedPlace}
 use Rattle.just_modules.specs.Analysis.{IsBefore, IsBetter, IsDefault, IsDefaultPlace, IsMarked}
 use Rattle.just_joining.specs.Recipes.{name_of, line_of, recipe_at}
-use Rattle.just_joining.proofs.Later.{cmp, greater_not_less}
+use Rattle.just_rules.proofs.Later.{cmp, greater_not_less}
 use Rattle.just_joining.specs.Resolved.{number_at}
 
 equal_not_less : (o : Ordering) → o ≡ Equal → o ≢ Less

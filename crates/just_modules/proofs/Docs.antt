@@ -17,7 +17,7 @@ use Rattle.just_parts.specs.Bare.{bare_item}
 use Rattle.just_parts.specs.Evaluator.{Values}
 use Rattle.just_parts.specs.Items.{Ast, Item}
 use Rattle.just_parts.specs.declared.layers.ast.Item.TheVariants as item
-use Rattle.just_records.specs.declared.expression.Expression.{Expression}
+use Rattle.just_expressions.specs.declared.expression.Expression.{Expression}
 
 abbrev expressions_of : Label → List Expression
 expressions_of label = option_to_list label.doc_expression

@@ -48,7 +48,7 @@ use Rattle.just_parts.specs.Layers.{Given, Layers, layers_at}
 use Rattle.just_constants.specs.Variables.{AreVariables}
 use Rattle.just_modules.specs.Variables.{HasVariables}
 use Rattle.just_notes.specs.Labels.{doc_by}
-use Rattle.just_records.specs.declared.expression.Expression.{Expression}
+use Rattle.just_expressions.specs.declared.expression.Expression.{Expression}
 
 -- justfiles have the labels that they are given, whose docs are evaluated
 labelled_documented : (value : Expression → Option (List Text)) (said labels : List Label) (js : List Justfile) → length labels ≡ length js → AreDocumented value said labels → AreDocumented value said (map label_in (with_labels js labels))

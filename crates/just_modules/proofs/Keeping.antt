@@ -19,7 +19,7 @@ use Rattle.just_joining.specs.OfPlaces.{contents_of_place, names_of_place}
 use Rattle.just_joining.specs.declared.files.Files.{Files}
 use Rattle.just_joining.specs.declared.files.Rows.{Rows}
 use Rattle.just_joining.specs.declared.joined.Joined.{Joined}
-use Rattle.just_joining.proofs.Alike.{AreAlikeContents, breaks_alike, kept_alike}
+use Rattle.just_rules.proofs.Alike.{AreAlikeContents, breaks_alike, kept_alike}
 use Rattle.just_joining.proofs.FilePlaces.{says}
 use Rattle.just_modules.specs.Steps.{BreaksPlace, KeepsPlace, path_at, path_in}
 use Rattle.just_modules.proofs.ModulePlaces.{IsListed, TreeAt, file_inside, module_of, tree_at}

@@ -13,7 +13,7 @@ use Rattle.just_errors.specs.Causes.{Reports}
 use Rattle.just_errors.specs.declared.error.Error.{Error}
 use Rattle.just_errors.proofs.Lifts.{reports_by}
 use Rattle.just_parts.specs.declared.recipe.Recipe.{Recipe}
-use Rattle.just_running.specs.Recipes.{numbers}
+use Rattle.just_parts.specs.Recipes.{numbers}
 use Rattle.just_invoke.specs.declared.justfile.Justfile.{Justfile, roll-Justfile}
 use Rattle.just_modules.specs.Justfiles.{Made, slot}
 use Rattle.just_joining.specs.Kept.{kept_recipes}
@@ -25,7 +25,7 @@ use Rattle.just_joining.specs.declared.files.Files.{Files}
 use Rattle.just_joining.specs.declared.joined.Joined.{Joined}
 use Rattle.just_modules.proofs.Makings.{made_numbers}
 use Rattle.just_parts.specs.Layers.{Given}
-use Rattle.just_records.specs.declared.settings.Settings.{Settings}
+use Rattle.just_attributes.specs.declared.settings.Settings.{Settings}
 
 -- a function that is changed at a place
 abbrev put_at : {A : Type 0} → ℕ → A → (ℕ → A) → ℕ → A

@@ -27,7 +27,7 @@ use Rattle.just_notes.specs.declared.labels.Label.{Label}
 use Rattle.just_parts.specs.Evaluator.{values_of}
 use Rattle.just_parts.specs.Items.{Ast}
 use Rattle.just_parts.specs.Layers.{Given, Layers, layers_at}
-use Rattle.just_records.specs.declared.expression.Expression.{Expression}
+use Rattle.just_expressions.specs.declared.expression.Expression.{Expression}
 
 -- as many labels as are said
 pub many_labels : (value : Expression → Option (List Text)) (said made : List Label) → AreDocumented value said made → length made ≡ length said

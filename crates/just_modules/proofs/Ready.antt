@@ -33,8 +33,8 @@ use Rattle.just_joining.specs.Reading.{Reading, Submodule, declared, enabled_ite
 use Rattle.just_joining.specs.declared.files.Files.{Files}
 use Rattle.just_joining.specs.declared.files.Rows.{Rows}
 use Rattle.just_joining.specs.declared.joined.Joined.{Joined}
-use Rattle.just_joining.proofs.Alike.{AreAlike, outline_of, outlines_of}
-use Rattle.just_joining.proofs.BareOutlines.{outline_located}
+use Rattle.just_rules.proofs.Alike.{AreAlike, outline_of, outlines_of}
+use Rattle.just_rules.proofs.BareOutlines.{outline_located}
 use Rattle.just_joining.proofs.FilePlaces.{are_graphs, says}
 use Rattle.just_modules.specs.Modules.{items_of}
 use Rattle.just_modules.proofs.ModulePlaces.{no_ast}

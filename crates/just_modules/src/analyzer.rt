@@ -26,18 +26,18 @@ use crate::making::{Surroundings, default_of, make_justfile};
 use just_constants::Variables;
 use just_data::{Sequence, Shared, Text};
 use just_invoke::{Justfile, Recipes};
-use just_joining::bodies::{check_bodies, index_recipes};
 use just_joining::definitions::Definitions;
 use just_joining::files::{file_rows, place_files, place_of};
 use just_joining::joined::arrange;
 use just_joining::kept::keep_recipes;
-use just_joining::module_names::check_module_names;
-use just_joining::recipe_resolver::{order_recipes, resolve_in_order};
 use just_names::Modulepath;
 use just_notes::Label;
 use just_parts::layers::{
     Ast, Config, Error, Evaluation, Name, Number, Settings, StringLiteral, Syntax,
 };
+use just_rules::bodies::{check_bodies, index_recipes};
+use just_rules::module_names::check_module_names;
+use just_rules::recipe_resolver::{order_recipes, resolve_in_order};
 use std::alloc::{AllocError, Global};
 use std::collections::HashMap;
 
@@ -155,10 +155,10 @@ fn analyze_modules<'src, S: Syntax, E: Evaluation>(
     check_module_names(alloc, &files, syntax, &joined, order.as_slice())?;
     let (mut slots, gathered) = compile_in_order(
         alloc,
-        config,
         &files,
         syntax,
         evaluation,
+        config,
         &joined,
         loaded,
         order.as_slice(),

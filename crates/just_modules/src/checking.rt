@@ -23,11 +23,11 @@ use crate::noted::labels_at;
 use just_constants::{Constants, Variables, document, evaluate_constants, resolve_variables};
 use just_joining::definitions::Definitions;
 use just_joining::files::{Files, ast_at};
-use just_joining::headers::check_headers;
-use just_joining::variables::check_names;
 use just_names::Modulepath;
 use just_notes::Label;
 use just_parts::layers::{Config, Error, Evaluation, Syntax};
+use just_rules::headers::check_headers;
+use just_rules::variables::check_names;
 use std::alloc::{AllocError, Global};
 
 /// What is found of a module before its recipes are resolved.
@@ -66,11 +66,11 @@ fn definitions_at<'b, 'a, 'src, S: Syntax>(
 // that is broken in its headers, its names, its expressions or its constants.
 fn check_module<'src, 'a, S: Syntax, E: Evaluation>(
     alloc: Global,
-    config: &Config,
-    path: &Modulepath,
     definitions: &Definitions<'src, 'a>,
     syntax: &S,
     evaluation: &E,
+    config: &Config,
+    path: &Modulepath,
 ) -> Result<(Variables<'src>, Constants<'src>), Error<'src>>
     requires modules { AreDifferent (texts_of_names definitions.now.modules.items) }
     requires numbers { IsOnce (assignment_numbers (variables_in definitions.now)) }
@@ -86,12 +86,12 @@ fn check_module<'src, 'a, S: Syntax, E: Evaluation>(
     let variables = resolve_variables(alloc, definitions, syntax)?;
     let constants = evaluate_constants(
         alloc,
-        config,
-        path,
         definitions,
         &variables,
         syntax,
         evaluation,
+        config,
+        path,
     )?;
     Ok((variables, constants))
 }
@@ -132,11 +132,11 @@ fn documented_at<'a, 'b, 'src, S: Syntax, E: Evaluation>(
 /// constants and its settings, as the configuration overrides its variables. An error names a rule that is broken.
 pub fn check_files<'b, 'a, 'src, S: Syntax, E: Evaluation>(
     alloc: Global,
-    config: &Config,
-    path: &Modulepath,
     files: &'b Files<'src, 'a>,
     syntax: &S,
     evaluation: &E,
+    config: &Config,
+    path: &Modulepath,
     places: &[usize],
 ) -> Result<Checked<'src, 'b>, Error<'src>>
     requires places { All (λ p. p < length files.now.asts.items) places.now }
@@ -154,7 +154,7 @@ pub fn check_files<'b, 'a, 'src, S: Syntax, E: Evaluation>(
         IfErr result (Reports (BreaksContents (layers_at given path.now) m)) }
 {
     let definitions = definitions_at(alloc, files, syntax, places)?;
-    let checked = check_module(alloc, config, path, &definitions, syntax, evaluation)?;
+    let checked = check_module(alloc, &definitions, syntax, evaluation, config, path)?;
     let (variables, constants) = checked;
     let labels = documented_at(
         alloc,

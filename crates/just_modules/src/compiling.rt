@@ -35,10 +35,10 @@ pub struct Gathered<'src> {
 // Compiles the module whose own file stands at a place, from those in it.
 fn compile_place<'a, 'src, S: Syntax, E: Evaluation>(
     alloc: Global,
-    config: &Config,
     files: &Files<'src, 'a>,
     syntax: &S,
     evaluation: &E,
+    config: &Config,
     joined: &Joined,
     loaded: &Shared<Sequence<Text>>,
     place: usize,
@@ -61,11 +61,11 @@ fn compile_place<'a, 'src, S: Syntax, E: Evaluation>(
     let ast = ast_at(files, place);
     let checked = check_files(
         alloc,
-        config,
-        &ast.module_path,
         files,
         syntax,
         evaluation,
+        config,
+        &ast.module_path,
         row,
     )?;
     let Checked {
@@ -121,10 +121,10 @@ fn no_slots<'src>(alloc: Global, count: usize) -> Result<Vec<Option<Justfile<'sr
 /// without a name, and what all add, one module after another.
 pub fn compile_in_order<'a, 'src, S: Syntax, E: Evaluation>(
     alloc: Global,
-    config: &Config,
     files: &Files<'src, 'a>,
     syntax: &S,
     evaluation: &E,
+    config: &Config,
     joined: &Joined,
     loaded: &Shared<Sequence<Text>>,
     order: &[usize],
@@ -143,10 +143,10 @@ pub fn compile_in_order<'a, 'src, S: Syntax, E: Evaluation>(
     for place in order {
         compile_place(
             alloc,
-            config,
             files,
             syntax,
             evaluation,
+            config,
             joined,
             loaded,
             *place,

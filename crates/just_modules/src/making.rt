@@ -2,7 +2,7 @@
 
 ghost use Rattle.std.specs.Prelude.{◌≡◌, ◌<◌, false, IsTrue, IfErr, IfOk, IfSome, OnOk, Some, length};
 ghost use Rattle.just_errors.specs.Causes.{Keeps, Reports};
-ghost use Rattle.just_running.specs.Recipes.{numbers};
+ghost use Rattle.just_parts.specs.Recipes.{numbers};
 ghost use Rattle.just_invoke.specs.declared.justfile.Justfile.{out-Justfile};
 ghost use Rattle.just_modules.specs.Analysis.{AreKeysOf, HasKeysOf, IsBefore, IsBetter, IsDefaultBy, IsDefaultOf, IsDefaultPlace, IsOf};
 ghost use Rattle.just_modules.specs.Justfiles.{notes_in};
@@ -16,11 +16,11 @@ ghost use Rattle.just_joining.specs.Recipes.{names_of};
 use just_constants::Variables;
 use just_data::{Sequence, Shared, Text};
 use just_invoke::{Justfile, RecipeKey, Recipes};
-use just_joining::defaults::marked_place;
 use just_joining::definitions::{Definitions, recipe_at};
 use just_notes::Notes;
 use just_parts::UnresolvedRecipe;
 use just_parts::layers::{Ast, Error, Name, Number, Settings, Syntax};
+use just_rules::defaults::marked_place;
 use just_table::Table;
 use std::alloc::{AllocError, Global};
 

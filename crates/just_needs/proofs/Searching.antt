@@ -12,7 +12,7 @@ use Rattle.just_needs.specs.Search.{Found, IsCovered, IsDone, IsReadFrom, LeadsO
 use Rattle.just_needs.proofs.Looking.{added, is_the_one, kept, not_in_none, the_one}
 use Rattle.just_needs.proofs.Sets.{number_itself, one_number}
 use Rattle.just_records.specs.declared.assignment.Assignment.{Assignment}
-use Rattle.just_records.specs.declared.expression.Expression.{Expression}
+use Rattle.just_expressions.specs.declared.expression.Expression.{Expression}
 use Rattle.just_records.specs.declared.function_definition.FunctionDefinition.{FunctionDefinition}
 use Rattle.just_table.specs.Entries.{find}
 use Rattle.just_parts.specs.Known.{Known, none_hidden}

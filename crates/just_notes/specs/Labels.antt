@@ -6,11 +6,11 @@ use Rattle.just_names.specs.Modulepath.{Text}
 use Rattle.just_names.specs.declared.name.Name.{Name}
 use Rattle.just_parts.specs.Items.{Item}
 use Rattle.just_parts.specs.declared.layers.ast.Item.TheVariants as item
-use Rattle.just_records.specs.declared.attribute.Attribute.{Attribute}
-use Rattle.just_records.specs.declared.attribute.Attribute.TheVariants as attribute
-use Rattle.just_records.specs.declared.attribute.NamedAttribute.{NamedAttribute}
-use Rattle.just_records.specs.declared.expression.Expression.{Expression}
-use Rattle.just_records.specs.declared.string_literal.StringLiteral.{StringLiteral}
+use Rattle.just_attributes.specs.declared.attribute.Attribute.{Attribute}
+use Rattle.just_attributes.specs.declared.attribute.Attribute.TheVariants as attribute
+use Rattle.just_attributes.specs.declared.attribute.NamedAttribute.{NamedAttribute}
+use Rattle.just_expressions.specs.declared.expression.Expression.{Expression}
+use Rattle.just_attributes.specs.declared.string_literal.StringLiteral.{StringLiteral}
 use Rattle.just_notes.specs.declared.labels.Label.{Label}
 
 -- the group that an attribute names

@@ -8,7 +8,7 @@ ghost use Rattle.just_numbering.specs.Numbering.{assignments_here, functions_her
 ghost use Rattle.just_numbering.specs.Resolved.{ResolvesTo};
 ghost use Rattle.just_table.specs.Entries.{IsSorted};
 ghost use Rattle.just_parts.specs.Known.{known};
-ghost use Rattle.just_variables.specs.Misnaming.{Expressions};
+ghost use Rattle.just_parts.specs.Misnaming.{Expressions};
 
 use crate::numbering::{numbered_assignment, numbered_function, variable_numbers};
 use just_data::BorrowedText;

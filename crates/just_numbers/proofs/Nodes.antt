@@ -3,7 +3,7 @@ use Rattle.std.proofs.Common.{◌≡◌, sym, subst, ◌∙◌, ap, ℕ, ◌+◌
 use Rattle.std.proofs.Math.Seq.{drop-append_seam}
 use Rattle.std.proofs.lemmas.List.{append_cancel_left, length-append, length-map, length-reverse, map-append, reverse-append}
 use Rattle.just_names.specs.declared.number.Number.{Number}
-use Rattle.just_records.specs.declared.expression.Expression.{Expression}
+use Rattle.just_expressions.specs.declared.expression.Expression.{Expression}
 use Rattle.just_numbers.specs.Nodes.{LeadsBack, LieOn}
 use Rattle.just_references.specs.Numbers.{with_numbers}
 use Rattle.just_references.specs.Parts.{parts, waiting}

@@ -2,7 +2,7 @@
 use Rattle.std.proofs.Common.{◌≡◌, refl, sym, ◌∙◌, ap, ℕ, List, [], ◌∷◌, ◌++◌, length, take, drop, map, reverse}
 use Rattle.std.proofs.Math.Seq.{take-append_seam}
 use Rattle.std.proofs.lemmas.List.{length-append, reverse-append, take-append-drop}
-use Rattle.just_records.specs.declared.expression.Expression.{Expression}
+use Rattle.just_expressions.specs.declared.expression.Expression.{Expression}
 
 -- the first of a list, by their number
 pub front : (n : ℕ) (some below stack : List Expression) → stack ≡ some ++ below → length some ≡ n → some ≡ take n stack

@@ -1,6 +1,6 @@
 -- The expressions in one, and what waits beside some of them.
 use Rattle.std.specs.Prelude.{◌≡◌, List, [], ◌∷◌, ◌++◌, drop, length}
-use Rattle.just_records.specs.declared.expression.Expression.{Expression}
+use Rattle.just_expressions.specs.declared.expression.Expression.{Expression}
 use Rattle.just_references.specs.Parts.{parts}
 
 -- From those that wait, a walk over expressions leads back to where `whole` alone waited: each of them, the last of the

@@ -10,15 +10,15 @@ use Rattle.just_names.specs.Name.{text_of_name}
 use Rattle.just_names.specs.Number.{no_number}
 use Rattle.just_names.specs.declared.number.Number.{Number}
 use Rattle.just_records.specs.declared.assignment.Assignment.{Assignment}
-use Rattle.just_records.specs.declared.expression.Expression.{Expression}
+use Rattle.just_expressions.specs.declared.expression.Expression.{Expression}
 use Rattle.just_records.specs.declared.function_definition.FunctionDefinition.{FunctionDefinition}
-use Rattle.just_records.specs.declared.interpreter.Interpreter.{Interpreter}
-use Rattle.just_records.specs.declared.scope.Binding.{Binding}
-use Rattle.just_records.specs.declared.scope.Scope.{Scope}
+use Rattle.just_attributes.specs.declared.interpreter.Interpreter.{Interpreter}
+use Rattle.just_attributes.specs.declared.scope.Binding.{Binding}
+use Rattle.just_attributes.specs.declared.scope.Scope.{Scope}
 use Rattle.just_records.specs.declared.setting.Set.{Set}
 use Rattle.just_records.specs.declared.setting.Setting.{Setting}
 use Rattle.just_records.specs.declared.setting.Setting.TheVariants as setting
-use Rattle.just_records.specs.declared.settings.Settings.{Settings}
+use Rattle.just_attributes.specs.declared.settings.Settings.{Settings}
 use Rattle.just_references.specs.Numbers.{bare}
 use Rattle.just_errors.specs.declared.error.CompileErrorKind.TheVariants as kind
 use Rattle.just_errors.specs.declared.error.Fault.{Fault}

@@ -5,7 +5,7 @@ use Rattle.just_names.specs.Token.{Place}
 use Rattle.just_records.specs.declared.line.Fragment.{Fragment}
 use Rattle.just_records.specs.declared.line.Fragment.TheVariants as fragment
 use Rattle.just_records.specs.declared.line.Line.{Line}
-use Rattle.just_records.specs.declared.settings.Settings.{Settings}
+use Rattle.just_attributes.specs.declared.settings.Settings.{Settings}
 use Rattle.just_parts.specs.Syntax.{SyntaxAnswers}
 
 -- A line begins a group: the first; one after a line that does not go on; and one after a comment that begins a group, where comments are ignored.

@@ -9,8 +9,10 @@ pub mod Items
 pub mod Known
 pub mod Layers
 pub mod Located
+pub mod Misnaming
 pub mod Needs
 pub mod Reading
+pub mod Recipes
 pub mod Resolved
 pub mod Script
 pub mod Steps

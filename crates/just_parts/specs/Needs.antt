@@ -6,7 +6,7 @@ use Rattle.just_names.specs.Modulepath.{Text}
 use Rattle.just_names.specs.contracts.number.NumberPartialEq.TheImpl as number_eq
 use Rattle.just_names.specs.declared.number.Number.{Number}
 use Rattle.just_records.specs.declared.assignment.Assignment.{Assignment}
-use Rattle.just_records.specs.declared.expression.Expression.{Expression}
+use Rattle.just_expressions.specs.declared.expression.Expression.{Expression}
 use Rattle.just_table.specs.Entries.{find}
 use Rattle.just_parts.specs.Known.{Known}
 use Rattle.just_parts.specs.Reading.{IsReadIn, ReadsOn}

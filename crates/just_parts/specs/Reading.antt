@@ -4,7 +4,7 @@ use Rattle.std.specs.List.{Contains}
 use Rattle.just_index.specs.Index.{AreDifferent, name_at}
 use Rattle.just_names.specs.Modulepath.{Text}
 use Rattle.just_records.specs.declared.assignment.Assignment.{Assignment}
-use Rattle.just_records.specs.declared.expression.Expression.{Expression}
+use Rattle.just_expressions.specs.declared.expression.Expression.{Expression}
 use Rattle.just_records.specs.declared.function_definition.FunctionDefinition.{FunctionDefinition}
 use Rattle.just_references.specs.Body.{Calls, Mention, Names, mention_of}
 use Rattle.just_references.specs.References.{references}

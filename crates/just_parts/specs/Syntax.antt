@@ -6,19 +6,19 @@ use Rattle.just_names.specs.Name.{texts_of_path}
 use Rattle.just_names.specs.declared.number.Number.{Number}
 use Rattle.just_names.specs.declared.name.Namepath.{Namepath}
 use Rattle.just_names.specs.Token.{lexeme}
-use Rattle.just_records.specs.declared.attribute.Attribute.{Attribute}
-use Rattle.just_records.specs.declared.attribute.Attribute.TheVariants as attribute
-use Rattle.just_records.specs.declared.attribute.NamedAttribute.{NamedAttribute}
-use Rattle.just_records.specs.declared.expression.Expression.{Expression}
+use Rattle.just_attributes.specs.declared.attribute.Attribute.{Attribute}
+use Rattle.just_attributes.specs.declared.attribute.Attribute.TheVariants as attribute
+use Rattle.just_attributes.specs.declared.attribute.NamedAttribute.{NamedAttribute}
+use Rattle.just_expressions.specs.declared.expression.Expression.{Expression}
 use Rattle.just_records.specs.declared.function_definition.FunctionDefinition.{FunctionDefinition}
-use Rattle.just_records.specs.declared.keyword.Keyword.{Keyword}
+use Rattle.just_attributes.specs.declared.keyword.Keyword.{Keyword}
 use Rattle.just_records.specs.declared.line.Fragment.{Fragment}
 use Rattle.just_records.specs.declared.line.Fragment.TheVariants as fragment
 use Rattle.just_records.specs.declared.line.Line.{Line}
 use Rattle.just_records.specs.declared.parameter.Parameter.{Parameter}
 use Rattle.just_records.specs.declared.setting.Setting.{Setting}
-use Rattle.just_records.specs.declared.settings.Settings.{Settings}
-use Rattle.just_records.specs.declared.sigil.Sigil.{Sigil}
+use Rattle.just_attributes.specs.declared.settings.Settings.{Settings}
+use Rattle.just_attributes.specs.declared.sigil.Sigil.{Sigil}
 use Rattle.just_parts.specs.declared.layers.ast.UnresolvedDependency.{UnresolvedDependency}
 use Rattle.just_parts.specs.declared.recipe.Recipe.{Recipe}
 use Rattle.just_parts.specs.declared.source.Source.{Source}

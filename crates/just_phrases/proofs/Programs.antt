@@ -1,9 +1,9 @@
 -- The program that a list is.
 use Rattle.std.proofs.Common.{◌≡◌, sym, ◌∙◌, ap, refl, List, None}
-use Rattle.just_records.specs.declared.expression.Expression.{Expression}
-use Rattle.just_records.specs.declared.expression.Shape.{Shape, out-Shape, roll-Shape, out-roll-Shape, roll-out-Shape}
-use Rattle.just_records.specs.declared.expression.Shape.TheOpen.{Shape-F}
-use Rattle.just_records.specs.declared.expression.Shape.TheVariants as shape
+use Rattle.just_expressions.specs.declared.expression.Expression.{Expression}
+use Rattle.just_expressions.specs.declared.expression.Shape.{Shape, out-Shape, roll-Shape, out-roll-Shape, roll-out-Shape}
+use Rattle.just_expressions.specs.declared.expression.Shape.TheOpen.{Shape-F}
+use Rattle.just_expressions.specs.declared.expression.Shape.TheVariants as shape
 use Rattle.just_phrases.specs.Definitions.{listed, listed_layer, program_of}
 
 -- a list is its elements

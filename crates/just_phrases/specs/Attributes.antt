@@ -3,10 +3,10 @@ use Rattle.std.specs.Prelude.{zero, suc, ℕ, ◌+◌, ◌-◌, ◌==◌, Bool, 
 use Rattle.std.specs.Str.{bytes_eq, chars}
 use Rattle.just_names.specs.Token.{lexeme}
 use Rattle.just_names.specs.declared.name.Name.{Name}
-use Rattle.just_records.specs.declared.attribute.Attribute.{Attribute}
-use Rattle.just_records.specs.declared.attribute.Attribute.TheVariants as attributes
-use Rattle.just_records.specs.declared.expression.Expression.{Expression}
-use Rattle.just_records.specs.declared.string_literal.StringLiteral.{StringLiteral}
+use Rattle.just_attributes.specs.declared.attribute.Attribute.{Attribute}
+use Rattle.just_attributes.specs.declared.attribute.Attribute.TheVariants as attributes
+use Rattle.just_expressions.specs.declared.expression.Expression.{Expression}
+use Rattle.just_attributes.specs.declared.string_literal.StringLiteral.{StringLiteral}
 use Rattle.just_plain.specs.declared.expressions.Found.{Found}
 use Rattle.just_lexer.specs.declared.lexer.Lexeme.{Lexeme}
 use Rattle.just_plain.specs.Expressions.{expression}

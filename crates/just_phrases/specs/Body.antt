@@ -3,7 +3,7 @@ use Rattle.std.specs.Prelude.{zero, suc, ℕ, ◌<◌, ◌≤◌, ◌+◌, ◌-�
 use Rattle.std.specs.List.{flat_map, prefix_len}
 use Rattle.std.specs.Option.{option_map}
 use Rattle.std.specs.Str.{IsCharBoundary}
-use Rattle.just_records.specs.declared.expression.Expression.{Expression}
+use Rattle.just_expressions.specs.declared.expression.Expression.{Expression}
 use Rattle.just_records.specs.declared.line.Fragment.{Fragment}
 use Rattle.just_records.specs.declared.line.Fragment.TheVariants as fragment
 use Rattle.just_lexer.specs.declared.lexer.Lexeme.{Lexeme}

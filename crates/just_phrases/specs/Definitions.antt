@@ -6,12 +6,12 @@ use Rattle.just_names.specs.Token.{lexeme}
 use Rattle.just_names.specs.declared.name.Name.{Name}
 use Rattle.just_names.specs.Number.{no_number}
 use Rattle.just_records.specs.declared.assignment.Assignment.{Assignment}
-use Rattle.just_records.specs.declared.expression.Expression.{Expression}
-use Rattle.just_records.specs.declared.expression.Shape.{Shape, out-Shape}
-use Rattle.just_records.specs.declared.expression.Shape.TheOpen.{Shape-F}
+use Rattle.just_expressions.specs.declared.expression.Expression.{Expression}
+use Rattle.just_expressions.specs.declared.expression.Shape.{Shape, out-Shape}
+use Rattle.just_expressions.specs.declared.expression.Shape.TheOpen.{Shape-F}
 use Rattle.just_records.specs.declared.function_definition.FunctionDefinition.{FunctionDefinition}
 use Rattle.just_records.specs.declared.function_definition.FunctionParameter.{FunctionParameter}
-use Rattle.just_records.specs.declared.interpreter.Interpreter.{Interpreter}
+use Rattle.just_attributes.specs.declared.interpreter.Interpreter.{Interpreter}
 use Rattle.just_records.specs.declared.setting.Set.{Set}
 use Rattle.just_records.specs.declared.setting.Setting.{Setting}
 use Rattle.just_records.specs.declared.setting.Setting.TheVariants as settings

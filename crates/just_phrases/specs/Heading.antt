@@ -4,7 +4,7 @@ use Rattle.std.specs.Option.{option_map}
 use Rattle.just_names.specs.Token.{lexeme}
 use Rattle.just_names.specs.declared.name.Name.{Name}
 use Rattle.just_names.specs.Number.{no_number}
-use Rattle.just_records.specs.declared.expression.Expression.{Expression}
+use Rattle.just_expressions.specs.declared.expression.Expression.{Expression}
 use Rattle.just_records.specs.declared.parameter.Parameter.{Parameter}
 use Rattle.just_records.specs.declared.parameter.ParameterKind.{ParameterKind}
 use Rattle.just_records.specs.declared.parameter.ParameterKind.TheVariants as parameter_kind

@@ -3,9 +3,9 @@ use Rattle.std.specs.Prelude.{ℕ, ◌+◌, Bool, true, false, not, ◌&&◌, if
 use Rattle.std.specs.Option.{option_map}
 use Rattle.just_names.specs.Token.{lexeme}
 use Rattle.just_names.specs.declared.name.Name.{Name}
-use Rattle.just_records.specs.declared.expression.Expression.{Expression}
-use Rattle.just_records.specs.declared.expression.Shape.{Shape}
-use Rattle.just_records.specs.declared.expression.Shape.TheVariants as shape
+use Rattle.just_expressions.specs.declared.expression.Expression.{Expression}
+use Rattle.just_expressions.specs.declared.expression.Shape.{Shape}
+use Rattle.just_expressions.specs.declared.expression.Shape.TheVariants as shape
 use Rattle.just_plain.specs.declared.expressions.Bracket.{Bracket}
 use Rattle.just_plain.specs.declared.expressions.Bracket.TheVariants as bracket
 use Rattle.just_plain.specs.declared.expressions.Found.{Found}

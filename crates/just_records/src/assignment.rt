@@ -1,5 +1,5 @@
-use crate::expression::Expression;
 use just_data::Exact;
+use just_expressions::Expression;
 use just_names::{Name, Number};
 use just_table::Keyed;
 

@@ -1,5 +1,5 @@
-use crate::expression::Expression;
 use just_data::{Exact, Sequence};
+use just_expressions::Expression;
 use just_names::Token;
 
 /// A part of a body line.

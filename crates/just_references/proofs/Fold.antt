@@ -3,9 +3,9 @@ use Rattle.std.proofs.Common.{◌≡◌, sym, ◌∙◌, ap, ℕ, suc, List, ◌
 use Rattle.std.specs.List.{flat_map, sum, sum_by}
 use Rattle.std.proofs.lemmas.List.Folds.{flat_map-map}
 use Rattle.std.proofs.lemmas.List.Sums.{sum-map}
-use Rattle.just_records.specs.declared.expression.Expression.{Expression, out-Expression, fold-Expression, fold_out-Expression}
-use Rattle.just_records.specs.declared.expression.Shape.{Shape, out-Shape, roll-Shape, roll-out-Shape, fold-Shape, fold-roll-Shape}
-use Rattle.just_records.specs.declared.expression.Shape.TheOpen.{Shape-F}
+use Rattle.just_expressions.specs.declared.expression.Expression.{Expression, out-Expression, fold-Expression, fold_out-Expression}
+use Rattle.just_expressions.specs.declared.expression.Shape.{Shape, out-Shape, roll-Shape, roll-out-Shape, fold-Shape, fold-roll-Shape}
+use Rattle.just_expressions.specs.declared.expression.Shape.TheOpen.{Shape-F}
 use Rattle.just_references.specs.Parts.{layer_parts, parts, shape_parts}
 use Rattle.just_references.specs.References.{layer_mention, shape_mention, mention, shape_step, expression_step, over_parts, references}
 use Rattle.just_references.specs.declared.references.Reference.{Reference}

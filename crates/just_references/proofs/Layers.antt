@@ -1,8 +1,8 @@
 -- What a level keeps where others stand for its parts.
 use Rattle.std.proofs.Common.{◌≡◌, refl, ap, ◌∷◌, [], map, None, Some}
 use Rattle.std.proofs.lemmas.List.{length-map}
-use Rattle.just_records.specs.declared.expression.Shape.{map-Shape}
-use Rattle.just_records.specs.declared.expression.Shape.TheOpen.{Shape-F}
+use Rattle.just_expressions.specs.declared.expression.Shape.{map-Shape}
+use Rattle.just_expressions.specs.declared.expression.Shape.TheOpen.{Shape-F}
 use Rattle.just_references.specs.Parts.{layer_parts}
 use Rattle.just_references.specs.References.{layer_mention}
 use Rattle.just_references.specs.declared.references.Reference.TheVariants as reference

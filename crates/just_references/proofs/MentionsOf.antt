@@ -2,11 +2,11 @@
 use Rattle.std.proofs.Common.{◌≡◌, sym, ◌∙◌, ap, ℕ, List, [], ◌∷◌, length, Option}
 use Rattle.just_names.specs.declared.name.Name.{Name}
 use Rattle.just_names.specs.declared.number.Number.{Number}
-use Rattle.just_records.specs.declared.expression.ConditionalOperator.{ConditionalOperator}
-use Rattle.just_records.specs.declared.expression.Expression.{Expression}
-use Rattle.just_records.specs.declared.expression.Shape.{Shape, roll-Shape, out-roll-Shape}
-use Rattle.just_records.specs.declared.expression.Shape.TheOpen.{Shape-F}
-use Rattle.just_records.specs.declared.expression.Shape.TheVariants as shape
+use Rattle.just_expressions.specs.declared.expression.ConditionalOperator.{ConditionalOperator}
+use Rattle.just_expressions.specs.declared.expression.Expression.{Expression}
+use Rattle.just_expressions.specs.declared.expression.Shape.{Shape, roll-Shape, out-roll-Shape}
+use Rattle.just_expressions.specs.declared.expression.Shape.TheOpen.{Shape-F}
+use Rattle.just_expressions.specs.declared.expression.Shape.TheVariants as shape
 use Rattle.just_references.specs.References.{layer_mention, shape_mention}
 use Rattle.just_references.specs.declared.references.Reference.TheVariants as reference
 

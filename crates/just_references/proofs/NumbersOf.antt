@@ -4,11 +4,11 @@ use Rattle.std.specs.Option.{option_map}
 use Rattle.just_names.specs.Name.{text_of_name}
 use Rattle.just_names.specs.declared.name.Name.{Name}
 use Rattle.just_names.specs.declared.number.Number.{Number}
-use Rattle.just_records.specs.declared.expression.ConditionalOperator.{ConditionalOperator}
-use Rattle.just_records.specs.declared.expression.Expression.{Expression, out-Expression, roll-Expression, fold_out-Expression}
-use Rattle.just_records.specs.declared.expression.Shape.{Shape, roll-Shape, fold-roll-Shape, map-Shape}
-use Rattle.just_records.specs.declared.expression.Shape.TheOpen.{Shape-F}
-use Rattle.just_records.specs.declared.expression.Shape.TheVariants as shape
+use Rattle.just_expressions.specs.declared.expression.ConditionalOperator.{ConditionalOperator}
+use Rattle.just_expressions.specs.declared.expression.Expression.{Expression, out-Expression, roll-Expression, fold_out-Expression}
+use Rattle.just_expressions.specs.declared.expression.Shape.{Shape, roll-Shape, fold-roll-Shape, map-Shape}
+use Rattle.just_expressions.specs.declared.expression.Shape.TheOpen.{Shape-F}
+use Rattle.just_expressions.specs.declared.expression.Shape.TheVariants as shape
 use Rattle.just_references.specs.Numbers.{numbered_layer, shape_numbered, shape_with_numbers, with_numbers}
 
 module _ (number_of : List ℕ → Option Number) where

@@ -4,9 +4,9 @@ use Rattle.std.specs.List.{flat_map, AllByRecursion}
 use Rattle.std.proofs.lemmas.List.Concat.{flat_map-cons}
 use Rattle.std.proofs.lemmas.List.Folds.{flat_map-map}
 use Rattle.just_names.specs.declared.number.Number.{Number}
-use Rattle.just_records.specs.declared.expression.Expression.{Expression, out-Expression, roll-Expression, out-roll-Expression}
-use Rattle.just_records.specs.declared.expression.Shape.{Shape, out-Shape, roll-Shape, out-roll-Shape, roll-out-Shape, map-Shape}
-use Rattle.just_records.specs.declared.expression.Shape.TheOpen.{Shape-F, Expression-F}
+use Rattle.just_expressions.specs.declared.expression.Expression.{Expression, out-Expression, roll-Expression, out-roll-Expression}
+use Rattle.just_expressions.specs.declared.expression.Shape.{Shape, out-Shape, roll-Shape, out-roll-Shape, roll-out-Shape, map-Shape}
+use Rattle.just_expressions.specs.declared.expression.Shape.TheOpen.{Shape-F, Expression-F}
 use Rattle.just_references.specs.Numbers.{numbered_layer, shape_with_numbers, with_numbers}
 use Rattle.just_references.specs.Parts.{layer_parts, parts, shape_parts}
 use Rattle.just_references.specs.References.{layer_mention, shape_mention, mention, references}

@@ -6,7 +6,7 @@ use Rattle.std.proofs.lemmas.List.{append_assoc, map-append, reverse-append}
 use Rattle.std.proofs.lemmas.List.Concat.{flat_map-cons}
 use Rattle.std.proofs.lemmas.List.Elements.{All-rest}
 use Rattle.std.proofs.lemmas.List.Sums.{sum_by-cons, sum_by-append}
-use Rattle.just_records.specs.declared.expression.Expression.{Expression}
+use Rattle.just_expressions.specs.declared.expression.Expression.{Expression}
 use Rattle.just_references.specs.Parts.{borrowed, parts, waiting}
 use Rattle.just_references.specs.References.{IsReference, mention, references}
 use Rattle.just_references.specs.declared.references.Reference.{Reference}

@@ -1,7 +1,7 @@
 -- What is said under parameters, as the rules of names read it.
 use Rattle.std.specs.Prelude.{ℕ, List, map}
 use Rattle.just_names.specs.Name.{text_of_name}
-use Rattle.just_records.specs.declared.expression.Expression.{Expression}
+use Rattle.just_expressions.specs.declared.expression.Expression.{Expression}
 use Rattle.just_references.specs.References.{references}
 use Rattle.just_references.specs.declared.references.Reference.{Reference}
 use Rattle.just_references.specs.declared.references.Reference.TheVariants as reference

@@ -2,9 +2,9 @@
 use Rattle.std.specs.Prelude.{ℕ, List, Option, None}
 use Rattle.just_names.specs.Name.{text_of_name}
 use Rattle.just_names.specs.declared.number.Number.{Number}
-use Rattle.just_records.specs.declared.expression.Expression.{Expression, fold-Expression, roll-Expression}
-use Rattle.just_records.specs.declared.expression.Shape.{Shape, fold-Shape, roll-Shape}
-use Rattle.just_records.specs.declared.expression.Shape.TheOpen.{Shape-F}
+use Rattle.just_expressions.specs.declared.expression.Expression.{Expression, fold-Expression, roll-Expression}
+use Rattle.just_expressions.specs.declared.expression.Shape.{Shape, fold-Shape, roll-Shape}
+use Rattle.just_expressions.specs.declared.expression.Shape.TheOpen.{Shape-F}
 
 -- one level, where a variable has the number that its name is given
 abbrev pub numbered_layer : {A B : Type 0} → (List ℕ → Option Number) → Shape-F A B → Shape-F A B

@@ -2,9 +2,9 @@
 use Rattle.std.specs.Prelude.{List, [], ◌∷◌, ◌++◌, map, reverse}
 use Rattle.std.specs.Option.{option_to_list}
 use Rattle.std.specs.Borrow.{Bor}
-use Rattle.just_records.specs.declared.expression.Expression.{Expression, out-Expression}
-use Rattle.just_records.specs.declared.expression.Shape.{Shape, out-Shape}
-use Rattle.just_records.specs.declared.expression.Shape.TheOpen.{Shape-F}
+use Rattle.just_expressions.specs.declared.expression.Expression.{Expression, out-Expression}
+use Rattle.just_expressions.specs.declared.expression.Shape.{Shape, out-Shape}
+use Rattle.just_expressions.specs.declared.expression.Shape.TheOpen.{Shape-F}
 
 -- the parts that one level has, whatever stands for them
 abbrev pub layer_parts : {A B : Type 0} → Shape-F A B → List B

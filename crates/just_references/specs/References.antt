@@ -1,9 +1,9 @@
 -- What an expression refers to.
 use Rattle.std.specs.Prelude.{◌≡◌, List, [], ◌∷◌, ◌++◌, length}
 use Rattle.std.specs.List.{flat_map}
-use Rattle.just_records.specs.declared.expression.Expression.{Expression, out-Expression, fold-Expression}
-use Rattle.just_records.specs.declared.expression.Shape.{Shape, out-Shape}
-use Rattle.just_records.specs.declared.expression.Shape.TheOpen.{Shape-F, Expression-F}
+use Rattle.just_expressions.specs.declared.expression.Expression.{Expression, out-Expression, fold-Expression}
+use Rattle.just_expressions.specs.declared.expression.Shape.{Shape, out-Shape}
+use Rattle.just_expressions.specs.declared.expression.Shape.TheOpen.{Shape-F, Expression-F}
 use Rattle.just_references.specs.Parts.{layer_parts}
 use Rattle.just_references.specs.declared.references.Reference.{Reference}
 use Rattle.just_references.specs.declared.references.Reference.TheVariants as reference

@@ -4,7 +4,7 @@ ghost use Rattle.std.specs.Prelude.{◌≡◌, ◌∷◌, ◌++◌, OnOk};
 ghost use Rattle.std.specs.Option.{option_to_list};
 ghost use Rattle.just_references.specs.Parts.{parts, waiting};
 
-use just_records::{Expression, Shape};
+use just_expressions::{Expression, Shape};
 use std::alloc::AllocError;
 
 // Puts an expression where it is popped next.

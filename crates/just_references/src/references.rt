@@ -8,8 +8,8 @@ ghost use Rattle.just_references.specs.Parts.{borrowed};
 ghost use Rattle.just_references.specs.References.{IsReference, mention, references};
 
 use crate::parts::push_parts;
+use just_expressions::{Expression, Shape};
 use just_names::Name;
-use just_records::{Expression, Shape};
 use std::alloc::{AllocError, Global};
 use std::marker::Model;
 

@@ -9,7 +9,7 @@ ghost use Rattle.just_numbering.specs.Resolved.{ResolvesTo};
 ghost use Rattle.just_references.specs.Numbers.{with_numbers};
 ghost use Rattle.just_resolver.specs.Resolver.{known_by, number_here, overridden};
 ghost use Rattle.just_parts.specs.Known.{hides, known};
-ghost use Rattle.just_variables.specs.Misnaming.{Expressions, Misnames, MisnamesCall};
+ghost use Rattle.just_parts.specs.Misnaming.{Expressions, Misnames, MisnamesCall};
 ghost use Rattle.just_parts.specs.Reading.{Reads};
 
 use just_data::{BorrowedText, Text};

@@ -20,7 +20,7 @@ use Rattle.just_running.specs.Firsts.{has}
 use Rattle.just_running.specs.Leaves.{begin_steps, recipe_steps, leaves_of}
 use Rattle.just_running.specs.declared.task.Task.{Task}
 use Rattle.just_running.specs.Pairs.{OnceTable, same_pair, place_of, task_of, prior_dependencies, subsequent_dependencies, AllBelow}
-use Rattle.just_running.specs.Recipes.{IsOrdered}
+use Rattle.just_parts.specs.Recipes.{IsOrdered}
 use Rattle.just_running.specs.Walking.{Leaves, State, counted, all_steps, opened, fresh_steps, block_steps, ran, ran_steps, visit_steps, walk_steps}
 use Rattle.just_running.proofs.Joined.{with_priors, asks, join, still-new, In-left, In-right, add-zero, none-in, none-below}
 use Rattle.just_running.proofs.Places.{priors-before, subsequents-before}

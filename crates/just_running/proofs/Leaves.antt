@@ -11,7 +11,7 @@ use Rattle.just_running.specs.Leaves.{AsksAlone, ask_steps, follow_steps, leaves
 use Rattle.just_running.specs.Lower.{IsLower}
 use Rattle.just_running.specs.declared.task.Task.{Task}
 use Rattle.just_running.specs.Pairs.{AllBelow}
-use Rattle.just_running.specs.Recipes.{IsOrdered}
+use Rattle.just_parts.specs.Recipes.{IsOrdered}
 use Rattle.just_running.specs.Run.{subsequents_by, parts, Each, IsEvenPart, IsEven}
 use Rattle.just_running.proofs.Places.{priors-before, subsequents-before}
 

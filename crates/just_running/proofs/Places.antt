@@ -13,7 +13,7 @@ use Rattle.just_parts.specs.declared.recipe.Recipe.{Recipe}
 use Rattle.just_running.specs.declared.pair.Pair.{Pair}
 use Rattle.just_running.specs.declared.task.Task.{Task}
 use Rattle.just_running.specs.Pairs.{place_of, at_place, empty_groups, pair_of, task_of, prior_dependencies, subsequent_dependencies, AllBelow}
-use Rattle.just_running.specs.Recipes.{numbers, needs, IsOrdered, AreOrderedAfter, find_number, IsPlaceOf, IsIndex}
+use Rattle.just_parts.specs.Recipes.{numbers, needs, IsOrdered, AreOrderedAfter, find_number, IsPlaceOf, IsIndex}
 use Rattle.just_running.proofs.RecipeLemmas.{numbers-append, length-numbers, once}
 
 All-unmap : {X Y : Type 0} (P : X → Type 0) (f : Y → X) (ys : List Y) → All P (map f ys) → All (λ y. P (f y)) ys

@@ -10,7 +10,7 @@ use Rattle.std.proofs.lemmas.List.Elements.{Contains-append_right, Contains-appe
 use Rattle.std.specs.List.{All, Contains}
 use Rattle.just_parts.specs.declared.dependency.Dependency.{Dependency}
 use Rattle.just_parts.specs.declared.recipe.Recipe.{Recipe}
-use Rattle.just_running.specs.Recipes.{numbers, needs, IsNew, AreApart, find_number, IsPlaceOf, AreOrderedAfter, IsOrdered, IsIndex}
+use Rattle.just_parts.specs.Recipes.{numbers, needs, IsNew, AreApart, find_number, IsPlaceOf, AreOrderedAfter, IsOrdered, IsIndex}
 
 pub numbers-append : (xs ys : List (Recipe Dependency)) → numbers (xs ++ ys) ≡ numbers xs ++ numbers ys
 numbers-append xs ys = map-append (λ (r : Recipe Dependency). r.number.0) xs ys

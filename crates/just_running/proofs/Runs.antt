@@ -13,7 +13,7 @@ use Rattle.just_running.specs.declared.running.Report.{Report}
 use Rattle.just_running.specs.declared.task.Task.{Task}
 use Rattle.just_running.specs.Leaves.{leaves_of}
 use Rattle.just_running.specs.Pairs.{AllBelow}
-use Rattle.just_running.specs.Recipes.{IsOrdered}
+use Rattle.just_parts.specs.Recipes.{IsOrdered}
 use Rattle.just_running.specs.Reports.{calls_in, IsRun, IsAsExpected, Starts, expected_steps}
 use Rattle.just_running.specs.Walking.{fresh_steps, walk_steps}
 use Rattle.just_running.proofs.Accounted.{fresh-account}

@@ -5,7 +5,6 @@ pub mod Frames
 pub mod Leaves
 pub mod Lower
 pub mod Pairs
-pub mod Recipes
 pub mod Reports
 pub mod Run
 pub mod Unready

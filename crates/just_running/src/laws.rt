@@ -8,7 +8,7 @@ ghost use Rattle.just_parts.specs.Host.{Answer};
 ghost use Rattle.just_parts.specs.Steps.{Question, Follows};
 ghost use Rattle.just_running.specs.declared.task.Task.{Task};
 ghost use Rattle.just_running.specs.Leaves.{leaves_of};
-ghost use Rattle.just_running.specs.Recipes.{IsOrdered};
+ghost use Rattle.just_parts.specs.Recipes.{IsOrdered};
 ghost use Rattle.just_running.specs.Reports.{IsEnough, IsOne};
 ghost use Rattle.just_running.specs.Run.{IsEven};
 

@@ -3,7 +3,7 @@ ghost use Rattle.std.specs.List.{All, Contains};
 ghost use Rattle.just_parts.specs.declared.dependency.Dependency.{Dependency};
 ghost use Rattle.just_records.specs.declared.parameter.Parameter.{Parameter};
 ghost use Rattle.just_running.specs.Pairs.{task_of};
-ghost use Rattle.just_running.specs.Recipes.{numbers};
+ghost use Rattle.just_parts.specs.Recipes.{numbers};
 
 use crate::pair::Pair;
 use crate::recipes::Recipes;

@@ -5,7 +5,7 @@ ghost use Rattle.std.specs.Option.{option_copied};
 ghost use Rattle.std.specs.HashMap.{get};
 ghost use Rattle.just_parts.specs.declared.dependency.Dependency.{Dependency};
 ghost use Rattle.just_running.specs.Pairs.{place_of, task_of, needed, prior_dependencies, subsequent_dependencies, AllBelow};
-ghost use Rattle.just_running.specs.Recipes.{numbers, needs, find_number, IsOrdered, IsPlaceOf, IsNew, IsResolved, AreApart};
+ghost use Rattle.just_parts.specs.Recipes.{numbers, needs, find_number, IsOrdered, IsPlaceOf, IsNew, IsResolved, AreApart};
 
 use just_parts::layers::Number;
 use just_parts::{Dependency, Recipe};
@@ -29,9 +29,9 @@ impl<'src> Model for Recipes<'src> {
     ghost use Rattle.std.specs.Coded.{codes};
     ghost use Rattle.just_parts.specs.declared.dependency.Dependency.{Dependency};
     ghost use Rattle.just_parts.specs.declared.recipe.Recipe.{Recipe};
-    ghost use Rattle.just_records.specs.contracts.expression.Shape as shape;
-    ghost use Rattle.just_records.specs.contracts.expression.Expression as expression;
-    ghost use Rattle.just_running.specs.Recipes.{IsOrdered, IsIndex};
+    ghost use Rattle.just_expressions.specs.contracts.expression.Shape as shape;
+    ghost use Rattle.just_expressions.specs.contracts.expression.Expression as expression;
+    ghost use Rattle.just_parts.specs.Recipes.{IsOrdered, IsIndex};
 
     ghost Value = { List (Recipe Dependency) };
 

@@ -8,9 +8,9 @@ use Rattle.just_names.specs.Modulepath.{Text}
 use Rattle.just_names.specs.declared.number.Number.{Number}
 use Rattle.just_parts.specs.Evaluator.{Values}
 use Rattle.just_parts.specs.Reading.{mentions}
-use Rattle.just_records.specs.declared.expression.Expression.{Expression, out-Expression, out-roll-Expression}
-use Rattle.just_records.specs.declared.expression.Shape.{Shape, out-Shape, roll-Shape, roll-out-Shape}
-use Rattle.just_records.specs.declared.expression.Shape.TheOpen.{Shape-F, Expression-F}
+use Rattle.just_expressions.specs.declared.expression.Expression.{Expression, out-Expression, out-roll-Expression}
+use Rattle.just_expressions.specs.declared.expression.Shape.{Shape, out-Shape, roll-Shape, roll-out-Shape}
+use Rattle.just_expressions.specs.declared.expression.Shape.TheOpen.{Shape-F, Expression-F}
 use Rattle.just_references.specs.Body.{Calls, Mention, Names, mention_of}
 use Rattle.just_references.specs.Numbers.{bare, shape_with_numbers, with_numbers}
 use Rattle.just_references.specs.Parts.{layer_parts, parts, shape_parts}

@@ -7,9 +7,9 @@ use Rattle.just_names.specs.Name.{text_of_name}
 use Rattle.just_names.specs.declared.name.Name.{Name}
 use Rattle.just_names.specs.declared.number.Number.{Number}
 use Rattle.just_parts.specs.Evaluator.{Functions, Values}
-use Rattle.just_records.specs.declared.expression.Expression.{Expression, out-Expression}
-use Rattle.just_records.specs.declared.expression.Shape.{Shape}
-use Rattle.just_records.specs.declared.expression.Shape.TheVariants as shape
+use Rattle.just_expressions.specs.declared.expression.Expression.{Expression, out-Expression}
+use Rattle.just_expressions.specs.declared.expression.Shape.{Shape}
+use Rattle.just_expressions.specs.declared.expression.Shape.TheVariants as shape
 use Rattle.just_references.specs.Parts.{shape_parts}
 use Rattle.just_references.proofs.Fold.{size, size_is}
 use Rattle.just_references.proofs.PartsOf.{parts_of-Call, parts_of-Concatenation, parts_of-Group, parts_of-List}

@@ -9,7 +9,7 @@ use Rattle.just_names.specs.Name.{text_of_name}
 use Rattle.just_parts.specs.Bare.{bare_function_parameter}
 use Rattle.just_parts.specs.Evaluator.{Functions, Values, functions_by_name, unnumbered_function}
 use Rattle.just_parts.specs.Known.{hides}
-use Rattle.just_records.specs.declared.expression.Expression.{Expression}
+use Rattle.just_expressions.specs.declared.expression.Expression.{Expression}
 use Rattle.just_records.specs.declared.function_definition.FunctionDefinition.{FunctionDefinition}
 use Rattle.just_records.specs.declared.function_definition.FunctionParameter.{FunctionParameter}
 use Rattle.just_references.specs.Numbers.{bare}

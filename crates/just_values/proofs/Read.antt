@@ -8,7 +8,7 @@ use Rattle.just_parts.specs.Evaluator.{Functions, Values, functions_by_name}
 use Rattle.just_parts.specs.Known.{Known, hides, sources}
 use Rattle.just_parts.specs.Reading.{Reads, at_once, mentions, through}
 use Rattle.just_records.specs.declared.assignment.Assignment.{Assignment}
-use Rattle.just_records.specs.declared.expression.Expression.{Expression}
+use Rattle.just_expressions.specs.declared.expression.Expression.{Expression}
 use Rattle.just_records.specs.declared.function_definition.FunctionDefinition.{FunctionDefinition}
 use Rattle.just_references.specs.Body.{Calls, Mention, Names}
 use Rattle.just_table.specs.Entries.{find}

@@ -6,11 +6,11 @@ use Rattle.just_names.specs.Name.{text_of_name}
 use Rattle.just_names.specs.declared.name.Name.{Name}
 use Rattle.just_names.specs.declared.number.Number.{Number}
 use Rattle.just_parts.specs.Evaluator.{Values}
-use Rattle.just_records.specs.declared.expression.ConditionalOperator.{ConditionalOperator}
-use Rattle.just_records.specs.declared.expression.Expression.{Expression, out-Expression, fold_out-Expression}
-use Rattle.just_records.specs.declared.expression.Shape.{Shape, roll-Shape, fold-roll-Shape, map-Shape}
-use Rattle.just_records.specs.declared.expression.Shape.TheOpen.{Shape-F}
-use Rattle.just_records.specs.declared.expression.Shape.TheVariants as shape
+use Rattle.just_expressions.specs.declared.expression.ConditionalOperator.{ConditionalOperator}
+use Rattle.just_expressions.specs.declared.expression.Expression.{Expression, out-Expression, fold_out-Expression}
+use Rattle.just_expressions.specs.declared.expression.Shape.{Shape, roll-Shape, fold-roll-Shape, map-Shape}
+use Rattle.just_expressions.specs.declared.expression.Shape.TheOpen.{Shape-F}
+use Rattle.just_expressions.specs.declared.expression.Shape.TheVariants as shape
 use Rattle.just_values.specs.Values.{Outcome, all_of, evaluated, expression_layer, one_after_another, put_together, shape_evaluated, value_layer}
 
 module _ (variable : Values) (call : Text → List (List Text) → Outcome) where

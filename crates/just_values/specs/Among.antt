@@ -2,7 +2,7 @@
 use Rattle.std.specs.Prelude.{ℕ, zero, suc, List, map, Option}
 use Rattle.just_names.specs.Modulepath.{Text}
 use Rattle.just_parts.specs.Evaluator.{Functions, Values, functions_by_name}
-use Rattle.just_records.specs.declared.expression.Expression.{Expression}
+use Rattle.just_expressions.specs.declared.expression.Expression.{Expression}
 use Rattle.just_values.specs.declared.values.Among.{Among}
 use Rattle.just_values.specs.Lookup.{constant_values}
 use Rattle.just_values.specs.Values.{Outcome, all_of, bound, called, hiding, none_called, value_with}

@@ -5,9 +5,9 @@ use Rattle.std.specs.Option.{option_and_then, option_map, option_or}
 use Rattle.std.specs.Str.{bytes_eq}
 use Rattle.just_names.specs.Modulepath.{Text, joined}
 use Rattle.just_names.specs.Name.{text_of_name}
-use Rattle.just_records.specs.declared.expression.Expression.{Expression, fold-Expression}
-use Rattle.just_records.specs.declared.expression.Shape.{Shape, fold-Shape}
-use Rattle.just_records.specs.declared.expression.Shape.TheOpen.{Shape-F, Expression-F}
+use Rattle.just_expressions.specs.declared.expression.Expression.{Expression, fold-Expression}
+use Rattle.just_expressions.specs.declared.expression.Shape.{Shape, fold-Shape}
+use Rattle.just_expressions.specs.declared.expression.Shape.TheOpen.{Shape-F, Expression-F}
 use Rattle.just_records.specs.declared.function_definition.FunctionDefinition.{FunctionDefinition}
 use Rattle.just_records.specs.declared.function_definition.FunctionParameter.{FunctionParameter}
 use Rattle.just_parts.specs.Evaluator.{Functions, Values}

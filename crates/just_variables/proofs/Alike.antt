@@ -20,13 +20,13 @@ use Rattle.just_names.specs.declared.name.Name.{Name}
 use Rattle.just_names.specs.declared.number.Number.{Number}
 use Rattle.just_parts.specs.Syntax.{SyntaxAnswers}
 use Rattle.just_records.specs.declared.assignment.Assignment.{Assignment}
-use Rattle.just_records.specs.declared.expression.Expression.{Expression}
+use Rattle.just_expressions.specs.declared.expression.Expression.{Expression}
 use Rattle.just_records.specs.declared.function_definition.FunctionDefinition.{FunctionDefinition}
 use Rattle.just_records.specs.declared.function_definition.FunctionParameter.{FunctionParameter}
 use Rattle.just_references.specs.declared.references.Reference.{Reference}
 use Rattle.just_table.specs.Entries.{find, put, put_all}
 use Rattle.just_parts.specs.Known.{Known, defines, hides, known, none_hidden, range_of, range_with}
-use Rattle.just_variables.specs.Misnaming.{Expressions, IsCircleOf, Misnames, MisnamesAt, argument_count, circular_variables, in_body, in_value, undefined_function, undefined_variable}
+use Rattle.just_parts.specs.Misnaming.{Expressions, IsCircleOf, Misnames, MisnamesAt, argument_count, circular_variables, in_body, in_value, undefined_function, undefined_variable}
 use Rattle.just_parts.specs.Reading.{IsEvaluationOrder, Reads, ReadsOn, at_once, through}
 use Rattle.just_variables.proofs.Placed.{at_place, the_value}
 

@@ -12,7 +12,7 @@ use Rattle.just_graph.specs.Graph.{HasEdge, IsGraph}
 use Rattle.just_index.specs.Index.{AreDifferent, name_at}
 use Rattle.just_names.specs.Modulepath.{Text}
 use Rattle.just_records.specs.declared.assignment.Assignment.{Assignment}
-use Rattle.just_records.specs.declared.expression.Expression.{Expression}
+use Rattle.just_expressions.specs.declared.expression.Expression.{Expression}
 use Rattle.just_records.specs.declared.function_definition.FunctionDefinition.{FunctionDefinition}
 use Rattle.just_through.specs.Through.{Passes}
 use Rattle.just_through.specs.Through as graph

@@ -14,7 +14,7 @@ use Rattle.just_names.specs.Token.{Place}
 use Rattle.just_names.specs.declared.name.Name.{Name}
 use Rattle.just_references.specs.declared.references.Reference.TheVariants as reference
 use Rattle.just_parts.specs.Known.{Known, defines, none_hidden, range_of}
-use Rattle.just_variables.specs.Misnaming.{MisnamesAt, MisnamesCall, undefined_function, argument_count, undefined_variable}
+use Rattle.just_parts.specs.Misnaming.{MisnamesAt, MisnamesCall, undefined_function, argument_count, undefined_variable}
 
 -- how many arguments a function takes, which was asked by an equal text
 pub range_asked : (m : Known) (text asked : Text) (range found : Option ArgumentRange) → range ≡ range_of m asked → asked ≡ text → range ≡ found → range_of m text ≡ found

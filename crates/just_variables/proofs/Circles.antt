@@ -17,7 +17,7 @@ use Rattle.just_records.specs.declared.assignment.Assignment.{Assignment}
 use Rattle.just_table.specs.Entries.{find}
 use Rattle.just_through.specs.Through as graph
 use Rattle.just_parts.specs.Known.{Known}
-use Rattle.just_variables.specs.Misnaming.{Expressions, IsCircleOf, circular_variables}
+use Rattle.just_parts.specs.Misnaming.{Expressions, IsCircleOf, circular_variables}
 use Rattle.just_parts.specs.Reading.{ReadsOn}
 use Rattle.just_variables.specs.Steps.{AreRowsOf, IsCircleAt, functions_of, names_of, rows_of, solid_of, variables_of}
 use Rattle.just_variables.proofs.Between.{from_reads, place_of, reads_variable, to_reads}

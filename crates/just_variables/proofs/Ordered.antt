@@ -15,7 +15,7 @@ use Rattle.just_names.specs.Modulepath.{Text}
 use Rattle.just_table.specs.Entries.{find}
 use Rattle.just_through.specs.Through.{IsOrderThrough}
 use Rattle.just_parts.specs.Known.{Known}
-use Rattle.just_variables.specs.Misnaming.{Expressions, HaveFunctionNames, HaveNames, circular_variables, in_body, in_value}
+use Rattle.just_parts.specs.Misnaming.{Expressions, HaveFunctionNames, HaveNames, circular_variables, in_body, in_value}
 use Rattle.just_parts.specs.Reading.{IsEvaluationOrder, ReadsOn}
 use Rattle.just_variables.specs.Steps.{AreRowsOf, IsOrderAt, functions_of, rows_of, solid_of, variables_of}
 use Rattle.just_variables.proofs.Between.{place_of, reads_variable, to_reads, variable_at}

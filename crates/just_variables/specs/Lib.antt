@@ -1,4 +1,3 @@
 pub mod Lent
-pub mod Misnaming
 pub mod Places
 pub mod Steps

@@ -8,11 +8,11 @@ use Rattle.std.specs.declared.vec.Vec.{Vec}
 use Rattle.just_index.specs.Index.{IsIndex, name_at}
 use Rattle.just_names.specs.Modulepath.{Text}
 use Rattle.just_records.specs.declared.assignment.Assignment.{Assignment}
-use Rattle.just_records.specs.declared.expression.Expression.{Expression}
+use Rattle.just_expressions.specs.declared.expression.Expression.{Expression}
 use Rattle.just_records.specs.declared.function_definition.FunctionDefinition.{FunctionDefinition}
 use Rattle.just_references.specs.Body.{Calls, Mention, Names}
 use Rattle.just_parts.specs.Known.{Known, hides, none_hidden}
-use Rattle.just_variables.specs.Misnaming.{IsCircleOf}
+use Rattle.just_parts.specs.Misnaming.{IsCircleOf}
 use Rattle.just_parts.specs.Reading.{IsEvaluationOrder, mentions}
 
 -- An expression, and which names are hidden in its scope.

@@ -7,7 +7,7 @@ ghost use Rattle.just_errors.specs.Causes.{Keeps, Reports};
 ghost use Rattle.just_names.specs.Name.{text_of_name};
 ghost use Rattle.just_parts.specs.Known.{defines, hides, range_of};
 ghost use Rattle.just_variables.specs.Lent.{known_in};
-ghost use Rattle.just_variables.specs.Misnaming.{Expressions, HaveFunctionNames, HaveNames, Misnames, MisnamesAt, MisnamesCall, MisnamesVariable};
+ghost use Rattle.just_parts.specs.Misnaming.{Expressions, HaveFunctionNames, HaveNames, Misnames, MisnamesAt, MisnamesCall, MisnamesVariable};
 
 use just_data::BorrowedText;
 use just_parts::layers::{

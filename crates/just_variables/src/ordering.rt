@@ -6,7 +6,7 @@ ghost use Rattle.just_errors.specs.Causes.{Keeps, Reports};
 ghost use Rattle.just_index.specs.Index.{name_at};
 ghost use Rattle.just_table.specs.Entries.{IsSorted};
 ghost use Rattle.just_variables.specs.Lent.{known_in};
-ghost use Rattle.just_variables.specs.Misnaming.{Expressions, HaveFunctionNames, HaveNames};
+ghost use Rattle.just_parts.specs.Misnaming.{Expressions, HaveFunctionNames, HaveNames};
 ghost use Rattle.just_parts.specs.Reading.{IsEvaluationOrder};
 ghost use Rattle.just_variables.specs.Steps.{AreRowsOf, IsCircleAt, IsOrderAt, names_of, rows_of, solid_of};
 

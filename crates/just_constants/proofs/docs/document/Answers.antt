@@ -7,7 +7,7 @@ use Rattle.just_errors.specs.Causes.{Reports}
 use Rattle.just_joining.specs.Definitions.{contents_in}
 use Rattle.just_notes.specs.declared.labels.Label.{Label}
 use Rattle.just_parts.specs.Evaluator.{values_of}
-use Rattle.just_records.specs.declared.expression.Expression.{Expression}
+use Rattle.just_expressions.specs.declared.expression.Expression.{Expression}
 use Rattle.just_constants.specs.Documented.{AreDocumented, DocFault, known_by, value_by}
 use Rattle.just_constants.proofs.Documenting.{IsSoundLabel, doc_there, documented_among, documented_more, label_told, label_valued, sound_docs}
 use Rattle.just_constants.proofs.Walking.{is_there}

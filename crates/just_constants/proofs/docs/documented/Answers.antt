@@ -6,7 +6,7 @@ use Rattle.just_errors.specs.Causes.{Reports}
 use Rattle.just_notes.specs.declared.labels.Label.{Label}
 use Rattle.just_parts.specs.Evaluator.{FaultsAt, values_of}
 use Rattle.just_variables.proofs.Checked.{nothing_hides}
-use Rattle.just_variables.specs.Misnaming.{Misnames}
+use Rattle.just_parts.specs.Misnaming.{Misnames}
 use Rattle.just_constants.specs.Documented.{doc_of_value, known_by, value_by}
 use Rattle.just_constants.proofs.Documenting.{doc_had, misnamed_told, names_kept, no_value_told}
 use Rattle.just_constants.proofs.docs.documented.Goals as goal

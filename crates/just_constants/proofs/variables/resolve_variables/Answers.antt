@@ -6,7 +6,7 @@ use Rattle.just_names.specs.Name.{text_of_name}
 use Rattle.just_records.specs.declared.assignment.Assignment.{Assignment}
 use Rattle.just_table.specs.Entries.{put_all}
 use Rattle.just_parts.specs.Known.{Known, known}
-use Rattle.just_variables.specs.Misnaming.{Expressions}
+use Rattle.just_parts.specs.Misnaming.{Expressions}
 use Rattle.just_joining.specs.Definitions.{contents_in, variables_in}
 use Rattle.just_joining.specs.Known.{known_of, variables_under}
 use Rattle.just_constants.specs.Variables.{AreVariables, known_with_numbers}

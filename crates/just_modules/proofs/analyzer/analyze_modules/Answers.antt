@@ -17,7 +17,7 @@ use Rattle.just_joining.specs.OfPlaces.{RepeatsNames}
 use Rattle.just_modules.specs.Steps.{BreaksInOrder, CanCompileAll, HaveCompiled, made_in}
 use Rattle.just_modules.proofs.Analyzing.{all_can, broken_named, files_there, go_deeper, is_analyzed, repeats_named, root_held, rows_many}
 use Rattle.just_joining.proofs.FilePlaces.{are_graphs, place_back}
-use Rattle.just_joining.proofs.Holding.{holds_all, place_known}
+use Rattle.just_rules.proofs.Holding.{holds_all, place_known}
 use Rattle.just_modules.proofs.analyzer.analyze_modules.Goals as goal
 
 pub file_rows-requires : goal.file_rows-requires

@@ -12,7 +12,7 @@ use Rattle.just_joining.specs.Recipes.{names_of}
 use Rattle.just_joining.specs.Resolved.{AreResolved, HasPriors, Resolving, unresolved_numbers}
 use Rattle.just_joining.specs.Rules.{Bodies, Dependencies}
 use Rattle.just_joining.proofs.Keeping.{kept_all, kept_different, kept_once}
-use Rattle.just_joining.proofs.Resolving.{all_resolved}
+use Rattle.just_rules.proofs.Resolving.{all_resolved}
 use Rattle.just_modules.specs.Analysis.{BreaksRecipes, in_bodies, in_dependencies}
 use Rattle.just_modules.proofs.analyzer.resolve_recipes.Goals as goal
 

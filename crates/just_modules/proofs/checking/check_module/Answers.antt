@@ -8,7 +8,7 @@ use Rattle.just_joining.specs.Definitions.{contents_in}
 use Rattle.just_joining.specs.Groups.{BreaksContents, OfConstants, OfExpressions, OfHeaders, OfNames}
 use Rattle.just_joining.specs.Known.{known_of}
 use Rattle.just_joining.specs.Rules.{Headers, Names}
-use Rattle.just_variables.specs.Misnaming.{Expressions}
+use Rattle.just_parts.specs.Misnaming.{Expressions}
 use Rattle.just_modules.proofs.Grounds.{before_bodies, before_constants, before_expressions, before_names}
 use Rattle.just_modules.proofs.NumbersApart.{numbers_apart}
 use Rattle.just_modules.proofs.checking.check_module.Goals as goal

@@ -1,7 +1,7 @@
 use Rattle.std.proofs.Common.{◌∙◌, arith, is_lt}
 use Rattle.std.specs.Cmp.Lexicographic.{slice_cmp}
 use Rattle.std.specs.Ordering.{nat_cmp}
-use Rattle.just_joining.proofs.Later.{less_by, not_less_by}
+use Rattle.just_rules.proofs.Later.{less_by, not_less_by}
 use Rattle.just_modules.proofs.Defaults.{by_name, by_no_less}
 use Rattle.just_modules.proofs.making.comes_before.Goals as goal
 

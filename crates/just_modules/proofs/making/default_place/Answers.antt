@@ -1,8 +1,8 @@
 use Rattle.std.proofs.Common.{◌≡◌, length, sym, subst, arith}
 use Rattle.std.specs.List.{Contains}
-use Rattle.just_running.specs.Recipes.{numbers}
+use Rattle.just_parts.specs.Recipes.{numbers}
 use Rattle.just_joining.specs.Definitions.{recipes_in}
-use Rattle.just_joining.proofs.Resolving.{number_read}
+use Rattle.just_rules.proofs.Resolving.{number_read}
 use Rattle.just_modules.specs.Analysis.{IsDefaultPlace}
 use Rattle.just_modules.proofs.Defaults.{is_not, is_resolved, passes_by, takes_better}
 use Rattle.just_modules.proofs.making.default_place.Goals as goal

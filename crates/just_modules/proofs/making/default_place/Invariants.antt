@@ -1,4 +1,4 @@
-use Rattle.just_running.specs.Recipes.{numbers}
+use Rattle.just_parts.specs.Recipes.{numbers}
 use Rattle.just_joining.specs.Definitions.{recipes_in}
 use Rattle.just_modules.specs.Analysis.{IsDefaultPlace}
 use Rattle.just_modules.proofs.making.default_place.Given as goal

@@ -11,7 +11,7 @@ use Rattle.just_needs.proofs.Starts.{found_by, scoped_all}
 use Rattle.just_needs.proofs.needs.needed_references.Goals as goal
 use Rattle.just_parts.specs.Known.{none_hidden}
 use Rattle.just_parts.specs.Needs.{has_number, same_number}
-use Rattle.just_records.specs.declared.expression.Expression.{Expression}
+use Rattle.just_expressions.specs.declared.expression.Expression.{Expression}
 use Rattle.just_variables.specs.Lent.{known_in}
 use Rattle.just_variables.specs.Steps.{Scoped, scoped}
 

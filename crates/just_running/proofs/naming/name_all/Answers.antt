@@ -1,7 +1,7 @@
 use Rattle.std.proofs.Common.{sym, subst}
 use Rattle.std.specs.List.{Contains}
 use Rattle.just_parts.specs.declared.dependency.Dependency.{Dependency}
-use Rattle.just_running.specs.Recipes.{numbers}
+use Rattle.just_parts.specs.Recipes.{numbers}
 use Rattle.just_running.proofs.naming.name_all.Goals as goal
 
 pub name_dependency-requires : goal.name_dependency-requires

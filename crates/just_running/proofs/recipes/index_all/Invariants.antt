@@ -1,6 +1,6 @@
 use Rattle.std.proofs.Common.{nat_eq, ◌≡◌, ℕ, ◌+◌, ◌<◌, slice_index, Some}
 use Rattle.std.specs.HashMap.{get}
-use Rattle.just_running.specs.Recipes.{numbers, IsNew}
+use Rattle.just_parts.specs.Recipes.{numbers, IsNew}
 use Rattle.just_running.proofs.recipes.index_all.Given as goal
 
 abbrev pub invariant-loop-place : goal.invariant-loop-place

@@ -3,7 +3,7 @@ use Rattle.std.specs.List.{Contains}
 use Rattle.std.proofs.lemmas.List.{take_all}
 use Rattle.just_parts.specs.declared.dependency.Dependency.{Dependency}
 use Rattle.just_running.specs.Pairs.{place_of}
-use Rattle.just_running.specs.Recipes.{numbers}
+use Rattle.just_parts.specs.Recipes.{numbers}
 use Rattle.just_running.proofs.Places.{map-more, all-more}
 use Rattle.just_running.proofs.unready.row.Goals as goal
 

@@ -6,7 +6,7 @@ use Rattle.just_errors.proofs.Lifts.{reports_by}
 use Rattle.just_records.specs.declared.function_definition.FunctionDefinition.{FunctionDefinition}
 use Rattle.just_parts.specs.Known.{hides}
 use Rattle.just_variables.specs.Lent.{known_in}
-use Rattle.just_variables.specs.Misnaming.{Expressions, Misnames, in_body}
+use Rattle.just_parts.specs.Misnaming.{Expressions, Misnames, in_body}
 use Rattle.just_variables.proofs.Checked.{walked_more, walked_there, walked_all}
 use Rattle.just_variables.proofs.checking.check_bodies.Goals as goal
 

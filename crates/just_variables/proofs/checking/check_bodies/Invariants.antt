@@ -2,7 +2,7 @@ use Rattle.std.specs.Map.{values_of}
 use Rattle.just_records.specs.declared.function_definition.FunctionDefinition.{FunctionDefinition}
 use Rattle.just_parts.specs.Known.{hides}
 use Rattle.just_variables.specs.Lent.{known_in}
-use Rattle.just_variables.specs.Misnaming.{Misnames}
+use Rattle.just_parts.specs.Misnaming.{Misnames}
 use Rattle.just_variables.proofs.Checked.{Walked}
 use Rattle.just_variables.proofs.checking.check_bodies.Given as goal
 

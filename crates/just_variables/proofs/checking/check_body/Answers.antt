@@ -5,7 +5,7 @@ use Rattle.just_errors.specs.Causes.{Keeps, Reports}
 use Rattle.just_names.specs.Modulepath.{Text}
 use Rattle.just_parts.specs.Known.{hides}
 use Rattle.just_variables.specs.Lent.{known_in}
-use Rattle.just_variables.specs.Misnaming.{Misnames}
+use Rattle.just_parts.specs.Misnaming.{Misnames}
 use Rattle.just_variables.proofs.checking.check_body.Goals as goal
 
 pub returns-clause-kept : goal.returns-clause-kept

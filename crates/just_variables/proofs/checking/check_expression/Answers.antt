@@ -6,7 +6,7 @@ use Rattle.just_errors.specs.Causes.{Reports}
 use Rattle.just_errors.proofs.Lifts.{reports_by}
 use Rattle.just_references.specs.References.{references}
 use Rattle.just_variables.specs.Lent.{known_in}
-use Rattle.just_variables.specs.Misnaming.{Misnames, MisnamesAt}
+use Rattle.just_parts.specs.Misnaming.{Misnames, MisnamesAt}
 use Rattle.just_variables.proofs.Checked.{walked_more, walked_there}
 use Rattle.just_variables.proofs.checking.check_expression.Goals as goal
 

@@ -2,7 +2,7 @@ use Rattle.std.specs.HashSet.{contains}
 use Rattle.std.specs.Str.{bytes_eq}
 use Rattle.just_references.specs.References.{references}
 use Rattle.just_variables.specs.Lent.{known_in}
-use Rattle.just_variables.specs.Misnaming.{MisnamesAt}
+use Rattle.just_parts.specs.Misnaming.{MisnamesAt}
 use Rattle.just_variables.proofs.Checked.{Walked}
 use Rattle.just_variables.proofs.checking.check_expression.Given as goal
 

@@ -7,7 +7,7 @@ use Rattle.just_errors.proofs.Lifts.{reports_by}
 use Rattle.just_references.specs.declared.references.Reference.{Reference}
 use Rattle.just_references.specs.declared.references.Reference.TheVariants as reference
 use Rattle.just_variables.specs.Lent.{known_in}
-use Rattle.just_variables.specs.Misnaming.{MisnamesAt, MisnamesCall}
+use Rattle.just_parts.specs.Misnaming.{MisnamesAt, MisnamesCall}
 use Rattle.just_variables.proofs.Checked.{call_told, call_under}
 use Rattle.just_variables.proofs.checking.check_reference.Goals as goal
 

@@ -9,7 +9,7 @@ use Rattle.just_names.specs.Modulepath.{Text}
 use Rattle.just_records.specs.declared.assignment.Assignment.{Assignment}
 use Rattle.just_parts.specs.Known.{none_hidden}
 use Rattle.just_variables.specs.Lent.{known_in}
-use Rattle.just_variables.specs.Misnaming.{Expressions, Misnames, in_value}
+use Rattle.just_parts.specs.Misnaming.{Expressions, Misnames, in_value}
 use Rattle.just_variables.proofs.Checked.{walked_more, walked_there, walked_all, nothing_hides}
 use Rattle.just_variables.proofs.checking.check_values.Goals as goal
 

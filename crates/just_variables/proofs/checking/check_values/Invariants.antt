@@ -2,7 +2,7 @@ use Rattle.std.specs.Map.{values_of}
 use Rattle.just_records.specs.declared.assignment.Assignment.{Assignment}
 use Rattle.just_parts.specs.Known.{none_hidden}
 use Rattle.just_variables.specs.Lent.{known_in}
-use Rattle.just_variables.specs.Misnaming.{Misnames}
+use Rattle.just_parts.specs.Misnaming.{Misnames}
 use Rattle.just_variables.proofs.Checked.{Walked}
 use Rattle.just_variables.proofs.checking.check_values.Given as goal
 

@@ -6,7 +6,7 @@ use Rattle.just_errors.specs.Causes.{Keeps, Reports}
 use Rattle.just_names.specs.Modulepath.{Text}
 use Rattle.just_resolver.specs.Resolver.{known_by}
 use Rattle.just_parts.specs.Known.{hides}
-use Rattle.just_variables.specs.Misnaming.{Misnames}
+use Rattle.just_parts.specs.Misnaming.{Misnames}
 use Rattle.just_resolver.proofs.variable_resolver.VariableResolver.resolve_expression.Goals as goal
 
 pub returns-in_err-check_expression-clause-named : goal.returns-in_err-check_expression-clause-named

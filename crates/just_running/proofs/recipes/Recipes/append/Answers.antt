@@ -3,7 +3,7 @@ use Rattle.std.proofs.lemmas.Grind.{common_steps}
 use Rattle.std.specs.HashMap.{get}
 use Rattle.just_parts.specs.declared.dependency.Dependency.{Dependency}
 use Rattle.just_parts.specs.declared.recipe.Recipe.{Recipe}
-use Rattle.just_running.specs.Recipes.{numbers, IsNew, AreApart}
+use Rattle.just_parts.specs.Recipes.{numbers, IsNew, AreApart}
 use Rattle.just_running.proofs.RecipeLemmas.{all_once, index-others, joined, left}
 use Rattle.just_running.proofs.recipes.Recipes.append.Goals as goal
 

@@ -1,7 +1,7 @@
 use Rattle.std.proofs.Common.{sym, ◌∙◌, subst}
 use Rattle.std.specs.List.{All, Contains}
 use Rattle.just_parts.specs.declared.dependency.Dependency.{Dependency}
-use Rattle.just_running.specs.Recipes.{numbers}
+use Rattle.just_parts.specs.Recipes.{numbers}
 use Rattle.just_running.proofs.Places.{at-place, read-at, needs-inside, dependencies-held}
 use Rattle.just_running.proofs.recipes.Recipes.dependencies.Goals as goal
 

@@ -3,7 +3,7 @@ use Rattle.std.specs.List.{All, Contains}
 use Rattle.std.proofs.lemmas.List.Elements.{All-take}
 use Rattle.just_parts.specs.declared.dependency.Dependency.{Dependency}
 use Rattle.just_running.specs.Pairs.{task_of, AllBelow}
-use Rattle.just_running.specs.Recipes.{numbers}
+use Rattle.just_parts.specs.Recipes.{numbers}
 use Rattle.just_running.proofs.Places.{IsBefore, at-place, read-at, needs-inside, dependencies-held, dependencies-below}
 use Rattle.just_running.proofs.recipes.Recipes.priors.Goals as goal
 
