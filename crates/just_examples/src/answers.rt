@@ -3,21 +3,19 @@ ghost use Rattle.std.specs.Prelude.{IfOk};
 ghost use Rattle.just_names.specs.Clean.{IsClean};
 ghost use Rattle.just_invoke.specs.Closed.{IsClosed};
 
-use crate::modules::add_compilation;
-use crate::variables::add_variable;
-use just_analyzer::layers::{Config, Entry, Error, Groups};
-use just_analyzer::{
-    Compilation, Compiler, Invocation, InvocationParser, Modulepath, Report, Sources, is_clean,
-};
+use just_analyzer::layers::{Config, Error};
+use just_analyzer::{Compilation, Compiler, Modulepath, Sources, is_clean};
 use just_bench::bundle::read_sources;
-use just_bench::{PlainEvaluation, PlainSyntax, Recorder, StopWriter};
+use just_bench::{PlainEvaluation, PlainSyntax};
 use just_lines::asked::{Asked, read_asked};
 use just_lines::faults::add_fault;
-use just_lines::lists::{add_group, add_list, before};
 use just_lines::written::unmarked;
 use just_questions::bundles::{answer_file, answer_find, answer_table};
 use just_questions::copies::answer_copy;
 use just_questions::items::{answer_conflicts, answer_parse, answer_read, read_pairs};
+use just_tellings::modules::{add_loaded, add_modules};
+use just_tellings::runs::{add_run, add_split};
+use just_tellings::variables::add_variable;
 use std::alloc::{AllocError, Global};
 
 // Compiles the file at a path.
@@ -34,117 +32,6 @@ fn compile<'src>(
     Compiler::compile(alloc, config, syntax, &PlainEvaluation, sources, root)
 }
 
-// Runs words over a compilation.
-fn run<'src>(
-    alloc: Global,
-    compilation: &Compilation<'src>,
-    config: &Config,
-    host: &mut Recorder,
-    words: &[&str],
-) -> Result<Report, Error<'src>>
-    requires { IsClosed compilation.now.justfile compilation.now.recipes }
-{
-    let mut writer = StopWriter::new(alloc, 0)?;
-    compilation.justfile.run(
-        alloc,
-        config,
-        &compilation.recipes,
-        &PlainSyntax::new(),
-        &mut PlainEvaluation,
-        host,
-        &mut writer,
-        words,
-        &compilation.overrides,
-    )
-}
-
-// Adds an invocation: the path of its recipe, and its groups in brackets.
-fn add_invocation(text: &mut String, invocation: &Invocation) -> Result<(), AllocError> {
-    if let Some(path) = &invocation.recipe.recipe_path {
-        write!(text, "{path}")?;
-    }
-    for group in &invocation.arguments {
-        add_group(text, group.as_slice())?;
-    }
-    Ok(())
-}
-
-// Adds the line of invocations.
-fn add_invocations(text: &mut String, invocations: &[Invocation]) -> Result<(), AllocError> {
-    text.push_str("split")?;
-    for (place, invocation) in invocations.iter().enumerate() {
-        text.push_str(before(place))?;
-        add_invocation(text, invocation)?;
-    }
-    text.push('\n')
-}
-
-// Adds how words split, where they do.
-fn add_split(
-    compilation: &Compilation,
-    alloc: Global,
-    words: &[&str],
-    text: &mut String,
-) -> Result<(), AllocError>
-    requires { IsClosed compilation.now.justfile compilation.now.recipes }
-{
-    let root = &compilation.justfile;
-    let recipes = &compilation.recipes;
-    match InvocationParser::parse_invocations(alloc, root, recipes, &PlainEvaluation, words) {
-        Ok(invocations) => add_invocations(text, invocations.as_slice()),
-        Err(_) => Ok(()),
-    }
-}
-
-fn add_groups(text: &mut String, groups: &Groups) -> Result<(), AllocError> {
-    for group in groups.as_slice() {
-        add_group(text, group.as_slice())?;
-    }
-    Ok(())
-}
-
-// Adds the line of the recipes that began.
-fn add_executed(text: &mut String, entries: &[Entry]) -> Result<(), AllocError> {
-    text.push_str(if entries.is_empty() {
-        "executed nothing"
-    } else {
-        "executed"
-    })?;
-    for (place, entry) in entries.iter().enumerate() {
-        let Entry::Begin { path, groups } = entry;
-        text.push_str(before(place))?;
-        write!(text, "{path}")?;
-        add_groups(text, groups)?;
-    }
-    text.push('\n')
-}
-
-// Adds the line of the counts of calls.
-fn add_calls(text: &mut String, calls: &[u64]) -> Result<(), AllocError> {
-    text.push_str("calls")?;
-    add_list(text, calls)?;
-    text.push('\n')
-}
-
-// Adds what a run did, and what it answered.
-fn add_run(
-    compilation: &Compilation,
-    alloc: Global,
-    config: &Config,
-    words: &[&str],
-    text: &mut String,
-) -> Result<(), AllocError>
-    requires { IsClosed compilation.now.justfile compilation.now.recipes }
-{
-    let mut host = Recorder::new(alloc);
-    let ran = run(alloc, compilation, config, &mut host, words);
-    add_executed(text, host.entries())?;
-    match ran {
-        Ok(report) => add_calls(text, report.calls.as_slice()),
-        Err(error) => add_fault(text, &error),
-    }
-}
-
 // Adds what a compilation has, what words mean in it, and what running them does.
 fn add_whole(
     compilation: &Compilation,
@@ -155,9 +42,17 @@ fn add_whole(
 ) -> Result<(), AllocError>
     requires { IsClosed compilation.now.justfile compilation.now.recipes }
 {
-    add_compilation(compilation, alloc, text)?;
-    add_split(compilation, alloc, words, text)?;
-    add_run(compilation, alloc, config, words, text)
+    let Compilation {
+        asts,
+        justfile,
+        recipes,
+        overrides,
+        ..
+    } = compilation;
+    add_loaded(justfile, asts.len(), text)?;
+    add_modules(justfile, recipes, overrides, alloc, text)?;
+    add_split(justfile, recipes, alloc, words, text)?;
+    add_run(justfile, recipes, overrides, alloc, config, words, text)
 }
 
 // Adds what the files of a source map are compiled to, and what words do.

@@ -3,75 +3,9 @@
 //! A case is a name in a line of its own, a bundle of files, and questions. A question is a line that begins with `$ `, and
 //! each line below it is a line that is wanted of its answer.
 use crate::answers::answer;
-use just_lines::written::{meant, repeated};
+use just_lines::cases::{add_differences, bundle_of};
+use just_lines::written::repeated;
 use std::alloc::{AllocError, Global};
-
-/// The name of a case, its first line.
-pub fn name_of(case: &str) -> &str {
-    match case.split_once('\n') {
-        Some((name, _)) => name,
-        None => case,
-    }
-}
-
-// The bundle of a case, with the line end that its last line has.
-fn bundle_of(alloc: Global, head: &str) -> Result<String, AllocError> {
-    let Some((_, text)) = head.split_once('\n') else {
-        return Ok(String::new(alloc));
-    };
-    let mut bundle = meant(alloc, text)?;
-    bundle.push('\n')?;
-    Ok(bundle)
-}
-
-// Whether a text has a line.
-fn has_line(text: &str, line: &str) -> bool {
-    text.split('\n').any(|other| other == line)
-}
-
-// The first line of a text that begins with a word.
-fn line_of<'text>(text: &'text str, word: &str) -> Option<&'text str> {
-    for line in text.split('\n') {
-        if line.split(' ').next() == Some(word) {
-            return Some(line);
-        }
-    }
-    None
-}
-
-// Adds that a line is wanted, and what there is in place of it.
-fn add_missing(found: &mut String, answer: &str, line: &str) -> Result<(), AllocError> {
-    let word = line.split(' ').next().unwrap_or(line);
-    let other = line_of(answer, word).unwrap_or("no such line");
-    writeln!(found, "  wanted: {line}\n  found:  {other}")
-}
-
-// Adds which of the wanted lines an answer lacks, and its fault where none is wanted.
-fn add_differences(
-    found: &mut String,
-    alloc: Global,
-    answer: &str,
-    wanted: &str,
-) -> Result<(), AllocError> {
-    let mut asks = 0u64;
-    for written in wanted.split('\n') {
-        let line = meant(alloc, written)?;
-        if line.is_empty() {
-            continue;
-        }
-        asks = asks.saturating_add(1);
-        if !has_line(answer, line.as_str()) {
-            add_missing(found, answer, line.as_str())?;
-        }
-    }
-    if asks == 0 {
-        found.push_str("  nothing is wanted\n")?;
-    }
-    match line_of(answer, "error") {
-        Some(error) if line_of(wanted, "error").is_none() => writeln!(found, "  found:  {error}"),
-        _ => Ok(()),
-    }
-}
 
 // Adds what differs between the answer to a question and what is wanted of it.
 fn add_question(

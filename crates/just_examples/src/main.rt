@@ -3,11 +3,10 @@
 
 mod answers;
 mod cases;
-mod modules;
-mod variables;
 
-use crate::cases::{differences, name_of};
+use crate::cases::differences;
 use anyhow::{Context, Result, ensure};
+use just_lines::cases::name_of;
 use std::{env, fs};
 
 // Runs the cases of a file, and answers how many of them differ. What stands before the first is a comment.

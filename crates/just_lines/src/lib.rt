@@ -2,6 +2,7 @@
 #![tactic(auto)]
 
 pub mod asked;
+pub mod cases;
 pub mod faults;
 pub mod lists;
 pub mod readings;

@@ -3,46 +3,13 @@ ghost use Rattle.std.specs.Prelude.{◌≡◌, ◌≢◌, ◌<◌, [], slice_get
 ghost use Rattle.just_names.specs.Clean.{IsClean};
 ghost use Rattle.just_invoke.specs.Closed.{IsClosed};
 
-use crate::fault::Fault;
-use crate::one_line::OneLine;
-use just_analyzer::layers::{Config, Entry, Error, Groups};
+use just_analyzer::layers::{Config, Error};
 use just_analyzer::{Compilation, Compiler, Sources, is_clean};
 use just_bench::bundle::{read_sources, read_text};
 use just_bench::{PlainEvaluation, PlainSyntax, Recorder, StopWriter};
-use just_data::Text;
+use just_output::{Fault, tell, tell_usage, write_entries};
 use std::alloc::Global;
-use std::io;
 use std::io::{Read, Write};
-
-// Writes the texts of a group in brackets.
-fn write_group<W: Write>(output: &mut W, texts: &[Text]) -> io::Result<()> {
-    let Some((first, rest)) = texts.split_first() else {
-        return write!(output, " []");
-    };
-    write!(output, " [{first}")?;
-    for text in rest {
-        write!(output, ", {text}")?;
-    }
-    write!(output, "]")
-}
-
-fn write_groups<W: Write>(output: &mut W, groups: &Groups) -> io::Result<()> {
-    for group in groups.as_slice() {
-        write_group(output, group.as_slice())?;
-    }
-    Ok(())
-}
-
-// Writes a line for each recipe that began, and sees that all is written.
-fn write_entries<W: Write>(output: &mut W, entries: &[Entry]) -> io::Result<()> {
-    for entry in entries {
-        let Entry::Begin { path, groups } = entry;
-        write!(output, "{path}")?;
-        write_groups(output, groups)?;
-        writeln!(output)?;
-    }
-    output.flush()
-}
 
 // Compiles the root of a bundle.
 fn compile<'src>(
@@ -140,24 +107,6 @@ fn run_bundle<'src, W: Write>(
         Ok(sources) => run_sources(alloc, &sources, root, words, output),
         Err(error) => Err(Fault::Bundle(error)),
     }
-}
-
-/// Tells a fault in a line, and answers the status that it gives. Whether the line is written counts for nothing.
-pub fn tell<E: Write>(errors: &mut E, fault: &Fault) -> u8
-    ensures { result ≡ 1 }
-{
-    let name = fault.name();
-    let message = OneLine(fault);
-    let _ = writeln!(errors, "justrun: {name}: {message}");
-    1
-}
-
-// Tells how the program is used, and answers the status that this gives.
-fn tell_usage<E: Write>(errors: &mut E) -> u8
-    ensures { result ≡ 2 }
-{
-    let _ = writeln!(errors, "justrun: usage: justrun ROOT WORD..");
-    2
 }
 
 // Runs the words over a bundle, and answers the status.

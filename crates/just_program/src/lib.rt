@@ -2,8 +2,6 @@
 #![tactic(auto)]
 
 mod command;
-mod fault;
-mod one_line;
 
-pub use command::{program, tell};
-pub use fault::Fault;
+pub use command::program;
+pub use just_output::{Fault, tell};

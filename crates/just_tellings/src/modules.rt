@@ -1,9 +1,9 @@
 //! The lines that tell what a compilation has.
-use just_analyzer::layers::Number;
-use just_analyzer::{Compilation, Justfile, Recipe};
 use just_data::Text;
+use just_invoke::{Justfile, Recipes};
 use just_lines::lists::{add_list, next};
-use just_records::Interpreter;
+use just_parts::Recipe;
+use just_parts::layers::{Interpreter, Number};
 use std::alloc::{AllocError, Global};
 use std::collections::{HashMap, HashSet};
 
@@ -212,13 +212,13 @@ fn add_order(module: &Justfile, text: &mut String) -> Result<(), AllocError> {
 
 // Adds the recipes of a module, in the order of its table.
 fn add_recipes<'src>(
-    compilation: &Compilation<'src>,
     module: &Justfile<'src>,
+    recipes: &Recipes<'src>,
     alloc: Global,
     lines: &mut Lines,
 ) -> Result<(), AllocError> {
     for key in module.recipes.values() {
-        if let Some(recipe) = compilation.recipes.get(key.number) {
+        if let Some(recipe) = recipes.get(key.number) {
             add_recipe(recipe, alloc, lines)?;
         }
     }
@@ -227,8 +227,9 @@ fn add_recipes<'src>(
 
 // Adds a module with its recipes.
 fn add_whole<'src>(
-    compilation: &Compilation<'src>,
     module: &Justfile<'src>,
+    recipes: &Recipes<'src>,
+    overrides: &HashMap<Number, Text>,
     alloc: Global,
     lines: &mut Lines,
 ) -> Result<(), AllocError> {
@@ -241,21 +242,26 @@ fn add_whole<'src>(
     add_program(module, &settings.shell, &mut lines.shells)?;
     add_program(module, &settings.script_interpreter, &mut lines.scripts)?;
     add_variables(module, &mut lines.variables)?;
-    add_overridden(module, &compilation.overrides, &mut lines.overridden)?;
+    add_overridden(module, overrides, &mut lines.overridden)?;
     add_order(module, &mut lines.order)?;
-    add_recipes(compilation, module, alloc, lines)
+    add_recipes(module, recipes, alloc, lines)
 }
 
-// The modules of a compilation with their recipes, each before those that it declares.
-fn lines_of(compilation: &Compilation, alloc: Global) -> Result<Lines, AllocError> {
+// A module and those in it with their recipes, each before those that it declares.
+fn lines_of<'src>(
+    root: &Justfile<'src>,
+    recipes: &Recipes<'src>,
+    overrides: &HashMap<Number, Text>,
+    alloc: Global,
+) -> Result<Lines, AllocError> {
     let mut lines = Lines::new(alloc);
     let mut left = Vec::new(alloc);
-    left.push(&compilation.justfile)?;
+    left.push(root)?;
     for _ in 0..u64::MAX {
         let Some(module) = left.pop() else {
             break;
         };
-        add_whole(compilation, module, alloc, &mut lines)?;
+        add_whole(module, recipes, overrides, alloc, &mut lines)?;
         for inner in module.modules.as_slice().iter().rev() {
             left.push(inner)?;
         }
@@ -263,17 +269,16 @@ fn lines_of(compilation: &Compilation, alloc: Global) -> Result<Lines, AllocErro
     Ok(lines)
 }
 
-/// Adds what a compilation has: the loaded files, how many texts were read, the modules with their docs, settings and
-/// variables, and of the recipes the depths, the files and how many different numbers they have.
-pub fn add_compilation(
-    compilation: &Compilation,
+/// Adds what the root's module and those in it have: their files, docs, settings and variables, and of the recipes the
+/// depths, the files and how many different numbers they have. The values that override variables are those of `overrides`.
+pub fn add_modules<'src>(
+    root: &Justfile<'src>,
+    recipes: &Recipes<'src>,
+    overrides: &HashMap<Number, Text>,
     alloc: Global,
     text: &mut String,
 ) -> Result<(), AllocError> {
-    text.push_str("loaded")?;
-    add_list(text, compilation.justfile.loaded.get().as_slice())?;
-    writeln!(text, "\ntexts {}", compilation.asts.len())?;
-    let lines = lines_of(compilation, alloc)?;
+    let lines = lines_of(root, recipes, overrides, alloc)?;
     writeln!(text, "modules{}", lines.modules)?;
     writeln!(text, "labels{}", lines.labels)?;
     writeln!(text, "docs{}", lines.docs)?;
@@ -287,4 +292,11 @@ pub fn add_compilation(
     writeln!(text, "recipes{}", lines.recipes)?;
     writeln!(text, "entrances{}", lines.entrances)?;
     writeln!(text, "numbers {} of {}", lines.numbers.len(), lines.count)
+}
+
+/// Adds the loaded files, and how many texts were read.
+pub fn add_loaded(root: &Justfile, texts: usize, text: &mut String) -> Result<(), AllocError> {
+    text.push_str("loaded")?;
+    add_list(text, root.loaded.get().as_slice())?;
+    writeln!(text, "\ntexts {texts}")
 }

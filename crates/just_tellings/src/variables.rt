@@ -1,8 +1,9 @@
 //! The lines that tell what a variable refers to, and which variables it needs.
-use just_analyzer::layers::{Assignment, Number};
-use just_analyzer::{Justfile, Reference, References};
 use just_bench::PlainSyntax;
 use just_data::Text;
+use just_invoke::Justfile;
+use just_parts::layers::{Assignment, Number};
+use just_references::{Reference, References};
 use std::alloc::{AllocError, Global};
 use std::collections::HashMap;
 

@@ -1,6 +1,6 @@
 //! Why the program ends early.
-use just_analyzer::layers::{CompileErrorKind, Error};
 use just_bench::bundle::BundleError;
+use just_parts::layers::{CompileErrorKind, Error};
 use std::fmt;
 
 /// Why the program ends early, when it was used well.

@@ -1,0 +1,11 @@
+//! What the program writes: a line for each recipe that began, and the line of a fault.
+#![tactic(auto)]
+
+mod entries;
+mod fault;
+mod one_line;
+mod told;
+
+pub use entries::write_entries;
+pub use fault::Fault;
+pub use told::{tell, tell_usage};
