@@ -73,7 +73,8 @@ impl Compiler {
         root: &str,
     ) -> Result<Compilation<'src>, Error<'src>>
         requires { IsClean root.now }
-        ensures { Compiles (E.answers evaluation.now) (override_at config.now.overrides) (world_of sources.now config.now (S.answers syntax.now) root.now) result }
+        ensures { let world = world_of sources.now config.now (S.answers syntax.now) root.now in
+            Compiles (E.answers evaluation.now) (override_at config.now.overrides) world result }
     {
         let path = Text::from_str(alloc, root)?;
         let Loaded { asts, loaded } = load(alloc, config, syntax, sources, root)?;

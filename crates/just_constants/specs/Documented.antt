@@ -2,16 +2,18 @@
 use Rattle.std.specs.Prelude.{◌≡◌, List, [], ◌∷◌, codes, flat_map, Option, None, Some, option_to_list}
 use Rattle.just_names.specs.Modulepath.{Text, joined}
 use Rattle.just_names.specs.Token.{Place}
-use Rattle.just_errors.specs.Causes.{Broken, Cause}
+use Rattle.just_errors.specs.Causes.{Broken, Cause, Keeps}
 use Rattle.just_errors.specs.declared.error.CompileErrorKind.TheVariants as kind
 use Rattle.just_errors.specs.declared.error.Fault.{Fault}
-use Rattle.just_parts.specs.Evaluator.{Evaluator, Values, functions_by_name}
-use Rattle.just_parts.specs.Known.{Known, known, none_hidden}
+use Rattle.just_parts.specs.Evaluator.{Covers, Evaluator, Values, functions_by_name}
+use Rattle.just_parts.specs.Known.{Known, known, none_hidden, sources}
 use Rattle.just_parts.specs.Syntax.{SyntaxAnswers}
 use Rattle.just_references.specs.Numbers.{bare}
 use Rattle.just_parts.specs.Misnaming.{Misnames}
 use Rattle.just_constants.specs.declared.variables.Variables.{Variables}
 use Rattle.just_notes.specs.declared.labels.Label.{Label}
+use Rattle.just_joining.specs.Constants.{value_among}
+use Rattle.just_joining.specs.Contents.{Contents}
 use Rattle.just_expressions.specs.declared.expression.Expression.{Expression}
 
 -- the doc that a value is: its texts with a blank between them, and none where it has none
@@ -36,6 +38,10 @@ abbrev pub AreDocumented : (Expression → Option (List Text)) → List Label �
 AreDocumented value [] made = made ≡ []
 AreDocumented value (label ∷ labels) made = (first : Label) × (rest : List Label) × (made ≡ first ∷ rest) × IsDocumented value label first × AreDocumented value labels rest
 
+-- the same among the constants of a module
+abbrev pub AreDocumentedIn : Evaluator → Contents → Values → List Label → List Label → Type 0
+AreDocumentedIn evaluator m values = AreDocumented (value_among evaluator m values)
+
 -- what their docs are evaluated from
 abbrev pub doc_expressions : List Label → List Expression
 doc_expressions = flat_map (λ (label : Label). option_to_list label.doc_expression)
@@ -47,6 +53,14 @@ known_by answers variables = known answers variables.assignments variables.funct
 -- the value of an expression among constants, by the tables of a module
 abbrev pub value_by : Evaluator → Variables → Values → Expression → Option (List Text)
 value_by evaluator variables values e = evaluator.value (functions_by_name variables.functions) values (bare e)
+
+-- whatever the doc of a declaration reads, as the tables of a module have it, has a value
+abbrev pub CoversDoc : Variables → Values → Label → Type 0
+CoversDoc variables values label = (e : Expression) → label.doc_expression ≡ Some e → Covers (sources variables.assignments variables.functions) values e
+
+-- no name in it is at fault
+abbrev pub KeepsDoc : SyntaxAnswers → Variables → Label → Type 0
+KeepsDoc answers variables label = (e : Expression) → label.doc_expression ≡ Some e → Keeps (Misnames (known_by answers variables) none_hidden e)
 
 -- A name in the doc of a declaration is at fault, or it has no value.
 pub data DocFault (m : Known) (value : Expression → Option (List Text)) (said : Option Expression) : Cause → Type 0 where

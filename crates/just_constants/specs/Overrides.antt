@@ -5,6 +5,8 @@ use Rattle.just_names.specs.Modulepath.{Text}
 use Rattle.just_names.specs.declared.number.Number.{Number}
 use Rattle.just_parts.specs.Needs.{same_number}
 use Rattle.just_records.specs.declared.assignment.Assignment.{Assignment}
+use Rattle.just_joining.specs.Contents.{Contents}
+use Rattle.just_joining.specs.Known.{variables_under}
 
 -- the value that overrides a variable under its name, with its number
 abbrev pub override_found : (Text → Option Text) → Text × Assignment → List (Number × Text)
@@ -13,6 +15,10 @@ override_found overrides entry = map (λ (value : Text). (entry.1.number, value)
 -- those that override variables of a module, in byte order of the names
 abbrev pub overrides_found : (Text → Option Text) → List (Text × Assignment) → List (Number × Text)
 overrides_found overrides = flat_map (override_found overrides)
+
+-- those of the variables that a module keeps
+abbrev pub overridden_among : (Text → Option Text) → Contents → List (Number × Text)
+overridden_among overrides m = overrides_found overrides (variables_under m.variables)
 
 -- the last value of a number
 abbrev pub last_of : List (Number × Text) → Number → Option Text

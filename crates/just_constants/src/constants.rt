@@ -1,17 +1,16 @@
 //! What the constants and the settings of a module come to.
 
-ghost use Rattle.std.specs.Prelude.{◌≡◌, ◌∷◌, [], IfOk, IfErr, OnOk, Some, flat_map, map};
-ghost use Rattle.std.specs.List.{All, Contains};
-ghost use Rattle.just_constants.specs.Constants.{CoversAll, NamesFaultIn, evaluated_in};
-ghost use Rattle.just_constants.specs.Overrides.{overrides_found};
+ghost use Rattle.std.specs.Prelude.{◌≡◌, ◌∷◌, [], IfOk, IfErr, OnOk, Some, map};
+ghost use Rattle.std.specs.List.{Contains};
+ghost use Rattle.just_constants.specs.Constants.{CoversAll, CoversSets, NamesFaultIn, evaluated_in};
+ghost use Rattle.just_constants.specs.Overrides.{overridden_among};
 ghost use Rattle.just_constants.specs.Variables.{AreVariablesOf, known_with_numbers};
 ghost use Rattle.just_errors.specs.Causes.{Keeps, Reports};
 ghost use Rattle.just_joining.specs.Constants as rule;
 ghost use Rattle.just_joining.specs.Definitions.{contents_in, sets_in};
-ghost use Rattle.just_joining.specs.Known.{variables_under};
 ghost use Rattle.just_joining.specs.Recipes.{lent};
-ghost use Rattle.just_parts.specs.Evaluator.{Covers, FaultsAt, bare_set, functions_by_name, set_expressions, values_of};
-ghost use Rattle.just_parts.specs.Known.{none_hidden, sources};
+ghost use Rattle.just_parts.specs.Evaluator.{FaultsAt, bare_set, functions_by_name, values_of};
+ghost use Rattle.just_parts.specs.Known.{none_hidden};
 ghost use Rattle.just_parts.specs.Layers.{given_of, layers_at, override_at};
 ghost use Rattle.just_parts.specs.Needs.{HaveNumbersApart};
 ghost use Rattle.just_expressions.specs.declared.expression.Expression.{Expression};
@@ -105,7 +104,7 @@ fn settings_of<'a, 'src, E: Evaluation>(
     constants: &Scope<'src>,
     evaluation: &E,
 ) -> Result<Settings, Error<'src>>
-    requires { All (Covers (sources variables.now.assignments variables.now.functions) (values_of constants.now)) (flat_map set_expressions (sets_in definitions.now)) }
+    requires { CoversSets variables.now (values_of constants.now) (sets_in definitions.now) }
     ensures settings { let answer = (E.answers evaluation.now).settings (functions_by_name variables.now.functions) (values_of constants.now) in
         IfOk result (λ made. answer (map bare_set (sets_in definitions.now)) ≡ Some made) }
     ensures refused { let answer = (E.answers evaluation.now).settings (functions_by_name variables.now.functions) (values_of constants.now) in
@@ -139,7 +138,8 @@ pub fn evaluate_constants<'k, 'a, 'src, S: Syntax, E: Evaluation>(
     ensures evaluated { let given = given_of (S.answers syntax.now) (E.answers evaluation.now) config.now.overrides in
         IfOk result (λ it. rule.IsEvaluated (layers_at given path.now) (contents_in definitions.now) (evaluated_in it)) }
     ensures covered { IfOk result (λ it. CoversAll variables.now (values_of it.scope) (rule.constant_expressions (contents_in definitions.now))) }
-    ensures overridden { IfOk result (λ it. it.overridden.items ≡ overrides_found (override_at config.now.overrides path.now) (variables_under (contents_in definitions.now).variables)) }
+    ensures overridden { let found = overridden_among (override_at config.now.overrides path.now) (contents_in definitions.now) in
+        IfOk result (λ it. it.overridden.items ≡ found) }
     ensures named { let given = given_of (S.answers syntax.now) (E.answers evaluation.now) config.now.overrides in
         IfErr result (Reports (rule.Constants (layers_at given path.now) (contents_in definitions.now))) }
 {

@@ -1,16 +1,13 @@
 //! The docs of the modules that a module declares.
 
-ghost use Rattle.std.specs.Prelude.{◌≡◌, IfOk, IfErr, Some};
+ghost use Rattle.std.specs.Prelude.{◌≡◌, IfOk, IfErr};
 ghost use Rattle.just_constants.specs.Constants.{CoversAll};
-ghost use Rattle.just_constants.specs.Documented.{AreDocumented, DocFault, IsDocumented, doc_expressions, doc_of_value, known_by, value_by};
+ghost use Rattle.just_constants.specs.Documented.{AreDocumentedIn, CoversDoc, DocFault, IsDocumented, KeepsDoc, doc_expressions, doc_of_value, known_by, value_by};
 ghost use Rattle.just_constants.specs.Variables.{AreVariablesOf};
 ghost use Rattle.just_errors.specs.Causes.{Keeps, Reports};
-ghost use Rattle.just_joining.specs.Constants.{Docs, value_among};
+ghost use Rattle.just_joining.specs.Constants.{Docs};
 ghost use Rattle.just_joining.specs.Definitions.{contents_in, docs_in};
-ghost use Rattle.just_parts.specs.Evaluator.{Covers, values_of};
-ghost use Rattle.just_parts.specs.Known.{none_hidden, sources};
-ghost use Rattle.just_expressions.specs.declared.expression.Expression.{Expression};
-ghost use Rattle.just_parts.specs.Misnaming.{Misnames};
+ghost use Rattle.just_parts.specs.Evaluator.{values_of};
 
 use crate::variables::{Variables, copied};
 use just_data::Text;
@@ -40,8 +37,8 @@ fn documented<'k, 'src, S: Syntax, E: Evaluation>(
     syntax: &'k S,
     evaluation: &E,
 ) -> Result<Label<'src>, Error<'src>>
-    requires { (e : Expression) → label.now.doc_expression ≡ Some e → Covers (sources variables.now.assignments variables.now.functions) (values_of constants.now) e }
-    ensures kept { IfOk result (λ _. (e : Expression) → label.now.doc_expression ≡ Some e → Keeps (Misnames (known_by (S.answers syntax.now) variables.now) none_hidden e)) }
+    requires { CoversDoc variables.now (values_of constants.now) label.now }
+    ensures kept { IfOk result (λ _. KeepsDoc (S.answers syntax.now) variables.now label.now) }
     ensures label { IfOk result (IsDocumented (value_by (E.answers evaluation.now) variables.now (values_of constants.now)) label.now) }
     ensures named { let value = value_by (E.answers evaluation.now) variables.now (values_of constants.now) in
         IfErr result (Reports (DocFault (known_by (S.answers syntax.now) variables.now) value label.now.doc_expression)) }
@@ -83,7 +80,8 @@ pub fn document<'k, 'a, 'src, S: Syntax, E: Evaluation>(
     requires variables { AreVariablesOf (S.answers syntax.now) (contents_in definitions.now) variables.now }
     requires covered { CoversAll variables.now (values_of constants.now) (docs_in definitions.now) }
     ensures kept { IfOk result (λ _. Keeps (Docs (S.answers syntax.now) (E.answers evaluation.now) (contents_in definitions.now) (values_of constants.now))) }
-    ensures labels { IfOk result (λ made. AreDocumented (value_among (E.answers evaluation.now) (contents_in definitions.now) (values_of constants.now)) labels.now made.items) }
+    ensures labels { let m = contents_in definitions.now in
+        IfOk result (λ made. AreDocumentedIn (E.answers evaluation.now) m (values_of constants.now) labels.now made.items) }
     ensures named { IfErr result (Reports (Docs (S.answers syntax.now) (E.answers evaluation.now) (contents_in definitions.now) (values_of constants.now))) }
 {
     let mut made = Vec::with_capacity(alloc, labels.len())?;

@@ -186,7 +186,8 @@ impl<'src> Justfile<'src> {
         // For every host.
         ensures outcome { IsOutcome self.now recipes.now (texts words.now) config.now (H.entries host.old) (H.entries host.new) result }
         // For promised answers.
-        ensures expected { IsExpected self.now recipes.now (texts words.now) config.now (E.promised evaluation.old) (H.promised host.old) (H.entries host.old) (H.entries host.new) result }
+        ensures expected { let expected = IsExpected self.now recipes.now (texts words.now) config.now (E.promised evaluation.old) (H.promised host.old) in
+            expected (H.entries host.old) (H.entries host.new) result }
         // The writer is left as it was.
         ensures unwritten { W.written writer.new ≡ W.written writer.old }
         ensures unfailed { W.failed writer.new ≡ W.failed writer.old }

@@ -1,18 +1,17 @@
 -- What is evaluated of a module.
 use Rattle.std.specs.Prelude.{◌≡◌, List}
 use Rattle.just_constants.specs.Constants.{CoversAll, evaluated_in}
-use Rattle.just_constants.specs.Documented.{AreDocumented}
-use Rattle.just_constants.specs.Overrides.{overrides_found}
+use Rattle.just_constants.specs.Documented.{AreDocumentedIn}
+use Rattle.just_constants.specs.Overrides.{overridden_among}
 use Rattle.just_constants.specs.Variables.{AreVariablesOf}
 use Rattle.just_constants.specs.declared.constants.Constants.{Constants}
 use Rattle.just_constants.specs.declared.variables.Variables.{Variables}
 use Rattle.just_errors.specs.Causes.{Keeps}
 use Rattle.just_invoke.specs.declared.justfile.Justfile.{Justfile, out-Justfile}
-use Rattle.just_joining.specs.Constants.{Docs, Evaluated, IsEvaluated, constant_expressions, value_among}
+use Rattle.just_joining.specs.Constants.{Docs, Evaluated, IsEvaluated, constant_expressions}
 use Rattle.just_joining.specs.Contents.{Contents}
 use Rattle.just_joining.specs.Definitions.{contents_in}
 use Rattle.just_joining.specs.Groups.{KeepsBefore, OfBodies}
-use Rattle.just_joining.specs.Known.{variables_under}
 use Rattle.just_modules.specs.declared.checking.Checked.{Checked}
 use Rattle.just_names.specs.Modulepath.{Text}
 use Rattle.just_names.specs.declared.number.Number.{Number}
@@ -22,11 +21,11 @@ use Rattle.just_parts.specs.Layers.{Layers}
 
 -- the values that override variables of a module, each with the number of its variable
 abbrev pub overridden_in : Layers → Contents → List (Number × Text)
-overridden_in layers m = overrides_found layers.overrides (variables_under m.variables)
+overridden_in layers m = overridden_among layers.overrides m
 
 -- labels of the modules in a module, as they are said, with the docs evaluated among its constants
 abbrev pub AreLabels : Layers → Contents → Values → List Label → List Label → Type 0
-AreLabels layers m values = AreDocumented (value_among layers.evaluator m values)
+AreLabels layers m values = AreDocumentedIn layers.evaluator m values
 
 -- The variables of a module are resolved, it has these constants and settings, with values for whatever is evaluated while compiling, and these values override its variables.
 pub record HasConstants (layers : Layers) (m : Contents) (variables : Variables) (constants : Constants) : Type 0 where

@@ -4,12 +4,12 @@ ghost use Rattle.std.specs.Prelude.{◌≡◌, ◌<◌, IfErr, IfOk, length};
 ghost use Rattle.std.specs.List.{All};
 ghost use Rattle.just_graph.specs.Steps.{IsOnce};
 ghost use Rattle.just_constants.specs.Constants.{CoversAll};
-ghost use Rattle.just_constants.specs.Documented.{AreDocumented};
+ghost use Rattle.just_constants.specs.Documented.{AreDocumentedIn};
 ghost use Rattle.just_constants.specs.Variables.{AreVariablesOf};
 ghost use Rattle.just_errors.specs.Causes.{Keeps, Reports};
 ghost use Rattle.just_index.specs.Index.{texts_of_names, AreDifferent};
 ghost use Rattle.just_joining.specs.Analyzable.{assignment_numbers};
-ghost use Rattle.just_joining.specs.Constants.{Docs, constant_expressions, value_among};
+ghost use Rattle.just_joining.specs.Constants.{Docs, constant_expressions};
 ghost use Rattle.just_joining.specs.Definitions.{contents_in, variables_in};
 ghost use Rattle.just_joining.specs.Files.{asts_in};
 ghost use Rattle.just_joining.specs.Groups.{BreaksContents, KeepsBefore, OfBodies};
@@ -111,10 +111,13 @@ fn documented_at<'a, 'b, 'src, S: Syntax, E: Evaluation>(
     requires said { contents_in definitions.now ≡ contents_from (S.answers syntax.now).enabled (asts_in files.now) places.now }
     requires variables { AreVariablesOf (S.answers syntax.now) (contents_in definitions.now) variables.now }
     requires covered { CoversAll variables.now (values_of constants.now.scope) (constant_expressions (contents_in definitions.now)) }
-    ensures kept { IfOk result (λ _. Keeps (Docs (S.answers syntax.now) (E.answers evaluation.now) (contents_in definitions.now) (values_of constants.now.scope))) }
+    ensures kept { let m = contents_in definitions.now in
+        IfOk result (λ _. Keeps (Docs (S.answers syntax.now) (E.answers evaluation.now) m (values_of constants.now.scope))) }
     ensures labels { let said = said_from label_by (S.answers syntax.now).enabled (asts_in files.now) places.now in
-        IfOk result (λ made. AreDocumented (value_among (E.answers evaluation.now) (contents_in definitions.now) (values_of constants.now.scope)) said made.items) }
-    ensures named { IfErr result (Reports (Docs (S.answers syntax.now) (E.answers evaluation.now) (contents_in definitions.now) (values_of constants.now.scope))) }
+        let m = contents_in definitions.now in
+        IfOk result (λ made. AreDocumentedIn (E.answers evaluation.now) m (values_of constants.now.scope) said made.items) }
+    ensures named { let m = contents_in definitions.now in
+        IfErr result (Reports (Docs (S.answers syntax.now) (E.answers evaluation.now) m (values_of constants.now.scope))) }
 {
     let labels = labels_at(alloc, files, syntax, places)?;
     document(
