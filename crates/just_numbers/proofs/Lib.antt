@@ -1,2 +1,3 @@
 pub mod Nodes
+pub mod Remade
 pub mod Taken

@@ -1,7 +1,7 @@
 -- What is taken off a stack.
-use Rattle.std.proofs.Common.{◌≡◌, refl, sym, ◌∙◌, ap, ℕ, List, [], ◌∷◌, ◌++◌, length, take, drop, map, reverse}
+use Rattle.std.proofs.Common.{◌≡◌, sym, ◌∙◌, ap, ℕ, List, ◌++◌, length, take, drop, reverse}
 use Rattle.std.proofs.Math.Seq.{take-append_seam}
-use Rattle.std.proofs.lemmas.List.{length-append, reverse-append, take-append-drop}
+use Rattle.std.proofs.lemmas.List.{reverse-append, take-append-drop}
 use Rattle.just_expressions.specs.declared.expression.Expression.{Expression}
 
 -- the first of a list, by their number
@@ -12,9 +12,3 @@ front n some below stack same count =
 -- the last of a list are the first of it in reverse
 pub reverse_split : (n : ℕ) (built : List Expression) → reverse built ≡ reverse (drop n built) ++ reverse (take n built)
 reverse_split n built = ap reverse (sym (take-append-drop n built)) ∙ reverse-append (take n built) (drop n built)
-
-pub given_taken : (given : Expression → Expression) (all below : List Expression) → take (length all) (map given all ++ below) ≡ map given all
-given_taken given [] below = refl
-given_taken given (e ∷ es) below = ap (λ others. given e ∷ others) (given_taken given es below)
-
-pub ruleset on_stack = (given_taken, length-append)

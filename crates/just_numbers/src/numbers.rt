@@ -106,7 +106,6 @@ fn all_taken<'src>(
 }
 
 // The form of an expression again, whose parts are taken off a stack, the first of them first.
-#[tactic(auto, using(just_references::proofs::NumbersOf::shapes, just_references::proofs::PartsOf::shapes, crate::proofs::Taken::on_stack))]
 fn remade_shape<'a, 'src, S: Syntax>(
     shape: &Shape<'src>,
     built: &mut Vec<Expression<'src>>,
