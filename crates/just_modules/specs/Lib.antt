@@ -5,5 +5,6 @@ pub mod Groups
 pub mod Justfiles
 pub mod Modules
 pub mod Noted
+pub mod Parts
 pub mod Steps
 pub mod Variables

@@ -1,14 +1,20 @@
 //! Compiles modules one after another, those in a module before it.
 
 ghost use Rattle.std.specs.Prelude.{◌≡◌, ◌<◌, ℕ, List, IfOk, IfErr, None, OnOk, Some, length, map};
+ghost use Rattle.std.specs.List.{All, Contains};
+ghost use Rattle.just_constants.specs.Variables.{AreVariablesOf};
 ghost use Rattle.just_graph.specs.Graph.{targets};
+ghost use Rattle.just_graph.specs.Steps.{IsOnce};
 ghost use Rattle.just_errors.specs.Causes.{Reports};
 ghost use Rattle.just_invoke.specs.declared.justfile.Justfile.{Justfile};
 ghost use Rattle.just_modules.specs.Justfiles.{slot};
 ghost use Rattle.just_parts.specs.Layers.{given_of};
-ghost use Rattle.just_joining.specs.Resolved.{AreNew};
+ghost use Rattle.just_joining.specs.Definitions.{contents_in, recipes_in};
+ghost use Rattle.just_joining.specs.Resolved.{AreNew, HasPriors, unresolved_numbers};
 ghost use Rattle.just_joining.specs.OfPlaces.{recipes_of_place};
-ghost use Rattle.just_modules.specs.Steps.{BreaksInOrder, BreaksPlace, CanCompile, CanCompileAll, CompilesAt, HaveCompiledAll};
+ghost use Rattle.just_modules.specs.Analysis.{BreaksRecipes};
+ghost use Rattle.just_modules.specs.Parts.{AreSurroundings, IsAnalyzedFrom};
+ghost use Rattle.just_modules.specs.Steps.{BreaksInOrder, BreaksPlace, CanCompile, CanCompileAll, CompilesAt, HaveCompiledAll, made_in};
 
 use crate::analyzer::analyze_module;
 use crate::checking::{Checked, check_files};
@@ -20,7 +26,8 @@ use just_data::{Sequence, Shared, Text};
 use just_invoke::{Justfile, Recipes};
 use just_joining::files::{Files, ast_at};
 use just_joining::joined::Joined;
-use just_parts::layers::{Config, Error, Evaluation, Number, Syntax};
+use just_notes::Label;
+use just_parts::layers::{Ast, Config, Error, Evaluation, Number, Syntax};
 use std::alloc::{AllocError, Global};
 
 /// What modules that are compiled add.
@@ -30,6 +37,81 @@ pub struct Gathered<'src> {
     pub recipes: Recipes<'src>,
     /// The values that override their variables, each with the number of its variable.
     pub overridden: Vec<(Number, Text)>,
+}
+
+// What the module whose own file stands at a place has besides its recipes: it takes the modules in it, under these labels.
+fn surroundings_at<'a, 'src, S: Syntax>(
+    alloc: Global,
+    files: &Files<'src, 'a>,
+    syntax: &S,
+    joined: &Joined,
+    loaded: &Shared<Sequence<Text>>,
+    place: usize,
+    labels: &[Label<'src>],
+    slots: &mut Vec<Option<Justfile<'src>>>,
+) -> Result<Surroundings<'src>, AllocError>
+    requires keys { length files.now.keys.items ≡ length files.now.asts.items }
+    requires files { length joined.now.files.items ≡ length files.now.asts.items }
+    requires modules { length joined.now.modules.items ≡ length files.now.asts.items }
+    requires room { length slots.old.items ≡ length files.now.asts.items }
+    requires ready { CanCompile (S.answers syntax.now).enabled files.now joined.now place }
+    requires inner { (js : List Justfile) × (map Some js ≡ map (slot slots.old.items) (targets joined.now.modules.items place)) }
+    requires labels { length labels.now ≡ length (targets joined.now.modules.items place) }
+    ensures made { let enabled = (S.answers syntax.now).enabled in
+        IfOk result (AreSurroundings enabled files.now joined.now loaded.now place labels.now slots.old.items) }
+    ensures others { OnOk result ((q : ℕ) → (Contains (targets joined.now.modules.items place) q → ⊥) → slot slots.new.items q ≡ slot slots.old.items q) }
+    ensures room { OnOk result (length slots.new.items ≡ length slots.old.items) }
+{
+    let modules = take_inner(alloc, slots, joined.modules[place].as_slice(), labels)?;
+    let notes = notes_at(alloc, files, syntax, joined.files[place].as_slice())?;
+    Ok(Surroundings {
+        loaded: loaded.clone()?,
+        modules,
+        notes,
+        source: Text::from_str(alloc, files.keys[place].1.as_str())?,
+    })
+}
+
+// The justfile of a module that is checked, of which `ast` says its own file. Its recipes, and the values that override its
+// variables, are added to the others.
+fn analyze_checked<'b, 'src, S: Syntax>(
+    alloc: Global,
+    ast: &Ast<'src>,
+    syntax: &S,
+    checked: Checked<'src, 'b>,
+    surroundings: Surroundings<'src>,
+    gathered: &mut Gathered<'src>,
+) -> Result<Justfile<'src>, Error<'src>>
+    requires once { IsOnce (unresolved_numbers (recipes_in checked.definitions)) }
+    requires priors { All HasPriors (recipes_in checked.definitions) }
+    requires apart { AreNew gathered.old.recipes (recipes_in checked.definitions) }
+    requires variables { AreVariablesOf (S.answers syntax.now) (contents_in checked.definitions) checked.variables }
+    ensures analyzed { IfOk result (IsAnalyzedFrom (S.answers syntax.now) ast.now checked.entry surroundings.entry (made_in gathered.old) (made_in gathered.new)) }
+    ensures named { IfErr result (Reports (BreaksRecipes (S.answers syntax.now) checked.entry.constants.settings (contents_in checked.entry.definitions))) }
+{
+    let Checked {
+        definitions,
+        variables,
+        constants,
+        ..
+    } = checked;
+    let Constants {
+        settings,
+        mut overridden,
+        ..
+    } = constants;
+    gathered.overridden.append(&mut overridden)?;
+    let justfile = analyze_module(
+        alloc,
+        &definitions,
+        ast,
+        syntax,
+        variables,
+        settings,
+        surroundings,
+        &mut gathered.recipes,
+    )?;
+    Ok(justfile)
 }
 
 // Compiles the module whose own file stands at a place, from those in it.
@@ -68,40 +150,17 @@ fn compile_place<'a, 'src, S: Syntax, E: Evaluation>(
         &ast.module_path,
         row,
     )?;
-    let Checked {
-        definitions,
-        variables,
-        constants,
-        labels,
-    } = checked;
-    let Constants {
-        settings,
-        mut overridden,
-        ..
-    } = constants;
-    let modules = take_inner(
+    let surroundings = surroundings_at(
         alloc,
-        slots,
-        joined.modules[place].as_slice(),
-        labels.as_slice(),
-    )?;
-    let surroundings = Surroundings {
-        loaded: loaded.clone()?,
-        modules,
-        notes: notes_at(alloc, files, syntax, row)?,
-        source: Text::from_str(alloc, files.keys[place].1.as_str())?,
-    };
-    gathered.overridden.append(&mut overridden)?;
-    let justfile = analyze_module(
-        alloc,
-        &definitions,
-        ast,
+        files,
         syntax,
-        variables,
-        settings,
-        surroundings,
-        &mut gathered.recipes,
+        joined,
+        loaded,
+        place,
+        checked.labels.as_slice(),
+        slots,
     )?;
+    let justfile = analyze_checked(alloc, ast, syntax, checked, surroundings, gathered)?;
     slots[place] = Some(justfile);
     Ok(())
 }
