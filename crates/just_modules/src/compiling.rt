@@ -59,7 +59,8 @@ fn surroundings_at<'a, 'src, S: Syntax>(
     requires labels { length labels.now ≡ length (targets joined.now.modules.items place) }
     ensures made { let enabled = (S.answers syntax.now).enabled in
         IfOk result (AreSurroundings enabled files.now joined.now loaded.now place labels.now slots.old.items) }
-    ensures others { OnOk result ((q : ℕ) → (Contains (targets joined.now.modules.items place) q → ⊥) → slot slots.new.items q ≡ slot slots.old.items q) }
+    ensures others { let inner = targets joined.now.modules.items place in
+        OnOk result ((q : ℕ) → (Contains inner q → ⊥) → slot slots.new.items q ≡ slot slots.old.items q) }
     ensures room { OnOk result (length slots.new.items ≡ length slots.old.items) }
 {
     let modules = take_inner(alloc, slots, joined.modules[place].as_slice(), labels)?;
@@ -86,7 +87,8 @@ fn analyze_checked<'b, 'src, S: Syntax>(
     requires priors { All HasPriors (recipes_in checked.definitions) }
     requires apart { AreNew gathered.old.recipes (recipes_in checked.definitions) }
     requires variables { AreVariablesOf (S.answers syntax.now) (contents_in checked.definitions) checked.variables }
-    ensures analyzed { IfOk result (IsAnalyzedFrom (S.answers syntax.now) ast.now checked.entry surroundings.entry (made_in gathered.old) (made_in gathered.new)) }
+    ensures analyzed { let is = IsAnalyzedFrom (S.answers syntax.now) ast.now checked.entry surroundings.entry in
+        IfOk result (is (made_in gathered.old) (made_in gathered.new)) }
     ensures named { IfErr result (Reports (BreaksRecipes (S.answers syntax.now) checked.entry.constants.settings (contents_in checked.entry.definitions))) }
 {
     let Checked {
