@@ -3,7 +3,7 @@ use Rattle.std.specs.Prelude.{◌≡◌, List, Result, IfOk, IfErr, IsSome}
 use Rattle.std.specs.HashMap.{get}
 use Rattle.just_parts.specs.Asts.{same_ast_key, root_ast_key}
 use Rattle.just_errors.specs.Causes.{Keeps, Reports}
-use Rattle.just_names.specs.Modulepath.{Text}
+use Rattle.just_names.specs.Texts.{Text}
 use Rattle.just_errors.specs.declared.error.Error.{Error}
 use Rattle.just_invoke.specs.Closed.{IsClosed, AreClosed}
 use Rattle.just_parts.specs.Evaluator.{Evaluator}

@@ -1,7 +1,7 @@
 -- The paths that are shown of files.
 use Rattle.std.specs.Prelude.{◌≡◌, Option, Some, IsSome}
-use Rattle.just_names.specs.Clean.{folder_of}
-use Rattle.just_names.specs.Modulepath.{Text}
+use Rattle.just_paths.specs.Clean.{folder_of}
+use Rattle.just_names.specs.Texts.{Text}
 use Rattle.just_parts.specs.Asts.{AstKey}
 use Rattle.just_parts.specs.Items.{Ast}
 use Rattle.just_loader.specs.ModuleFile.{relative}

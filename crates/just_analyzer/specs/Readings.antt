@@ -1,9 +1,9 @@
 -- What the files of a source map say, as the modules that they belong to see it.
 use Rattle.std.specs.Prelude.{◌≡◌, false, ℕ, List, [], map, Option, None, Some}
 use Rattle.just_parts.specs.Asts.{root_ast_key}
-use Rattle.just_names.specs.Clean.{folder_of}
-use Rattle.just_names.specs.Modulepath.{Text}
-use Rattle.just_names.specs.declared.modulepath.Modulepath.{Modulepath}
+use Rattle.just_paths.specs.Clean.{folder_of}
+use Rattle.just_names.specs.Texts.{Text}
+use Rattle.just_paths.specs.declared.modulepath.Modulepath.{Modulepath}
 use Rattle.just_parts.specs.Evaluator.{Evaluator}
 use Rattle.just_parts.specs.Layers.{Given}
 use Rattle.just_parts.specs.Located.{with_depth}

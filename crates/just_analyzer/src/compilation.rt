@@ -4,7 +4,7 @@ ghost use Rattle.just_parts.specs.Asts.{same_ast_key, root_ast_key};
 
 use just_data::Text;
 use just_invoke::{Justfile, Recipes};
-use just_names::Modulepath;
+use just_paths::Modulepath;
 use just_parts::layers::{Ast, Number};
 use std::collections::HashMap;
 

@@ -1,7 +1,7 @@
 ghost use Rattle.std.specs.Prelude.{◌≡◌, option_to_list, IfOk, IfErr};
 ghost use Rattle.std.specs.HashMap.{get};
 ghost use Rattle.std.specs.Str.{bytes_eq};
-ghost use Rattle.just_names.specs.Clean.{IsClean};
+ghost use Rattle.just_paths.specs.Clean.{IsClean};
 ghost use Rattle.just_parts.specs.Asts.{same_ast_key};
 ghost use Rattle.just_loader.specs.ModuleFile.{TellsSeveral, module_files};
 ghost use Rattle.just_loader.specs.Reached.{world_of};
@@ -13,7 +13,7 @@ use crate::compilation::Compilation;
 use just_data::{Shared, Text};
 use just_loader::{Loaded, Sources, load, relative_path};
 use just_modules::Analyzer;
-use just_names::{Modulepath, folder_of};
+use just_paths::{Modulepath, folder_of};
 use just_parts::layers::{Ast, Config, Error, Evaluation, Name, Syntax};
 use std::alloc::{AllocError, Global};
 use std::collections::HashMap;

@@ -9,7 +9,7 @@ pub use compiler::Compiler;
 pub use just_invoke::{Invocation, InvocationParser, Justfile, RecipeKey, Recipes, Report};
 pub use just_loader::Sources;
 pub use just_modules::Analyzer;
-pub use just_names::{Modulepath, is_clean};
+pub use just_paths::{Modulepath, is_clean};
 pub use just_parts::{Dependency, Recipe, Source, UnresolvedRecipe, layers};
 pub use just_references::{Reference, References};
 pub use just_resolver::VariableResolver;

@@ -4,7 +4,7 @@ use Rattle.std.proofs.lemmas.List.{append_assoc, append-nil, append_cancel_left,
 use Rattle.std.proofs.Math.Seq.{drop-append_seam}
 use Rattle.std.specs.List.{before_first}
 use Rattle.std.specs.Str.Pattern.{EndsAtFirstMatch, FindsText, FindsTextPrefix, FindsTextSuffix, HasSuffixMatch, StripsPrefix}
-use Rattle.just_names.specs.Clean.{IsClean}
+use Rattle.just_paths.specs.Clean.{IsClean}
 use Rattle.just_table.specs.Entries.{put}
 use Rattle.just_loader.specs.Sources.{Files}
 use Rattle.just_lexer.specs.Lines.{is_newline}

@@ -14,7 +14,7 @@ use crate::sigils;
 use just_data::Sequence;
 use just_grammar::items::{Items, read_items};
 use just_lexer::lines::{TextLine, line_token, lines};
-use just_names::Modulepath;
+use just_paths::Modulepath;
 use just_parts::Source;
 use just_parts::layers::{
     ArgumentRange, Ast, CompileError, CompileErrorKind, Error, Item, Keyword, Line, Namepath,

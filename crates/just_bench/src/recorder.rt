@@ -4,7 +4,7 @@ ghost use Rattle.just_parts.specs.declared.layers.host.Entry.{Entry};
 ghost use Rattle.just_parts.specs.Host.{Answer};
 
 use just_data::Sequence;
-use just_names::Modulepath;
+use just_paths::Modulepath;
 use just_parts::layers::{Entry, Groups, Host};
 use std::alloc::{AllocError, Global};
 use std::marker::Model;

@@ -6,7 +6,7 @@ use Rattle.std.specs.Option.{IsSome, is_some, option_and_then, option_map, optio
 use Rattle.std.specs.Str.{bytes_eq}
 use Rattle.std.proofs.lemmas.Bool.{false≢true}
 use Rattle.std.proofs.lemmas.List.{length-map}
-use Rattle.just_names.specs.Modulepath.{Text}
+use Rattle.just_names.specs.Texts.{Text}
 use Rattle.just_names.specs.Name.{text_of_name}
 use Rattle.just_names.specs.declared.name.Name.{Name}
 use Rattle.just_names.specs.declared.number.Number.{Number}

@@ -4,7 +4,7 @@ use Rattle.std.specs.List.{slice_get}
 use Rattle.std.proofs.lemmas.List.{take_more}
 use Rattle.std.proofs.lemmas.Option.{get_or_from_slice_get, slice_get_within}
 use Rattle.just_table.specs.Entries.{put, put_all}
-use Rattle.just_names.specs.Modulepath.{Text}
+use Rattle.just_names.specs.Texts.{Text}
 
 -- one more element
 pub taken_more : {A : Type 0} (xs taken more : List A) (i : ℕ) (x copy : A) → taken ≡ take i xs → slice_get xs i ≡ Some x → copy ≡ x → more ≡ taken ++ copy ∷ [] → more ≡ take (i + 1) xs

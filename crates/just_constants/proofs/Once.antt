@@ -1,7 +1,7 @@
 -- What is evaluated of a module is evaluated once.
 use Rattle.std.proofs.Common.{◌≡◌, ◌∙◌, Bool, true, false, List, Option, refl, sym, ap}
 use Rattle.std.proofs.lemmas.Option.{same_Some}
-use Rattle.just_names.specs.Modulepath.{Text}
+use Rattle.just_names.specs.Texts.{Text}
 use Rattle.just_joining.specs.Constants.{AreConstants, AsksFor, Evaluated, IsEvaluated, settings_among}
 use Rattle.just_joining.specs.Contents.{Contents}
 use Rattle.just_parts.specs.Evaluator.{Values, Wanted}

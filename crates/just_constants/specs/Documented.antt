@@ -1,6 +1,6 @@
 -- What the declarations of modules say, with their docs evaluated.
 use Rattle.std.specs.Prelude.{◌≡◌, List, [], ◌∷◌, codes, flat_map, Option, None, Some, option_to_list}
-use Rattle.just_names.specs.Modulepath.{Text, joined}
+use Rattle.just_names.specs.Texts.{Text, joined}
 use Rattle.just_names.specs.Token.{Place}
 use Rattle.just_errors.specs.Causes.{Broken, Cause, Keeps}
 use Rattle.just_errors.specs.declared.error.CompileErrorKind.TheVariants as kind

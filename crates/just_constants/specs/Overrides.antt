@@ -1,7 +1,7 @@
 -- What a front overrides, by the numbers of variables.
 use Rattle.std.specs.Prelude.{List, [], ◌∷◌, flat_map, map, Option, None, Some, option_to_list, if◌then◌else◌}
 use Rattle.std.specs.Option.{option_or}
-use Rattle.just_names.specs.Modulepath.{Text}
+use Rattle.just_names.specs.Texts.{Text}
 use Rattle.just_names.specs.declared.number.Number.{Number}
 use Rattle.just_parts.specs.Needs.{same_number}
 use Rattle.just_records.specs.declared.assignment.Assignment.{Assignment}

@@ -22,7 +22,7 @@ use crate::overrides::{by_number, overrides_of};
 use crate::variables::{Variables, copied};
 use just_data::Text;
 use just_joining::definitions::{Definitions, set_at};
-use just_names::Modulepath;
+use just_paths::Modulepath;
 use just_needs::needed_references;
 use just_parts::layers::{
     Config, Error, Evaluation, Expression, Number, Scope, Set, Setting, Settings, Syntax,

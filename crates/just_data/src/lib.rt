@@ -1,14 +1,12 @@
 //! Wrappers that contracts see as plain data: texts, sequences and shared values are equal where their contents are.
 #![tactic(auto)]
 
-mod chain;
 mod exact;
 mod excerpt;
 mod sequence;
 mod shared;
 mod text;
 
-pub use chain::{Chain, ChainIter};
 pub use exact::Exact;
 pub use excerpt::Excerpt;
 pub use sequence::Sequence;

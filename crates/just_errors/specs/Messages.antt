@@ -1,7 +1,7 @@
 -- The names of errors, and what they say.
 use Rattle.std.specs.Prelude.{ℕ, ◌==◌, false, List, length, ◌++◌, codes, decimal, if◌then◌else◌}
 use Rattle.just_names.specs.ListFeature.{feature_text}
-use Rattle.just_names.specs.Modulepath.{joined, text_of}
+use Rattle.just_names.specs.Texts.{joined, text_of}
 use Rattle.just_names.specs.Name.{texts_of_path}
 use Rattle.just_errors.specs.Wording.{arguments_text, takes_text, place_text, at_text}
 use Rattle.just_names.specs.declared.name.Namepath.{Namepath}

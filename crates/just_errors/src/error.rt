@@ -1,7 +1,7 @@
 //! Errors, their names and what they say.
 ghost use Rattle.std.specs.Prelude.{◌≡◌, OnOk, codes};
 ghost use Rattle.std.specs.Fmt.{HasWritten, IsPlainFormatter, WritesOnOk};
-ghost use Rattle.just_names.specs.Modulepath.{joined};
+ghost use Rattle.just_names.specs.Texts.{joined};
 ghost use Rattle.just_errors.specs.Messages.{load_name, kind_name, invocation_name, run_name, error_name, chain_text, circle_text, reading_text, readings_text};
 
 use crate::wording::{ArgumentRange, Arguments, At, Listed, noun};

@@ -1,6 +1,6 @@
 //! What is answered to the questions of a case.
 ghost use Rattle.std.specs.Prelude.{IfOk};
-ghost use Rattle.just_names.specs.Clean.{IsClean};
+ghost use Rattle.just_paths.specs.Clean.{IsClean};
 ghost use Rattle.just_invoke.specs.Closed.{IsClosed};
 
 use just_analyzer::layers::{Config, Error};

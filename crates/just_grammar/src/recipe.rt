@@ -4,7 +4,8 @@ ghost use Rattle.std.specs.List.{list_all, list_any};
 ghost use Rattle.std.specs.Option.{option_copied};
 ghost use Rattle.just_grammar.specs.Recipe as spec;
 
-use just_data::{Chain, Sequence};
+use just_chain::Chain;
+use just_data::Sequence;
 use just_names::{Name, Namepath, Number};
 use just_parts::layers::UnresolvedDependency;
 use just_parts::{Recipe, UnresolvedRecipe};

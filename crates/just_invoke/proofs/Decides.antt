@@ -4,12 +4,12 @@ use Rattle.std.specs.Bool.{MatchBool}
 use Rattle.std.proofs.lemmas.Bool.{cases_eq, cases_lt, false≢true}
 use Rattle.std.proofs.lemmas.List.{append-nil, take-append-drop, length-take, drop_all}
 use Rattle.std.proofs.lemmas.List.Sums.{prefix_len-le-length}
-use Rattle.just_names.specs.Modulepath.{Text, text_of}
+use Rattle.just_names.specs.Texts.{Text, text_of}
 use Rattle.just_records.specs.Parameter.{is_variadic, least_arguments}
 use Rattle.just_records.specs.declared.parameter.Parameter.{Parameter}
 use Rattle.just_parts.specs.declared.dependency.Dependency.{Dependency}
 use Rattle.just_parts.specs.declared.recipe.Recipe.{Recipe}
-use Rattle.just_names.proofs.PathTexts.{PathOrNone, decide_argument_path, decide_word_path}
+use Rattle.just_paths.proofs.PathTexts.{PathOrNone, decide_argument_path, decide_word_path}
 use Rattle.just_invoke.specs.declared.justfile.Justfile.{Justfile, out-Justfile}
 use Rattle.just_invoke.specs.declared.justfile.RecipeKey.{RecipeKey}
 use Rattle.just_invoke.specs.Closed.{recipe_named, default_recipe}

@@ -6,8 +6,8 @@ use Rattle.std.proofs.Common.{⊎_elim}
 use Rattle.std.specs.Borrow.{Bor}
 use Rattle.std.specs.declared.vec.Vec.{Vec}
 use Rattle.std.specs.declared.alloc.Global.{Global}
-use Rattle.just_names.specs.Modulepath.{texts}
-use Rattle.just_names.specs.Modulepath.{Text}
+use Rattle.just_names.specs.Texts.{texts}
+use Rattle.just_names.specs.Texts.{Text}
 use Rattle.just_invoke.specs.Head.{Words}
 use Rattle.just_invoke.specs.Tail.{shown, place, uses_from, group, any_missing, is_missing}
 use Rattle.just_records.specs.declared.parameter.Parameter.{Parameter}

@@ -2,7 +2,7 @@
 use Rattle.std.proofs.Common.{◌≡◌, ◌≢◌, ⊎_elim, ℕ, suc, ◌+◌, ◌<◌, ◌≤◌, Bool, true, false, List, [], ◌∷◌, ◌++◌, Some, length, get_or, refl, sym, ap, ◌∙◌, subst, arith, length-append}
 use Rattle.std.specs.Bool.{MatchBool}
 use Rattle.std.proofs.lemmas.Bool.{cases_lt}
-use Rattle.just_names.specs.Modulepath.{Text}
+use Rattle.just_names.specs.Texts.{Text}
 use Rattle.just_records.specs.declared.parameter.Parameter.{Parameter}
 use Rattle.just_parts.specs.declared.dependency.Dependency.{Dependency}
 use Rattle.just_parts.specs.declared.recipe.Recipe.{Recipe}
@@ -11,7 +11,7 @@ use Rattle.just_invoke.specs.Closed.{recipe_named}
 use Rattle.just_invoke.specs.Head.{Words, Held, WordsLead, IsHead, has_colon, is_empty, IsPathWord, PathLeads}
 use Rattle.just_invoke.specs.Tail.{IsTail, group, uses_from}
 use Rattle.just_invoke.specs.Split.{Invoked, Invokes, Chain, IsSplit}
-use Rattle.just_names.proofs.PathTexts.{word_path_once, argument_path_once}
+use Rattle.just_paths.proofs.PathTexts.{word_path_once, argument_path_once}
 
 -- one front, one rest and one recipe
 abbrev pub Agree : Words → Words → Words → Words → Recipe Dependency → Recipe Dependency → Type 0

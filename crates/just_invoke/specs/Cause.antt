@@ -1,6 +1,6 @@
 -- What words are refused for.
 use Rattle.std.specs.Prelude.{ℕ, Option, Some, None}
-use Rattle.just_names.specs.Modulepath.{Text}
+use Rattle.just_names.specs.Texts.{Text}
 use Rattle.just_errors.specs.declared.error.InvocationError.{InvocationError}
 use Rattle.just_errors.specs.declared.error.InvocationError.TheVariants as fault
 use Rattle.just_errors.specs.declared.error.RunError.{RunError}

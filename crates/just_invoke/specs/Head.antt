@@ -4,7 +4,8 @@ use Rattle.std.specs.Bool.{MatchBool}
 use Rattle.std.specs.List.{list_any}
 use Rattle.just_names.specs.Token.{lexeme}
 use Rattle.just_records.specs.Parameter.{least_arguments}
-use Rattle.just_names.specs.Modulepath.{Text, IsWordPath, IsArgumentPath, text_of}
+use Rattle.just_names.specs.Texts.{Text, text_of}
+use Rattle.just_paths.specs.Modulepath.{IsWordPath, IsArgumentPath}
 use Rattle.just_parts.specs.declared.dependency.Dependency.{Dependency}
 use Rattle.just_parts.specs.declared.recipe.Recipe.{Recipe}
 use Rattle.just_invoke.specs.declared.justfile.Justfile.{Justfile, out-Justfile}

@@ -4,7 +4,7 @@ use Rattle.std.specs.List.{position_or_len}
 use Rattle.std.specs.Borrow.{Bor}
 use Rattle.std.specs.declared.vec.Vec.{Vec}
 use Rattle.std.specs.declared.alloc.Global.{Global}
-use Rattle.just_names.specs.Modulepath.{Text, texts}
+use Rattle.just_names.specs.Texts.{Text, texts}
 use Rattle.just_records.specs.Parameter.{is_variadic, is_required}
 use Rattle.just_records.specs.declared.parameter.Parameter.{Parameter}
 use Rattle.just_invoke.specs.Head.{Words}

@@ -2,7 +2,7 @@
 ghost use Rattle.std.specs.Prelude.{◌≡◌, ◌≤◌, ◌<◌, ◌++◌, ◌∷◌, [], ℕ, true, false, Some, IfOk, IfErr, IfSome, OnOk, OnErr, map, length, take, drop, slice_set, slice_index_or, vec_len};
 ghost use Rattle.std.specs.List.{All, list_any};
 ghost use Rattle.std.specs.Option.{option_copied};
-ghost use Rattle.just_names.specs.Modulepath.{texts};
+ghost use Rattle.just_names.specs.Texts.{texts};
 ghost use Rattle.just_records.specs.Parameter.{is_option, is_variadic, most_words};
 ghost use Rattle.just_records.specs.declared.parameter.Parameter.{Parameter};
 ghost use Rattle.just_errors.specs.declared.error.Error.TheVariants as error;
@@ -18,7 +18,7 @@ ghost use Rattle.just_invoke.specs.Split.{invoked_of, misfit, Invokes, Chain, Is
 use crate::invocation::Invocation;
 use crate::justfile::Justfile;
 use just_data::{BorrowedText, Text};
-use just_names::Modulepath;
+use just_paths::Modulepath;
 use just_parts::Recipe;
 use just_parts::layers::{
     Attribute, Error, Evaluation, InvocationError, NamedAttribute, Parameter, RunError,

@@ -3,7 +3,7 @@ use crate::invocation_parser::InvocationParser;
 use crate::running::run_invocations;
 use crate::variables::check_variables;
 use just_data::{BorrowedText, Exact, Sequence, Shared, Text};
-use just_names::Modulepath;
+use just_paths::Modulepath;
 use just_needs::assignment_references;
 use just_parts::layers::{
     Assignment, Config, Error, Evaluation, FunctionDefinition, Host, Name, Number, Output,
@@ -153,7 +153,7 @@ impl<'src> Justfile<'src> {
 impl<'src> Justfile<'src> {
     ghost use Rattle.std.specs.Prelude.{◌≡◌};
     ghost use Rattle.just_parts.specs.Host.{KeepsPromises};
-    ghost use Rattle.just_names.specs.Modulepath.{texts};
+    ghost use Rattle.just_names.specs.Texts.{texts};
     ghost use Rattle.just_invoke.specs.Closed.{IsClosed};
     ghost use Rattle.just_invoke.specs.Outcome.{IsExpected, IsOutcome};
 

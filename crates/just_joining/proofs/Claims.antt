@@ -7,7 +7,7 @@ use Rattle.std.proofs.lemmas.Bool.{cases_lt, eqb-true, eq-eqb, lt-ltb, ltb-false
 use Rattle.std.proofs.lemmas.List.{get_or-drop, get_or_default, length-drop}
 use Rattle.std.proofs.lemmas.List.Folds.{list_any_at, list_any_none}
 use Rattle.std.proofs.lemmas.Slice.Eq.{bytes_eq-Decides}
-use Rattle.just_names.specs.Modulepath.{Text}
+use Rattle.just_names.specs.Texts.{Text}
 use Rattle.just_names.proofs.SameTexts.{same_or_not}
 use Rattle.just_joining.specs.Kept.{IsBest, IsBestIndex, IsBestOf, IsBestSoFar, claim_at, is_outdone, lies_above, lies_beside, no_claim, outdoes, stays}
 use Rattle.just_joining.specs.declared.kept.Claim.{Claim}

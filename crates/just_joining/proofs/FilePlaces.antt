@@ -18,7 +18,7 @@ use Rattle.just_parts.specs.Bare.{bare_item}
 use Rattle.just_parts.specs.Located.{located_item}
 use Rattle.just_parts.specs.Items.{Ast, Item}
 use Rattle.just_parts.specs.declared.layers.ast.Item.TheVariants as item
-use Rattle.just_names.specs.declared.modulepath.Modulepath.{Modulepath}
+use Rattle.just_paths.specs.declared.modulepath.Modulepath.{Modulepath}
 use Rattle.just_parts.proofs.AstKeys.{key_same, keys_equivalent}
 use Rattle.just_joining.specs.Files.{ArePlaced, ArePlacesOf, AreRows, LeadsTo, all_led, asts_in, led, led_from, led_in}
 use Rattle.just_joining.specs.Reading.{Reading, Submodule, declared, enabled_items, imports_of, items_in, located_ast, reading_of, submodules_of}

@@ -11,7 +11,7 @@ use Rattle.std.proofs.lemmas.Slice.Eq.{bytes_eq-Decides}
 use Rattle.just_graph.specs.Steps.{IsOnce}
 use Rattle.just_graph.proofs.Leveling.{Once, is_once}
 use Rattle.just_graph.proofs.Members.{In, contained, from_map, in_map, is_in}
-use Rattle.just_names.specs.Modulepath.{Text}
+use Rattle.just_names.specs.Texts.{Text}
 use Rattle.just_parts.specs.declared.layers.ast.UnresolvedDependency.{UnresolvedDependency}
 use Rattle.just_parts.specs.declared.recipe.Recipe.{Recipe}
 use Rattle.just_index.specs.Index.{AreDifferent, name_at}

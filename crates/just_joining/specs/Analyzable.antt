@@ -3,7 +3,7 @@ use Rattle.std.specs.Prelude.{◌≡◌, ℕ, Bool, true, List, map, Option, Som
 use Rattle.std.specs.List.{All, Contains}
 use Rattle.just_graph.specs.Steps.{IsOnce}
 use Rattle.just_parts.specs.Asts.{AstKey}
-use Rattle.just_names.specs.Modulepath.{Text}
+use Rattle.just_names.specs.Texts.{Text}
 use Rattle.just_parts.specs.Bare.{bare_item}
 use Rattle.just_parts.specs.Items.{Ast, Item}
 use Rattle.just_notes.specs.Said.{said}

@@ -2,7 +2,7 @@
 use Rattle.std.specs.Prelude.{◌≡◌, ◌↔◌, ◌++◌, Bool, true, false, List, [], ◌∷◌, flat_map, map, Option, None, Some, is_some, option_to_list, if◌then◌else◌}
 use Rattle.std.specs.List.{Contains, list_any}
 use Rattle.just_table.specs.Entries.{find}
-use Rattle.just_names.specs.Modulepath.{Text}
+use Rattle.just_names.specs.Texts.{Text}
 use Rattle.just_names.specs.Token.{Place}
 use Rattle.just_errors.specs.Causes.{Broken, Cause}
 use Rattle.just_errors.specs.declared.error.CompileErrorKind.TheVariants as kind

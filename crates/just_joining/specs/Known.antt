@@ -1,7 +1,7 @@
 -- What names stand for in a module.
 use Rattle.std.specs.Prelude.{List, [], map}
 use Rattle.just_table.specs.Entries.{put_all}
-use Rattle.just_names.specs.Modulepath.{Text}
+use Rattle.just_names.specs.Texts.{Text}
 use Rattle.just_names.specs.Name.{text_of_name}
 use Rattle.just_records.specs.declared.assignment.Assignment.{Assignment}
 use Rattle.just_records.specs.declared.function_definition.FunctionDefinition.{FunctionDefinition}

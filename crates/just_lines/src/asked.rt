@@ -1,7 +1,7 @@
 //! What a line `$ just` asks.
 use crate::written::unmarked;
 use just_data::Text;
-use just_names::Modulepath;
+use just_paths::Modulepath;
 use just_parts::layers::Config;
 use std::alloc::{AllocError, Global};
 

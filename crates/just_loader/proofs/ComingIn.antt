@@ -15,7 +15,7 @@ use Rattle.just_graph.specs.declared.unfolding.Unfolded.{Unfolded}
 use Rattle.just_graph.proofs.Preorder.{firsts_in}
 use Rattle.just_graph.proofs.Members.{In, contained, is_in, in_cases, in_map}
 use Rattle.just_graph.proofs.Walks.{child_of}
-use Rattle.just_names.specs.Clean.{IsClean, folder_of}
+use Rattle.just_paths.specs.Clean.{IsClean, folder_of}
 use Rattle.just_names.specs.Name.{names_of_path, submodule_path, text_of_name}
 use Rattle.just_parts.specs.Syntax.{components_of}
 use Rattle.just_errors.specs.declared.error.Error.{Error}

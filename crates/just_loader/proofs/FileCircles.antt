@@ -14,7 +14,7 @@ use Rattle.just_graph.specs.Unfolding.{HasStep, AreEdges, IsOrdered, steps}
 use Rattle.just_graph.specs.declared.unfolding.Step.{Step}
 use Rattle.just_graph.proofs.Members.{In, contained, is_in, in_left, in_last, in_map, from_map, in_flat, from_flat}
 use Rattle.just_graph.proofs.Trails.{of_reverse}
-use Rattle.just_names.specs.Clean.{folder_of}
+use Rattle.just_paths.specs.Clean.{folder_of}
 use Rattle.just_names.specs.Name.{text_of_name}
 use Rattle.just_parts.specs.Items.{Item}
 use Rattle.just_parts.specs.Bare.{bare_item}

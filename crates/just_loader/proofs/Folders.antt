@@ -16,9 +16,9 @@ use Rattle.std.proofs.lemmas.Map.Lookups.{exact_bytes}
 use Rattle.std.specs.Str.Pattern.{FindsTextSuffix}
 use Rattle.std.proofs.lemmas.List.Elements.{All-head, All-tail, All-weaker}
 use Rattle.std.proofs.lemmas.List.{length_push}
-use Rattle.just_names.specs.Clean.{is_slash}
+use Rattle.just_paths.specs.Clean.{is_slash}
 use Rattle.just_table.specs.Entries.{find, put, IsSorted}
-use Rattle.just_names.proofs.Slashes.{LacksSlash, before_slash}
+use Rattle.just_paths.proofs.Slashes.{LacksSlash, before_slash}
 use Rattle.just_loader.specs.ModuleFile.{after, slashed, is_module_name, is_named_so, is_module_file}
 use Rattle.just_loader.specs.Sources.{folder_prefix, HoldsFolders, Files}
 use Rattle.just_loader.specs.declared.sources.SourceFile.{SourceFile}

@@ -15,7 +15,7 @@ use Rattle.just_graph.proofs.Index.{told_same}
 use Rattle.just_graph.proofs.MappedUnfolding.{firsts_mapped, unfolds_mapped}
 use Rattle.just_graph.proofs.Members.{In, contained, is_in, in_map, from_map}
 use Rattle.just_parts.specs.Asts.{AstKey}
-use Rattle.just_names.specs.Modulepath.{Text}
+use Rattle.just_names.specs.Texts.{Text}
 use Rattle.just_parts.specs.Syntax.{AreRising, PriorsAreDependencies, numbers}
 use Rattle.just_parts.specs.Items.{Ast}
 use Rattle.just_loader.specs.Keys.{AreFirstFiles, FileNode, FileStep, ast_key, steps_of}

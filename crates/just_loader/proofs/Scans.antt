@@ -5,7 +5,7 @@ use Rattle.std.specs.List.{Contains, slice_get}
 use Rattle.std.specs.Option.{option_map, option_and_then}
 use Rattle.just_graph.specs.declared.unfolding.Step.{Step}
 use Rattle.just_parts.specs.Bare.{bare_item}
-use Rattle.just_names.specs.Clean.{folder_of}
+use Rattle.just_paths.specs.Clean.{folder_of}
 use Rattle.just_names.specs.declared.name.Name.{Name}
 use Rattle.just_table.specs.Entries.{find}
 use Rattle.just_parts.specs.Syntax.{Refuses}

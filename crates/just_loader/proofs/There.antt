@@ -8,7 +8,7 @@ use Rattle.std.proofs.lemmas.List.Elements.{All-nil, All-cons, All-head, All-app
 use Rattle.std.proofs.lemmas.Map.Views.{IsSome-lookup_from_Contains}
 use Rattle.just_parts.specs.Bare.{bare_item}
 use Rattle.just_table.specs.Entries.{find}
-use Rattle.just_names.specs.Join.{clean_join}
+use Rattle.just_paths.specs.Join.{clean_join}
 use Rattle.just_names.specs.Name.{text_of_name}
 use Rattle.just_names.specs.Token.{Place}
 use Rattle.just_names.specs.declared.name.Name.{Name}

@@ -15,7 +15,7 @@ use Rattle.just_graph.specs.declared.unfolding.Step.{Step}
 use Rattle.just_graph.proofs.Members.{In, contained, is_in, in_cases, from_map, without}
 use Rattle.just_graph.proofs.Index.{same_lists}
 use Rattle.just_graph.specs.Unfolded.{AreApart}
-use Rattle.just_names.specs.Clean.{IsClean, folder_of}
+use Rattle.just_paths.specs.Clean.{IsClean, folder_of}
 use Rattle.just_names.specs.declared.name.Name.{Name}
 use Rattle.just_table.specs.Entries.{find}
 use Rattle.just_parts.specs.Items.{Item}

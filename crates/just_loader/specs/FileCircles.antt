@@ -2,7 +2,7 @@
 use Rattle.std.specs.Prelude.{◌≡◌, ◌<◌, List, [], ◌∷◌, ◌++◌, length}
 use Rattle.std.specs.List.{Contains}
 use Rattle.just_graph.specs.Unfolding.{LeadInside}
-use Rattle.just_names.specs.Modulepath.{Text}
+use Rattle.just_names.specs.Texts.{Text}
 use Rattle.just_loader.specs.Reached.{World, LeadsTo, Reached}
 use Rattle.just_errors.specs.Causes.{Cause, LeadsBack}
 use Rattle.just_loader.specs.declared.scanned.Scan.{Scan}

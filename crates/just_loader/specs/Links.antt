@@ -4,11 +4,11 @@ use Rattle.std.specs.Option.{option_map}
 use Rattle.just_parts.specs.Bare.{bare_item}
 use Rattle.just_parts.specs.Edge.{Edge, Imports, Declares, edge_of}
 use Rattle.just_table.specs.Entries.{find}
-use Rattle.just_names.specs.Join.{clean_join}
+use Rattle.just_paths.specs.Join.{clean_join}
 use Rattle.just_names.specs.Name.{text_of_name}
 use Rattle.just_parts.specs.Syntax.{SyntaxAnswers}
 use Rattle.just_names.specs.Token.{Place}
-use Rattle.just_names.specs.Modulepath.{Text}
+use Rattle.just_names.specs.Texts.{Text}
 use Rattle.just_names.specs.declared.name.Name.{Name}
 use Rattle.just_parts.specs.Items.{Item}
 use Rattle.just_attributes.specs.declared.string_literal.StringLiteral.{StringLiteral}

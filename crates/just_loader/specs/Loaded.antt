@@ -7,10 +7,10 @@ use Rattle.just_graph.specs.Unfolding.{HasKeyOf, key_of}
 use Rattle.just_parts.specs.Asts.{AstKey, same_ast_key}
 use Rattle.just_parts.specs.Bare.{bare_ast}
 use Rattle.just_errors.specs.Causes.{Keeps, Reports}
-use Rattle.just_names.specs.Clean.{folder_of}
+use Rattle.just_paths.specs.Clean.{folder_of}
 use Rattle.just_parts.specs.Edge.{with_absolute}
 use Rattle.just_parts.specs.Syntax.{AreRising, IsFrom, PriorsAreDependencies, components_of, numbers}
-use Rattle.just_names.specs.Modulepath.{Text}
+use Rattle.just_names.specs.Texts.{Text}
 use Rattle.just_names.specs.Name.{names_of_path}
 use Rattle.just_names.specs.declared.name.Name.{Name}
 use Rattle.just_names.specs.declared.name.Namepath.{Namepath}

@@ -5,9 +5,9 @@ use Rattle.std.specs.List.{filter}
 use Rattle.std.specs.Map.{keys_of}
 use Rattle.std.specs.Str.{bytes_eq, str_eq_ignore_ascii_case}
 use Rattle.just_table.specs.Entries.{find}
-use Rattle.just_names.specs.Join.{clean_join}
+use Rattle.just_paths.specs.Join.{clean_join}
 use Rattle.just_names.specs.Name.{text_of_name}
-use Rattle.just_names.specs.Modulepath.{Text}
+use Rattle.just_names.specs.Texts.{Text}
 use Rattle.just_names.specs.declared.name.Name.{Name}
 use Rattle.just_errors.specs.declared.error.Error.{Error}
 use Rattle.just_errors.specs.declared.error.Error.TheVariants as error

@@ -3,7 +3,7 @@ use Rattle.std.specs.Prelude.{◌==◌, ℕ, not, false, List, [], ◌∷◌, ma
 use Rattle.std.specs.Option.{option_and_then, option_map}
 use Rattle.just_graph.specs.Unfolding.{Node}
 use Rattle.just_graph.specs.declared.unfolding.Step.{Step}
-use Rattle.just_names.specs.Modulepath.{Text}
+use Rattle.just_names.specs.Texts.{Text}
 use Rattle.just_parts.specs.Asts.{AstKey}
 use Rattle.just_loader.specs.Keys.{FileNode, FileStep}
 use Rattle.just_loader.specs.Numbering.{texts_of}

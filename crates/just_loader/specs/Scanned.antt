@@ -7,10 +7,10 @@ use Rattle.just_graph.specs.Unfolding.{LeadInside}
 use Rattle.just_graph.specs.declared.unfolding.Step.{Step}
 use Rattle.just_graph.specs.Unfolded.{AreApart}
 use Rattle.just_errors.specs.Causes.{Cause}
-use Rattle.just_names.specs.Clean.{IsClean, folder_of}
+use Rattle.just_paths.specs.Clean.{IsClean, folder_of}
 use Rattle.just_parts.specs.Edge.{Edge, Imports, Declares, edge_of}
 use Rattle.just_names.specs.declared.name.Name.{Name}
-use Rattle.just_names.specs.Modulepath.{Text}
+use Rattle.just_names.specs.Texts.{Text}
 use Rattle.just_parts.specs.Items.{Item}
 use Rattle.just_loader.specs.Links.{Link, Nowhere, To, Fault}
 use Rattle.just_loader.specs.Numbering.{IsNamed, paths_found}

@@ -3,7 +3,7 @@ use Rattle.std.specs.Prelude.{ℕ, List, [], ◌∷◌, ◌++◌, Option, IsTrue
 use Rattle.std.specs.List.{All, before_last}
 use Rattle.std.specs.Map.{keys_of}
 use Rattle.std.specs.Option.{option_map}
-use Rattle.just_names.specs.Clean.{IsClean, is_slash}
+use Rattle.just_paths.specs.Clean.{IsClean, is_slash}
 use Rattle.just_table.specs.Entries.{find, IsKeyed}
 use Rattle.just_loader.specs.declared.sources.SourceFile.{SourceFile}
 

@@ -3,14 +3,14 @@
 ghost use Rattle.std.specs.Prelude.{◌≡◌, None, Some, is_some, map, option_map, string_bytes, IfOk, IfErr};
 ghost use Rattle.just_parts.specs.Edge.{Imports};
 ghost use Rattle.just_table.specs.Entries.{find};
-ghost use Rattle.just_names.specs.Join.{clean_join};
+ghost use Rattle.just_paths.specs.Join.{clean_join};
 ghost use Rattle.just_loader.specs.Links.{Nowhere, To, Fault, without_slashes, expanded, given, module_link, edge_link, link_by, linked};
 ghost use Rattle.just_errors.specs.Causes.{NoHome, Reports};
 
 use crate::module_file::{after, find_module_file};
 use crate::sources::Sources;
 use just_data::Text;
-use just_names::clean_join;
+use just_paths::clean_join;
 use just_parts::layers::{Config, Edge, Error, Item, LoadError, Name, StringLiteral, Syntax};
 use std::alloc::Global;
 

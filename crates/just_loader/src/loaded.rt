@@ -1,7 +1,7 @@
 //! What is loaded for a compilation.
 
 use just_data::{Sequence, Text};
-use just_names::Modulepath;
+use just_paths::Modulepath;
 use just_parts::layers::Ast;
 use std::collections::HashMap;
 

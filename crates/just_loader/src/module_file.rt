@@ -1,10 +1,10 @@
 ghost use Rattle.std.specs.Prelude.{◌≡◌, [], Some, None, map, string_bytes, option_map, option_to_list, IfOk, IfErr};
-ghost use Rattle.just_names.specs.Modulepath.{texts};
+ghost use Rattle.just_names.specs.Texts.{texts};
 ghost use Rattle.just_loader.specs.ModuleFile.{after, slashed, relative, is_module_name, file_at, candidates, module_files, TellsSeveral};
 
 use crate::sources::Sources;
 use just_data::{Sequence, Text};
-use just_names::clean_join;
+use just_paths::clean_join;
 use just_parts::layers::{Error, LoadError, Name};
 use std::alloc::{AllocError, Global};
 

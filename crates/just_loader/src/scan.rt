@@ -2,7 +2,7 @@
 
 ghost use Rattle.std.specs.Prelude.{◌≡◌, ◌^◌, ◌<◌, ◌≤◌, Some, map, length, IsSome, IfOk, IfErr, OnOk};
 ghost use Rattle.just_parts.specs.Bare.{bare_item};
-ghost use Rattle.just_names.specs.Clean.{IsClean};
+ghost use Rattle.just_paths.specs.Clean.{IsClean};
 ghost use Rattle.just_table.specs.Entries.{find};
 ghost use Rattle.just_parts.specs.Syntax.{Refuses};
 ghost use Rattle.just_loader.specs.Links.{To, Fault, link_by, links_by};
@@ -19,7 +19,7 @@ use crate::scanned::{Scan, ScannedFile};
 use crate::sources::{SourceFile, Sources};
 use just_data::BorrowedText;
 use just_graph::unfolding::Step;
-use just_names::folder_of;
+use just_paths::folder_of;
 use just_parts::Source;
 use just_parts::layers::{Ast, Config, Edge, Error, Item, Numerator, Syntax};
 use std::alloc::{AllocError, Global};

@@ -1,14 +1,14 @@
 ghost use Rattle.std.specs.Prelude.{◌≡◌, ◌↔◌, [], IfSome, IfOk, IsErrOf, OnOk, OnErr};
 ghost use Rattle.std.specs.Option.{option_map, option_copied};
-ghost use Rattle.just_names.specs.Clean.{IsClean};
+ghost use Rattle.just_paths.specs.Clean.{IsClean};
 ghost use Rattle.just_table.specs.Entries.{find, put};
-ghost use Rattle.just_names.specs.Modulepath.{texts};
+ghost use Rattle.just_names.specs.Texts.{texts};
 ghost use Rattle.just_loader.specs.ModuleFile.{files_in};
 ghost use Rattle.just_loader.specs.Sources.{folder_prefix, text_at};
 
 use crate::module_file::{after, is_module_name, slashed};
 use just_data::BorrowedText;
-use just_names::is_clean;
+use just_paths::is_clean;
 use just_parts::layers::SourceError;
 use just_table::{Keyed, Table};
 use std::alloc::{AllocError, Global};

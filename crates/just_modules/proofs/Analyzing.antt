@@ -13,11 +13,11 @@ use Rattle.just_graph.proofs.Index.{get_map}
 use Rattle.just_graph.proofs.Members.{In, contained, from_flat, from_map, is_in}
 use Rattle.just_parts.specs.Asts.{AstKey, same_ast_key}
 use Rattle.just_errors.specs.Causes.{Cause}
-use Rattle.just_names.specs.Modulepath.{Text}
+use Rattle.just_names.specs.Texts.{Text}
 use Rattle.just_names.specs.Name.{text_of_name}
 use Rattle.just_parts.specs.declared.dependency.Dependency.{Dependency}
 use Rattle.just_parts.specs.Items.{Ast}
-use Rattle.just_names.specs.declared.modulepath.Modulepath.{Modulepath}
+use Rattle.just_paths.specs.declared.modulepath.Modulepath.{Modulepath}
 use Rattle.just_parts.specs.declared.recipe.Recipe.{Recipe}
 use Rattle.just_parts.specs.Recipes.{IsResolved}
 use Rattle.just_invoke.specs.declared.justfile.Justfile.{Justfile, out-Justfile, out-roll-Justfile}
@@ -27,7 +27,8 @@ use Rattle.just_index.specs.Index.{texts_of_names, AreDifferent}
 use Rattle.just_joining.specs.Files.{ArePlaced, AreRows}
 use Rattle.just_modules.specs.Groups.{KeepsGroups, NamesModules}
 use Rattle.just_joining.specs.Joined.{AreArranged, AreJoined, GoDeeper, IsJoined}
-use Rattle.just_modules.specs.Justfiles.{AreCompiled, Built, Made, label_in, labelled_as, recipes_of_all, slot}
+use Rattle.just_making.specs.Labelled.{label_in, labelled_as, slot}
+use Rattle.just_modules.specs.Justfiles.{AreCompiled, Built, Made, recipes_of_all}
 use Rattle.just_notes.specs.declared.labels.Label.{Label}
 use Rattle.just_modules.specs.Modules.{AreModules, Empty, Forest, HasModule, Heading, IsHeading, Module, Tree, a_module, after_it, first, in_it, no_module}
 use Rattle.just_joining.specs.Reading.{Reading, reading_of}

@@ -9,7 +9,7 @@ use Rattle.just_graph.specs.Levels.{AreLevels, before, level}
 use Rattle.just_graph.proofs.Members.{In, contained, from_map, in_cases, in_flat, in_left, in_map, in_right, is_in}
 use Rattle.just_parts.specs.Asts.{AstKey}
 use Rattle.just_table.specs.Entries.{find, put}
-use Rattle.just_names.specs.Modulepath.{Text}
+use Rattle.just_names.specs.Texts.{Text}
 use Rattle.just_parts.specs.declared.dependency.Dependency.{Dependency}
 use Rattle.just_parts.specs.Items.{Ast}
 use Rattle.just_parts.specs.declared.layers.ast.UnresolvedDependency.{UnresolvedDependency}
@@ -21,16 +21,17 @@ use Rattle.just_invoke.specs.Module.{module_name}
 use Rattle.just_parts.specs.Recipes.{find_number, numbers}
 use Rattle.just_invoke.specs.declared.justfile.Justfile.{Justfile, out-Justfile}
 use Rattle.just_invoke.specs.declared.justfile.RecipeKey.{RecipeKey}
-use Rattle.just_modules.specs.Analysis.{IsDefaultAmong, IsDefaultOf, IsKeyOf}
-use Rattle.just_modules.specs.Justfiles.{AreCompiled, Built, Made, IsCompiled, by_name, held_by_name, none, one, recipes_in, recipes_of_all}
+use Rattle.just_making.specs.Analysis.{IsDefaultAmong, IsDefaultOf, IsKeyOf}
+use Rattle.just_making.specs.Labelled.{by_name, held_by_name}
+use Rattle.just_modules.specs.Justfiles.{AreCompiled, Built, Made, IsCompiled, none, one, recipes_in, recipes_of_all}
 use Rattle.just_modules.specs.Modules.{Forest, Module}
 use Rattle.just_graph.proofs.Index.{some_same}
 use Rattle.std.specs.Option.{option_map}
-use Rattle.just_rules.proofs.Later.{marked_or_none}
+use Rattle.just_dependencies.proofs.Later.{marked_or_none}
 use Rattle.just_joining.specs.Kept.{kept_recipes}
 use Rattle.just_joining.specs.Recipes.{recipes_of}
 use Rattle.just_joining.specs.Resolved.{number_at, unresolved_numbers}
-use Rattle.just_modules.proofs.Keys.{each_found}
+use Rattle.just_making.proofs.Keys.{each_found}
 use Rattle.just_modules.proofs.TableValues.{put_cases}
 use Rattle.just_parts.specs.Layers.{Given}
 

@@ -10,18 +10,19 @@ use Rattle.just_graph.specs.Steps.{ListsStepsFirst}
 use Rattle.just_graph.proofs.Index.{some_same}
 use Rattle.just_graph.proofs.Members.{In, contained, in_map, is_in}
 use Rattle.just_parts.specs.Asts.{AstKey, same_ast_key}
-use Rattle.just_names.specs.Modulepath.{Text}
+use Rattle.just_names.specs.Texts.{Text}
 use Rattle.just_parts.specs.declared.dependency.Dependency.{Dependency}
 use Rattle.just_parts.specs.Items.{Ast, Item}
 use Rattle.just_parts.specs.declared.recipe.Recipe.{Recipe}
 use Rattle.just_invoke.specs.declared.justfile.Justfile.{Justfile, out-Justfile, out-roll-Justfile}
-use Rattle.just_modules.specs.Analysis.{AreKeysOf, HasDefault, HasKeysOf, IsDefaultAmong, IsOf}
+use Rattle.just_making.specs.Analysis.{AreKeysOf, HasDefault, HasKeysOf, IsDefaultAmong, IsOf}
 use Rattle.just_joining.specs.Files.{ArePlaced, AreRows, asts_in}
 use Rattle.just_joining.specs.Joined.{IsJoined}
 use Rattle.just_constants.specs.Documented.{AreDocumented, HasDoc}
 use Rattle.just_modules.specs.Evaluated.{IsEvaluatedTo}
-use Rattle.just_modules.specs.Justfiles.{AreCompiled, Built, IsCompiled, Made, contents_in, label_in, labelled_as, none, notes_said, one, recipes_in, with_labels}
-use Rattle.just_modules.specs.Noted.{notes_from}
+use Rattle.just_making.specs.Labelled.{label_in, labelled_as, with_labels}
+use Rattle.just_modules.specs.Justfiles.{AreCompiled, Built, IsCompiled, Made, contents_in, none, notes_said, one, recipes_in}
+use Rattle.just_checking.specs.Noted.{notes_from}
 use Rattle.just_modules.specs.Modules.{Empty, Forest, Heading, Module, Tree, headings_in}
 use Rattle.just_joining.specs.Contents.{Contents}
 use Rattle.just_joining.specs.Kept.{kept_recipes}
@@ -46,7 +47,7 @@ use Rattle.just_modules.proofs.ModulePlaces.{TreeAt, file_inside, join_at, modul
 use Rattle.just_modules.proofs.Ready.{labels_are}
 use Rattle.just_parts.specs.Layers.{Given, Layers, layers_at}
 use Rattle.just_constants.specs.Variables.{AreVariables}
-use Rattle.just_modules.specs.Variables.{HasVariables}
+use Rattle.just_making.specs.Variables.{HasVariables}
 use Rattle.just_notes.specs.Labels.{doc_by}
 use Rattle.just_expressions.specs.declared.expression.Expression.{Expression}
 

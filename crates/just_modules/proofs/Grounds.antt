@@ -11,73 +11,36 @@ use Rattle.just_joining.specs.Defaults.{Defaults}
 use Rattle.just_joining.specs.Groups.{BodiesAndDocs, Breaks, BreaksContents, KeepsBefore, KeepsContents, OfAliases, OfBodies, OfConstants, OfDependencies, OfExpressions, OfHeaders, OfNames, in_docs, in_bodies as in_body}
 use Rattle.just_joining.specs.Kept.{kept_recipes}
 use Rattle.just_joining.specs.Rules.{Bodies, Dependencies, Under, under}
-use Rattle.just_modules.specs.Analysis.{BreaksRecipes, in_bodies, in_defaults, in_dependencies}
+use Rattle.just_making.specs.Analysis.{BreaksRecipes, in_bodies, in_defaults, in_dependencies}
 
-module _ (layers : Layers) (m : Contents) where
-  pub before_names : Keeps (Breaks layers OfHeaders m) → KeepsBefore layers OfNames m
-  before_names headers OfHeaders lt = headers
-  before_names headers OfNames lt = absurd (omega (arith, lt))
-  before_names headers OfExpressions lt = absurd (omega (arith, lt))
-  before_names headers OfConstants lt = absurd (omega (arith, lt))
-  before_names headers OfBodies lt = absurd (omega (arith, lt))
-  before_names headers OfDependencies lt = absurd (omega (arith, lt))
-  before_names headers OfAliases lt = absurd (omega (arith, lt))
+module _ (layers : Layers) (m : Contents) (earlier : KeepsBefore layers OfBodies m) where
+  before_dependencies : Keeps (Breaks layers OfBodies m) → KeepsBefore layers OfDependencies m
+  before_dependencies bodies OfBodies lt = bodies
+  before_dependencies bodies OfHeaders lt = earlier OfHeaders (omega arith)
+  before_dependencies bodies OfNames lt = earlier OfNames (omega arith)
+  before_dependencies bodies OfExpressions lt = earlier OfExpressions (omega arith)
+  before_dependencies bodies OfConstants lt = earlier OfConstants (omega arith)
+  before_dependencies bodies OfDependencies lt = absurd (omega (arith, lt))
+  before_dependencies bodies OfAliases lt = absurd (omega (arith, lt))
 
-  pub before_expressions : Keeps (Breaks layers OfHeaders m) → Keeps (Breaks layers OfNames m) → KeepsBefore layers OfExpressions m
-  before_expressions headers names OfHeaders lt = headers
-  before_expressions headers names OfNames lt = names
-  before_expressions headers names OfExpressions lt = absurd (omega (arith, lt))
-  before_expressions headers names OfConstants lt = absurd (omega (arith, lt))
-  before_expressions headers names OfBodies lt = absurd (omega (arith, lt))
-  before_expressions headers names OfDependencies lt = absurd (omega (arith, lt))
-  before_expressions headers names OfAliases lt = absurd (omega (arith, lt))
+  before_aliases : Keeps (Breaks layers OfBodies m) → Keeps (Breaks layers OfDependencies m) → KeepsBefore layers OfAliases m
+  before_aliases bodies dependencies OfBodies lt = bodies
+  before_aliases bodies dependencies OfDependencies lt = dependencies
+  before_aliases bodies dependencies OfHeaders lt = earlier OfHeaders (omega arith)
+  before_aliases bodies dependencies OfNames lt = earlier OfNames (omega arith)
+  before_aliases bodies dependencies OfExpressions lt = earlier OfExpressions (omega arith)
+  before_aliases bodies dependencies OfConstants lt = earlier OfConstants (omega arith)
+  before_aliases bodies dependencies OfAliases lt = absurd (omega (arith, lt))
 
-  pub before_constants : Keeps (Breaks layers OfHeaders m) → Keeps (Breaks layers OfNames m) → Keeps (Breaks layers OfExpressions m) → KeepsBefore layers OfConstants m
-  before_constants headers names expressions OfHeaders lt = headers
-  before_constants headers names expressions OfNames lt = names
-  before_constants headers names expressions OfExpressions lt = expressions
-  before_constants headers names expressions OfConstants lt = absurd (omega (arith, lt))
-  before_constants headers names expressions OfBodies lt = absurd (omega (arith, lt))
-  before_constants headers names expressions OfDependencies lt = absurd (omega (arith, lt))
-  before_constants headers names expressions OfAliases lt = absurd (omega (arith, lt))
-
-  pub before_bodies : Keeps (Breaks layers OfHeaders m) → Keeps (Breaks layers OfNames m) → Keeps (Breaks layers OfExpressions m) → Keeps (Breaks layers OfConstants m) → KeepsBefore layers OfBodies m
-  before_bodies headers names expressions constants OfHeaders lt = headers
-  before_bodies headers names expressions constants OfNames lt = names
-  before_bodies headers names expressions constants OfExpressions lt = expressions
-  before_bodies headers names expressions constants OfConstants lt = constants
-  before_bodies headers names expressions constants OfBodies lt = absurd (omega (arith, lt))
-  before_bodies headers names expressions constants OfDependencies lt = absurd (omega (arith, lt))
-  before_bodies headers names expressions constants OfAliases lt = absurd (omega (arith, lt))
-
-  module _ (earlier : KeepsBefore layers OfBodies m) where
-    before_dependencies : Keeps (Breaks layers OfBodies m) → KeepsBefore layers OfDependencies m
-    before_dependencies bodies OfBodies lt = bodies
-    before_dependencies bodies OfHeaders lt = earlier OfHeaders (omega arith)
-    before_dependencies bodies OfNames lt = earlier OfNames (omega arith)
-    before_dependencies bodies OfExpressions lt = earlier OfExpressions (omega arith)
-    before_dependencies bodies OfConstants lt = earlier OfConstants (omega arith)
-    before_dependencies bodies OfDependencies lt = absurd (omega (arith, lt))
-    before_dependencies bodies OfAliases lt = absurd (omega (arith, lt))
-
-    before_aliases : Keeps (Breaks layers OfBodies m) → Keeps (Breaks layers OfDependencies m) → KeepsBefore layers OfAliases m
-    before_aliases bodies dependencies OfBodies lt = bodies
-    before_aliases bodies dependencies OfDependencies lt = dependencies
-    before_aliases bodies dependencies OfHeaders lt = earlier OfHeaders (omega arith)
-    before_aliases bodies dependencies OfNames lt = earlier OfNames (omega arith)
-    before_aliases bodies dependencies OfExpressions lt = earlier OfExpressions (omega arith)
-    before_aliases bodies dependencies OfConstants lt = earlier OfConstants (omega arith)
-    before_aliases bodies dependencies OfAliases lt = absurd (omega (arith, lt))
-
-    -- all groups are kept
-    groups_kept : Keeps (Breaks layers OfBodies m) → Keeps (Breaks layers OfDependencies m) → Keeps (Breaks layers OfAliases m) → KeepsContents layers m
-    groups_kept bodies dependencies aliases OfHeaders = earlier OfHeaders (omega arith)
-    groups_kept bodies dependencies aliases OfNames = earlier OfNames (omega arith)
-    groups_kept bodies dependencies aliases OfExpressions = earlier OfExpressions (omega arith)
-    groups_kept bodies dependencies aliases OfConstants = earlier OfConstants (omega arith)
-    groups_kept bodies dependencies aliases OfBodies = bodies
-    groups_kept bodies dependencies aliases OfDependencies = dependencies
-    groups_kept bodies dependencies aliases OfAliases = aliases
+  -- all groups are kept
+  groups_kept : Keeps (Breaks layers OfBodies m) → Keeps (Breaks layers OfDependencies m) → Keeps (Breaks layers OfAliases m) → KeepsContents layers m
+  groups_kept bodies dependencies aliases OfHeaders = earlier OfHeaders (omega arith)
+  groups_kept bodies dependencies aliases OfNames = earlier OfNames (omega arith)
+  groups_kept bodies dependencies aliases OfExpressions = earlier OfExpressions (omega arith)
+  groups_kept bodies dependencies aliases OfConstants = earlier OfConstants (omega arith)
+  groups_kept bodies dependencies aliases OfBodies = bodies
+  groups_kept bodies dependencies aliases OfDependencies = dependencies
+  groups_kept bodies dependencies aliases OfAliases = aliases
 
 -- what is kept of recipes
 pub recipes_kept : (answers : SyntaxAnswers) (s : Settings) (m : Contents) → Keeps (Bodies answers s m) → Keeps (Dependencies s.lists (kept_recipes m.recipes)) → Keeps (Defaults (kept_recipes m.recipes)) → Keeps (BreaksRecipes answers s m)
@@ -104,11 +67,7 @@ module _ (layers : Layers) (m : Contents) (it : Evaluated) (is : IsEvaluated lay
   dependencies_under kept = under_kept (λ (x : Evaluated). Dependencies x.settings.lists (kept_recipes m.recipes)) kept
 
   module _ (earlier : KeepsBefore layers OfBodies m) where
-    -- what is broken of docs is broken of the module
-    pub docs_broken : (c : Cause) → Docs layers.syntax layers.evaluator m it.constants c → BreaksContents layers m c
-    docs_broken c b = record { group = OfBodies; earlier = earlier; broken = under is (in_docs b) }
-
-    -- so is what is broken of recipes, where docs are kept
+    -- what is broken of recipes is broken of the module, where docs are kept
     pub recipes_broken : DocsKept → (c : Cause) → BreaksRecipes layers.syntax it.settings m c → BreaksContents layers m c
     recipes_broken docs c (in_bodies b) = record { group = OfBodies; earlier = earlier; broken = under is (in_body b) }
     recipes_broken docs c (in_dependencies bodies b) = record { group = OfDependencies; earlier = before_dependencies layers m earlier (bodies_under docs bodies); broken = under is b }

@@ -2,7 +2,7 @@
 use Rattle.std.proofs.Common.{◌≡◌, Bool, true, false, None, Option, Some, refl}
 use Rattle.std.specs.Prelude.{if◌then◌else◌}
 use Rattle.std.specs.Option.{option_or}
-use Rattle.just_names.specs.Modulepath.{Text}
+use Rattle.just_names.specs.Texts.{Text}
 
 -- what is found after one more is put in
 pub put_found : (b : Bool) (value : Text) (old : Option Text) → (if b then Some value else old) ≡ option_or (if b then Some value else None) old

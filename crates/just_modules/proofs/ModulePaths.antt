@@ -12,11 +12,11 @@ use Rattle.just_graph.proofs.Index.{get_map, got_in, map_get, some_same}
 use Rattle.just_graph.proofs.Mapped.{every_level}
 use Rattle.just_graph.proofs.Members.{In, contained, from_flat, from_map, in_map, is_in}
 use Rattle.just_parts.specs.Asts.{AstKey, same_ast_key}
-use Rattle.just_names.specs.Modulepath.{Text}
+use Rattle.just_names.specs.Texts.{Text}
 use Rattle.just_names.specs.Name.{text_of_name}
 use Rattle.just_parts.specs.Items.{Ast, Item}
 use Rattle.just_parts.specs.declared.layers.ast.Item.TheVariants as item
-use Rattle.just_names.specs.declared.modulepath.Modulepath.{Modulepath}
+use Rattle.just_paths.specs.declared.modulepath.Modulepath.{Modulepath}
 use Rattle.just_index.specs.Index.{texts_of_names, AreDifferent, name_at}
 use Rattle.just_joining.specs.Files.{ArePlaced, AreRows}
 use Rattle.just_joining.specs.Joined.{IsJoined}

@@ -7,7 +7,7 @@ use Rattle.std.proofs.lemmas.List.{append-nil, append_assoc, take_more}
 use Rattle.just_graph.specs.Graph.{HasEdge, targets}
 use Rattle.just_graph.specs.Steps.{in_take}
 use Rattle.just_graph.proofs.Members.{In, contained, from_flat, from_map, in_map, is_in}
-use Rattle.just_names.specs.Modulepath.{Text}
+use Rattle.just_names.specs.Texts.{Text}
 use Rattle.just_parts.specs.declared.dependency.Dependency.{Dependency}
 use Rattle.just_errors.specs.Causes.{Reports}
 use Rattle.just_errors.specs.declared.error.Error.{Error}
@@ -15,7 +15,8 @@ use Rattle.just_errors.proofs.Lifts.{reports_by}
 use Rattle.just_parts.specs.declared.recipe.Recipe.{Recipe}
 use Rattle.just_parts.specs.Recipes.{numbers}
 use Rattle.just_invoke.specs.declared.justfile.Justfile.{Justfile, roll-Justfile}
-use Rattle.just_modules.specs.Justfiles.{Made, slot}
+use Rattle.just_making.specs.Labelled.{slot}
+use Rattle.just_modules.specs.Justfiles.{Made}
 use Rattle.just_joining.specs.Kept.{kept_recipes}
 use Rattle.just_joining.proofs.Keeping.{kept_number}
 use Rattle.just_joining.specs.Resolved.{unresolved_numbers}
@@ -23,7 +24,7 @@ use Rattle.just_joining.specs.OfPlaces.{recipes_of_place}
 use Rattle.just_modules.specs.Steps.{BreaksInOrder, BreaksPlace, CanCompileAll, CompilesPlace, HaveCompiled, IsCompiledAt}
 use Rattle.just_joining.specs.declared.files.Files.{Files}
 use Rattle.just_joining.specs.declared.joined.Joined.{Joined}
-use Rattle.just_modules.proofs.Makings.{made_numbers}
+use Rattle.just_making.proofs.Makings.{made_numbers}
 use Rattle.just_parts.specs.Layers.{Given}
 use Rattle.just_attributes.specs.declared.settings.Settings.{Settings}
 

@@ -15,12 +15,13 @@ use Rattle.just_joining.specs.Named.{contents_from, said_from}
 use Rattle.just_joining.specs.OfPlaces.{contents_of_place, labels_of_place}
 use Rattle.just_joining.specs.declared.files.Files.{Files}
 use Rattle.just_joining.specs.declared.joined.Joined.{Joined}
-use Rattle.just_modules.specs.Analysis.{BreaksRecipes}
-use Rattle.just_modules.specs.Evaluated.{AreLabels, IsChecked, IsEvaluatedTo, overridden_in}
+use Rattle.just_making.specs.Analysis.{BreaksRecipes}
+use Rattle.just_checking.specs.Evaluated.{AreLabels, IsChecked, overridden_in}
+use Rattle.just_modules.specs.Evaluated.{IsEvaluatedTo}
 use Rattle.just_modules.specs.Steps.{BreaksPlace, KeepsPlace, path_at, path_in}
-use Rattle.just_modules.specs.declared.checking.Checked.{Checked}
+use Rattle.just_checking.specs.declared.checking.Checked.{Checked}
 use Rattle.just_modules.proofs.Grounds.{all_kept, recipes_broken}
-use Rattle.just_names.specs.Modulepath.{Text}
+use Rattle.just_names.specs.Texts.{Text}
 use Rattle.just_names.specs.declared.number.Number.{Number}
 use Rattle.just_notes.specs.Labels.{label_by}
 use Rattle.just_notes.specs.declared.labels.Label.{Label}

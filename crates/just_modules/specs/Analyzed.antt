@@ -10,17 +10,18 @@ use Rattle.just_parts.specs.Needs.{same_number}
 use Rattle.just_graph.specs.Unfolded.{AreApart}
 use Rattle.just_parts.specs.Asts.{AstKey, same_ast_key}
 use Rattle.just_errors.specs.Causes.{Reports}
-use Rattle.just_names.specs.Modulepath.{Text}
+use Rattle.just_names.specs.Texts.{Text}
 use Rattle.just_parts.specs.declared.dependency.Dependency.{Dependency}
 use Rattle.just_parts.specs.Items.{Ast}
 use Rattle.just_parts.specs.Layers.{Given}
 use Rattle.just_errors.specs.declared.error.Error.{Error}
-use Rattle.just_names.specs.declared.modulepath.Modulepath.{Modulepath}
+use Rattle.just_paths.specs.declared.modulepath.Modulepath.{Modulepath}
 use Rattle.just_parts.specs.declared.recipe.Recipe.{Recipe}
 use Rattle.just_invoke.specs.Closed.{AreClosed}
 use Rattle.just_invoke.specs.declared.justfile.Justfile.{Justfile}
 use Rattle.just_modules.specs.Groups.{KeepsModules, NamesModules}
-use Rattle.just_modules.specs.Justfiles.{AreCompiled, Built, label_in, overridden_of_all, recipes_of_all}
+use Rattle.just_making.specs.Labelled.{label_in}
+use Rattle.just_modules.specs.Justfiles.{AreCompiled, Built, overridden_of_all, recipes_of_all}
 use Rattle.just_modules.specs.Modules.{AreModules, Empty, Forest, Heading, IsHeading, Module, Tree, heading}
 use Rattle.just_joining.specs.Reading.{reading_of}
 use Rattle.just_notes.specs.declared.labels.Label.{Label}

@@ -3,7 +3,7 @@ use Rattle.std.specs.Prelude.{◌≡◌, ℕ, Bool, List, [], ◌∷◌, map, fl
 use Rattle.std.specs.Map.{values_of}
 use Rattle.just_parts.specs.Asts.{AstKey}
 use Rattle.just_table.specs.Entries.{put}
-use Rattle.just_names.specs.Modulepath.{Text}
+use Rattle.just_names.specs.Texts.{Text}
 use Rattle.just_names.specs.declared.number.Number.{Number}
 use Rattle.just_parts.specs.declared.dependency.Dependency.{Dependency}
 use Rattle.just_parts.specs.Items.{Ast, Item}
@@ -13,14 +13,15 @@ use Rattle.just_parts.specs.declared.recipe.Recipe.{Recipe}
 use Rattle.std.specs.List.{Contains}
 use Rattle.just_invoke.specs.Module.{module_name}
 use Rattle.just_invoke.specs.declared.justfile.Justfile.{Justfile, out-Justfile, roll-Justfile}
-use Rattle.just_modules.specs.Analysis.{HasDefault, IsOf}
+use Rattle.just_making.specs.Analysis.{HasDefault, IsOf}
+use Rattle.just_making.specs.Labelled.{by_name, label_in, notes_in}
 use Rattle.just_modules.specs.Evaluated.{IsEvaluatedTo}
 use Rattle.just_notes.specs.Labels.{doc_by}
 use Rattle.just_notes.specs.Notes.{absent_by, features_by, notes_of, warnings_by}
 use Rattle.just_notes.specs.declared.labels.Label.{Label}
 use Rattle.just_notes.specs.declared.notes.Notes.{Notes}
 use Rattle.just_modules.specs.Modules.{Module, Forest, Empty, Tree, path_of}
-use Rattle.just_modules.specs.Variables.{HasVariables}
+use Rattle.just_making.specs.Variables.{HasVariables}
 use Rattle.just_joining.specs.Contents.{Contents}
 use Rattle.just_joining.specs.Kept.{kept_recipes}
 use Rattle.just_joining.specs.Named.{function_by, lists_by, name_by, set_by, unexported_by, variable_by}
@@ -50,23 +51,6 @@ contents_in enabled asts files = record {
 abbrev pub notes_said : (Item → Bool) → (AstKey → Option Ast) → List AstKey → Notes
 notes_said enabled asts files =
     notes_of (flat_map (λ k. said_in absent_by enabled (asts k)) files) (flat_map (λ k. features_by (asts k)) files) (flat_map (λ k. warnings_by (asts k)) files)
-
--- what a justfile has of that
-abbrev pub notes_in : Justfile → Notes
-notes_in j = record { absent_modules = (out-Justfile j).absent_modules; unstable_features = (out-Justfile j).unstable_features; warnings = (out-Justfile j).warnings }
-
--- modules under their names, one after another
-abbrev pub held_by_name : List (Text × Justfile) → List Justfile → List (Text × Justfile)
-held_by_name held [] = held
-held_by_name held (j ∷ js) = held_by_name (put (module_name j) j held) js
-
--- modules in byte order of their names
-abbrev pub by_name : List Justfile → List Justfile
-by_name js = values_of (held_by_name [] js)
-
--- the label that a justfile has, whose doc is evaluated
-abbrev pub label_in : Justfile → Label
-label_in j = record { name = (out-Justfile j).name; doc = (out-Justfile j).doc; doc_expression = None; groups = (out-Justfile j).groups; private = (out-Justfile j).private }
 
 -- What a module adds to a compilation: its recipes, and the values that override its variables, each with the number of its variable.
 pub record Made : Type 0 where
@@ -102,21 +86,3 @@ pub data AreCompiled (given : Given) (asts : AstKey → Option Ast) (loaded : Li
   none : AreCompiled given asts loaded built Empty []
   one : {m : Module} {inside after : Forest} {inner js : List Justfile} {j : Justfile} (made : Made) → Contains built (m.heading.key, made) → AreCompiled given asts loaded built inside inner
       → IsCompiled given asts loaded m inner made j → AreCompiled given asts loaded built after js → AreCompiled given asts loaded built (Tree m inside after) (j ∷ js)
-
--- a justfile under a label
-abbrev pub labelled_as : Label → Justfile → Justfile
-labelled_as label j = roll-Justfile (record (out-Justfile j) { name = label.name; doc = label.doc; groups = label.groups; private = label.private })
-
--- each under the label beside it
-abbrev pub with_labels : List Justfile → List Label → List Justfile
-with_labels [] labels = []
-with_labels (j ∷ js) [] = []
-with_labels (j ∷ js) (label ∷ labels) = labelled_as label j ∷ with_labels js labels
-
--- what is held at a place
-abbrev pub slot : List (Option Justfile) → ℕ → Option Justfile
-slot slots q = get_or slots q None
-
--- what is held at the places of a row, each under the label beside it, by their names
-abbrev pub AreTaken : List (Option Justfile) → List ℕ → List Label → List Justfile → Type 0
-AreTaken slots row labels modules = (js : List Justfile) → map Some js ≡ map (slot slots) row → modules ≡ by_name (with_labels js labels)

@@ -1,10 +1,7 @@
-pub mod Analysis
 pub mod Analyzed
 pub mod Evaluated
 pub mod Groups
 pub mod Justfiles
 pub mod Modules
-pub mod Noted
 pub mod Parts
 pub mod Steps
-pub mod Variables

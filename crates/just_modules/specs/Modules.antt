@@ -3,8 +3,8 @@ use Rattle.std.specs.Prelude.{◌≡◌, Bool, List, [], ◌∷◌, map, flat_ma
 use Rattle.std.specs.List.{Contains}
 use Rattle.just_graph.specs.Levels.{AreLevels}
 use Rattle.just_parts.specs.Asts.{AstKey, same_ast_key}
-use Rattle.just_names.specs.Modulepath.{Text}
-use Rattle.just_names.specs.declared.modulepath.Modulepath.{Modulepath}
+use Rattle.just_names.specs.Texts.{Text}
+use Rattle.just_paths.specs.declared.modulepath.Modulepath.{Modulepath}
 use Rattle.just_parts.specs.Items.{Ast, Item}
 use Rattle.just_attributes.specs.declared.string_literal.StringLiteral.{StringLiteral}
 use Rattle.just_names.specs.declared.name.Name.{Name}

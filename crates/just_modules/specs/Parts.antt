@@ -9,13 +9,14 @@ use Rattle.just_joining.specs.Kept.{kept_recipes}
 use Rattle.just_joining.specs.Named.{AreAdded, recipes_by}
 use Rattle.just_joining.specs.declared.files.Files.{Files}
 use Rattle.just_joining.specs.declared.joined.Joined.{Joined}
-use Rattle.just_modules.specs.Analysis.{BreaksRecipes, HasDefault, IsOf}
-use Rattle.just_modules.specs.Justfiles.{Made, by_name, notes_in, slot, with_labels}
-use Rattle.just_modules.specs.Noted.{notes_of_place}
-use Rattle.just_modules.specs.Variables.{HasVariables}
-use Rattle.just_modules.specs.declared.checking.Checked.{Checked}
-use Rattle.just_modules.specs.declared.making.Surroundings.{Surroundings}
-use Rattle.just_names.specs.Modulepath.{Text}
+use Rattle.just_making.specs.Analysis.{BreaksRecipes, HasDefault, IsOf}
+use Rattle.just_making.specs.Labelled.{by_name, notes_in, slot, with_labels}
+use Rattle.just_modules.specs.Justfiles.{Made}
+use Rattle.just_checking.specs.Noted.{notes_of_place}
+use Rattle.just_making.specs.Variables.{HasVariables}
+use Rattle.just_checking.specs.declared.checking.Checked.{Checked}
+use Rattle.just_making.specs.declared.making.Surroundings.{Surroundings}
+use Rattle.just_names.specs.Texts.{Text}
 use Rattle.just_notes.specs.declared.labels.Label.{Label}
 use Rattle.just_parts.specs.Asts.{AstKey}
 use Rattle.just_parts.specs.Items.{Ast, Item}

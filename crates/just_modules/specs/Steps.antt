@@ -7,8 +7,8 @@ use Rattle.just_graph.specs.Graph.{HasEdge, targets}
 use Rattle.just_graph.specs.Steps.{IsOnce, ListsStepsFirst}
 use Rattle.just_parts.specs.Asts.{AstKey}
 use Rattle.just_errors.specs.Causes.{Cause}
-use Rattle.just_names.specs.Modulepath.{Text}
-use Rattle.just_names.specs.declared.modulepath.Modulepath.{Modulepath}
+use Rattle.just_names.specs.Texts.{Text}
+use Rattle.just_paths.specs.declared.modulepath.Modulepath.{Modulepath}
 use Rattle.just_notes.specs.declared.labels.Label.{Label}
 use Rattle.just_records.specs.declared.assignment.Assignment.{Assignment}
 use Rattle.just_parts.specs.Layers.{Given, layers_at}
@@ -16,15 +16,16 @@ use Rattle.just_parts.specs.declared.dependency.Dependency.{Dependency}
 use Rattle.just_parts.specs.Items.{Ast, Item}
 use Rattle.just_parts.specs.declared.recipe.Recipe.{Recipe}
 use Rattle.just_invoke.specs.declared.justfile.Justfile.{Justfile, out-Justfile}
-use Rattle.just_modules.specs.Analysis.{HasDefault, IsOf}
+use Rattle.just_making.specs.Analysis.{HasDefault, IsOf}
 use Rattle.just_modules.specs.Evaluated.{IsEvaluatedTo}
 use Rattle.just_index.specs.Index.{texts_of_names, AreDifferent}
 use Rattle.just_joining.specs.Analyzable.{assignment_numbers}
 use Rattle.just_joining.specs.Files.{asts_in, keys_in}
-use Rattle.just_modules.specs.Justfiles.{Made, by_name, notes_in, slot, with_labels}
+use Rattle.just_making.specs.Labelled.{by_name, notes_in, slot, with_labels}
+use Rattle.just_modules.specs.Justfiles.{Made}
 use Rattle.just_modules.specs.declared.compiling.Gathered.{Gathered}
-use Rattle.just_modules.specs.Noted.{notes_of_place}
-use Rattle.just_modules.specs.Variables.{HasVariables}
+use Rattle.just_checking.specs.Noted.{notes_of_place}
+use Rattle.just_making.specs.Variables.{HasVariables}
 use Rattle.just_joining.specs.Groups.{BreaksContents, KeepsContents}
 use Rattle.just_joining.specs.Kept.{kept_recipes}
 use Rattle.just_joining.specs.Named.{recipes_by, said_from, variable_by}

@@ -10,10 +10,10 @@ ghost use Rattle.just_invoke.specs.declared.justfile.Justfile.{out-Justfile};
 ghost use Rattle.just_constants.specs.Variables.{AreVariablesOf};
 ghost use Rattle.just_joining.specs.Analyzable.{AreAnalyzable};
 ghost use Rattle.just_joining.specs.Definitions.{contents_in, recipes_in};
-ghost use Rattle.just_modules.specs.Analysis.{BreaksRecipes, HasDefault, IsOf};
+ghost use Rattle.just_making.specs.Analysis.{BreaksRecipes, HasDefault, IsOf};
 ghost use Rattle.just_modules.specs.Analyzed.{AnalyzesAt, AreInserted, NamesAnalyzed};
-ghost use Rattle.just_modules.specs.Justfiles.{notes_in};
-ghost use Rattle.just_modules.specs.Variables.{HasVariables};
+ghost use Rattle.just_making.specs.Labelled.{notes_in};
+ghost use Rattle.just_making.specs.Variables.{HasVariables};
 ghost use Rattle.just_joining.specs.Named.{AreAdded, recipes_by};
 ghost use Rattle.just_joining.specs.Rules.{Bodies, Dependencies};
 ghost use Rattle.just_joining.specs.Kept.{kept_recipes};
@@ -21,23 +21,22 @@ ghost use Rattle.just_joining.specs.Resolved.{AreNew, AreResolved, HasPriors, un
 ghost use Rattle.just_parts.specs.Layers.{given_of};
 
 use crate::compiling::{Gathered, compile_in_order};
-use crate::inner::{labelled, take_at};
-use crate::making::{Surroundings, default_of, make_justfile};
 use just_constants::Variables;
 use just_data::{Sequence, Shared, Text};
+use just_dependencies::{order_recipes, resolve_in_order};
 use just_invoke::{Justfile, Recipes};
 use just_joining::definitions::Definitions;
 use just_joining::files::{file_rows, place_files, place_of};
 use just_joining::joined::arrange;
 use just_joining::kept::keep_recipes;
-use just_names::Modulepath;
+use just_making::{Surroundings, default_of, labelled, make_justfile, take_at};
+use just_paths::Modulepath;
 use just_notes::Label;
 use just_parts::layers::{
     Ast, Config, Error, Evaluation, Name, Number, Settings, StringLiteral, Syntax,
 };
 use just_rules::bodies::{check_bodies, index_recipes};
 use just_rules::module_names::check_module_names;
-use just_rules::recipe_resolver::{order_recipes, resolve_in_order};
 use std::alloc::{AllocError, Global};
 use std::collections::HashMap;
 

@@ -2,10 +2,6 @@
 #![tactic(auto)]
 
 mod analyzer;
-mod checking;
 mod compiling;
-mod inner;
-mod making;
-mod noted;
 
 pub use analyzer::Analyzer;

@@ -1,5 +1,1 @@
-pub mod Joins
-pub mod ModulepathLemmas
-pub mod PathTexts
 pub mod SameTexts
-pub mod Slashes

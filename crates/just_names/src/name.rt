@@ -139,7 +139,7 @@ impl<'src> Exact for Namepath<'src> {
 impl<'src> fmt::Display for Namepath<'src> {
     ghost use Rattle.std.specs.Prelude.{Some, false};
     ghost use Rattle.just_names.specs.Name.{texts_of_path};
-    ghost use Rattle.just_names.specs.Modulepath.{text_of};
+    ghost use Rattle.just_names.specs.Texts.{text_of};
 
     ghost output = { λ path. Some (text_of (texts_of_path path) false) };
 

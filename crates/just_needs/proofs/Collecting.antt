@@ -1,7 +1,7 @@
 -- What was there and what a search found, in one set.
 use Rattle.std.proofs.Common.{◌≡◌, Bool, true, ◌||◌, List, [], map, ◌∙◌, ap}
 use Rattle.std.specs.HashSet.{contains}
-use Rattle.just_names.specs.Modulepath.{Text}
+use Rattle.just_names.specs.Texts.{Text}
 use Rattle.just_names.specs.declared.number.Number.{Number}
 use Rattle.just_parts.specs.Needs.{Gains, GainsAll, GainsThose, HasNone, IsSame, same_number}
 use Rattle.just_needs.specs.Search.{IsReadFrom, Searches, found_in, scoped_of}

@@ -1,6 +1,6 @@
 -- What files say of their module that no rule reads.
 use Rattle.std.specs.Prelude.{Bool, true, List, [], ◌∷◌, ◌++◌, Option, None, Some}
-use Rattle.just_names.specs.Modulepath.{Text}
+use Rattle.just_names.specs.Texts.{Text}
 use Rattle.just_names.specs.Name.{text_of_name}
 use Rattle.just_parts.specs.Items.{Ast, Item}
 use Rattle.just_parts.specs.declared.layers.ast.Item.TheVariants as item

@@ -8,7 +8,7 @@ use Rattle.std.specs.Ordering.{nat_cmp, match_ordering, ordering_reverse}
 use Rattle.std.specs.declared.cmp.Ordering.TheVariants.{Greater, Less}
 use Rattle.std.proofs.lemmas.List.{append-nil}
 use Rattle.std.proofs.lemmas.List.Elements.{All-head, All-tail}
-use Rattle.just_names.specs.Modulepath.{Text}
+use Rattle.just_names.specs.Texts.{Text}
 use Rattle.just_table.specs.Entries.{IsKeyed, IsSorted, put, put_all}
 use Rattle.just_variables.proofs.Alike.{changed, put_changed}
 

@@ -5,7 +5,7 @@ use Rattle.std.specs.Option.{option_and_then, option_map, option_map_or}
 use Rattle.std.specs.Str.{bytes_eq}
 use Rattle.just_table.specs.Entries.{find}
 use Rattle.just_index.specs.Index.{AreDifferent}
-use Rattle.just_names.specs.Modulepath.{Text}
+use Rattle.just_names.specs.Texts.{Text}
 use Rattle.just_names.specs.Name.{text_of_name}
 use Rattle.just_names.specs.Number.{no_number}
 use Rattle.just_names.specs.declared.number.Number.{Number}

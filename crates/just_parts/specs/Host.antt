@@ -1,6 +1,6 @@
 -- What a host is asked, and what it promises.
 use Rattle.std.specs.Prelude.{◌≡◌, ℕ, List, [], ◌∷◌, Option, Some, None, Result, Ok, Err}
-use Rattle.just_names.specs.declared.modulepath.Modulepath.{Modulepath}
+use Rattle.just_paths.specs.declared.modulepath.Modulepath.{Modulepath}
 use Rattle.just_parts.specs.declared.layers.host.Entry.{Entry}
 use Rattle.just_parts.specs.declared.layers.host.Entry.TheVariants.{Begin}
 

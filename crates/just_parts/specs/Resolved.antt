@@ -1,6 +1,6 @@
 -- Recipes as they are resolved.
 use Rattle.std.specs.Prelude.{List, [], None, Some}
-use Rattle.just_names.specs.declared.modulepath.Modulepath.{Modulepath}
+use Rattle.just_paths.specs.declared.modulepath.Modulepath.{Modulepath}
 use Rattle.just_parts.specs.declared.recipe.Recipe.{Recipe}
 
 -- the recipe with these dependencies, before it is resolved

@@ -7,9 +7,11 @@ ghost use Rattle.just_records.specs.Parameter.{is_required, is_variadic, least_a
 
 use crate::dependency::Dependency;
 use crate::layers::ast::UnresolvedDependency;
-use just_data::{Chain, Exact, Sequence, Text};
+use just_chain::Chain;
+use just_data::{Exact, Sequence, Text};
 use just_errors::ArgumentRange;
-use just_names::{Modulepath, Name, Number};
+use just_names::{Name, Number};
+use just_paths::Modulepath;
 use just_records::{Attribute, Line, NamedAttribute, Parameter, Settings};
 use std::alloc::{AllocError, Global};
 

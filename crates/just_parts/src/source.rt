@@ -1,11 +1,13 @@
 //! How a file came in.
 ghost use Rattle.std.specs.Prelude.{◌≡◌, ◌↔◌, ◌⊎◌, ◌+◌, [], ◌∷◌, ◌++◌, Some, None, IfOk, IfErr, IsErrOf, MatchResult};
-ghost use Rattle.just_names.specs.Clean.{IsClean, folder_of};
+ghost use Rattle.just_paths.specs.Clean.{IsClean, folder_of};
 ghost use Rattle.just_names.specs.Name.{submodule_path};
 
-use just_data::{Chain, Exact, Text};
+use just_chain::Chain;
+use just_data::{Exact, Text};
 use just_errors::Error;
-use just_names::{Exhausted, Name, Namepath, folder_of};
+use just_names::{Exhausted, Name, Namepath};
+use just_paths::folder_of;
 use std::alloc::{AllocError, Global};
 
 /// A file of a compilation, and how it came in: `file_depth` imports and modules lead to it from the root, by the files

@@ -3,7 +3,7 @@ use crate::items::{parse, root_source};
 use just_bench::{PlainSyntax, Recorder};
 use just_data::{Exact, Sequence, Text};
 use just_lines::faults::add_fault;
-use just_names::Modulepath;
+use just_paths::Modulepath;
 use just_parts::layers::{Error, Groups, Host};
 use std::alloc::{AllocError, Global};
 

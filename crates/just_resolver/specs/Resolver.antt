@@ -2,7 +2,7 @@
 use Rattle.std.specs.Prelude.{Bool, List, Option}
 use Rattle.std.specs.HashMap.{get}
 use Rattle.std.specs.Str.{bytes_eq}
-use Rattle.just_names.specs.Modulepath.{Text}
+use Rattle.just_names.specs.Texts.{Text}
 use Rattle.just_names.specs.declared.number.Number.{Number}
 use Rattle.just_parts.specs.Needs.{has_number}
 use Rattle.just_numbering.specs.Numbered.{number_by}

@@ -1,15 +1,9 @@
 pub mod Alike
 pub mod BareOutlines
 pub mod Defining
-pub mod Edges
 pub mod Excluded
 pub mod Following
 pub mod Grouping
 pub mod Holding
-pub mod Later
 pub mod Leave
-pub mod RecipeCircles
-pub mod Refuted
-pub mod Resolving
 pub mod Signatures
-pub mod Targets

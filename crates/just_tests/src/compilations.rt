@@ -1,6 +1,6 @@
 //! What no example shows of a compilation: a host that refuses, and copies of recipes.
 ghost use Rattle.std.specs.Prelude.{IfOk};
-ghost use Rattle.just_names.specs.Clean.{IsClean};
+ghost use Rattle.just_paths.specs.Clean.{IsClean};
 ghost use Rattle.just_invoke.specs.Closed.{IsClosed};
 
 use just_analyzer::layers::{Config, Entry, Error, Groups, Host, LoadError};

@@ -12,7 +12,7 @@ use Rattle.std.proofs.lemmas.Map.Views.{Contains-from_any}
 use Rattle.std.proofs.lemmas.Slice.Eq.{bytes_eq-Decides}
 use Rattle.just_index.proofs.Indexing.{texts_apart}
 use Rattle.just_index.specs.Index.{AreDifferent, name_at}
-use Rattle.just_names.specs.Modulepath.{Text}
+use Rattle.just_names.specs.Texts.{Text}
 use Rattle.just_names.specs.Name.{text_of_name}
 use Rattle.just_names.specs.declared.number.Number.{Number}
 use Rattle.just_parts.specs.Evaluator.{Binds, IsBindingOf, Values, Wanted, unnumbered_assignment, values_of, wanted_by}

@@ -1,11 +1,10 @@
-pub mod AllOf
 pub mod Alike
+pub mod AllOf
 pub mod BareSets
 pub mod Branches
 pub mod Called
 pub mod Ended
 pub mod Measure
-pub mod Put
 pub mod Read
 pub mod Scoped
 pub mod Settled

@@ -7,7 +7,7 @@ use Rattle.std.proofs.lemmas.List.{take_more}
 use Rattle.std.proofs.lemmas.List.Elements.{Contains-append_left, Contains-push, Contains-push_cases}
 use Rattle.std.proofs.lemmas.Slice.Eq.{bytes_eq-Decides}
 use Rattle.just_index.specs.Index.{name_at, texts_of_names}
-use Rattle.just_names.specs.Modulepath.{Text}
+use Rattle.just_names.specs.Texts.{Text}
 use Rattle.just_names.specs.Name.{text_of_name}
 use Rattle.just_names.specs.declared.name.Name.{Name}
 use Rattle.just_names.specs.declared.number.Number.{Number}
@@ -20,7 +20,7 @@ use Rattle.just_table.specs.Entries.{find}
 use Rattle.just_values.specs.Constants.{Adds, assigned_value, values_after}
 use Rattle.just_values.specs.Lookup.{table_values}
 use Rattle.just_values.specs.declared.lookup.Constant.{Constant}
-use Rattle.just_values.proofs.Put.{find_put}
+use Rattle.just_table.proofs.Puts.{find_put}
 use Rattle.just_values.proofs.Steps.{after_needed, after_unneeded, assigned_same, unneeded}
 
 -- a constant that is bound as its variable is assigned

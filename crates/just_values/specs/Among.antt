@@ -1,6 +1,6 @@
 -- Expressions as the code evaluates them: among functions, constants and parameters.
 use Rattle.std.specs.Prelude.{ℕ, zero, suc, List, map, Option}
-use Rattle.just_names.specs.Modulepath.{Text}
+use Rattle.just_names.specs.Texts.{Text}
 use Rattle.just_parts.specs.Evaluator.{Functions, Values, functions_by_name}
 use Rattle.just_expressions.specs.declared.expression.Expression.{Expression}
 use Rattle.just_values.specs.declared.values.Among.{Among}

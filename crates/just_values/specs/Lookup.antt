@@ -3,7 +3,7 @@ use Rattle.std.specs.Prelude.{◌≡◌, List, Option, Some, Result, Ok, Err}
 use Rattle.std.specs.Option.{option_map}
 use Rattle.just_errors.specs.declared.error.Error.{Error}
 use Rattle.just_parts.specs.Evaluator.{FaultsAt, Values, values_of}
-use Rattle.just_names.specs.Modulepath.{Text}
+use Rattle.just_names.specs.Texts.{Text}
 use Rattle.just_names.specs.Name.{text_of_name}
 use Rattle.just_table.specs.Entries.{find}
 use Rattle.just_values.specs.declared.lookup.Constant.{Constant}

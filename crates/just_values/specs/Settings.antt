@@ -1,7 +1,7 @@
 -- What settings come to.
 use Rattle.std.specs.Prelude.{false, List, [], ◌∷◌, map, Option, None, Some}
 use Rattle.std.specs.Option.{option_and_then, option_map}
-use Rattle.just_names.specs.Modulepath.{Text}
+use Rattle.just_names.specs.Texts.{Text}
 use Rattle.just_parts.specs.Evaluator.{Functions, Values}
 use Rattle.just_expressions.specs.declared.expression.Expression.{Expression}
 use Rattle.just_attributes.specs.declared.interpreter.Interpreter.{Interpreter}

@@ -3,7 +3,7 @@ use Rattle.std.specs.Prelude.{◌==◌, ℕ, zero, suc, List, [], ◌∷◌, ◌
 use Rattle.std.specs.List.{flat_map}
 use Rattle.std.specs.Option.{option_and_then, option_map, option_or}
 use Rattle.std.specs.Str.{bytes_eq}
-use Rattle.just_names.specs.Modulepath.{Text, joined}
+use Rattle.just_names.specs.Texts.{Text, joined}
 use Rattle.just_names.specs.Name.{text_of_name}
 use Rattle.just_expressions.specs.declared.expression.Expression.{Expression, fold-Expression}
 use Rattle.just_expressions.specs.declared.expression.Shape.{Shape, fold-Shape}

@@ -1,7 +1,7 @@
 //! Where the values of names are looked up, and what is told where there is none.
 ghost use Rattle.std.specs.Prelude.{◌≡◌, List, None};
 ghost use Rattle.std.specs.Option.{option_copied};
-ghost use Rattle.just_names.specs.Modulepath as path;
+ghost use Rattle.just_names.specs.Texts as path;
 ghost use Rattle.just_parts.specs.Evaluator.{FaultsAt, values_of};
 ghost use Rattle.just_values.specs.Lookup.{constant_values};
 ghost use Rattle.just_values.specs.Values.{bound};

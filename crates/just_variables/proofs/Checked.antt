@@ -8,7 +8,7 @@ use Rattle.just_errors.specs.Causes.{Cause, Broken, Keeps}
 use Rattle.just_errors.specs.Wording.{takes}
 use Rattle.just_errors.specs.declared.error.CompileErrorKind.TheVariants as kind
 use Rattle.just_errors.specs.declared.wording.ArgumentRange.{ArgumentRange}
-use Rattle.just_names.specs.Modulepath.{Text}
+use Rattle.just_names.specs.Texts.{Text}
 use Rattle.just_names.specs.Name.{text_of_name}
 use Rattle.just_names.specs.Token.{Place}
 use Rattle.just_names.specs.declared.name.Name.{Name}

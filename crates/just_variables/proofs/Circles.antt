@@ -11,7 +11,7 @@ use Rattle.just_errors.specs.declared.error.CompileErrorKind.TheVariants as kind
 use Rattle.just_graph.specs.Graph.{HasEdge}
 use Rattle.just_graph.specs.Steps.{IsCircle, Leads, by_step, by_steps}
 use Rattle.just_index.specs.Index.{AreDifferent, name_at}
-use Rattle.just_names.specs.Modulepath.{Text}
+use Rattle.just_names.specs.Texts.{Text}
 use Rattle.just_names.specs.Token.{Place}
 use Rattle.just_records.specs.declared.assignment.Assignment.{Assignment}
 use Rattle.just_table.specs.Entries.{find}

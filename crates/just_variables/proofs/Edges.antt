@@ -12,7 +12,7 @@ use Rattle.just_graph.proofs.Index.{map_get, some_same}
 use Rattle.just_graph.proofs.Members.{In, contained, from_flat, in_flat, is_in}
 use Rattle.just_graph.specs.Building.{targets_past}
 use Rattle.just_graph.specs.Graph.{HasEdge, targets}
-use Rattle.just_names.specs.Modulepath.{Text}
+use Rattle.just_names.specs.Texts.{Text}
 use Rattle.just_records.specs.declared.assignment.Assignment.{Assignment}
 use Rattle.just_records.specs.declared.function_definition.FunctionDefinition.{FunctionDefinition}
 use Rattle.just_references.specs.Body.{Calls, Mention, Names}

@@ -11,7 +11,7 @@ use Rattle.just_graph.proofs.Members.{contained, in_map, is_in}
 use Rattle.just_graph.specs.Graph.{HasEdge}
 use Rattle.just_graph.specs.Steps.{from_start}
 use Rattle.just_index.specs.Index.{AreDifferent, name_at}
-use Rattle.just_names.specs.Modulepath.{Text}
+use Rattle.just_names.specs.Texts.{Text}
 use Rattle.just_table.specs.Entries.{find}
 use Rattle.just_through.specs.Through.{IsOrderThrough}
 use Rattle.just_parts.specs.Known.{Known}

@@ -18,7 +18,7 @@ use Rattle.std.proofs.lemmas.Slice.Eq.{bytes_eq-Decides}
 use Rattle.just_graph.proofs.Index.{map_get, some_same}
 use Rattle.just_index.proofs.Indexing.{texts_apart}
 use Rattle.just_index.specs.Index.{AreDifferent, IsIndex, IsLast, name_at}
-use Rattle.just_names.specs.Modulepath.{Text}
+use Rattle.just_names.specs.Texts.{Text}
 use Rattle.just_table.specs.Entries.{IsSorted, find}
 
 -- there is an element at each place

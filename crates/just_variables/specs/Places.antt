@@ -2,7 +2,7 @@
 use Rattle.std.specs.Prelude.{◌≡◌, ℕ, ◌+◌, ◌<◌, ◌^◌, Bool, List, Some}
 use Rattle.std.specs.HashMap.{get}
 use Rattle.std.specs.Str.{bytes_eq}
-use Rattle.just_names.specs.Modulepath.{Text}
+use Rattle.just_names.specs.Texts.{Text}
 use Rattle.just_references.specs.Body.{Mention}
 use Rattle.just_variables.specs.Steps.{Scoped, target_of, targets_of}
 use Rattle.just_variables.specs.declared.nodes.Places.{Places}

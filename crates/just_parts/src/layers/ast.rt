@@ -3,7 +3,8 @@ ghost use Rattle.std.specs.Prelude.{◌≡◌};
 
 use crate::recipe::UnresolvedRecipe;
 use just_data::{Exact, Sequence, Text};
-use just_names::{Modulepath, Name, Namepath, Token};
+use just_names::{Name, Namepath, Token};
+use just_paths::Modulepath;
 use just_records::{
     Assignment, FunctionDefinition, ListUse, NamedAttribute, Set, StringLiteral, UnstableFeature,
     Warning,

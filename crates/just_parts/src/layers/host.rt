@@ -4,7 +4,7 @@ ghost use Rattle.just_parts.specs.declared.layers.host.Entry.{Entry};
 ghost use Rattle.just_parts.specs.Host.{Answer, Answers, KeepsPromises, done_answer, kept};
 
 use just_data::{Exact, Sequence, Text};
-use just_names::Modulepath;
+use just_paths::Modulepath;
 use std::alloc::AllocError;
 
 /// The arguments of a recipe: for each parameter the texts that it was given.

@@ -7,7 +7,7 @@ use Rattle.std.proofs.lemmas.List.{take_all}
 use Rattle.std.proofs.lemmas.List.Elements.{All-contains, All-more}
 use Rattle.std.proofs.lemmas.Result.{IfErr-weaker}
 use Rattle.just_errors.specs.Causes.{Keeps, Reports}
-use Rattle.just_names.specs.Modulepath.{Text}
+use Rattle.just_names.specs.Texts.{Text}
 use Rattle.just_needs.proofs.Starts.{has_image, is_image}
 use Rattle.just_parts.specs.Known.{none_hidden}
 use Rattle.just_expressions.specs.declared.expression.Expression.{Expression}

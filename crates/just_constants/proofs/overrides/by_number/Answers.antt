@@ -1,6 +1,6 @@
 use Rattle.std.proofs.Common.{◌∙◌, Some, ap, arith, cond}
 use Rattle.std.specs.HashMap.{get}
-use Rattle.just_names.specs.Modulepath.{Text}
+use Rattle.just_names.specs.Texts.{Text}
 use Rattle.just_parts.specs.Needs.{same_number}
 use Rattle.just_constants.proofs.Overriding.{last_more_put}
 use Rattle.just_constants.proofs.overrides.by_number.Goals as goal

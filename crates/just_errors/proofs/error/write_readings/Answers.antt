@@ -1,6 +1,6 @@
 use Rattle.std.proofs.Common.{◌≡◌, refl, ◌++◌, codes}
 use Rattle.std.proofs.lemmas.Grind.{put_three}
-use Rattle.just_names.specs.Modulepath.{joined}
+use Rattle.just_names.specs.Texts.{joined}
 use Rattle.just_errors.specs.Messages.{readings_text}
 use Rattle.just_errors.proofs.Pieces.{three_parts}
 use Rattle.just_errors.proofs.error.write_readings.Goals as goal

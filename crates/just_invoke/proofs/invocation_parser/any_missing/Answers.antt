@@ -1,5 +1,5 @@
 use Rattle.std.proofs.Common.{rules, ◌≡◌, ◌||◌, ◌∙◌, sym, ap, true, false, drop, ◌+◌, arith}
-use Rattle.just_names.specs.Modulepath.{texts}
+use Rattle.just_names.specs.Texts.{texts}
 use Rattle.just_invoke.specs.Tail.{shown, any_missing, is_missing}
 use Rattle.just_invoke.proofs.TailLemmas.{missing_at}
 use Rattle.just_invoke.proofs.invocation_parser.any_missing.Goals as goal

@@ -1,6 +1,6 @@
 use Rattle.std.proofs.Common.{[], rules, IfSome, refl, ap, arith, length, length-drop, map, drop}
 use Rattle.std.proofs.lemmas.Result.{IfErr-weaker}
-use Rattle.just_names.specs.Modulepath.{texts}
+use Rattle.just_names.specs.Texts.{texts}
 use Rattle.just_invoke.specs.Cause.{cause_of}
 use Rattle.just_invoke.specs.Split.{invoked_of, Stops, IsFault}
 use Rattle.just_invoke.proofs.SplitLemmas.{fault_after, chain_all, chain_more, held_more}

@@ -1,6 +1,6 @@
 use Rattle.std.proofs.Common.{◌≤◌, ◌-◌, ◌++◌, List, length, drop, map}
 use Rattle.std.specs.List.{All}
-use Rattle.just_names.specs.Modulepath.{texts}
+use Rattle.just_names.specs.Texts.{texts}
 use Rattle.just_invoke.specs.Closed.{IsHeld}
 use Rattle.just_invoke.specs.Head.{Words}
 use Rattle.just_invoke.specs.Split.{Invoked, Chain, invoked_of}

@@ -1,6 +1,6 @@
 use Rattle.std.proofs.Common.{rules, ◌≡◌, ◌<◌, [], ◌∷◌, ◌++◌, ◌∙◌, sym, ap, set, get_or, length, take, arith, below_more, min}
 use Rattle.std.proofs.Math.ListN.{length-set}
-use Rattle.just_names.specs.Modulepath.{texts}
+use Rattle.just_names.specs.Texts.{texts}
 use Rattle.just_invoke.specs.Tail.{shown, place, group, uses_from}
 use Rattle.just_invoke.proofs.HeadLemmas.{texts_front}
 use Rattle.just_invoke.proofs.TailLemmas.{groups_more, length_texts}

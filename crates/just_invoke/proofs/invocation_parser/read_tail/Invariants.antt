@@ -1,5 +1,5 @@
 use Rattle.std.proofs.Common.{◌≡◌, ◌<◌, ℕ, [], length, get_or, take}
-use Rattle.just_names.specs.Modulepath.{texts}
+use Rattle.just_names.specs.Texts.{texts}
 use Rattle.just_invoke.specs.Tail.{shown, place, group, uses_from}
 use Rattle.just_invoke.proofs.invocation_parser.read_tail.Given as goal
 

@@ -1,5 +1,5 @@
 use Rattle.std.proofs.Common.{◌∙◌, sym, subst}
-use Rattle.just_names.specs.Clean.{IsClean}
+use Rattle.just_paths.specs.Clean.{IsClean}
 use Rattle.just_loader.proofs.ComingIn.{module_next, name_is, path_clean, path_is}
 use Rattle.just_loader.proofs.loading.next_source.Goals as goal
 

@@ -1,6 +1,6 @@
 use Rattle.std.proofs.Common.{◌≡◌, ◌∙◌, ◌+◌, map, ap, sym, subst, refl, rules}
 use Rattle.std.specs.List.{All}
-use Rattle.just_names.specs.Clean.{folder_of}
+use Rattle.just_paths.specs.Clean.{folder_of}
 use Rattle.just_parts.specs.Syntax.{AreRising, PriorsAreDependencies, numbers}
 use Rattle.just_errors.specs.declared.error.Error.{Error}
 use Rattle.just_loader.specs.Keys.{spends_at}

@@ -1,5 +1,5 @@
 use Rattle.std.proofs.Common.{◌≡◌, take, map}
-use Rattle.just_names.specs.Modulepath.{texts}
+use Rattle.just_names.specs.Texts.{texts}
 use Rattle.just_loader.specs.ModuleFile.{relative}
 use Rattle.just_loader.proofs.module_file.relative_paths.Given as goal
 

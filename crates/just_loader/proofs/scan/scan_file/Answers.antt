@@ -2,7 +2,7 @@ use Rattle.std.proofs.Common.{◌≡◌, ◌∙◌, ◌≤◌, ◌^◌, Some, ma
 use Rattle.std.specs.List.{Contains}
 use Rattle.std.proofs.lemmas.List.{length-map}
 use Rattle.just_parts.specs.Bare.{bare_item}
-use Rattle.just_names.specs.Clean.{folder_of}
+use Rattle.just_paths.specs.Clean.{folder_of}
 use Rattle.just_loader.specs.Links.{To, Fault, link_in}
 use Rattle.just_loader.specs.ModuleFile.{relative}
 use Rattle.just_loader.specs.Numbering.{paths_of}

@@ -1,6 +1,6 @@
 use Rattle.std.proofs.Common.{rules, ◌≡◌, ◌∙◌, ap, Some, None}
 use Rattle.std.specs.Prelude.{unwrap_or}
-use Rattle.just_names.proofs.Slashes.{last_parts, clean_has}
+use Rattle.just_paths.proofs.Slashes.{last_parts, clean_has}
 use Rattle.just_loader.proofs.Folders.{stripped}
 use Rattle.just_loader.proofs.sources.folder_prefix.Goals as goal
 

@@ -10,9 +10,9 @@ use Rattle.just_joining.specs.Kept.{kept_recipes}
 use Rattle.just_joining.specs.Named.{recipes_by}
 use Rattle.just_joining.specs.Resolved.{unresolved_numbers}
 use Rattle.just_joining.proofs.Keeping.{kept_number}
-use Rattle.just_modules.specs.Analysis.{BreaksRecipes, IsDefaultAmong, IsMarked, in_bodies, in_defaults, in_dependencies}
+use Rattle.just_making.specs.Analysis.{BreaksRecipes, IsDefaultAmong, IsMarked, in_bodies, in_defaults, in_dependencies}
 use Rattle.just_modules.proofs.Grounds.{recipes_kept}
-use Rattle.just_modules.proofs.Makings.{default_resolved, resolved_numbers, variables_had}
+use Rattle.just_making.proofs.Makings.{default_resolved, resolved_numbers, variables_had}
 use Rattle.just_modules.proofs.analyzer.analyze_module.Goals as goal
 use Rattle.just_parts.specs.declared.layers.ast.UnresolvedDependency.{UnresolvedDependency}
 use Rattle.just_parts.specs.declared.recipe.Recipe.{Recipe}

@@ -11,7 +11,7 @@ use Rattle.just_errors.specs.Causes.{Reports}
 use Rattle.just_errors.proofs.Lifts.{reports_by}
 use Rattle.just_modules.specs.Analyzed.{IsAnalyzed}
 use Rattle.just_joining.specs.Joined.{AreArranged, AreGraphs}
-use Rattle.just_modules.specs.Justfiles.{labelled_as}
+use Rattle.just_making.specs.Labelled.{labelled_as}
 use Rattle.just_modules.specs.Modules.{heading}
 use Rattle.just_joining.specs.OfPlaces.{RepeatsNames}
 use Rattle.just_modules.specs.Steps.{BreaksInOrder, CanCompileAll, HaveCompiled, made_in}

@@ -12,8 +12,8 @@ use Rattle.just_joining.specs.Recipes.{names_of}
 use Rattle.just_joining.specs.Resolved.{AreResolved, HasPriors, Resolving, unresolved_numbers}
 use Rattle.just_joining.specs.Rules.{Bodies, Dependencies}
 use Rattle.just_joining.proofs.Keeping.{kept_all, kept_different, kept_once}
-use Rattle.just_rules.proofs.Resolving.{all_resolved}
-use Rattle.just_modules.specs.Analysis.{BreaksRecipes, in_bodies, in_dependencies}
+use Rattle.just_dependencies.proofs.Resolving.{all_resolved}
+use Rattle.just_making.specs.Analysis.{BreaksRecipes, in_bodies, in_dependencies}
 use Rattle.just_modules.proofs.analyzer.resolve_recipes.Goals as goal
 
 pub order_recipes-requires-clause-different : goal.order_recipes-requires-clause-different

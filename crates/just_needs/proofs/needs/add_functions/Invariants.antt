@@ -2,7 +2,7 @@ use Rattle.std.proofs.Common.{◌≡◌, ◌≤◌, ◌||◌, length}
 use Rattle.std.specs.HashSet.{contains, spare}
 use Rattle.std.specs.List.{list_any}
 use Rattle.std.specs.Str.{bytes_eq}
-use Rattle.just_names.specs.Modulepath.{Text}
+use Rattle.just_names.specs.Texts.{Text}
 use Rattle.just_needs.proofs.needs.add_functions.Given as goal
 
 abbrev pub invariant-loop-function : goal.invariant-loop-function

@@ -1,7 +1,7 @@
 use Rattle.std.proofs.Common.{◌≡◌, ◌<◌, ◌∙◌, List, ap, length, subst, sym, arith}
 use Rattle.std.specs.Prelude.{if◌then◌else◌}
 use Rattle.std.proofs.lemmas.Grind.{common_steps}
-use Rattle.just_names.specs.Modulepath.{Text}
+use Rattle.just_names.specs.Texts.{Text}
 use Rattle.just_joining.specs.Contents.{all_defined, defined, texts_of_defined}
 use Rattle.just_joining.specs.Definitions.{recipes_in}
 use Rattle.just_index.specs.Index.{NoneRepeats, Repeats}

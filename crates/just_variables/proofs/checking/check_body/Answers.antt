@@ -2,7 +2,7 @@ use Rattle.std.proofs.Common.{◌≡◌, ◌∙◌, ap, subst, Bool, IfErr, OnOk
 use Rattle.std.specs.HashSet.{contains}
 use Rattle.std.specs.Str.{bytes_eq}
 use Rattle.just_errors.specs.Causes.{Keeps, Reports}
-use Rattle.just_names.specs.Modulepath.{Text}
+use Rattle.just_names.specs.Texts.{Text}
 use Rattle.just_parts.specs.Known.{hides}
 use Rattle.just_variables.specs.Lent.{known_in}
 use Rattle.just_parts.specs.Misnaming.{Misnames}

@@ -3,7 +3,7 @@ use Rattle.std.specs.HashMap.{get}
 use Rattle.just_invoke.specs.Closed.{is_closed}
 use Rattle.just_parts.specs.Asts.{root_ast_key, same_ast_key}
 use Rattle.just_errors.specs.Causes.{Reports}
-use Rattle.just_names.specs.declared.modulepath.Modulepath.{Modulepath}
+use Rattle.just_paths.specs.declared.modulepath.Modulepath.{Modulepath}
 use Rattle.just_errors.proofs.Lifts.{lifted}
 use Rattle.just_parts.specs.Layers.{override_at}
 use Rattle.just_loader.specs.Keys.{NamesInFiles}

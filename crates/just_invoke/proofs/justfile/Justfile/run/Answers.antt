@@ -1,6 +1,6 @@
 use Rattle.std.proofs.Common.{◌≡◌, ◌∙◌, ◌≤◌, true, map, length, refl, sym, ap, subst, arith, rules}
 use Rattle.std.proofs.lemmas.List.{length-map}
-use Rattle.just_names.specs.Modulepath.{texts}
+use Rattle.just_names.specs.Texts.{texts}
 use Rattle.just_invoke.specs.Going.{ComesTo}
 use Rattle.just_invoke.specs.Outcome.{refused}
 use Rattle.just_invoke.specs.Split.{invoked_of}

@@ -1,4 +1,4 @@
-use Rattle.just_names.specs.Clean.{IsClean}
+use Rattle.just_paths.specs.Clean.{IsClean}
 use Rattle.just_loader.proofs.Tables.{some_keyed}
 use Rattle.just_loader.proofs.Paths.{some_holds}
 use Rattle.just_loader.proofs.sources.Sources.file.Goals as goal

@@ -1,5 +1,5 @@
 use Rattle.std.proofs.Common.{rules, ◌≡◌, sym, subst}
-use Rattle.just_names.specs.Clean.{IsClean}
+use Rattle.just_paths.specs.Clean.{IsClean}
 use Rattle.just_table.specs.Entries.{put}
 use Rattle.just_loader.specs.Sources.{folder_prefix, HoldsFolders}
 use Rattle.just_loader.proofs.Folders.{held_on}

@@ -3,7 +3,7 @@ use Rattle.std.specs.List.{filter}
 use Rattle.std.proofs.lemmas.List.{map-append}
 use Rattle.std.specs.Map.{keys_of}
 use Rattle.just_table.specs.Entries.{shown, find, from_key, IsSorted}
-use Rattle.just_names.specs.Modulepath.{texts}
+use Rattle.just_names.specs.Texts.{texts}
 use Rattle.just_loader.specs.ModuleFile.{slashed, after, is_module_name, is_module_file}
 use Rattle.just_loader.proofs.Tables.{keyed_found}
 use Rattle.just_loader.proofs.Folders.{none_in, some_with, stops, takes, skips, sorted_on, from_on}

@@ -2,7 +2,7 @@ use Rattle.std.proofs.Common.{◌≡◌, ◌++◌, string_bytes}
 use Rattle.std.specs.List.{filter}
 use Rattle.std.specs.Map.{keys_of}
 use Rattle.just_table.specs.Entries.{shown, IsSorted}
-use Rattle.just_names.specs.Modulepath.{texts}
+use Rattle.just_names.specs.Texts.{texts}
 use Rattle.just_loader.specs.ModuleFile.{slashed, is_module_file, files_in}
 use Rattle.just_loader.proofs.Passed.{AreFrom}
 use Rattle.just_loader.proofs.sources.Sources.module_files_in.Given as goal

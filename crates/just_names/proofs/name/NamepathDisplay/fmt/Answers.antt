@@ -3,7 +3,7 @@ use Rattle.std.specs.List.{flat_map}
 use Rattle.std.proofs.lemmas.Grind.{put_two}
 use Rattle.std.proofs.lemmas.List.{take_all}
 use Rattle.just_names.specs.Name.{text_of_name}
-use Rattle.just_names.specs.Modulepath.{Text, joined}
+use Rattle.just_names.specs.Texts.{Text, joined}
 use Rattle.just_names.specs.declared.name.Name.{Name}
 use Rattle.just_names.proofs.name.NamepathDisplay.fmt.Goals as goal
 

@@ -3,7 +3,7 @@ use Rattle.std.proofs.lemmas.Result.{IfErr-weaker}
 use Rattle.std.specs.HashSet.{contains}
 use Rattle.std.specs.Str.{bytes_eq}
 use Rattle.just_errors.specs.Causes.{Keeps, Reports}
-use Rattle.just_names.specs.Modulepath.{Text}
+use Rattle.just_names.specs.Texts.{Text}
 use Rattle.just_resolver.specs.Resolver.{known_by}
 use Rattle.just_parts.specs.Known.{hides}
 use Rattle.just_parts.specs.Misnaming.{Misnames}

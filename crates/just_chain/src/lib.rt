@@ -1,0 +1,6 @@
+//! Lists that share what they begin with.
+#![tactic(auto)]
+
+mod chain;
+
+pub use chain::{Chain, ChainIter};

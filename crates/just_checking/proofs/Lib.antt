@@ -1,0 +1,4 @@
+pub mod Adding
+pub mod Docs
+pub mod Grounds
+pub mod NumbersApart

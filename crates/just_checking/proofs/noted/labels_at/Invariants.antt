@@ -1,0 +1,8 @@
+use Rattle.std.proofs.Common.{◌≡◌, take}
+use Rattle.just_joining.specs.Files.{asts_in}
+use Rattle.just_joining.specs.Named.{said_from}
+use Rattle.just_notes.specs.Labels.{label_by}
+use Rattle.just_checking.proofs.noted.labels_at.Given as goal
+
+abbrev pub invariant-loop-place : goal.invariant-loop-place
+invariant-loop-place g l = l.labels.items ≡ said_from label_by (g.S.Syntax.answers l.syntax).enabled (asts_in l.files) (take l.place-index l.places)

@@ -1,0 +1,5 @@
+pub mod Defaults
+pub mod Held
+pub mod Keys
+pub mod Makings
+pub mod Taking

@@ -1,0 +1,22 @@
+use Rattle.std.proofs.Common.{◌≡◌, ◌∙◌, List, length, rules, subst, sym}
+use Rattle.just_invoke.specs.declared.justfile.Justfile.TheViews.{the_lemmas}
+use Rattle.just_parts.specs.declared.layers.ast.UnresolvedDependency.{UnresolvedDependency}
+use Rattle.just_parts.specs.declared.recipe.Recipe.{Recipe}
+use Rattle.just_joining.specs.Definitions.{contents_in, recipes_in}
+use Rattle.just_index.specs.Index.{AreDifferent}
+use Rattle.just_joining.specs.Recipes.{names_of}
+use Rattle.just_joining.proofs.Keeping.{kept_different}
+use Rattle.just_joining.proofs.RecipePlaces.{length-lent}
+use Rattle.just_making.proofs.Makings.{is_of}
+use Rattle.just_making.proofs.making.make_justfile.Goals as goal
+
+pub recipe_keys-requires : goal.recipe_keys-requires
+recipe_keys-requires c = subst (λ (rs : List (Recipe UnresolvedDependency)). AreDifferent (names_of rs)) (sym c.requires.recipes) (kept_different (recipes_in c.args.definitions.now))
+
+pub returns-clause-fields : goal.returns-clause-fields
+returns-clause-fields c =
+    let many : length (recipes_in c.args.kept.now) ≡ length c.args.kept.now.recipes.items = length-lent c.args.kept.now.recipes.items in
+    is_of (contents_in c.args.definitions.now) (recipes_in c.args.kept.now) c.args.ast.now c.args.surroundings.loaded c.args.surroundings.source _
+    (length c.args.kept.now.recipes.items) c.in_ok-recipe_keys.field-0 c.requires.recipes many (search (rules, the_lemmas))
+    c.in_ok-recipe_keys.ensures.keys c.in_ok-recipe_keys.ensures.held (search (rules, the_lemmas))
+    (search (rules, the_lemmas)) (search (rules, the_lemmas)) (search (rules, the_lemmas)) (search (rules, the_lemmas))

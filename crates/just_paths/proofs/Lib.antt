@@ -1,0 +1,4 @@
+pub mod Joins
+pub mod ModulepathLemmas
+pub mod PathTexts
+pub mod Slashes
