@@ -12,7 +12,8 @@ ghost use Rattle.just_invoke.specs.declared.justfile.Justfile.{Justfile, out-Jus
 /// Where a module and those below it are closed, the module itself is, and so is each of its modules with those below it.
 pub fn closes_its_modules()
     ensures itself { (recipes : Held) (root : Justfile) → AreClosed recipes root → IsClosed root recipes }
-    ensures modules { (recipes : _) (root inner : Justfile) → AreClosed recipes root → Contains (out-Justfile root).modules inner → AreClosed recipes inner }
+    ensures modules { (recipes : _) (root inner : Justfile) →
+        AreClosed recipes root → Contains (out-Justfile root).modules inner → AreClosed recipes inner }
 {}
 
 /// Words are invocations in at most one way.

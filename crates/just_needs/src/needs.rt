@@ -111,7 +111,8 @@ fn look_at<'w, 'a, 'src, S: Syntax>(
 ) -> Result<(), AllocError>
     ensures { let m = known_in (S.answers known.now.syntax.now) known.now in
         let found = found_in (contains same_number references.now) (contains bytes_eq visited.now) in
-        OnOk result (Looks m (has_number overrides.now) (contains bytes_eq hidden.now) (mention_of reference.now ∷ []) (found search.old) (found search.new)) }
+        let looks = Looks m (has_number overrides.now) (contains bytes_eq hidden.now) in
+        OnOk result (looks (mention_of reference.now ∷ []) (found search.old) (found search.new)) }
 {
     match reference {
         Reference::Call { name, .. } => look_at_call(known, visited, name, search),

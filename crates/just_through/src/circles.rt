@@ -121,7 +121,8 @@ pub(crate) fn solid_circle(
     requires solid { length solid.now ≡ length edges.now }
     requires nodes { All (λ a. a < length edges.now) nodes.now }
     ensures circle { IfOk result (λ found. IfSome found (λ circle. IsCircle (Reads (HasEdge edges.now) solid.now) circle.items)) }
-    ensures never { IfOk result (λ found. IfNone found ((a : ℕ) → Contains nodes.now a → IsSolid solid.now a → Leads (HasEdge edges.now) a a → ⊥)) }
+    ensures never { let turns = λ (a : ℕ). Leads (HasEdge edges.now) a a in
+        IfOk result (λ found. IfNone found ((a : ℕ) → Contains nodes.now a → IsSolid solid.now a → turns a → ⊥)) }
 {
     let mut seen = Vec::new(alloc);
     seen.resize(edges.len(), false)?;

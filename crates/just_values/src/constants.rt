@@ -112,11 +112,14 @@ pub fn constants_of<'src>(
     requires order { IsEvaluationOrder (sources assignments.now functions.now) (texts_of_names order.now) }
 
     // Whether values are lists makes no difference.
-    ensures constants { (lists : Bool) → let wanted = wanted_by assignments.now functions.now (get same_number overrides.now) (contains same_number references.now) lists in
+    ensures constants { (lists : Bool) →
+        let wanted = wanted_by assignments.now functions.now (get same_number overrides.now) (contains same_number references.now) lists in
         IfOk result (λ scope. spec.constants_of wanted ≡ Some (values_of scope)) }
-    ensures binds { (lists : Bool) → let wanted = wanted_by assignments.now functions.now (get same_number overrides.now) (contains same_number references.now) lists in
+    ensures binds { (lists : Bool) →
+        let wanted = wanted_by assignments.now functions.now (get same_number overrides.now) (contains same_number references.now) lists in
         IfOk result (Binds assignments.now wanted) }
-    ensures refused { (lists : Bool) → let wanted = wanted_by assignments.now functions.now (get same_number overrides.now) (contains same_number references.now) lists in
+    ensures refused { (lists : Bool) →
+        let wanted = wanted_by assignments.now functions.now (get same_number overrides.now) (contains same_number references.now) lists in
         IfErr result (FaultsAt (spec.constants_of wanted)) }
 {
     let mut constants = Table::new(alloc);

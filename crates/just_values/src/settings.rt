@@ -110,7 +110,8 @@ pub fn settings_of<'src>(
     constants: &Scope<'src>,
     sets: &[Set<'src>],
 ) -> Result<Settings, Error<'src>>
-    ensures settings { IfOk result (λ made. spec.settings_of (functions_by_name functions.now) (values_of constants.now) (map bare_set sets.now) ≡ Some made) }
+    ensures settings { let among = spec.settings_of (functions_by_name functions.now) (values_of constants.now) in
+        IfOk result (λ made. among (map bare_set sets.now) ≡ Some made) }
     ensures refused { IfErr result (FaultsAt (spec.settings_of (functions_by_name functions.now) (values_of constants.now) (map bare_set sets.now))) }
 {
     let mut settings = Settings::default();

@@ -61,8 +61,10 @@ pub trait Evaluation {
         expression: &Expression<'src>,
     ) -> Result<Sequence<Text>, Error<'src>>
         requires covered { Covers (sources assignments.now functions.now) (values_of constants.now) expression.now }
-        ensures value { IfOk result (λ value. (answers self.now).value (functions_by_name functions.now) (values_of constants.now) (bare expression.now) ≡ Some value) }
-        ensures refused { IfErr result (FaultsAt ((answers self.now).value (functions_by_name functions.now) (values_of constants.now) (bare expression.now))) };
+        ensures value { let among = (answers self.now).value (functions_by_name functions.now) (values_of constants.now) in
+            IfOk result (λ value. among (bare expression.now) ≡ Some value) }
+        ensures refused { let among = (answers self.now).value (functions_by_name functions.now) (values_of constants.now) in
+            IfErr result (FaultsAt (among (bare expression.now))) };
 
     /// The settings of a module that sets these, and has the others by default. Where one has no value a fault is told.
     fn sets<'src>(
@@ -74,6 +76,8 @@ pub trait Evaluation {
         sets: &[Set<'src>],
     ) -> Result<Settings, Error<'src>>
         requires covered { All (Covers (sources assignments.now functions.now) (values_of constants.now)) (flat_map set_expressions sets.now) }
-        ensures settings { IfOk result (λ made. (answers self.now).settings (functions_by_name functions.now) (values_of constants.now) (map bare_set sets.now) ≡ Some made) }
-        ensures refused { IfErr result (FaultsAt ((answers self.now).settings (functions_by_name functions.now) (values_of constants.now) (map bare_set sets.now))) };
+        ensures settings { let among = (answers self.now).settings (functions_by_name functions.now) (values_of constants.now) in
+            IfOk result (λ made. among (map bare_set sets.now) ≡ Some made) }
+        ensures refused { let among = (answers self.now).settings (functions_by_name functions.now) (values_of constants.now) in
+            IfErr result (FaultsAt (among (map bare_set sets.now))) };
 }
