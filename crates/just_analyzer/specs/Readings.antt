@@ -8,7 +8,7 @@ use Rattle.just_parts.specs.Evaluator.{Evaluator}
 use Rattle.just_parts.specs.Layers.{Given}
 use Rattle.just_parts.specs.Located.{with_depth}
 use Rattle.just_parts.specs.Items.{Ast, Item}
-use Rattle.just_attributes.specs.declared.list_use.ListUse.{ListUse}
+use Rattle.just_literals.specs.declared.list_use.ListUse.{ListUse}
 use Rattle.just_loader.specs.Keys.{FileKey, IsLeastFileDepth, ast_key, items_at}
 use Rattle.just_loader.specs.Loaded.{with_path}
 use Rattle.just_loader.specs.Reached.{World, ast_of}

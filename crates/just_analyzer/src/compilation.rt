@@ -4,8 +4,8 @@ ghost use Rattle.just_parts.specs.Asts.{same_ast_key, root_ast_key};
 
 use just_data::Text;
 use just_invoke::{Justfile, Recipes};
-use just_paths::Modulepath;
 use just_parts::layers::{Ast, Number};
+use just_paths::Modulepath;
 use std::collections::HashMap;
 
 /// What a source map is compiled to.

@@ -13,8 +13,8 @@ use crate::compilation::Compilation;
 use just_data::{Shared, Text};
 use just_loader::{Loaded, Sources, load, relative_path};
 use just_modules::Analyzer;
-use just_paths::{Modulepath, folder_of};
 use just_parts::layers::{Ast, Config, Error, Evaluation, Name, Syntax};
+use just_paths::{Modulepath, folder_of};
 use std::alloc::{AllocError, Global};
 use std::collections::HashMap;
 

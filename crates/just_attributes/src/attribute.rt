@@ -1,9 +1,6 @@
 //! Attributes of recipes and modules.
-use crate::interpreter::Interpreter;
-use crate::pattern::Pattern;
-use crate::signal::Signal;
-use crate::string_literal::StringLiteral;
 use just_data::{Exact, Sequence, Text};
+use just_literals::{Interpreter, Pattern, Signal, StringLiteral};
 use just_names::Name;
 
 /// A property of an `arg` attribute, as `help='..'`.

@@ -1,32 +1,15 @@
-//! What a source text says besides its expressions: attributes over any kind of expression, and settings and scopes as
-//! they are evaluated.
+//! What a source text says in attributes and settings.
 #![tactic(auto)]
 
 pub mod attribute;
-pub mod interpreter;
-pub mod keyword;
-pub mod list_use;
-pub mod pattern;
-pub mod scope;
-pub mod settings;
-pub mod sigil;
-pub mod signal;
-pub mod string_literal;
-pub mod unstable_feature;
-pub mod warning;
+pub mod setting;
 
-pub use attribute::{
-    ArgumentAttribute, ArgumentProperty, Attribute, CacheAttribute, EnvironmentAttribute,
-    NamedAttribute,
-};
-pub use interpreter::Interpreter;
-pub use keyword::Keyword;
-pub use list_use::ListUse;
-pub use pattern::Pattern;
-pub use scope::{Binding, Scope};
-pub use settings::Settings;
-pub use sigil::Sigil;
-pub use signal::Signal;
-pub use string_literal::StringLiteral;
-pub use unstable_feature::UnstableFeature;
-pub use warning::Warning;
+pub use attribute::{ArgumentAttribute, ArgumentProperty, CacheAttribute, EnvironmentAttribute};
+use just_expressions::Expression;
+pub use setting::{Set, Setting};
+
+/// What an attribute says of a recipe or of a module.
+pub type Attribute<'src> = attribute::Attribute<'src, Expression<'src>>;
+
+/// An attribute, and the name by which the text has it.
+pub type NamedAttribute<'src> = attribute::NamedAttribute<'src, Expression<'src>>;

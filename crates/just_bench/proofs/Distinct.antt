@@ -4,9 +4,9 @@ use Rattle.std.specs.List.{before_first, list_any, position_or_len}
 use Rattle.std.proofs.Math.Seq.{drop-cons}
 use Rattle.std.proofs.lemmas.List.{append-nil, append_assoc, drop_all}
 use Rattle.std.proofs.lemmas.List.Folds.{list_any-append}
-use Rattle.just_attributes.specs.declared.sigil.Sigil.{Sigil}
-use Rattle.just_attributes.specs.declared.sigil.Sigil.TheVariants as sigil
-use Rattle.just_attributes.specs.contracts.sigil.SigilPartialEq.TheImpl.{eq-value}
+use Rattle.just_literals.specs.declared.sigil.Sigil.{Sigil}
+use Rattle.just_literals.specs.declared.sigil.Sigil.TheVariants as sigil
+use Rattle.just_literals.specs.contracts.sigil.SigilPartialEq.TheImpl.{eq-value}
 use Rattle.just_bench.specs.Sigils.{begun, leading, same, sigil_of}
 
 same_is : (a b : Sigil) → eq-value.it a b ≡ same a b

@@ -12,7 +12,7 @@ use Rattle.just_parts.specs.declared.layers.ast.Item.TheVariants as item
 use Rattle.just_attributes.specs.declared.attribute.Attribute.{Attribute}
 use Rattle.just_attributes.specs.declared.attribute.Attribute.TheVariants as attribute
 use Rattle.just_expressions.specs.declared.expression.Expression.{Expression}
-use Rattle.just_attributes.specs.declared.keyword.Keyword.{Keyword}
+use Rattle.just_literals.specs.declared.keyword.Keyword.{Keyword}
 use Rattle.just_records.specs.declared.parameter.Parameter.{Parameter}
 use Rattle.just_lexer.specs.declared.lines.TextLine.{TextLine}
 use Rattle.just_lexer.specs.Lines.{is_newline, line_place, lines_of}

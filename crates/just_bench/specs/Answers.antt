@@ -7,7 +7,7 @@ use Rattle.just_errors.specs.declared.wording.ArgumentRange.{ArgumentRange}
 use Rattle.just_parts.specs.Bare.{ast_of_items}
 use Rattle.just_parts.specs.Items.{Ast}
 use Rattle.just_parts.specs.Syntax.{SyntaxAnswers}
-use Rattle.just_attributes.specs.declared.keyword.Keyword.{Keyword}
+use Rattle.just_literals.specs.declared.keyword.Keyword.{Keyword}
 use Rattle.just_grammar.specs.declared.items.Items.{Items}
 use Rattle.just_grammar.specs.Items.{items_of}
 use Rattle.just_bench.specs.Conflicts.{conflicts}

@@ -1,9 +1,9 @@
 -- Settings that may not stand beside one another.
 use Rattle.std.specs.Prelude.{ℕ, List, [], ◌∷◌, codes, if◌then◌else◌}
 use Rattle.std.specs.Str.{bytes_eq}
-use Rattle.just_attributes.specs.declared.keyword.Keyword.{Keyword}
-use Rattle.just_records.specs.declared.setting.Setting.{Setting}
-use Rattle.just_records.specs.declared.setting.Setting.TheVariants as setting
+use Rattle.just_literals.specs.declared.keyword.Keyword.{Keyword}
+use Rattle.just_attributes.specs.declared.setting.Setting.{Setting}
+use Rattle.just_attributes.specs.declared.setting.Setting.TheVariants as setting
 
 abbrev pub name_of : Setting → List ℕ
 name_of (setting.AllowDuplicateRecipes b) = codes "allow-duplicate-recipes"

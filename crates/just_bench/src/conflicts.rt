@@ -2,8 +2,9 @@
 ghost use Rattle.std.specs.Prelude.{◌≡◌, IfOk};
 ghost use Rattle.just_bench.specs.Conflicts as spec;
 
+use just_attributes::Setting;
 use just_data::Sequence;
-use just_records::{Keyword, Setting};
+use just_literals::Keyword;
 use std::alloc::{AllocError, Global};
 
 // The name of a setting.

@@ -14,12 +14,12 @@ use crate::sigils;
 use just_data::Sequence;
 use just_grammar::items::{Items, read_items};
 use just_lexer::lines::{TextLine, line_token, lines};
-use just_paths::Modulepath;
 use just_parts::Source;
 use just_parts::layers::{
     ArgumentRange, Ast, CompileError, CompileErrorKind, Error, Item, Keyword, Line, Namepath,
     Number, Numerator, Setting, Settings, Sigil, Syntax,
 };
+use just_paths::Modulepath;
 use std::alloc::{AllocError, Global};
 
 /// A grammar, line by line, with most of what the analyzer judges; it is not the grammar of `just`.

@@ -4,8 +4,8 @@ ghost use Rattle.just_parts.specs.declared.layers.host.Entry.{Entry};
 ghost use Rattle.just_parts.specs.Host.{Answer};
 
 use just_data::Sequence;
-use just_paths::Modulepath;
 use just_parts::layers::{Entry, Groups, Host};
+use just_paths::Modulepath;
 use std::alloc::{AllocError, Global};
 use std::marker::Model;
 

@@ -4,7 +4,8 @@ ghost use Rattle.just_parts.specs.Syntax.{BeginsWithText};
 ghost use Rattle.just_bench.specs.Sigils as spec;
 
 use just_data::Sequence;
-use just_records::{Fragment, Line, Sigil};
+use just_literals::Sigil;
+use just_records::{Fragment, Line};
 use std::alloc::{AllocError, Global};
 
 // The text that a line begins with.

@@ -4,9 +4,9 @@ use Rattle.std.specs.Prelude.{flat_map, slice_get}
 use Rattle.std.proofs.lemmas.Grind.{flat_map-append}
 use Rattle.std.proofs.lemmas.List.{append-nil, take_more}
 use Rattle.just_parts.specs.Items.{Ast, Item}
-use Rattle.just_attributes.specs.declared.list_use.ListUse.{ListUse}
+use Rattle.just_literals.specs.declared.list_use.ListUse.{ListUse}
 use Rattle.just_names.specs.Texts.{Text}
-use Rattle.just_attributes.specs.declared.unstable_feature.UnstableFeature.{UnstableFeature}
+use Rattle.just_literals.specs.declared.unstable_feature.UnstableFeature.{UnstableFeature}
 use Rattle.just_table.specs.Entries.{put, put_all}
 use Rattle.just_notes.specs.Labels.{doc_by, label_by}
 use Rattle.just_notes.specs.Notes.{absent_by, features_by, noted, warnings_by}

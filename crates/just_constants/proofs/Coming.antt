@@ -21,9 +21,9 @@ use Rattle.just_parts.specs.Needs.{AreNeededBy, HaveNumbersApart, IsClosed, has_
 use Rattle.just_records.specs.declared.assignment.Assignment.{Assignment}
 use Rattle.just_expressions.specs.declared.expression.Expression.{Expression}
 use Rattle.just_records.specs.declared.function_definition.FunctionDefinition.{FunctionDefinition}
-use Rattle.just_attributes.specs.declared.scope.Scope.{Scope}
-use Rattle.just_records.specs.declared.setting.Set.{Set}
-use Rattle.just_attributes.specs.declared.settings.Settings.{Settings}
+use Rattle.just_literals.specs.declared.scope.Scope.{Scope}
+use Rattle.just_attributes.specs.declared.setting.Set.{Set}
+use Rattle.just_literals.specs.declared.settings.Settings.{Settings}
 use Rattle.just_table.specs.Entries.{IsSorted, find}
 use Rattle.just_parts.specs.Misnaming.{Misnames}
 use Rattle.just_constants.specs.Overrides.{last_of, overrides_found}

@@ -9,7 +9,7 @@ use Rattle.just_joining.specs.Constants.{Evaluated}
 use Rattle.just_parts.specs.Evaluator.{Covers, Values, set_expressions, values_of}
 use Rattle.just_parts.specs.Known.{Known, none_hidden, sources}
 use Rattle.just_expressions.specs.declared.expression.Expression.{Expression}
-use Rattle.just_records.specs.declared.setting.Set.{Set}
+use Rattle.just_attributes.specs.declared.setting.Set.{Set}
 use Rattle.just_parts.specs.Misnaming.{Misnames}
 
 abbrev pub evaluated_in : Constants → Evaluated

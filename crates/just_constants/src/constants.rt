@@ -22,11 +22,11 @@ use crate::overrides::{by_number, overrides_of};
 use crate::variables::{Variables, copied};
 use just_data::Text;
 use just_joining::definitions::{Definitions, set_at};
-use just_paths::Modulepath;
 use just_needs::needed_references;
 use just_parts::layers::{
     Config, Error, Evaluation, Expression, Number, Scope, Set, Setting, Settings, Syntax,
 };
+use just_paths::Modulepath;
 use just_variables::{Known, check_expression};
 use std::alloc::{AllocError, Global};
 use std::collections::HashSet;

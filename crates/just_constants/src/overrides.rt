@@ -7,8 +7,8 @@ ghost use Rattle.just_parts.specs.Layers.{override_at};
 ghost use Rattle.just_parts.specs.Needs.{same_number};
 
 use just_data::Text;
-use just_paths::Modulepath;
 use just_parts::layers::{Assignment, Config, Number};
+use just_paths::Modulepath;
 use just_table::Table;
 use std::alloc::{AllocError, Global};
 use std::collections::HashMap;

@@ -6,9 +6,9 @@ ghost use Rattle.just_parts.specs.declared.layers.ast.UnresolvedDependency.{Unre
 
 use just_data::Sequence;
 use just_joining::definitions::{Definitions, recipe_at};
-use just_paths::Modulepath;
 use just_parts::layers::UnresolvedDependency;
 use just_parts::{Dependency, Recipe, UnresolvedRecipe};
+use just_paths::Modulepath;
 use std::alloc::{AllocError, Global};
 
 // The dependencies, each with the number of the recipe at the place beside it.

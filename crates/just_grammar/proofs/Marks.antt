@@ -8,7 +8,7 @@ use Rattle.just_names.specs.declared.name.Name.{Name}
 use Rattle.just_attributes.specs.declared.attribute.Attribute.{Attribute}
 use Rattle.just_attributes.specs.declared.attribute.Attribute.TheVariants as attribute
 use Rattle.just_expressions.specs.declared.expression.Expression.{Expression}
-use Rattle.just_attributes.specs.declared.string_literal.StringLiteral.{StringLiteral}
+use Rattle.just_literals.specs.declared.string_literal.StringLiteral.{StringLiteral}
 use Rattle.just_plain.specs.declared.expressions.Found.{Found}
 use Rattle.just_lexer.specs.declared.lexer.Lexeme.{Lexeme}
 use Rattle.just_plain.specs.Expressions.{expression}

@@ -18,9 +18,9 @@ use Rattle.just_expressions.specs.declared.expression.Expression.{Expression}
 use Rattle.just_records.specs.declared.function_definition.FunctionDefinition.{FunctionDefinition}
 use Rattle.just_records.specs.declared.function_definition.FunctionParameter.{FunctionParameter}
 use Rattle.just_records.specs.declared.line.Line.{Line}
-use Rattle.just_attributes.specs.declared.list_use.ListUse.{ListUse}
-use Rattle.just_records.specs.declared.setting.Set.{Set}
-use Rattle.just_attributes.specs.declared.string_literal.StringLiteral.{StringLiteral}
+use Rattle.just_literals.specs.declared.list_use.ListUse.{ListUse}
+use Rattle.just_attributes.specs.declared.setting.Set.{Set}
+use Rattle.just_literals.specs.declared.string_literal.StringLiteral.{StringLiteral}
 use Rattle.just_lexer.specs.declared.lexer.Lexeme.{Lexeme}
 use Rattle.just_lexer.specs.declared.lines.TextLine.{TextLine}
 use Rattle.just_lexer.specs.Lexemes.{is_blank, lexemes}

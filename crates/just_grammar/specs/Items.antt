@@ -9,7 +9,7 @@ use Rattle.just_parts.specs.declared.recipe.Recipe.{Recipe}
 use Rattle.just_records.specs.declared.line.Fragment.{Fragment}
 use Rattle.just_records.specs.declared.line.Fragment.TheVariants as fragment
 use Rattle.just_records.specs.declared.line.Line.{Line}
-use Rattle.just_attributes.specs.declared.list_use.ListUse.{ListUse}
+use Rattle.just_literals.specs.declared.list_use.ListUse.{ListUse}
 use Rattle.just_lexer.specs.declared.lines.TextLine.{TextLine}
 use Rattle.just_lexer.specs.Lines.{lines_of}
 use Rattle.just_phrases.specs.declared.attributes.Mark.{Mark}

@@ -8,14 +8,16 @@ ghost use Rattle.just_grammar.specs.Proper.{IsProper};
 ghost use Rattle.just_grammar.specs.Items as spec;
 
 use crate::recipe::make_recipe;
+use just_attributes::NamedAttribute;
 use just_data::{BorrowedText, Sequence};
 use just_lexer::lines::TextLine;
+use just_literals::ListUse;
 use just_parts::layers::Item;
 use just_phrases::attributes::{Mark, Options};
 use just_phrases::body::{BodyLine, indent, read_body};
 use just_phrases::heading::Heading;
 use just_phrases::meaning::{Declaration, Meaning, Said, Statement, read_line};
-use just_records::{Fragment, Line, ListUse, NamedAttribute};
+use just_records::{Fragment, Line};
 use std::alloc::{AllocError, Global};
 use std::mem::replace;
 

@@ -4,6 +4,7 @@ ghost use Rattle.std.specs.List.{list_all, list_any};
 ghost use Rattle.std.specs.Option.{option_copied};
 ghost use Rattle.just_grammar.specs.Recipe as spec;
 
+use just_attributes::{Attribute, NamedAttribute};
 use just_chain::Chain;
 use just_data::Sequence;
 use just_names::{Name, Namepath, Number};
@@ -12,7 +13,7 @@ use just_parts::{Recipe, UnresolvedRecipe};
 use just_phrases::attributes::Options;
 use just_phrases::definitions::is_private;
 use just_phrases::heading::Heading;
-use just_records::{Attribute, NamedAttribute, Parameter};
+use just_records::Parameter;
 use std::alloc::{AllocError, Global};
 
 // What attributes say of the parameter of this name.

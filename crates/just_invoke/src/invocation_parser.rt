@@ -18,11 +18,11 @@ ghost use Rattle.just_invoke.specs.Split.{invoked_of, misfit, Invokes, Chain, Is
 use crate::invocation::Invocation;
 use crate::justfile::Justfile;
 use just_data::{BorrowedText, Text};
-use just_paths::Modulepath;
 use just_parts::Recipe;
 use just_parts::layers::{
     Attribute, Error, Evaluation, InvocationError, NamedAttribute, Parameter, RunError,
 };
+use just_paths::Modulepath;
 use just_running::Recipes;
 use std::alloc::{AllocError, Global};
 

@@ -21,10 +21,10 @@ use Rattle.just_attributes.specs.declared.attribute.Attribute.{Attribute}
 use Rattle.just_attributes.specs.declared.attribute.Attribute.TheVariants as attribute
 use Rattle.just_attributes.specs.declared.attribute.NamedAttribute.{NamedAttribute}
 use Rattle.just_expressions.specs.declared.expression.Expression.{Expression}
-use Rattle.just_records.specs.declared.setting.Set.{Set}
-use Rattle.just_records.specs.declared.setting.Setting.{Setting}
-use Rattle.just_records.specs.declared.setting.Setting.TheVariants as setting
-use Rattle.just_attributes.specs.declared.settings.Settings.{Settings}
+use Rattle.just_attributes.specs.declared.setting.Set.{Set}
+use Rattle.just_attributes.specs.declared.setting.Setting.{Setting}
+use Rattle.just_attributes.specs.declared.setting.Setting.TheVariants as setting
+use Rattle.just_literals.specs.declared.settings.Settings.{Settings}
 use Rattle.just_references.specs.Numbers.{bare}
 use Rattle.just_parts.specs.Misnaming.{Misnames}
 use Rattle.just_joining.specs.Contents.{Contents}

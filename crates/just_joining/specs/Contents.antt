@@ -6,8 +6,8 @@ use Rattle.just_names.specs.declared.name.Name.{Name}
 use Rattle.just_records.specs.declared.assignment.Assignment.{Assignment}
 use Rattle.just_expressions.specs.declared.expression.Expression.{Expression}
 use Rattle.just_records.specs.declared.function_definition.FunctionDefinition.{FunctionDefinition}
-use Rattle.just_attributes.specs.declared.list_use.ListUse.{ListUse}
-use Rattle.just_records.specs.declared.setting.Set.{Set}
+use Rattle.just_literals.specs.declared.list_use.ListUse.{ListUse}
+use Rattle.just_attributes.specs.declared.setting.Set.{Set}
 use Rattle.just_index.specs.Index.{texts_of_names}
 use Rattle.just_errors.specs.declared.error.Definition.{Definition}
 use Rattle.just_errors.specs.declared.error.Definition.TheVariants as definition

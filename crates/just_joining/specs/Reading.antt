@@ -9,7 +9,7 @@ use Rattle.just_parts.specs.Items.{Ast, Item}
 use Rattle.just_parts.specs.declared.layers.ast.Item.TheVariants as item
 use Rattle.just_names.specs.declared.name.Name.{Name}
 use Rattle.just_paths.specs.declared.modulepath.Modulepath.{Modulepath}
-use Rattle.just_attributes.specs.declared.list_use.ListUse.{ListUse}
+use Rattle.just_literals.specs.declared.list_use.ListUse.{ListUse}
 use Rattle.just_notes.specs.Labels.{label_said}
 use Rattle.just_notes.specs.declared.labels.Label.{Label}
 use Rattle.just_joining.specs.Resolved.{path_to}

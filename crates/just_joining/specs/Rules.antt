@@ -11,9 +11,9 @@ use Rattle.just_errors.specs.declared.error.CompileErrorKind.{CompileErrorKind}
 use Rattle.just_errors.specs.declared.error.CompileErrorKind.TheVariants as kind
 use Rattle.just_errors.specs.declared.error.Definition.TheVariants as definition
 use Rattle.just_names.specs.declared.name.Name.{Name}
-use Rattle.just_attributes.specs.declared.list_use.ListUse.{ListUse}
-use Rattle.just_records.specs.declared.setting.Set.{Set}
-use Rattle.just_attributes.specs.declared.settings.Settings.{Settings}
+use Rattle.just_literals.specs.declared.list_use.ListUse.{ListUse}
+use Rattle.just_attributes.specs.declared.setting.Set.{Set}
+use Rattle.just_literals.specs.declared.settings.Settings.{Settings}
 use Rattle.just_parts.specs.Syntax.{SyntaxAnswers}
 use Rattle.just_parts.specs.declared.layers.ast.UnresolvedDependency.{UnresolvedDependency}
 use Rattle.just_parts.specs.declared.recipe.Recipe.{Recipe}

@@ -5,10 +5,10 @@ use Rattle.std.specs.Str.{bytes_eq}
 use Rattle.just_names.specs.Texts.{Text}
 use Rattle.just_names.specs.Name.{text_of_name}
 use Rattle.just_names.specs.Token.{Place}
-use Rattle.just_attributes.specs.declared.keyword.Keyword.{Keyword}
-use Rattle.just_records.specs.declared.setting.Set.{Set}
-use Rattle.just_records.specs.declared.setting.Setting.{Setting}
-use Rattle.just_records.specs.declared.setting.Setting.TheVariants as setting
+use Rattle.just_literals.specs.declared.keyword.Keyword.{Keyword}
+use Rattle.just_attributes.specs.declared.setting.Set.{Set}
+use Rattle.just_attributes.specs.declared.setting.Setting.{Setting}
+use Rattle.just_attributes.specs.declared.setting.Setting.TheVariants as setting
 
 -- a setting lets variables be assigned twice
 abbrev pub allows : Setting → Bool

@@ -10,8 +10,8 @@ use Rattle.just_attributes.specs.declared.attribute.Attribute.TheVariants as att
 use Rattle.just_attributes.specs.declared.attribute.NamedAttribute.{NamedAttribute}
 use Rattle.just_expressions.specs.declared.expression.Expression.{Expression}
 use Rattle.just_records.specs.declared.line.Line.{Line}
-use Rattle.just_attributes.specs.declared.settings.Settings.{Settings}
-use Rattle.just_attributes.specs.declared.sigil.Sigil.TheVariants as sigil
+use Rattle.just_literals.specs.declared.settings.Settings.{Settings}
+use Rattle.just_literals.specs.declared.sigil.Sigil.TheVariants as sigil
 use Rattle.just_parts.specs.Groups.{BeginsGroup, front, is_indented}
 use Rattle.just_parts.specs.Script.{is_script}
 use Rattle.just_parts.specs.Syntax.{SyntaxAnswers}

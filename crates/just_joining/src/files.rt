@@ -8,9 +8,9 @@ ghost use Rattle.just_parts.specs.Asts.{same_ast_key};
 ghost use Rattle.just_joining.specs.Files.{ArePlaced, ArePlacesOf, AreRows, AreRowsOf, HoldsAll, HoldsEach, asts_in, led, led_from, led_of};
 
 use just_data::Text;
-use just_paths::Modulepath;
 use just_notes::is_enabled;
 use just_parts::layers::{Ast, Item, Syntax};
+use just_paths::Modulepath;
 use std::alloc::{AllocError, Global};
 use std::collections::HashMap;
 

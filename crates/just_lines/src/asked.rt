@@ -1,8 +1,8 @@
 //! What a line `$ just` asks.
 use crate::written::unmarked;
 use just_data::Text;
-use just_paths::Modulepath;
 use just_parts::layers::Config;
+use just_paths::Modulepath;
 use std::alloc::{AllocError, Global};
 
 // What a part of the line is to be.

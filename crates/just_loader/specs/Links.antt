@@ -11,7 +11,7 @@ use Rattle.just_names.specs.Token.{Place}
 use Rattle.just_names.specs.Texts.{Text}
 use Rattle.just_names.specs.declared.name.Name.{Name}
 use Rattle.just_parts.specs.Items.{Item}
-use Rattle.just_attributes.specs.declared.string_literal.StringLiteral.{StringLiteral}
+use Rattle.just_literals.specs.declared.string_literal.StringLiteral.{StringLiteral}
 use Rattle.just_parts.specs.declared.layers.config.Config.{Config}
 use Rattle.just_loader.specs.ModuleFile.{after, candidates, relative}
 use Rattle.just_errors.specs.Causes.{Cause, NoHome, NoImport, NoModule, SeveralFiles}

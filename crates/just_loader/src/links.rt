@@ -10,8 +10,8 @@ ghost use Rattle.just_errors.specs.Causes.{NoHome, Reports};
 use crate::module_file::{after, find_module_file};
 use crate::sources::Sources;
 use just_data::Text;
-use just_paths::clean_join;
 use just_parts::layers::{Config, Edge, Error, Item, LoadError, Name, StringLiteral, Syntax};
+use just_paths::clean_join;
 use std::alloc::Global;
 
 // What a text has after its leading slashes.

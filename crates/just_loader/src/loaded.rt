@@ -1,8 +1,8 @@
 //! What is loaded for a compilation.
 
 use just_data::{Sequence, Text};
-use just_paths::Modulepath;
 use just_parts::layers::Ast;
+use just_paths::Modulepath;
 use std::collections::HashMap;
 
 /// The files of a compilation.

@@ -25,9 +25,9 @@ use crate::scanned::Scan;
 use crate::sources::Sources;
 use just_data::{Sequence, Text};
 use just_graph::unfolding::{Step, Unfolded, unfold};
-use just_paths::Modulepath;
 use just_parts::Source;
 use just_parts::layers::{Ast, Config, Error, Item, LoadError, Numerator, Syntax};
+use just_paths::Modulepath;
 use std::alloc::{AllocError, Global};
 use std::collections::HashMap;
 

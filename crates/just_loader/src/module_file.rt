@@ -4,8 +4,8 @@ ghost use Rattle.just_loader.specs.ModuleFile.{after, slashed, relative, is_modu
 
 use crate::sources::Sources;
 use just_data::{Sequence, Text};
-use just_paths::clean_join;
 use just_parts::layers::{Error, LoadError, Name};
+use just_paths::clean_join;
 use std::alloc::{AllocError, Global};
 
 // Whether a file of this name can be a module's.

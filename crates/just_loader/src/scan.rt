@@ -19,9 +19,9 @@ use crate::scanned::{Scan, ScannedFile};
 use crate::sources::{SourceFile, Sources};
 use just_data::BorrowedText;
 use just_graph::unfolding::Step;
-use just_paths::folder_of;
 use just_parts::Source;
 use just_parts::layers::{Ast, Config, Edge, Error, Item, Numerator, Syntax};
+use just_paths::folder_of;
 use std::alloc::{AllocError, Global};
 
 // What a text says.

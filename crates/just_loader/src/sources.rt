@@ -8,8 +8,8 @@ ghost use Rattle.just_loader.specs.Sources.{folder_prefix, text_at};
 
 use crate::module_file::{after, is_module_name, slashed};
 use just_data::BorrowedText;
-use just_paths::is_clean;
 use just_parts::layers::SourceError;
+use just_paths::is_clean;
 use just_table::{Keyed, Table};
 use std::alloc::{AllocError, Global};
 use std::marker::Model;

@@ -6,7 +6,7 @@ use Rattle.std.specs.Option.{option_map}
 use Rattle.std.specs.Ordering.{nat_cmp}
 use Rattle.std.specs.declared.cmp.Ordering.TheVariants.{Less}
 use Rattle.just_table.specs.Entries.{find}
-use Rattle.just_attributes.specs.declared.settings.Settings.{Settings}
+use Rattle.just_literals.specs.declared.settings.Settings.{Settings}
 use Rattle.just_parts.specs.Items.{Ast}
 use Rattle.just_names.specs.declared.number.Number.{Number}
 use Rattle.just_invoke.specs.declared.justfile.Justfile.{Justfile, out-Justfile}

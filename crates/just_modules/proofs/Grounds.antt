@@ -3,7 +3,7 @@ use Rattle.std.proofs.Common.{◌≡◌, arith, subst}
 use Rattle.just_errors.specs.Causes.{Cause, Keeps}
 use Rattle.just_parts.specs.Layers.{Layers}
 use Rattle.just_parts.specs.Syntax.{SyntaxAnswers}
-use Rattle.just_attributes.specs.declared.settings.Settings.{Settings}
+use Rattle.just_literals.specs.declared.settings.Settings.{Settings}
 use Rattle.just_constants.proofs.Once.{evaluated_once}
 use Rattle.just_joining.specs.Constants.{Docs, Evaluated, IsEvaluated}
 use Rattle.just_joining.specs.Contents.{Contents}

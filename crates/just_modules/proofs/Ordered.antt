@@ -26,7 +26,7 @@ use Rattle.just_joining.specs.declared.files.Files.{Files}
 use Rattle.just_joining.specs.declared.joined.Joined.{Joined}
 use Rattle.just_making.proofs.Makings.{made_numbers}
 use Rattle.just_parts.specs.Layers.{Given}
-use Rattle.just_attributes.specs.declared.settings.Settings.{Settings}
+use Rattle.just_literals.specs.declared.settings.Settings.{Settings}
 
 -- a function that is changed at a place
 abbrev put_at : {A : Type 0} → ℕ → A → (ℕ → A) → ℕ → A

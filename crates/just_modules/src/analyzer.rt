@@ -30,11 +30,11 @@ use just_joining::files::{file_rows, place_files, place_of};
 use just_joining::joined::arrange;
 use just_joining::kept::keep_recipes;
 use just_making::{Surroundings, default_of, labelled, make_justfile, take_at};
-use just_paths::Modulepath;
 use just_notes::Label;
 use just_parts::layers::{
     Ast, Config, Error, Evaluation, Name, Number, Settings, StringLiteral, Syntax,
 };
+use just_paths::Modulepath;
 use just_rules::bodies::{check_bodies, index_recipes};
 use just_rules::module_names::check_module_names;
 use std::alloc::{AllocError, Global};

@@ -4,8 +4,8 @@ use Rattle.just_names.specs.Texts.{Text}
 use Rattle.just_names.specs.Name.{text_of_name}
 use Rattle.just_parts.specs.Items.{Ast, Item}
 use Rattle.just_parts.specs.declared.layers.ast.Item.TheVariants as item
-use Rattle.just_attributes.specs.declared.unstable_feature.UnstableFeature.{UnstableFeature}
-use Rattle.just_attributes.specs.declared.warning.Warning.{Warning}
+use Rattle.just_literals.specs.declared.unstable_feature.UnstableFeature.{UnstableFeature}
+use Rattle.just_literals.specs.declared.warning.Warning.{Warning}
 use Rattle.just_table.specs.Entries.{put_all}
 use Rattle.just_notes.specs.Said.{said}
 use Rattle.just_notes.specs.declared.notes.Notes.{Notes}

@@ -10,9 +10,9 @@ ghost use Rattle.just_references.specs.Parts.{parts, shape_parts, waiting};
 ghost use Rattle.just_references.specs.References.{references};
 
 use just_data::{BorrowedText, Sequence, Shared};
+use just_expressions::{Expression, Shape};
 use just_names::{Name, Number};
 use just_parts::layers::Syntax;
-use just_records::{Expression, Shape};
 use just_references::push_parts;
 use std::alloc::{AllocError, Global};
 use std::collections::HashMap;

@@ -1,7 +1,7 @@
 -- How an item leads to a file.
 use Rattle.std.specs.Prelude.{ℕ, Bool, List, Option, None, Some}
 use Rattle.just_names.specs.declared.name.Name.{Name}
-use Rattle.just_attributes.specs.declared.string_literal.StringLiteral.{StringLiteral}
+use Rattle.just_literals.specs.declared.string_literal.StringLiteral.{StringLiteral}
 use Rattle.just_parts.specs.Items.{Item}
 use Rattle.just_parts.specs.declared.layers.ast.Item.TheVariants as item
 use Rattle.just_parts.specs.declared.layers.edge.Edge.{Edge as LentEdge}

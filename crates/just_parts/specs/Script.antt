@@ -4,7 +4,7 @@ use Rattle.std.specs.List.{list_any}
 use Rattle.just_attributes.specs.declared.attribute.Attribute.{Attribute}
 use Rattle.just_attributes.specs.declared.attribute.Attribute.TheVariants as attribute
 use Rattle.just_attributes.specs.declared.attribute.NamedAttribute.{NamedAttribute}
-use Rattle.just_attributes.specs.declared.settings.Settings.{Settings}
+use Rattle.just_literals.specs.declared.settings.Settings.{Settings}
 use Rattle.just_parts.specs.declared.recipe.Recipe.{Recipe}
 
 -- the attribute says that it is none

@@ -11,14 +11,14 @@ use Rattle.just_attributes.specs.declared.attribute.Attribute.TheVariants as att
 use Rattle.just_attributes.specs.declared.attribute.NamedAttribute.{NamedAttribute}
 use Rattle.just_expressions.specs.declared.expression.Expression.{Expression}
 use Rattle.just_records.specs.declared.function_definition.FunctionDefinition.{FunctionDefinition}
-use Rattle.just_attributes.specs.declared.keyword.Keyword.{Keyword}
+use Rattle.just_literals.specs.declared.keyword.Keyword.{Keyword}
 use Rattle.just_records.specs.declared.line.Fragment.{Fragment}
 use Rattle.just_records.specs.declared.line.Fragment.TheVariants as fragment
 use Rattle.just_records.specs.declared.line.Line.{Line}
 use Rattle.just_records.specs.declared.parameter.Parameter.{Parameter}
-use Rattle.just_records.specs.declared.setting.Setting.{Setting}
-use Rattle.just_attributes.specs.declared.settings.Settings.{Settings}
-use Rattle.just_attributes.specs.declared.sigil.Sigil.{Sigil}
+use Rattle.just_attributes.specs.declared.setting.Setting.{Setting}
+use Rattle.just_literals.specs.declared.settings.Settings.{Settings}
+use Rattle.just_literals.specs.declared.sigil.Sigil.{Sigil}
 use Rattle.just_parts.specs.declared.layers.ast.UnresolvedDependency.{UnresolvedDependency}
 use Rattle.just_parts.specs.declared.recipe.Recipe.{Recipe}
 use Rattle.just_parts.specs.declared.source.Source.{Source}

@@ -14,17 +14,22 @@ pub use config::Config;
 pub use edge::Edge;
 pub use evaluation::Evaluation;
 pub use host::{Entry, Groups, Host};
+pub use just_attributes::{
+    ArgumentAttribute, ArgumentProperty, Attribute, CacheAttribute, EnvironmentAttribute,
+    NamedAttribute, Set, Setting,
+};
 pub use just_errors::{
     ArgumentRange, CompileError, CompileErrorKind, Error, Fault, Halt, InvocationError, LoadError,
     RunError, SourceError, error,
 };
+pub use just_expressions::{ConditionalOperator, Expression, Shape};
+pub use just_literals::{
+    Binding, Interpreter, Keyword, ListUse, Pattern, Scope, Settings, Sigil, Signal, StringLiteral,
+    UnstableFeature, Warning,
+};
 pub use just_names::{Exhausted, ListFeature, Name, Namepath, Number, Numerator, Token};
 pub use just_records::{
-    ArgumentAttribute, ArgumentProperty, Assignment, Attribute, Binding, CacheAttribute,
-    ConditionalOperator, EnvironmentAttribute, Expression, Fragment, FunctionDefinition,
-    FunctionParameter, Interpreter, Keyword, Line, ListUse, NamedAttribute, Parameter,
-    ParameterKind, Pattern, Scope, Set, Setting, Settings, Shape, Sigil, Signal, StringLiteral,
-    UnstableFeature, Warning,
+    Assignment, Fragment, FunctionDefinition, FunctionParameter, Line, Parameter, ParameterKind,
 };
 pub use output::{Output, WriteFailed};
 pub use syntax::Syntax;

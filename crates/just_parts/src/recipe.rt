@@ -7,12 +7,14 @@ ghost use Rattle.just_records.specs.Parameter.{is_required, is_variadic, least_a
 
 use crate::dependency::Dependency;
 use crate::layers::ast::UnresolvedDependency;
+use just_attributes::{Attribute, NamedAttribute};
 use just_chain::Chain;
 use just_data::{Exact, Sequence, Text};
 use just_errors::ArgumentRange;
+use just_literals::Settings;
 use just_names::{Name, Number};
 use just_paths::Modulepath;
-use just_records::{Attribute, Line, NamedAttribute, Parameter, Settings};
+use just_records::{Line, Parameter};
 use std::alloc::{AllocError, Global};
 
 /// A recipe. Its first `priors` dependencies run before it, the others after it. The last three fields are there once

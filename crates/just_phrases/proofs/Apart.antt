@@ -14,13 +14,13 @@ use Rattle.just_names.specs.declared.name.Name.{Name}
 use Rattle.just_records.specs.declared.assignment.Assignment.{Assignment}
 use Rattle.just_expressions.specs.declared.expression.Expression.{Expression}
 use Rattle.just_records.specs.declared.function_definition.FunctionDefinition.{FunctionDefinition}
-use Rattle.just_attributes.specs.declared.interpreter.Interpreter.{Interpreter}
+use Rattle.just_literals.specs.declared.interpreter.Interpreter.{Interpreter}
 use Rattle.just_records.specs.declared.parameter.Parameter.{Parameter}
 use Rattle.just_records.specs.declared.parameter.ParameterKind.TheVariants as parameter_kind
-use Rattle.just_records.specs.declared.setting.Set.{Set}
-use Rattle.just_records.specs.declared.setting.Setting.{Setting}
-use Rattle.just_records.specs.declared.setting.Setting.TheVariants as settings
-use Rattle.just_attributes.specs.declared.string_literal.StringLiteral.{StringLiteral}
+use Rattle.just_attributes.specs.declared.setting.Set.{Set}
+use Rattle.just_attributes.specs.declared.setting.Setting.{Setting}
+use Rattle.just_attributes.specs.declared.setting.Setting.TheVariants as settings
+use Rattle.just_literals.specs.declared.string_literal.StringLiteral.{StringLiteral}
 use Rattle.just_lexer.specs.declared.lexer.Kind.{Kind}
 use Rattle.just_lexer.specs.declared.lexer.Kind.TheVariants as kind
 use Rattle.just_lexer.specs.declared.lexer.Lexeme.{Lexeme}

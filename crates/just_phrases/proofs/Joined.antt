@@ -3,7 +3,7 @@ use Rattle.std.proofs.Common.{suc, zero, ◌≡◌, ℕ, ◌+◌, ◌-◌, ◌<�
 use Rattle.std.specs.Option.{option_map}
 use Rattle.std.proofs.lemmas.List.{append-nil, drop_all, drop-drop}
 use Rattle.just_records.specs.declared.line.Fragment.{Fragment}
-use Rattle.just_attributes.specs.declared.list_use.ListUse.{ListUse}
+use Rattle.just_literals.specs.declared.list_use.ListUse.{ListUse}
 use Rattle.just_lexer.specs.declared.lines.TextLine.{TextLine}
 use Rattle.just_phrases.specs.declared.body.BodyLine.{BodyLine}
 use Rattle.just_phrases.specs.declared.body.Part.{Part}

@@ -11,10 +11,10 @@ use Rattle.just_expressions.specs.declared.expression.Shape.{Shape, out-Shape}
 use Rattle.just_expressions.specs.declared.expression.Shape.TheOpen.{Shape-F}
 use Rattle.just_records.specs.declared.function_definition.FunctionDefinition.{FunctionDefinition}
 use Rattle.just_records.specs.declared.function_definition.FunctionParameter.{FunctionParameter}
-use Rattle.just_attributes.specs.declared.interpreter.Interpreter.{Interpreter}
-use Rattle.just_records.specs.declared.setting.Set.{Set}
-use Rattle.just_records.specs.declared.setting.Setting.{Setting}
-use Rattle.just_records.specs.declared.setting.Setting.TheVariants as settings
+use Rattle.just_literals.specs.declared.interpreter.Interpreter.{Interpreter}
+use Rattle.just_attributes.specs.declared.setting.Set.{Set}
+use Rattle.just_attributes.specs.declared.setting.Setting.{Setting}
+use Rattle.just_attributes.specs.declared.setting.Setting.TheVariants as settings
 use Rattle.just_plain.specs.declared.expressions.Found.{Found}
 use Rattle.just_lexer.specs.declared.lexer.Lexeme.{Lexeme}
 use Rattle.just_plain.specs.Expressions.{expression}

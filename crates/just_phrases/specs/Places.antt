@@ -9,7 +9,7 @@ use Rattle.just_lexer.specs.declared.lexer.Kind.{Kind}
 use Rattle.just_lexer.specs.declared.lexer.Kind.TheVariants as kind
 use Rattle.just_lexer.specs.declared.lexer.Lexeme.{Lexeme}
 use Rattle.just_lexer.specs.Lexemes.{between_quotes}
-use Rattle.just_attributes.specs.declared.string_literal.StringLiteral.{StringLiteral}
+use Rattle.just_literals.specs.declared.string_literal.StringLiteral.{StringLiteral}
 
 -- an identifier, and a quoted text
 abbrev pub is_name : Kind → Bool

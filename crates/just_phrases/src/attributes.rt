@@ -7,14 +7,14 @@ use crate::places::{
     bracket_close_at, bracket_open_at, equals_at, literal_at, name_at, paren_close_at,
     paren_open_at, quoted_at,
 };
+use just_attributes::{ArgumentAttribute, ArgumentProperty, Attribute, NamedAttribute};
 use just_data::Text;
+use just_expressions::Expression;
 use just_lexer::lexer::Lexeme;
 use just_lexer::spelling::Spelling;
+use just_literals::StringLiteral;
 use just_names::Name;
 use just_plain::expressions::{Found, read_expression};
-use just_records::{
-    ArgumentAttribute, ArgumentProperty, Attribute, Expression, NamedAttribute, StringLiteral,
-};
 use std::alloc::AllocError;
 
 /// What an attribute says of how its parameter is given.

@@ -9,9 +9,10 @@ use just_data::{BorrowedText, Sequence};
 use just_lexer::lexer::{is_blank, lex};
 use just_lexer::lines::TextLine;
 use just_lexer::spelling::Spelling;
+use just_literals::ListUse;
 use just_names::Token;
 use just_plain::features::list_features;
-use just_records::{Fragment, Line, ListUse};
+use just_records::{Fragment, Line};
 use std::alloc::{AllocError, Global};
 
 /// A part of a line of a body, the uses of lists in it, and the column after it.

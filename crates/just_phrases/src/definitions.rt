@@ -3,14 +3,15 @@ ghost use Rattle.std.specs.Prelude.{◌≡◌, ◌<◌, ◌≤◌, length, IfOk,
 ghost use Rattle.just_phrases.specs.Definitions as spec;
 
 use crate::places::{assign_at, comma_at, name_at, paren_close_at, paren_open_at, word_at};
+use just_attributes::{Set, Setting};
 use just_data::Sequence;
+use just_expressions::{Expression, Shape};
 use just_lexer::lexer::Lexeme;
 use just_lexer::spelling::Spelling;
+use just_literals::Interpreter;
 use just_names::{Name, Number};
 use just_plain::expressions::{Found, read_expression};
-use just_records::{
-    Assignment, Expression, FunctionDefinition, FunctionParameter, Interpreter, Set, Setting, Shape,
-};
+use just_records::{Assignment, FunctionDefinition, FunctionParameter};
 use std::alloc::{AllocError, Global};
 
 /// Whether a name begins with `_`.

@@ -5,11 +5,12 @@ ghost use Rattle.just_phrases.specs.Heading as spec;
 
 use crate::places::{and_at, at_sign_at, colon_at, equals_at, name_at, plus_at, star_at};
 use just_data::{Sequence, Text};
+use just_expressions::Expression;
 use just_lexer::lexer::Lexeme;
 use just_lexer::spelling::Spelling;
 use just_names::{Name, Number};
 use just_plain::expressions::{Found, read_operand};
-use just_records::{Expression, Parameter, ParameterKind};
+use just_records::{Parameter, ParameterKind};
 use std::alloc::{AllocError, Global};
 
 /// The line that a recipe begins with.

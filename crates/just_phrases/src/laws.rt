@@ -4,7 +4,7 @@ ghost use Rattle.std.specs.List.{join_with_byte};
 ghost use Rattle.just_names.specs.declared.name.Name.{Name};
 ghost use Rattle.just_records.specs.declared.assignment.Assignment.{Assignment};
 ghost use Rattle.just_records.specs.declared.function_definition.FunctionDefinition.{FunctionDefinition};
-ghost use Rattle.just_records.specs.declared.setting.Set.{Set};
+ghost use Rattle.just_attributes.specs.declared.setting.Set.{Set};
 ghost use Rattle.just_lexer.specs.declared.lexer.Lexeme.{Lexeme};
 ghost use Rattle.just_lexer.specs.Lexemes.{IsQuoted, between_quotes};
 ghost use Rattle.just_lexer.specs.Lines.{lines_of};

@@ -7,13 +7,15 @@ use crate::attributes::{Mark, read_attribute};
 use crate::definitions::{read_assignment, read_function, read_set, read_unexport};
 use crate::heading::{Heading, read_heading};
 use crate::places::{assign_at, literal_at, name_at, question_at, word_at};
+use just_attributes::Set;
 use just_data::Sequence;
 use just_lexer::lexer::{Lexeme, is_blank, lex};
 use just_lexer::lines::TextLine;
 use just_lexer::spelling::Spelling;
+use just_literals::{ListUse, StringLiteral};
 use just_names::Name;
 use just_plain::features::list_features;
-use just_records::{Assignment, FunctionDefinition, ListUse, Set, StringLiteral};
+use just_records::{Assignment, FunctionDefinition};
 use std::alloc::{AllocError, Global};
 
 /// What a line means.

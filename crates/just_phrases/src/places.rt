@@ -7,8 +7,8 @@ ghost use Rattle.just_phrases.specs.Places as spec;
 use just_data::Text;
 use just_lexer::lexer::{Kind, Lexeme};
 use just_lexer::spelling::Spelling;
+use just_literals::StringLiteral;
 use just_names::{Name, Token};
-use just_records::StringLiteral;
 use std::alloc::{AllocError, Global};
 
 /// The name at a place.

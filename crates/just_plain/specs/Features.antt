@@ -1,7 +1,7 @@
 -- What lexemes use that needs lists.
 use Rattle.std.specs.Prelude.{Bool, true, false, if◌then◌else◌, List, [], ◌∷◌}
 use Rattle.just_names.specs.declared.list_feature.ListFeature.TheVariants as feature
-use Rattle.just_attributes.specs.declared.list_use.ListUse.{ListUse}
+use Rattle.just_literals.specs.declared.list_use.ListUse.{ListUse}
 use Rattle.just_lexer.specs.declared.lexer.Kind.{Kind}
 use Rattle.just_lexer.specs.declared.lexer.Kind.TheVariants as kind
 use Rattle.just_lexer.specs.declared.lexer.Lexeme.{Lexeme}

@@ -6,10 +6,10 @@ ghost use Rattle.just_plain.specs.Expressions as spec;
 
 use crate::stack::Stack;
 use just_data::{Sequence, Shared, Text};
+use just_expressions::{Expression, Shape};
 use just_lexer::lexer::{Kind, Lexeme};
 use just_lexer::spelling::{Spelling, is_plus};
 use just_names::Name;
-use just_records::{Expression, Shape};
 use std::alloc::{AllocError, Global};
 use std::mem::replace;
 

@@ -4,8 +4,8 @@ ghost use Rattle.just_plain.specs.Features as spec;
 
 use just_data::Sequence;
 use just_lexer::lexer::{Kind, Lexeme};
+use just_literals::ListUse;
 use just_names::ListFeature;
-use just_records::ListUse;
 use std::alloc::{AllocError, Global};
 
 fn is_list(kind: Kind) -> bool

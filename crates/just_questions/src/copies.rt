@@ -3,8 +3,8 @@ use crate::items::{parse, root_source};
 use just_bench::{PlainSyntax, Recorder};
 use just_data::{Exact, Sequence, Text};
 use just_lines::faults::add_fault;
-use just_paths::Modulepath;
 use just_parts::layers::{Error, Groups, Host};
+use just_paths::Modulepath;
 use std::alloc::{AllocError, Global};
 
 // Adds whether a copy of a value is equal to it.

@@ -4,9 +4,9 @@ use just_data::Text;
 use just_lines::faults::add_fault;
 use just_lines::lists::before;
 use just_lines::readings::add_readings;
-use just_paths::is_clean;
 use just_parts::Source;
 use just_parts::layers::{Ast, Error, Item, Keyword, LoadError, Numerator, StringLiteral, Syntax};
+use just_paths::is_clean;
 use std::alloc::{AllocError, Global};
 
 // Adds the text of a path in brackets, its token, and how many bytes stand before it.

@@ -2,9 +2,9 @@
 ghost use Rattle.std.specs.Prelude.{◌≡◌, IfOk};
 ghost use Rattle.just_records.specs.Parameter.{is_name, is_option, is_required, is_variadic};
 
-use just_attributes::Pattern;
 use just_data::{Exact, Text};
 use just_expressions::Expression;
+use just_literals::Pattern;
 use just_names::{Name, Number};
 use std::alloc::AllocError;
 

@@ -16,9 +16,9 @@ use Rattle.just_records.specs.declared.function_definition.FunctionParameter.{Fu
 use Rattle.just_attributes.specs.declared.attribute.NamedAttribute.{NamedAttribute}
 use Rattle.just_expressions.specs.declared.expression.Expression.{Expression}
 use Rattle.just_records.specs.declared.line.Line.{Line}
-use Rattle.just_attributes.specs.declared.list_use.ListUse.{ListUse}
-use Rattle.just_records.specs.declared.setting.Set.{Set}
-use Rattle.just_attributes.specs.declared.settings.Settings.{Settings}
+use Rattle.just_literals.specs.declared.list_use.ListUse.{ListUse}
+use Rattle.just_attributes.specs.declared.setting.Set.{Set}
+use Rattle.just_literals.specs.declared.settings.Settings.{Settings}
 use Rattle.just_parts.specs.Bare.{bare_function, bare_function_parameter}
 use Rattle.just_parts.specs.Evaluator.{Values, Wanted, bare_set, functions_by_name, set_expressions}
 use Rattle.just_parts.specs.Layers.{Layers}

@@ -21,7 +21,7 @@ use Rattle.just_joining.specs.Recipes.{name_of, names_of}
 use Rattle.just_joining.specs.Settings.{Conflicts, allows_variables}
 use Rattle.just_joining.specs.Shells.{Shells}
 use Rattle.just_parts.specs.Syntax.{SyntaxAnswers}
-use Rattle.just_attributes.specs.declared.settings.Settings.{Settings}
+use Rattle.just_literals.specs.declared.settings.Settings.{Settings}
 use Rattle.just_joining.specs.Rules.{AssignedTwice, Bodies, Functions, Headers, IsRedefinition, Lists, Modules, Names, Parameters, Redefined, Sets, Unexported, Unexports, Variables, assigned_twice, duplicate_unexport, duplicate_variable, export_unexported, of_defined, of_functions, of_lists, of_shells, of_variables, unexported, module_redefinition, of_modules, of_parameters, of_sets, of_unexports, redefinition}
 
 -- what stands in the first list, and in the second

@@ -12,8 +12,8 @@ use Rattle.just_names.specs.Texts.{Text}
 use Rattle.just_names.specs.Name.{text_of_name}
 use Rattle.just_names.specs.Token.{Place}
 use Rattle.just_names.proofs.SameTexts.{same_or_not}
-use Rattle.just_attributes.specs.declared.keyword.Keyword.{Keyword}
-use Rattle.just_records.specs.declared.setting.Set.{Set}
+use Rattle.just_literals.specs.declared.keyword.Keyword.{Keyword}
+use Rattle.just_attributes.specs.declared.setting.Set.{Set}
 use Rattle.just_errors.specs.Causes.{Broken, Keeps}
 use Rattle.just_errors.specs.declared.error.CompileErrorKind.TheVariants as kind
 use Rattle.just_index.specs.Index.{AreDifferent, IsLast, Repeats, name_at}

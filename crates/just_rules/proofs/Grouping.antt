@@ -10,13 +10,13 @@ use Rattle.just_errors.specs.Causes.{Broken, Cause, Keeps}
 use Rattle.just_errors.specs.declared.error.CompileErrorKind.TheVariants as kind
 use Rattle.just_names.specs.Name.{text_of_name}
 use Rattle.just_names.specs.Token.{Place, lexeme}
-use Rattle.just_attributes.specs.contracts.sigil.SigilPartialEq.TheImpl.{eq-value}
+use Rattle.just_literals.specs.contracts.sigil.SigilPartialEq.TheImpl.{eq-value}
 use Rattle.just_attributes.specs.declared.attribute.NamedAttribute.{NamedAttribute}
 use Rattle.just_expressions.specs.declared.expression.Expression.{Expression}
 use Rattle.just_records.specs.declared.line.Line.{Line}
-use Rattle.just_attributes.specs.declared.settings.Settings.{Settings}
-use Rattle.just_attributes.specs.declared.sigil.Sigil.{Sigil}
-use Rattle.just_attributes.specs.declared.sigil.Sigil.TheVariants as sigil
+use Rattle.just_literals.specs.declared.settings.Settings.{Settings}
+use Rattle.just_literals.specs.declared.sigil.Sigil.{Sigil}
+use Rattle.just_literals.specs.declared.sigil.Sigil.TheVariants as sigil
 use Rattle.just_parts.specs.Groups.{BeginsGroup, after_comment, after_end, first, front, is_indented}
 use Rattle.just_parts.specs.Script.{is_script}
 use Rattle.just_parts.specs.Syntax.{SyntaxAnswers}

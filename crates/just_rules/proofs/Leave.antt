@@ -10,8 +10,8 @@ use Rattle.just_errors.specs.declared.error.CompileErrorKind.TheVariants as kind
 use Rattle.just_names.specs.Texts.{Text}
 use Rattle.just_names.specs.Token.{Place}
 use Rattle.just_names.specs.declared.list_feature.ListFeature.{ListFeature}
-use Rattle.just_attributes.specs.declared.list_use.ListUse.{ListUse}
-use Rattle.just_records.specs.declared.setting.Set.{Set}
+use Rattle.just_literals.specs.declared.list_use.ListUse.{ListUse}
+use Rattle.just_attributes.specs.declared.setting.Set.{Set}
 use Rattle.just_joining.specs.Rules.{Lists, StandsFor, list_feature}
 use Rattle.just_joining.specs.Settings.{allows_variables, is_allowing}
 

@@ -3,11 +3,11 @@ use Rattle.std.proofs.Common.{◌≡◌, refl, ap, List, [], ◌∷◌, map, Som
 use Rattle.std.specs.Option.{option_and_then, option_map}
 use Rattle.just_parts.specs.Evaluator.{bare_interpreter, bare_set, bare_setting}
 use Rattle.just_expressions.specs.declared.expression.Expression.{Expression}
-use Rattle.just_attributes.specs.declared.interpreter.Interpreter.{Interpreter}
-use Rattle.just_records.specs.declared.setting.Set.{Set}
-use Rattle.just_records.specs.declared.setting.Setting.{Setting}
-use Rattle.just_records.specs.declared.setting.Setting.TheVariants as setting
-use Rattle.just_attributes.specs.declared.settings.Settings.{Settings}
+use Rattle.just_literals.specs.declared.interpreter.Interpreter.{Interpreter}
+use Rattle.just_attributes.specs.declared.setting.Set.{Set}
+use Rattle.just_attributes.specs.declared.setting.Setting.{Setting}
+use Rattle.just_attributes.specs.declared.setting.Setting.TheVariants as setting
+use Rattle.just_literals.specs.declared.settings.Settings.{Settings}
 use Rattle.just_references.specs.Numbers.{bare}
 use Rattle.just_values.specs.Settings.{interpreter_with, setting_with, settings_with, text_with}
 use Rattle.just_values.specs.Values.{Outcome, all_of, one_text}

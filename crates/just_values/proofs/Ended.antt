@@ -20,8 +20,8 @@ use Rattle.just_parts.specs.Known.{sources}
 use Rattle.just_parts.specs.Reading.{IsEvaluationOrder}
 use Rattle.just_records.specs.declared.assignment.Assignment.{Assignment}
 use Rattle.just_records.specs.declared.function_definition.FunctionDefinition.{FunctionDefinition}
-use Rattle.just_attributes.specs.declared.scope.Binding.{Binding}
-use Rattle.just_attributes.specs.declared.scope.Scope.{Scope}
+use Rattle.just_literals.specs.declared.scope.Binding.{Binding}
+use Rattle.just_literals.specs.declared.scope.Scope.{Scope}
 use Rattle.just_table.specs.Entries.{IsKeyed, IsSorted, find}
 use Rattle.just_values.specs.Constants.{assigned_value, constants_of, demanded, is_settled, overridden_or, values_after}
 use Rattle.just_values.specs.Lookup.{constant_name, table_values}

@@ -11,7 +11,7 @@ use Rattle.just_index.specs.Index.{AreDifferent}
 use Rattle.just_names.specs.Texts.{Text}
 use Rattle.just_names.specs.Name.{text_of_name}
 use Rattle.just_parts.specs.Evaluator.{value_in}
-use Rattle.just_attributes.specs.declared.scope.Binding.{Binding}
+use Rattle.just_literals.specs.declared.scope.Binding.{Binding}
 use Rattle.just_table.specs.Entries.{IsKeyed, IsSorted, find}
 use Rattle.just_values.specs.Lookup.{constant_name, table_values}
 use Rattle.just_values.specs.declared.lookup.Constant.{Constant}

@@ -2,13 +2,12 @@
 ghost use Rattle.std.specs.Prelude.{◌≡◌};
 
 use crate::recipe::UnresolvedRecipe;
+use just_attributes::{NamedAttribute, Set};
 use just_data::{Exact, Sequence, Text};
+use just_literals::{ListUse, StringLiteral, UnstableFeature, Warning};
 use just_names::{Name, Namepath, Token};
 use just_paths::Modulepath;
-use just_records::{
-    Assignment, FunctionDefinition, ListUse, NamedAttribute, Set, StringLiteral, UnstableFeature,
-    Warning,
-};
+use just_records::{Assignment, FunctionDefinition};
 use std::alloc::AllocError;
 
 /// What a recipe of a source text depends on.

@@ -4,8 +4,8 @@ ghost use Rattle.just_parts.specs.Edge.{edge_of, lent_edge, with_absolute};
 
 use crate::layers::ast::Item;
 use just_data::Text;
+use just_literals::StringLiteral;
 use just_names::Name;
-use just_records::StringLiteral;
 
 /// How an item leads to a file. Where it is optional, the file may be missing.
 #[derive(Drop)]

@@ -12,10 +12,13 @@ ghost use Rattle.just_parts.specs.Needs.{IsClosed, has_number, same_number};
 ghost use Rattle.just_parts.specs.Reading.{IsEvaluationOrder};
 ghost use Rattle.just_references.specs.Numbers.{bare};
 
+use just_attributes::Set;
 use just_data::{Sequence, Text};
 use just_errors::Error;
+use just_expressions::Expression;
+use just_literals::{Scope, Settings};
 use just_names::{Name, Number};
-use just_records::{Assignment, Expression, FunctionDefinition, Scope, Set, Settings};
+use just_records::{Assignment, FunctionDefinition};
 use just_table::Table;
 use std::alloc::Global;
 use std::collections::{HashMap, HashSet};

@@ -6,10 +6,12 @@ ghost use Rattle.std.specs.List.{All};
 
 use crate::layers::ast::{Ast, Item};
 use crate::source::Source;
+use just_attributes::Setting;
 use just_data::Sequence;
 use just_errors::{ArgumentRange, Error};
+use just_literals::{Keyword, Settings, Sigil};
 use just_names::{Number, Numerator};
-use just_records::{Keyword, Line, Setting, Settings, Sigil};
+use just_records::Line;
 use std::alloc::{AllocError, Global};
 
 /// The grammar of the source texts.

@@ -2,7 +2,7 @@ use Rattle.std.proofs.Common.{◌≡◌, ◌∙◌, IfErr, IfOk, List, Some, map
 use Rattle.std.specs.List.{All, flat_map}
 use Rattle.just_parts.specs.Evaluator.{Covers, FaultsAt, bare_set, functions_by_name, set_expressions, values_of}
 use Rattle.just_parts.specs.Known.{sources}
-use Rattle.just_records.specs.declared.setting.Set.{Set}
+use Rattle.just_attributes.specs.declared.setting.Set.{Set}
 use Rattle.just_constants.proofs.constants.settings_of.Goals as goal
 
 pub sets-requires : goal.sets-requires

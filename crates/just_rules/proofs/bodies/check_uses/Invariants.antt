@@ -1,6 +1,6 @@
 use Rattle.std.proofs.Common.{◌≡◌, ℕ, ◌<◌, Some}
 use Rattle.std.specs.List.{slice_get}
-use Rattle.just_attributes.specs.declared.list_use.ListUse.{ListUse}
+use Rattle.just_literals.specs.declared.list_use.ListUse.{ListUse}
 use Rattle.just_joining.specs.Contents.{function_texts}
 use Rattle.just_joining.specs.Definitions.{contents_in, lists_in}
 use Rattle.just_joining.specs.Rules.{StandsFor}

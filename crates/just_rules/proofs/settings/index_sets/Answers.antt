@@ -4,7 +4,7 @@ use Rattle.std.specs.HashMap.{get}
 use Rattle.std.proofs.lemmas.Grind.{common_steps}
 use Rattle.std.proofs.lemmas.List.{length-map}
 use Rattle.just_names.specs.Name.{text_of_name}
-use Rattle.just_records.specs.declared.setting.Set.{Set}
+use Rattle.just_attributes.specs.declared.setting.Set.{Set}
 use Rattle.just_joining.specs.Definitions.{sets_in}
 use Rattle.just_index.specs.Index.{IsLast, name_at}
 use Rattle.just_joining.specs.Settings.{setting_names}

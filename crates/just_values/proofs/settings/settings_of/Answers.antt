@@ -3,7 +3,7 @@ use Rattle.std.specs.Option.{option_and_then}
 use Rattle.std.proofs.lemmas.List.{drop_all}
 use Rattle.std.proofs.lemmas.Result.{IfErr-weaker}
 use Rattle.just_parts.specs.Evaluator.{FaultsAt, functions_by_name, values_of}
-use Rattle.just_records.specs.declared.setting.Set.{Set}
+use Rattle.just_attributes.specs.declared.setting.Set.{Set}
 use Rattle.just_values.specs.Settings.{default_settings, setting_with, settings_with}
 use Rattle.just_values.specs.Values.{none_bound, value_of}
 use Rattle.just_values.proofs.BareSets.{bare_sets}

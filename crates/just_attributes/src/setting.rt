@@ -1,6 +1,6 @@
-use just_attributes::Interpreter;
 use just_data::Exact;
 use just_expressions::Expression;
+use just_literals::Interpreter;
 use just_names::Name;
 
 /// A setting, and the value that a text gives it.

@@ -1,0 +1,26 @@
+//! Quoted texts and other small records of a source text, and settings and scopes as they are evaluated.
+#![tactic(auto)]
+
+pub mod interpreter;
+pub mod keyword;
+pub mod list_use;
+pub mod pattern;
+pub mod scope;
+pub mod settings;
+pub mod sigil;
+pub mod signal;
+pub mod string_literal;
+pub mod unstable_feature;
+pub mod warning;
+
+pub use interpreter::Interpreter;
+pub use keyword::Keyword;
+pub use list_use::ListUse;
+pub use pattern::Pattern;
+pub use scope::{Binding, Scope};
+pub use settings::Settings;
+pub use sigil::Sigil;
+pub use signal::Signal;
+pub use string_literal::StringLiteral;
+pub use unstable_feature::UnstableFeature;
+pub use warning::Warning;
