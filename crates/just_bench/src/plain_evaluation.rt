@@ -15,9 +15,11 @@ use std::collections::{HashMap, HashSet};
 pub struct PlainEvaluation;
 
 impl Evaluation for PlainEvaluation {
-    ghost use Rattle.std.specs.Prelude.{Some};
+    ghost use Rattle.std.specs.Prelude.{Some, []};
     ghost use Rattle.just_parts.specs.Host.{Answer};
     ghost use Rattle.just_values.specs.Constants.{evaluator};
+
+    ghost inquiries = { λ evaluation. [] };
 
     ghost promised = { λ evaluation inquiry. Some Answer.Done };
 

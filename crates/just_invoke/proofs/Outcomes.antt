@@ -2,7 +2,8 @@
 use Rattle.std.proofs.Common.{◌≡◌, ◌≤◌, ◌<◌, ℕ, true, List, [], length, Option, Ok, Err, IfSome, refl, sym, ◌∙◌, ap, subst, inl, inr, arith}
 use Rattle.std.specs.Prelude.{IsErrAnd, Result}
 use Rattle.std.proofs.lemmas.Bool.{true≢false}
-use Rattle.std.proofs.lemmas.List.{append-nil}
+use Rattle.just_parts.proofs.StepLemmas.{after-none}
+use Rattle.just_parts.specs.Steps.{Kept}
 use Rattle.just_parts.specs.declared.dependency.Dependency.{Dependency}
 use Rattle.just_parts.specs.declared.layers.config.Config.{Config}
 use Rattle.just_errors.specs.declared.error.Error.{Error}
@@ -28,7 +29,7 @@ use Rattle.just_invoke.proofs.Faults.{split_no_fault}
 use Rattle.just_invoke.proofs.Unique.{split_once}
 
 -- what is expected where these are invoked
-abbrev IsSo : (Inquiry → Option Answer) → (Entry → Option Answer) → List (Recipe Dependency) → List Invoked → List Entry → List Entry → Result Report Error → Type 0
+abbrev IsSo : (Inquiry → Option Answer) → (Entry → Option Answer) → List (Recipe Dependency) → List Invoked → Kept → Kept → Result Report Error → Type 0
 IsSo evaluator host recipes invoked old new result =
     (ended : Result Report Halt) × (result ≡ come_to ended) × IsAsExpected evaluator host recipes (tops recipes invoked) old new ended
 
@@ -44,12 +45,12 @@ module _ (root : Justfile) (recipes : List (Recipe Dependency)) (words : List (L
   unread Exhausted x h = absurd x
 
   -- they are not expected to run
-  out : (p : Inquiry → Option Answer) (q : Entry → Option Answer) (invoked : List Invoked) (old : List Entry) → IsSo p q recipes invoked old old (Err Memory)
-  out p q invoked old = (Err halt.Memory, refl, λ f steady even. inr (inl refl, ([], _, refl, sym (append-nil old))))
+  out : (p : Inquiry → Option Answer) (q : Entry → Option Answer) (invoked : List Invoked) (old : Kept) → IsSo p q recipes invoked old old (Err Memory)
+  out p q invoked old = (Err halt.Memory, refl, λ f steady even. inr (inl refl, ([], _, refl, sym (after-none old))))
 
   -- nor are words that have a fault
   unread-expected : (e : Error) → cause.IsExpected e → IfSome (cause.cause_of e) (IsFault root recipes words) → (p : Inquiry → Option Answer) (q : Entry → Option Answer) (invoked : List Invoked) → IsSplit root recipes words invoked →
-      (old : List Entry) → IsSo p q recipes invoked old old (Err e)
+      (old : Kept) → IsSo p q recipes invoked old old (Err e)
   unread-expected (Invocation e) x h p q invoked split old = absurd (split_no_fault root recipes words invoked (cause.cause_of_fault e) split h)
   unread-expected Memory x h p q invoked split old = out p q invoked old
   unread-expected (Load e) x h p q invoked split old = absurd x
@@ -63,11 +64,11 @@ module _ (root : Justfile) (recipes : List (Recipe Dependency)) (words : List (L
   answered (Ok report) e h = absurd h
   answered (Err y) e h = ap (λ y. Err y) h
 
-  pub unread-outcome : (e : Error) → cause.IsExpected e → IfSome (cause.cause_of e) (IsFault root recipes words) → (r : Result Report Error) → IsErrAnd r (λ y. y ≡ e) → (old : List Entry) →
+  pub unread-outcome : (e : Error) → cause.IsExpected e → IfSome (cause.cause_of e) (IsFault root recipes words) → (r : Result Report Error) → IsErrAnd r (λ y. y ≡ e) → (old : Kept) →
       IsOutcome root recipes words config old old r
   unread-outcome e x h r is old = refused e (answered r e is) (unread e x h) refl
 
-  pub unread-so : (e : Error) → cause.IsExpected e → IfSome (cause.cause_of e) (IsFault root recipes words) → (r : Result Report Error) → IsErrAnd r (λ y. y ≡ e) → (p : Inquiry → Option Answer) (q : Entry → Option Answer) (old : List Entry) →
+  pub unread-so : (e : Error) → cause.IsExpected e → IfSome (cause.cause_of e) (IsFault root recipes words) → (r : Result Report Error) → IsErrAnd r (λ y. y ≡ e) → (p : Inquiry → Option Answer) (q : Entry → Option Answer) (old : Kept) →
       (invoked : List Invoked) → MayRun root recipes words config.one invoked → IsSo p q recipes invoked old old r
   unread-so e x h r is p q old invoked may = subst (λ r. IsSo p q recipes invoked old old r) (sym (answered r e is)) (unread-expected e x h p q invoked may.split old)
 
@@ -76,7 +77,7 @@ module _ (root : Justfile) (recipes : List (Recipe Dependency)) (words : List (L
   not-ready invoked name (place, recipe, led, at, unready, is) ready = true≢false (sym unready ∙ ready place recipe led at)
 
   -- where there is a variable
-  module _ (invoked : List Invoked) (split : IsSplit root recipes words invoked) (few : config.one ≡ true → length invoked ≤ 1) (old : List Entry) where
+  module _ (invoked : List Invoked) (split : IsSplit root recipes words invoked) (few : config.one ≡ true → length invoked ≤ 1) (old : Kept) where
     held-back : (e : Error) → IsHeldBack root invoked e → Refuses root recipes words config.one e
     held-back e (inl is) = subst (Refuses root recipes words config.one) (sym is) memory
     held-back e (inr (first, rest, are, is, has)) =
@@ -95,7 +96,7 @@ module _ (root : Justfile) (recipes : List (Recipe Dependency)) (words : List (L
     held-so e held r is p q others may = subst (λ r. IsSo p q recipes others old old r) (sym (answered r e is)) (held-expected e held p q others may)
 
   module _ (p : Inquiry → Option Answer) (q : Entry → Option Answer) (invoked : List Invoked) (split : IsSplit root recipes words invoked) (few : config.one ≡ true → length invoked ≤ 1) (plain : HasVariables root → ⊥)
-      (old new : List Entry) (result : Result Report Error) where
+      (old new : Kept) (result : Result Report Error) where
     stopped : (e : Error) → IsHindered recipes (tops recipes invoked) e → Refuses root recipes words config.one e
     stopped e (inl is) = subst (Refuses root recipes words config.one) (sym is) memory
     stopped e (inr (name, is, unready)) = subst (Refuses root recipes words config.one) (sym is) (not_yet name invoked split few unready)

@@ -1,5 +1,6 @@
 -- For the private functions: what the run of tasks comes to.
 use Rattle.std.specs.Prelude.{◌≡◌, ◌⊎◌, ℕ, List, Option, Result, Err}
+use Rattle.just_parts.specs.Steps.{Kept}
 use Rattle.just_parts.specs.declared.dependency.Dependency.{Dependency}
 use Rattle.just_errors.specs.declared.error.Error.{Error}
 use Rattle.just_errors.specs.declared.error.Error.TheVariants.{Run, Memory}
@@ -21,13 +22,13 @@ use Rattle.just_invoke.specs.Outcome.{tops_of}
 abbrev pub IsHindered : List (Recipe Dependency) → List Task → Error → Type 0
 IsHindered recipes ts e = (e ≡ Memory) ⊎ ((name : List ℕ) × (e ≡ Run (NotYet name)) × IsUnready recipes ts name)
 
--- tasks are not run, and the host is as it was; or they are
-abbrev pub TasksComeTo : (Inquiry → Option Answer) → (Entry → Option Answer) → List (Recipe Dependency) → List Task → List Entry → List Entry → Result Report Error → Type 0
+-- tasks are not run, and what is kept is as it was; or they are
+abbrev pub TasksComeTo : (Inquiry → Option Answer) → (Entry → Option Answer) → List (Recipe Dependency) → List Task → Kept → Kept → Result Report Error → Type 0
 TasksComeTo evaluator host recipes ts old new result =
     ((e : Error) × (result ≡ Err e) × IsHindered recipes ts e × (new ≡ old))
     ⊎ (AreReady recipes ts × (ended : Result Report Halt) × (result ≡ come_to ended)
     × IsRun recipes ts old new ended × IsAsExpected evaluator host recipes ts old new ended)
 
 -- likewise of invocations
-abbrev pub ComesTo : (Inquiry → Option Answer) → (Entry → Option Answer) → List (Recipe Dependency) → List Invocation → List Entry → List Entry → Result Report Error → Type 0
+abbrev pub ComesTo : (Inquiry → Option Answer) → (Entry → Option Answer) → List (Recipe Dependency) → List Invocation → Kept → Kept → Result Report Error → Type 0
 ComesTo evaluator host recipes invocations old new result = TasksComeTo evaluator host recipes (tops_of recipes invocations) old new result

@@ -1,5 +1,6 @@
 -- What a run of command words comes to.
 use Rattle.std.specs.Prelude.{◌≡◌, ◌<◌, ◌≤◌, ℕ, Bool, true, false, List, ◌∷◌, map, length, Option, Some, Result, Err}
+use Rattle.just_parts.specs.Steps.{Kept}
 use Rattle.just_parts.specs.declared.dependency.Dependency.{Dependency}
 use Rattle.just_parts.specs.declared.layers.config.Config.{Config}
 use Rattle.just_errors.specs.declared.error.Error.{Error}
@@ -54,14 +55,14 @@ pub record MayRun (root : Justfile) (recipes : List (Recipe Dependency)) (words 
   pub plain : HasVariables root → ⊥
   pub ready : AreReady recipes (tops recipes invoked)
 
--- The words are refused, and the host is as it was; or they may be run, and are.
-pub data IsOutcome (root : Justfile) (recipes : List (Recipe Dependency)) (words : List (List ℕ)) (config : Config) (old new : List Entry) (result : Result Report Error) : Type 0 where
+-- The words are refused, and what is kept is as it was; or they may be run, and are.
+pub data IsOutcome (root : Justfile) (recipes : List (Recipe Dependency)) (words : List (List ℕ)) (config : Config) (old new : Kept) (result : Result Report Error) : Type 0 where
   refused : (e : Error) → result ≡ Err e → Refuses root recipes words config.one e → new ≡ old → IsOutcome root recipes words config old new result
   ran : (invoked : List Invoked) (ended : Result Report Halt) → MayRun root recipes words config.one invoked → result ≡ come_to ended →
       IsRun recipes (tops recipes invoked) old new ended → IsOutcome root recipes words config old new result
 
 -- for promised answers: words that may be run are, as is expected
-abbrev pub IsExpected : Justfile → List (Recipe Dependency) → List (List ℕ) → Config → (Inquiry → Option Answer) → (Entry → Option Answer) → List Entry → List Entry → Result Report Error → Type 0
+abbrev pub IsExpected : Justfile → List (Recipe Dependency) → List (List ℕ) → Config → (Inquiry → Option Answer) → (Entry → Option Answer) → Kept → Kept → Result Report Error → Type 0
 IsExpected root recipes words config evaluator host old new result =
     (invoked : List Invoked) → MayRun root recipes words config.one invoked →
     (ended : Result Report Halt) × (result ≡ come_to ended) × IsAsExpected evaluator host recipes (tops recipes invoked) old new ended

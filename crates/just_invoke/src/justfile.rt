@@ -153,6 +153,7 @@ impl<'src> Justfile<'src> {
 impl<'src> Justfile<'src> {
     ghost use Rattle.std.specs.Prelude.{◌≡◌};
     ghost use Rattle.just_parts.specs.Host.{KeepsPromises};
+    ghost use Rattle.just_parts.specs.Steps.{kept_by};
     ghost use Rattle.just_names.specs.Texts.{texts};
     ghost use Rattle.just_invoke.specs.Closed.{IsClosed};
     ghost use Rattle.just_invoke.specs.Outcome.{IsExpected, IsOutcome};
@@ -184,10 +185,14 @@ impl<'src> Justfile<'src> {
         ensures keeps { KeepsPromises (E.promised evaluation.old) (E.promised evaluation.new) }
         ensures keeps_host { KeepsPromises (H.promised host.old) (H.promised host.new) }
         // For every host.
-        ensures outcome { IsOutcome self.now recipes.now (texts words.now) config.now (H.entries host.old) (H.entries host.new) result }
+        ensures outcome { let first = kept_by (H.entries host.old) (E.inquiries evaluation.old) in
+            let last = kept_by (H.entries host.new) (E.inquiries evaluation.new) in
+            IsOutcome self.now recipes.now (texts words.now) config.now first last result }
         // For promised answers.
         ensures expected { let expected = IsExpected self.now recipes.now (texts words.now) config.now (E.promised evaluation.old) (H.promised host.old) in
-            expected (H.entries host.old) (H.entries host.new) result }
+            let first = kept_by (H.entries host.old) (E.inquiries evaluation.old) in
+            let last = kept_by (H.entries host.new) (E.inquiries evaluation.new) in
+            expected first last result }
         // The writer is left as it was.
         ensures unwritten { W.written writer.new ≡ W.written writer.old }
         ensures unfailed { W.failed writer.new ≡ W.failed writer.old }

@@ -1,6 +1,7 @@
 ghost use Rattle.std.specs.List.{All};
 ghost use Rattle.just_parts.specs.Host.{KeepsPromises};
 ghost use Rattle.just_parts.specs.Recipes.{IsResolved};
+ghost use Rattle.just_parts.specs.Steps.{kept_by};
 ghost use Rattle.just_invoke.specs.declared.invocation.Invocation.{Invocation};
 ghost use Rattle.just_invoke.specs.Closed.{IsHeld};
 ghost use Rattle.just_invoke.specs.Going.{ComesTo};
@@ -23,7 +24,9 @@ pub(crate) fn run_invocations<'src, E: Evaluation, H: Host>(
     requires held { All (λ (i : Invocation). IsHeld recipes.now i.recipe.now) invocations.now }
     ensures keeps { KeepsPromises (E.promised evaluation.old) (E.promised evaluation.new) }
     ensures keeps_host { KeepsPromises (H.promised host.old) (H.promised host.new) }
-    ensures comes { ComesTo (E.promised evaluation.old) (H.promised host.old) recipes.now invocations.now (H.entries host.old) (H.entries host.new) result }
+    ensures comes { let first = kept_by (H.entries host.old) (E.inquiries evaluation.old) in
+        let last = kept_by (H.entries host.new) (E.inquiries evaluation.new) in
+        ComesTo (E.promised evaluation.old) (H.promised host.old) recipes.now invocations.now first last result }
 {
     let tops = name_tops(alloc, recipes, invocations)?;
     if let Some(recipe) = find_unready(alloc, recipes, &tops)? {

@@ -1,5 +1,5 @@
 -- Steps after steps.
-use Rattle.std.proofs.Common.{◌≡◌, ◌⊎◌, List, [], ◌∷◌, Option, refl, sym, ◌∙◌, ap, subst, inl, inr, append_assoc, Ok, Err}
+use Rattle.std.proofs.Common.{◌≡◌, ◌⊎◌, List, [], ◌∷◌, Option, refl, sym, ◌++◌, ◌∙◌, ap, subst, inl, inr, append_assoc, Ok, Err}
 use Rattle.std.specs.Prelude.{Result}
 use Rattle.std.proofs.lemmas.List.{append-nil}
 use Rattle.just_errors.specs.declared.halt.Halt.{Halt}
@@ -7,7 +7,7 @@ use Rattle.just_errors.specs.declared.halt.Halt.TheVariants.{Memory}
 use Rattle.just_parts.specs.declared.layers.host.Entry.{Entry}
 use Rattle.just_parts.specs.Evaluation.{Inquiry}
 use Rattle.just_parts.specs.Host.{Answer, KeepsPromises}
-use Rattle.just_parts.specs.Steps.{Question, ToHost, ToEvaluator, both, Steps, Give, Fail, Asks, and_then, Gives, after, Took, path, outcome, IsSteady, calls, Follows}
+use Rattle.just_parts.specs.Steps.{Question, ToHost, ToEvaluator, both, Steps, Give, Fail, Asks, and_then, Gives, Kept, kept_by, after, after_all, Took, path, outcome, IsSteady, calls, inquiries_in, Follows}
 
 -- promises
 pub keeps-then : {Q : Type 0} (a b c : Q → Option Answer) → KeepsPromises a b → KeepsPromises b c → KeepsPromises a c
@@ -42,20 +42,20 @@ pub then-same : {A B : Type 0} (s : Steps A) (k l : A → Steps B) → ((x : A) 
 then-same s k l h = then-each s k l (λ x t. h x)
 
 -- what was taken under more promises was taken under fewer
-pub took-kept : {A : Type 0} (p q : Question → Option Answer) → KeepsPromises p q → (s : Steps A) (old new : List Entry) (r : Result A Halt) → Took q s old new r → Took p s old new r
+pub took-kept : {A : Type 0} (p q : Question → Option Answer) → KeepsPromises p q → (s : Steps A) (old new : Kept) (r : Result A Halt) → Took q s old new r → Took p s old new r
 took-kept p q k (Give x) old new r t = t
 took-kept p q k (Fail e) old new r t = t
 took-kept p q k (Asks x g) old new r (inl t) = inl t
 took-kept p q k (Asks x g) old new r (inr t) = inr (t.0, (λ b h. t.1 b (k x b h)), took-kept p q k (g t.0) (after x old) new r t.2)
 
 -- out of memory before anything else
-pub took-out : {A : Type 0} (p : Question → Option Answer) (s : Steps A) (old new : List Entry) → new ≡ old → Took p s old new (Err Memory)
+pub took-out : {A : Type 0} (p : Question → Option Answer) (s : Steps A) (old new : Kept) → new ≡ old → Took p s old new (Err Memory)
 took-out p (Give x) old new n = (n, inr refl)
 took-out p (Fail f) old new n = (n, inr refl)
 took-out p (Asks x g) old new n = inl (n, refl)
 
 -- an end of the first
-pub took-stop : {A B : Type 0} (p : Question → Option Answer) (s : Steps A) (next : A → Steps B) (old new : List Entry) (e : Halt) → Took p s old new (Err e) → Took p (and_then s next) old new (Err e)
+pub took-stop : {A B : Type 0} (p : Question → Option Answer) (s : Steps A) (next : A → Steps B) (old new : Kept) (e : Halt) → Took p s old new (Err e) → Took p (and_then s next) old new (Err e)
 took-stop p (Give x) next old new e (n, inl h) = absurd (cc)
 took-stop {A} {B} p (Give x) next old new e (n, inr h) = let k : e ≡ Memory = cc in subst (λ d. Took p (next x) old new (Err d)) (sym k) (took-out p (next x) old new n)
 took-stop {A} {B} p (Fail f) next old new e (n, inl h) = let k : e ≡ f = cc in (n, inl (ap (λ x. Err x) k))
@@ -64,7 +64,7 @@ took-stop {A} {B} p (Asks x g) next old new e (inl (n, h)) = let k : e ≡ Memor
 took-stop p (Asks x g) next old new e (inr t) = inr (t.0, t.1, took-stop p (g t.0) next (after x old) new e t.2)
 
 -- a success of the first, and then the others
-pub took-then : {A B : Type 0} (p q : Question → Option Answer) → KeepsPromises p q → (s : Steps A) (next : A → Steps B) (old mid new : List Entry) (x : A) (r : Result B Halt) → Took p s old mid (Ok x) → Took q (next x) mid new r → Took p (and_then s next) old new r
+pub took-then : {A B : Type 0} (p q : Question → Option Answer) → KeepsPromises p q → (s : Steps A) (next : A → Steps B) (old mid new : Kept) (x : A) (r : Result B Halt) → Took p s old mid (Ok x) → Took q (next x) mid new r → Took p (and_then s next) old new r
 took-then {A} {B} p q k (Give y) next old mid new x r (n, inl h) t =
     let e : x ≡ y = cc in
     subst (λ z. Took p (next z) old new r) e (subst (λ o. Took p (next x) o new r) n (took-kept p q k (next x) mid new r t))
@@ -75,11 +75,11 @@ took-then p q k (Asks y g) next old mid new x r (inl (n, h)) t = absurd (cc)
 took-then p q k (Asks y g) next old mid new x r (inr s) t = inr (s.0, s.1, took-then p q k (g s.0) next (after y old) mid new x r s.2 t)
 
 -- what was taken of steps and others after them, cut between
-abbrev pub Cut : {A B : Type 0} → (Question → Option Answer) → Steps A → (A → Steps B) → List Entry → List Entry → Result B Halt → Type 0
+abbrev pub Cut : {A B : Type 0} → (Question → Option Answer) → Steps A → (A → Steps B) → Kept → Kept → Result B Halt → Type 0
 Cut {A} {B} p s next old new r =
-    ((x : A) × (mid : List Entry) × Gives s x × Took p s old mid (Ok x) × Took p (next x) mid new r) ⊎ ((e : Halt) × (r ≡ Err e) × Took p s old new (Err e))
+    ((x : A) × (mid : Kept) × Gives s x × Took p s old mid (Ok x) × Took p (next x) mid new r) ⊎ ((e : Halt) × (r ≡ Err e) × Took p s old new (Err e))
 
-pub took-split : {A B : Type 0} (p : Question → Option Answer) (s : Steps A) (next : A → Steps B) (old new : List Entry) (r : Result B Halt) → Took p (and_then s next) old new r → Cut p s next old new r
+pub took-split : {A B : Type 0} (p : Question → Option Answer) (s : Steps A) (next : A → Steps B) (old new : Kept) (r : Result B Halt) → Took p (and_then s next) old new r → Cut p s next old new r
 took-split p (Give x) next old new r t = inl (x, old, refl, (refl, inl refl), t)
 took-split p (Fail e) next old new r (n, inl h) = inr (e, h, (n, inl refl))
 took-split p (Fail e) next old new r (n, inr h) = inr (Memory, h, (n, inr refl))
@@ -89,26 +89,32 @@ took-split {A} {B} p (Asks q g) next old new r (inr (a, l, t)) = elim (took-spli
   | inr (e, h, first) ↦ inr (e, h, inr (a, l, first))
 ]
 
--- steps under fixed answers
-follows-asked : {A : Type 0} (q : Question) (qs : List Question) (end : Result A Halt) (old new : List Entry) (r : Result A Halt) → Follows qs end (after q old) new r → Follows (q ∷ qs) end old new r
-follows-asked (ToHost x) qs end old new r (inl (n, h)) = inl (n ∙ append_assoc old (x ∷ []) (calls qs), h)
-follows-asked (ToHost x) qs end old new r (inr (h, (xs, ys, e, n))) = inr (h, (ToHost x ∷ xs, ys, ap (λ t. ToHost x ∷ t) e, n ∙ append_assoc old (x ∷ []) (calls xs)))
-follows-asked (ToEvaluator x) qs end old new r (inl t) = inl t
-follows-asked (ToEvaluator x) qs end old new r (inr (h, (xs, ys, e, n))) = inr (h, (ToEvaluator x ∷ xs, ys, ap (λ t. ToEvaluator x ∷ t) e, n))
+-- no questions, and one before others
+pub after-none : (old : Kept) → after_all [] old ≡ old
+after-none old = λ i. kept_by (append-nil old.entries i) (append-nil old.inquiries i)
 
-pub took-steady : {A : Type 0} (p : Question → Option Answer) (f : Question → Answer) (s : Steps A) (old new : List Entry) (r : Result A Halt) → IsSteady p f (path f s) → Took p s old new r → Follows (path f s) (outcome f s) old new r
-took-steady p f (Give x) old new r h (n, inl e) = inl (n ∙ sym (append-nil old), e)
-took-steady p f (Give x) old new r h (n, inr e) = inr (inl e, ([], [], refl, n ∙ sym (append-nil old)))
-took-steady p f (Fail x) old new r h (n, inl e) = inl (n ∙ sym (append-nil old), e)
-took-steady p f (Fail x) old new r h (n, inr e) = inr (inl e, ([], [], refl, n ∙ sym (append-nil old)))
-took-steady p f (Asks q g) old new r h (inl (n, e)) = inr (inl e, ([], path f (Asks q g), refl, n ∙ sym (append-nil old)))
+after-one : (q : Question) (qs : List Question) (old : Kept) → after_all qs (after q old) ≡ after_all (q ∷ qs) old
+after-one (ToHost x) qs old = λ i. kept_by (append_assoc old.entries (x ∷ []) (calls qs) i) (old.inquiries ++ inquiries_in qs)
+after-one (ToEvaluator x) qs old = λ i. kept_by (old.entries ++ calls qs) (append_assoc old.inquiries (x ∷ []) (inquiries_in qs) i)
+
+-- steps under fixed answers
+follows-asked : {A : Type 0} (q : Question) (qs : List Question) (end : Result A Halt) (old new : Kept) (r : Result A Halt) → Follows qs end (after q old) new r → Follows (q ∷ qs) end old new r
+follows-asked q qs end old new r (inl (n, h)) = inl (n ∙ after-one q qs old, h)
+follows-asked q qs end old new r (inr (h, (xs, ys, e, n))) = inr (h, (q ∷ xs, ys, ap (λ t. q ∷ t) e, n ∙ after-one q xs old))
+
+pub took-steady : {A : Type 0} (p : Question → Option Answer) (f : Question → Answer) (s : Steps A) (old new : Kept) (r : Result A Halt) → IsSteady p f (path f s) → Took p s old new r → Follows (path f s) (outcome f s) old new r
+took-steady p f (Give x) old new r h (n, inl e) = inl (n ∙ sym (after-none old), e)
+took-steady p f (Give x) old new r h (n, inr e) = inr (inl e, ([], [], refl, n ∙ sym (after-none old)))
+took-steady p f (Fail x) old new r h (n, inl e) = inl (n ∙ sym (after-none old), e)
+took-steady p f (Fail x) old new r h (n, inr e) = inr (inl e, ([], [], refl, n ∙ sym (after-none old)))
+took-steady p f (Asks q g) old new r h (inl (n, e)) = inr (inl e, ([], path f (Asks q g), refl, n ∙ sym (after-none old)))
 took-steady p f (Asks q g) old new r h (inr t) =
     let same : f q ≡ t.0 = t.1 (f q) h.0 in
     follows-asked q (path f (g (f q))) (outcome f (g (f q))) old new r
     (took-steady p f (g (f q)) (after q old) new r h.1 (subst (λ a. Took p (g a) (after q old) new r) (sym same) t.2))
 
 -- what was taken to a value can come to it
-pub took-gives : {A : Type 0} (p : Question → Option Answer) (s : Steps A) (old new : List Entry) (x : A) → Took p s old new (Ok x) → Gives s x
+pub took-gives : {A : Type 0} (p : Question → Option Answer) (s : Steps A) (old new : Kept) (x : A) → Took p s old new (Ok x) → Gives s x
 took-gives {A} p (Give y) old new x (n, inl h) = let e : y ≡ x = cc in e
 took-gives p (Give y) old new x (n, inr h) = absurd (cc)
 took-gives p (Fail e) old new x (n, inl h) = absurd (cc)

@@ -4,7 +4,7 @@ use Rattle.just_errors.specs.declared.halt.Halt.{Halt}
 use Rattle.just_errors.specs.declared.halt.Halt.TheVariants.{Memory, Exhausted}
 use Rattle.just_parts.specs.declared.layers.host.Entry.{Entry}
 use Rattle.just_parts.specs.Evaluation.{Inquiry}
-use Rattle.just_parts.specs.Host.{Answer}
+use Rattle.just_parts.specs.Host.{Answer, Executed, executed}
 
 -- what is asked of the host or of the evaluator
 pub data Question : Type 0 where
@@ -34,14 +34,26 @@ Gives (Give x) y = x ≡ y
 Gives (Fail e) y = ⊥
 Gives (Asks q k) y = (a : Answer) × Gives (k a) y
 
--- what a host keeps of a question
-abbrev pub after : Question → List Entry → List Entry
-after (ToHost entry) old = old ++ entry ∷ []
-after (ToEvaluator inquiry) old = old
+-- What is kept of a run: what the host was asked, and for which variables the evaluator was asked, each in order.
+pub record Kept : Type 0 where
+  pub entries : List Entry
+  pub inquiries : List Inquiry
 
--- For every host: the steps were taken with some answers, which are those promised where there is a promise; the host kept
--- its questions, and the result is that of the steps. Or memory was refused, after a beginning of such steps.
-abbrev pub Took : {A : Type 0} → (Question → Option Answer) → Steps A → List Entry → List Entry → Result A Halt → Type 0
+abbrev pub kept_by : List Entry → List Inquiry → Kept
+kept_by entries inquiries = record { entries = entries; inquiries = inquiries }
+
+-- the recipes that were executed, in order
+abbrev pub executed_in : Kept → List Executed
+executed_in kept = executed kept.entries
+
+-- a question is kept after what is kept
+abbrev pub after : Question → Kept → Kept
+after (ToHost entry) old = kept_by (old.entries ++ entry ∷ []) old.inquiries
+after (ToEvaluator inquiry) old = kept_by old.entries (old.inquiries ++ inquiry ∷ [])
+
+-- For every host: the steps were taken with some answers, which are those promised where there is a promise; the questions
+-- are kept, and the result is that of the steps. Or memory was refused, after a beginning of such steps.
+abbrev pub Took : {A : Type 0} → (Question → Option Answer) → Steps A → Kept → Kept → Result A Halt → Type 0
 Took promised (Give x) old new result = (new ≡ old) × ((result ≡ Ok x) ⊎ (result ≡ Err Memory))
 Took promised (Fail e) old new result = (new ≡ old) × ((result ≡ Err e) ⊎ (result ≡ Err Memory))
 Took promised (Asks q k) old new result =
@@ -64,17 +76,26 @@ abbrev pub IsSteady : (Question → Option Answer) → (Question → Answer) →
 IsSteady promised f [] = Unit {0}
 IsSteady promised f (q ∷ qs) = (promised q ≡ Some (f q)) × IsSteady promised f qs
 
--- the questions that the host keeps
+-- what is kept of questions, those to the host and those to the evaluator
 abbrev pub calls : List Question → List Entry
 calls [] = []
 calls (ToHost entry ∷ qs) = entry ∷ calls qs
 calls (ToEvaluator inquiry ∷ qs) = calls qs
 
+abbrev pub inquiries_in : List Question → List Inquiry
+inquiries_in [] = []
+inquiries_in (ToHost entry ∷ qs) = inquiries_in qs
+inquiries_in (ToEvaluator inquiry ∷ qs) = inquiry ∷ inquiries_in qs
+
+-- they are kept after what is kept
+abbrev pub after_all : List Question → Kept → Kept
+after_all qs old = kept_by (old.entries ++ calls qs) (old.inquiries ++ inquiries_in qs)
+
 -- some beginning of the questions was asked
-abbrev pub IsBeginning : List Question → List Entry → List Entry → Type 0
-IsBeginning qs old new = (xs : List Question) × (ys : List Question) × (qs ≡ xs ++ ys) × (new ≡ old ++ calls xs)
+abbrev pub IsBeginning : List Question → Kept → Kept → Type 0
+IsBeginning qs old new = (xs : List Question) × (ys : List Question) × (qs ≡ xs ++ ys) × (new ≡ after_all xs old)
 
 -- exactly these questions, and this outcome; or, where memory or a number was refused, a beginning of them
-abbrev pub Follows : {A : Type 0} → List Question → Result A Halt → List Entry → List Entry → Result A Halt → Type 0
+abbrev pub Follows : {A : Type 0} → List Question → Result A Halt → Kept → Kept → Result A Halt → Type 0
 Follows qs end old new result =
-    ((new ≡ old ++ calls qs) × (result ≡ end)) ⊎ (((result ≡ Err Memory) ⊎ (result ≡ Err Exhausted)) × IsBeginning qs old new)
+    ((new ≡ after_all qs old) × (result ≡ end)) ⊎ (((result ≡ Err Memory) ⊎ (result ≡ Err Exhausted)) × IsBeginning qs old new)

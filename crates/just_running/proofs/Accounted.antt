@@ -12,7 +12,7 @@ use Rattle.just_parts.specs.declared.layers.host.Entry.{Entry}
 use Rattle.just_parts.specs.declared.layers.host.Entry.TheVariants.{Begin}
 use Rattle.just_parts.specs.declared.recipe.Recipe.{Recipe}
 use Rattle.just_parts.specs.Host.{Answer, Executed, executed}
-use Rattle.just_parts.specs.Steps.{Question, Steps, Give, and_then, Took}
+use Rattle.just_parts.specs.Steps.{Kept, executed_in, Question, Steps, Give, and_then, Took}
 use Rattle.just_parts.proofs.StepLemmas.{took-split}
 use Rattle.just_running.specs.declared.pair.Pair.{Pair}
 use Rattle.just_running.specs.Account.{Asked, OnceTables, Empty, Asks, Runs, own, executions, In, AreIn, AreNamed, Complete, counts, HasAccount, Tells, of_recipe, at_path}
@@ -27,22 +27,22 @@ use Rattle.just_running.proofs.Places.{priors-before, subsequents-before}
 use Rattle.just_running.proofs.Standing.{Stands, Walked, Accounts, IsFresh, Blocks, ok-is, ok-not, err-is, memory-not, gained-none, gave, broke, stands-then, stands-low, accounts-then, accounts-broke, count-split, full-here, stands-asked, stands-opened, fresh-of, fresh-broke, block-broke, block-none, block-ran, ask-broke, priors-broke, visit-broke, visit-ran}
 
 -- what steps for tasks keep: nothing is executed, and they come to what is named
-pub record GivesNamed (recipes : List (Recipe Dependency)) (dependencies : List Dependency) (old new : List Entry) (r : Result (List Task) Halt) : Type 0 where
-  pub still : executed new ≡ executed old
+pub record GivesNamed (recipes : List (Recipe Dependency)) (dependencies : List Dependency) (old new : Kept) (r : Result (List Task) Halt) : Type 0 where
+  pub still : executed_in new ≡ executed_in old
   pub named : (ts : List Task) → r ≡ Ok ts → AreNamed recipes dependencies ts
   pub unfull : r ≡ Err Exhausted → ⊥
 
 -- what the steps of a body keep: the task is executed, or they failed
-pub record GivesExecuted (recipes : List (Recipe Dependency)) (t : Task) (old new : List Entry) (r : Result (Unit {0}) Halt) : Type 0 where
-  pub whole : (x : Unit {0}) → r ≡ Ok x → executed new ≡ executed old ++ executions recipes (t ∷ [])
-  pub broken : (e : Halt) → r ≡ Err e → (executed new ≡ executed old ++ executions recipes (t ∷ [])) ⊎ (executed new ≡ executed old)
+pub record GivesExecuted (recipes : List (Recipe Dependency)) (t : Task) (old new : Kept) (r : Result (Unit {0}) Halt) : Type 0 where
+  pub whole : (x : Unit {0}) → r ≡ Ok x → executed_in new ≡ executed_in old ++ executions recipes (t ∷ [])
+  pub broken : (e : Halt) → r ≡ Err e → (executed_in new ≡ executed_in old ++ executions recipes (t ∷ [])) ⊎ (executed_in new ≡ executed_in old)
   pub unfull : r ≡ Err Exhausted → ⊥
 
 -- what is asked of one task keeps these, under the promises p
 pub record AreAccounted (recipes : List (Recipe Dependency)) (leaves : Leaves) (p : Question → Option Answer) : Type 0 where
-  pub ask : (t : Task) (old new : List Entry) (r : Result (List Task) Halt) → Took p (leaves.ask t) old new r → GivesNamed recipes (prior_dependencies recipes t.pair.recipe) old new r
-  pub follow : (t : Task) (old new : List Entry) (r : Result (List Task) Halt) → Took p (leaves.follow t) old new r → GivesNamed recipes (subsequent_dependencies recipes t.pair.recipe) old new r
-  pub execute : (t : Task) (old new : List Entry) (r : Result (Unit {0}) Halt) → Took p (leaves.execute t) old new r → GivesExecuted recipes t old new r
+  pub ask : (t : Task) (old new : Kept) (r : Result (List Task) Halt) → Took p (leaves.ask t) old new r → GivesNamed recipes (prior_dependencies recipes t.pair.recipe) old new r
+  pub follow : (t : Task) (old new : Kept) (r : Result (List Task) Halt) → Took p (leaves.follow t) old new r → GivesNamed recipes (subsequent_dependencies recipes t.pair.recipe) old new r
+  pub execute : (t : Task) (old new : Kept) (r : Result (Unit {0}) Halt) → Took p (leaves.execute t) old new r → GivesExecuted recipes t old new r
 
 -- tasks that are named stand where what they are named by stands
 All-unmap : {X Y : Type 0} (P : X → Type 0) (f : Y → X) (ys : List Y) → All P (map f ys) → All (λ y. P (f y)) ys
@@ -57,7 +57,7 @@ named-below recipes k ds ts h n =
     All-unmap low (λ (t : Task). t.pair.recipe) ts (subst (All low) (sym n.places) places)
 
 -- what the result says
-tells-of : (recipes : List (Recipe Dependency)) (tops : List Task) (old new : List Entry) (r : Result (List ℕ) Halt) (u : OnceTables) → IsFresh recipes tops [] old new r u → Tells recipes tops u r
+tells-of : (recipes : List (Recipe Dependency)) (tops : List Task) (old new : Kept) (r : Result (List ℕ) Halt) (u : OnceTables) → IsFresh recipes tops [] old new r u → Tells recipes tops u r
 tells-of recipes tops old new (Ok calls) u a =
     let w : AreIn (own u) tops × Complete recipes u × (calls ≡ counts tops u) = a.whole calls refl in
     record { all_begun = w.0; complete = w.1; counted = w.2 }
@@ -68,12 +68,12 @@ tells-of recipes tops old new (Err (Failed e)) u a = tt
 module _ (recipes : List (Recipe Dependency)) (leaves : Leaves) (p : Question → Option Answer) (ordered : IsOrdered recipes) (leaf : AreAccounted recipes leaves p) where
   -- what is proved of a walk of tasks below n
   abbrev WalkAt : ℕ → Type 0
-  WalkAt n = (tops : List Task) (before : List Asked) (done : List Pair) (s : State) (t : Task) (old new : List Entry) (r : Result State Halt) →
+  WalkAt n = (tops : List Task) (before : List Asked) (done : List Pair) (s : State) (t : Task) (old new : Kept) (r : Result State Halt) →
       t.pair.recipe < n → Stands tops before done (suc t.pair.recipe) s (t ∷ []) →
       Took p (walk_steps leaves n s t) old new r → (u : OnceTables) × Accounts recipes tops before done (suc t.pair.recipe) s (t ∷ []) old new r u
 
   -- tasks in turn, under one table
-  all-at : (n : ℕ) → WalkAt n → (tops : List Task) (ts : List Task) (before : List Asked) (done : List Pair) (bound : ℕ) (s : State) (old new : List Entry) (r : Result State Halt) →
+  all-at : (n : ℕ) → WalkAt n → (tops : List Task) (ts : List Task) (before : List Asked) (done : List Pair) (bound : ℕ) (s : State) (old new : Kept) (r : Result State Halt) →
       bound ≤ n → AllBelow bound ts → Stands tops before done bound s ts →
       Took p (all_steps (walk_steps leaves n) s ts) old new r → (u : OnceTables) × Accounts recipes tops before done bound s ts old new r u
   all-at n walk tops [] before done bound s old new r l b a t =
@@ -96,12 +96,12 @@ module _ (recipes : List (Recipe Dependency)) (leaves : Leaves) (p : Question �
       ]
 
   -- tasks under a table of their own
-  fresh-at : (n : ℕ) → WalkAt n → (ts : List Task) (calls : List ℕ) (old new : List Entry) (r : Result (List ℕ) Halt) → AllBelow n ts →
+  fresh-at : (n : ℕ) → WalkAt n → (ts : List Task) (calls : List ℕ) (old new : Kept) (r : Result (List ℕ) Halt) → AllBelow n ts →
       Took p (fresh_steps (walk_steps leaves n) ts calls) old new r → (u : OnceTables) × IsFresh recipes ts calls old new r u
   fresh-at n walk [] calls old new r b t = (
     Empty,
     record {
-      gained = gained-none recipes old new (ap executed t.0);
+      gained = gained-none recipes old new (ap executed_in t.0);
       fits = tt;
       whole = λ now h. elim (t.1) [
         | inl k ↦ (none-in [], tt, ok-is r now calls h k ∙ sym (append-nil calls))
@@ -126,13 +126,13 @@ module _ (recipes : List (Recipe Dependency)) (leaves : Leaves) (p : Question �
 
   -- the body of a task, and its subsequents
   block-at : (n : ℕ) → WalkAt n →
-      (tops : List Task) (before : List Asked) (done : List Pair) (t : Task) (ps : List Task) (calls : List ℕ) (old new : List Entry) (r : Result (List ℕ) Halt) → t.pair.recipe ≤ n →
+      (tops : List Task) (before : List Asked) (done : List Pair) (t : Task) (ps : List Task) (calls : List ℕ) (old new : Kept) (r : Result (List ℕ) Halt) → t.pair.recipe ≤ n →
       In (with_priors t ps) before → has same_pair done t.pair ≡ false → AreIn done ps →
       Took p (block_steps leaves (walk_steps leaves n) t calls) old new r → (u : OnceTables) × Blocks recipes tops before done t ps calls old new r u
   block-at n walk tops before done t ps calls old new r l i m d took =
       elim (took-split p (leaves.execute t) (λ _. and_then (leaves.follow t) (λ ts. fresh_steps (walk_steps leaves n) ts calls)) old new r took) [
         | inl (x, mid, gives, first, later) ↦
-            let g : executed mid ≡ executed old ++ executions recipes (t ∷ []) = (leaf.execute t old mid (Ok x) first).whole x refl in
+            let g : executed_in mid ≡ executed_in old ++ executions recipes (t ∷ []) = (leaf.execute t old mid (Ok x) first).whole x refl in
             elim (took-split p (leaves.follow t) (λ ts. fresh_steps (walk_steps leaves n) ts calls) mid new r later) [
               | inl (ss, next, given, second, last) ↦
                   let f : GivesNamed recipes (subsequent_dependencies recipes t.pair.recipe) mid next (Ok ss) = leaf.follow t mid next (Ok ss) second in
@@ -157,7 +157,7 @@ module _ (recipes : List (Recipe Dependency)) (leaves : Leaves) (p : Question �
   abbrev asking : ℕ → State → Task → Steps State
   asking n s t = and_then (leaves.ask t) (λ ps. and_then (all_steps (walk_steps leaves n) (counted s) ps) (ran_steps leaves (walk_steps leaves n) t))
 
-  visit-at : (n : ℕ) → WalkAt n → (tops : List Task) (before : List Asked) (done : List Pair) (s : State) (t : Task) (old new : List Entry) (r : Result State Halt) → t.pair.recipe ≤ n →
+  visit-at : (n : ℕ) → WalkAt n → (tops : List Task) (before : List Asked) (done : List Pair) (s : State) (t : Task) (old new : Kept) (r : Result State Halt) → t.pair.recipe ≤ n →
       Stands tops before done (suc t.pair.recipe) s (t ∷ []) → has same_pair done t.pair ≡ false →
       Took p (asking n s t) old new r →
       (u : OnceTables) × Accounts recipes tops before done (suc t.pair.recipe) s (t ∷ []) old new r u
@@ -202,12 +202,12 @@ module _ (recipes : List (Recipe Dependency)) (leaves : Leaves) (p : Question �
       elim (count-split p (get_or s.calls s.number 0) (2 ^ 64) (counted s) (visit_steps leaves (walk_steps leaves n) t) old new r took) [
         | inl (inl (e, c, h)) ↦ (
           Empty,
-          broke recipes tops before done (suc t.pair.recipe) s (t ∷ []) old new r Empty Exhausted h (gained-none recipes old new (ap executed e)) tt (none-below (suc t.pair.recipe))
+          broke recipes tops before done (suc t.pair.recipe) s (t ∷ []) old new r Empty Exhausted h (gained-none recipes old new (ap executed_in e)) tt (none-below (suc t.pair.recipe))
               (λ k. inl (full-here tops before done (suc t.pair.recipe) s t (2 ^ 64) a c)),
         )
         | inl (inr (e, h)) ↦ (
           Empty,
-          broke recipes tops before done (suc t.pair.recipe) s (t ∷ []) old new r Empty Memory h (gained-none recipes old new (ap executed e)) tt (none-below (suc t.pair.recipe))
+          broke recipes tops before done (suc t.pair.recipe) s (t ∷ []) old new r Empty Memory h (gained-none recipes old new (ap executed_in e)) tt (none-below (suc t.pair.recipe))
               (λ k. absurd (memory-not k)),
         )
         | inr visit ↦ elim (cases_Bool (s.table t.pair)) [
@@ -232,7 +232,7 @@ module _ (recipes : List (Recipe Dependency)) (leaves : Leaves) (p : Question �
   walk-at (suc n) tops before done s t old new r l a took = step-at n (walk-at n) tops before done s t old new r l a took
 
   -- a run of tasks below n has its account
-  pub account-of : (n : ℕ) (tops : List Task) → AllBelow n tops → (old new : List Entry) (r : Result (List ℕ) Halt) → Took p (fresh_steps (walk_steps leaves n) tops []) old new r →
+  pub account-of : (n : ℕ) (tops : List Task) → AllBelow n tops → (old new : Kept) (r : Result (List ℕ) Halt) → Took p (fresh_steps (walk_steps leaves n) tops []) old new r →
       (t : OnceTables) × HasAccount recipes old new tops t × Tells recipes tops t r
   account-of n tops b old new r took =
       let (u, a) = fresh-at n (walk-at n) tops [] old new r b took in
@@ -248,10 +248,10 @@ named-all recipes ds = record {
   places [] = refl
   places (x ∷ xs) = ap (λ ns. place_of recipes x.recipe.0 ∷ ns) (places xs)
 
-gives-named : (recipes : List (Recipe Dependency)) (p : Question → Option Answer) (ds : List Dependency) (old new : List Entry) (r : Result (List Task) Halt) →
+gives-named : (recipes : List (Recipe Dependency)) (p : Question → Option Answer) (ds : List Dependency) (old new : Kept) (r : Result (List Task) Halt) →
     Took p (Give (map (task_of recipes) ds)) old new r → GivesNamed recipes ds old new r
 gives-named recipes p ds old new r t = record {
-  still = ap executed t.0;
+  still = ap executed_in t.0;
   named = λ ts h. elim (t.1) [
     | inl k ↦ subst (λ ts. AreNamed recipes ds ts) (ok-is r (map (task_of recipes) ds) ts k h) (named-all recipes ds)
     | inr k ↦ absurd (ok-not r ts Memory h k)
@@ -267,28 +267,28 @@ executed-append : (xs ys : List Entry) → executed (xs ++ ys) ≡ executed xs +
 executed-append [] ys = refl
 executed-append (Begin path groups ∷ xs) ys = ap (λ es. record { path = path; groups = groups } ∷ es) (executed-append xs ys)
 
-abbrev IsExecuted : List Executed → List Entry → List Entry → Result (Unit {0}) Halt → Type 0
-IsExecuted es old new r = ((executed new ≡ executed old ++ es) × ((r ≡ Ok tt) ⊎ (r ≡ Err Memory))) ⊎ ((executed new ≡ executed old) × (r ≡ Err Memory))
+abbrev IsExecuted : List Executed → Kept → Kept → Result (Unit {0}) Halt → Type 0
+IsExecuted es old new r = ((executed_in new ≡ executed_in old ++ es) × ((r ≡ Ok tt) ⊎ (r ≡ Err Memory))) ⊎ ((executed_in new ≡ executed_in old) × (r ≡ Err Memory))
 
-no-execution : (old new : List Entry) → new ≡ old → executed new ≡ executed old ++ []
-no-execution old new h = ap executed h ∙ sym (append-nil (executed old))
+no-execution : (old new : Kept) → new ≡ old → executed_in new ≡ executed_in old ++ []
+no-execution old new h = ap executed_in h ∙ sym (append-nil (executed_in old))
 
-begin-executes : (p : Question → Option Answer) (groups : List (List (List ℕ))) (o : Option Modulepath) (old new : List Entry) (r : Result (Unit {0}) Halt) →
+begin-executes : (p : Question → Option Answer) (groups : List (List (List ℕ))) (o : Option Modulepath) (old new : Kept) (r : Result (Unit {0}) Halt) →
     Took p (begin_steps groups o) old new r → IsExecuted (at_path groups o) old new r
 begin-executes p groups None old new r t = inl (no-execution old new t.0, t.1)
-begin-executes p groups (Some path) old new r (inl t) = inr (ap executed t.0, t.1)
-begin-executes p groups (Some path) old new r (inr t) = inl (ap executed t.2.0 ∙ executed-append old (Begin path groups ∷ []), t.2.1)
+begin-executes p groups (Some path) old new r (inl t) = inr (ap executed_in t.0, t.1)
+begin-executes p groups (Some path) old new r (inr t) = inl (ap executed_in t.2.0 ∙ executed-append old.entries (Begin path groups ∷ []), t.2.1)
 
-recipe-executes : (p : Question → Option Answer) (t : Task) (o : Option (Recipe Dependency)) (old new : List Entry) (r : Result (Unit {0}) Halt) → Took p (recipe_steps t o) old new r →
+recipe-executes : (p : Question → Option Answer) (t : Task) (o : Option (Recipe Dependency)) (old new : Kept) (r : Result (Unit {0}) Halt) → Took p (recipe_steps t o) old new r →
     IsExecuted (of_recipe t o) old new r
 recipe-executes p t None old new r h = inl (no-execution old new h.0, h.1)
 recipe-executes p t (Some recipe) old new r h = begin-executes p t.pair.groups recipe.recipe_path old new r h
 
-gives-executed : (recipes : List (Recipe Dependency)) (t : Task) (old new : List Entry) (r : Result (Unit {0}) Halt) →
+gives-executed : (recipes : List (Recipe Dependency)) (t : Task) (old new : Kept) (r : Result (Unit {0}) Halt) →
     IsExecuted (of_recipe t (slice_get recipes t.pair.recipe)) old new r → GivesExecuted recipes t old new r
 gives-executed recipes t old new r (inl h) =
-    let one : executed old ++ of_recipe t (slice_get recipes t.pair.recipe) ≡ executed old ++ executions recipes (t ∷ []) =
-    ap (λ x. executed old ++ x) (sym (append-nil (of_recipe t (slice_get recipes t.pair.recipe)))) in
+    let one : executed_in old ++ of_recipe t (slice_get recipes t.pair.recipe) ≡ executed_in old ++ executions recipes (t ∷ []) =
+    ap (λ x. executed_in old ++ x) (sym (append-nil (of_recipe t (slice_get recipes t.pair.recipe)))) in
     record {
       whole = λ x k. h.0 ∙ one;
       broken = λ e k. inl (h.0 ∙ one);
@@ -312,6 +312,6 @@ leaves-accounted recipes p = record {
 
 -- The account of a run of recipes, for every host.
 pub fresh-account : (recipes : List (Recipe Dependency)) → IsOrdered recipes → (p : Question → Option Answer) (tops : List Task) →
-    AllBelow (length recipes) tops → (old new : List Entry) (r : Result (List ℕ) Halt) →
+    AllBelow (length recipes) tops → (old new : Kept) (r : Result (List ℕ) Halt) →
     Took p (fresh_steps (walk_steps (leaves_of recipes) (length recipes)) tops []) old new r → (t : OnceTables) × HasAccount recipes old new tops t × Tells recipes tops t r
 fresh-account recipes ordered p tops below old new r took = account-of recipes (leaves_of recipes) p ordered (leaves-accounted recipes p) (length recipes) tops below old new r took

@@ -4,7 +4,7 @@ use Rattle.just_parts.specs.declared.dependency.Dependency.{Dependency}
 use Rattle.just_parts.specs.declared.recipe.Recipe.{Recipe}
 use Rattle.just_parts.specs.Evaluation.{Inquiry}
 use Rattle.just_parts.specs.Host.{Answer}
-use Rattle.just_parts.specs.Steps.{Question, both}
+use Rattle.just_parts.specs.Steps.{Question, both, kept_by}
 use Rattle.just_parts.proofs.StepLemmas.{took-gives}
 use Rattle.just_running.specs.Expansion.{Part, Ask, Block}
 use Rattle.just_running.specs.Leaves.{AsksAlone, ask_steps, follow_steps, leaves_of}
@@ -22,11 +22,11 @@ leaves-lower recipes ordered = record {
 }
 
 -- what a task was asked for and answered leads to lower places
-pub asked-below : (recipes : List (Recipe Dependency)) → IsOrdered recipes → (e : Inquiry → Option Answer) (t : Task) (ps : List Task) → AsksAlone e (ask_steps recipes t) (Ok ps) → AllBelow t.pair.recipe ps
-asked-below recipes ordered e t ps took = (leaves-lower recipes ordered).priors t ps (took-gives (both e (λ entry. None)) (ask_steps recipes t) [] [] ps (took (λ entry. None) []))
+pub asked-below : (recipes : List (Recipe Dependency)) → IsOrdered recipes → (e : Inquiry → Option Answer) (t : Task) (before later : List Inquiry) (ps : List Task) → AsksAlone e (ask_steps recipes t) before later (Ok ps) → AllBelow t.pair.recipe ps
+asked-below recipes ordered e t before later ps took = (leaves-lower recipes ordered).priors t ps (took-gives (both e (λ entry. None)) (ask_steps recipes t) (kept_by [] before) (kept_by [] later) ps (took (λ entry. None) []))
 
-pub followed-below : (recipes : List (Recipe Dependency)) → IsOrdered recipes → (e : Inquiry → Option Answer) (t : Task) (ts : List Task) → AsksAlone e (follow_steps recipes t) (Ok ts) → AllBelow t.pair.recipe ts
-followed-below recipes ordered e t ts took = (leaves-lower recipes ordered).subsequents t ts (took-gives (both e (λ entry. None)) (follow_steps recipes t) [] [] ts (took (λ entry. None) []))
+pub followed-below : (recipes : List (Recipe Dependency)) → IsOrdered recipes → (e : Inquiry → Option Answer) (t : Task) (before later : List Inquiry) (ts : List Task) → AsksAlone e (follow_steps recipes t) before later (Ok ts) → AllBelow t.pair.recipe ts
+followed-below recipes ordered e t before later ts took = (leaves-lower recipes ordered).subsequents t ts (took-gives (both e (λ entry. None)) (follow_steps recipes t) (kept_by [] before) (kept_by [] later) ts (took (λ entry. None) []))
 
 -- the priors of a task do not hang on how it is called
 parts-even : (recipes : List (Recipe Dependency)) (f : Question → Answer) (run : List Task → Type 0) → ((ts : List Task) → run ts) → (xs : List (Part Task)) → Each (IsEvenPart (leaves_of recipes) f run) xs

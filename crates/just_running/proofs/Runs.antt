@@ -8,7 +8,7 @@ use Rattle.just_parts.specs.declared.recipe.Recipe.{Recipe}
 use Rattle.just_errors.specs.Halts.{without}
 use Rattle.just_parts.specs.Evaluation.{Inquiry}
 use Rattle.just_parts.specs.Host.{Answer}
-use Rattle.just_parts.specs.Steps.{both, path, outcome, Follows}
+use Rattle.just_parts.specs.Steps.{Kept, both, path, outcome, Follows}
 use Rattle.just_running.specs.declared.running.Report.{Report}
 use Rattle.just_running.specs.declared.task.Task.{Task}
 use Rattle.just_running.specs.Leaves.{leaves_of}
@@ -25,7 +25,7 @@ without-calls : (r : Result Report Halt) → without (calls_in r) ≡ without r
 without-calls (Ok report) = refl
 without-calls (Err e) = refl
 
-module _ (recipes : List (Recipe Dependency)) (ordered : IsOrdered recipes) (e : Inquiry → Option Answer) (h : Entry → Option Answer) (tops : List Task) (below : AllBelow (length recipes) tops) (old new : List Entry) (r : Result Report Halt)
+module _ (recipes : List (Recipe Dependency)) (ordered : IsOrdered recipes) (e : Inquiry → Option Answer) (h : Entry → Option Answer) (tops : List Task) (below : AllBelow (length recipes) tops) (old new : Kept) (r : Result Report Halt)
     (took : Starts e h recipes tops old new r) where
   pub account-run : IsRun recipes tops old new r
   account-run = let a = fresh-account recipes ordered (both e h) tops below old new (calls_in r) took in record { tables = a.0; account = a.1; tells = a.2 }

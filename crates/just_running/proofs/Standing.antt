@@ -7,10 +7,9 @@ use Rattle.std.proofs.lemmas.List.Elements.{All-head, All-tail, All-nil, All-con
 use Rattle.just_parts.specs.declared.dependency.Dependency.{Dependency}
 use Rattle.just_errors.specs.declared.halt.Halt.{Halt}
 use Rattle.just_errors.specs.declared.halt.Halt.TheVariants.{Memory, Exhausted}
-use Rattle.just_parts.specs.declared.layers.host.Entry.{Entry}
 use Rattle.just_parts.specs.declared.recipe.Recipe.{Recipe}
-use Rattle.just_parts.specs.Host.{Answer, executed}
-use Rattle.just_parts.specs.Steps.{Question, Steps, Give, Fail, and_then, Took}
+use Rattle.just_parts.specs.Host.{Answer}
+use Rattle.just_parts.specs.Steps.{Kept, executed_in, Question, Steps, Give, Fail, and_then, Took}
 use Rattle.just_running.specs.declared.pair.Pair.{Pair}
 use Rattle.just_running.specs.Account.{Asked, OnceTables, Empty, Asks, Runs, own, begun, executions, In, AreIn, known, AreNamed, AskFits, RunFits, Fits, Complete, prior_count, asked_count, counts_below, counts, IsFullBelow, IsFull}
 use Rattle.just_running.specs.Firsts.{has}
@@ -54,16 +53,16 @@ pub record Walked (recipes : List (Recipe Dependency)) (done : List Pair) (ts : 
 
 -- some tasks under a table, and what happened
 pub record Accounts (recipes : List (Recipe Dependency)) (tops : List Task) (before : List Asked) (done : List Pair) (bound : ℕ) (s : State) (ts : List Task)
-    (old new : List Entry) (r : Result State Halt) (u : OnceTables) : Type 0 where
-  pub gained : executed new ≡ executed old ++ executions recipes (begun u)
+    (old new : Kept) (r : Result State Halt) (u : OnceTables) : Type 0 where
+  pub gained : executed_in new ≡ executed_in old ++ executions recipes (begun u)
   pub fits : Fits recipes tops before done u
   pub low : AllLow bound (own u)
   pub whole : (now : State) → r ≡ Ok now → Walked recipes done ts s now u
   pub full : r ≡ Err Exhausted → (2 ^ 64 ≤ length (known tops (before ++ asks u))) ⊎ IsFullBelow u
 
 -- tasks under a table of their own, and what happened
-pub record IsFresh (recipes : List (Recipe Dependency)) (ts : List Task) (calls : List ℕ) (old new : List Entry) (r : Result (List ℕ) Halt) (u : OnceTables) : Type 0 where
-  pub gained : executed new ≡ executed old ++ executions recipes (begun u)
+pub record IsFresh (recipes : List (Recipe Dependency)) (ts : List Task) (calls : List ℕ) (old new : Kept) (r : Result (List ℕ) Halt) (u : OnceTables) : Type 0 where
+  pub gained : executed_in new ≡ executed_in old ++ executions recipes (begun u)
   pub fits : Fits recipes ts [] [] u
   pub whole : (now : List ℕ) → r ≡ Ok now → AreIn (own u) ts × Complete recipes u × (now ≡ calls ++ counts ts u)
   pub full : r ≡ Err Exhausted → IsFull ts u
@@ -80,18 +79,18 @@ pub record IsBlock (recipes : List (Recipe Dependency)) (t : Task) (ps : List Ta
 
 -- the block of a task, and what happened
 pub record Blocks (recipes : List (Recipe Dependency)) (tops : List Task) (before : List Asked) (done : List Pair) (t : Task) (ps : List Task) (calls : List ℕ)
-    (old new : List Entry) (r : Result (List ℕ) Halt) (u : OnceTables) : Type 0 where
-  pub gained : executed new ≡ executed old ++ executions recipes (begun u)
+    (old new : Kept) (r : Result (List ℕ) Halt) (u : OnceTables) : Type 0 where
+  pub gained : executed_in new ≡ executed_in old ++ executions recipes (begun u)
   pub fits : Fits recipes tops before done u
   pub low : AllLow (suc t.pair.recipe) (own u)
   pub whole : (now : List ℕ) → r ≡ Ok now → IsBlock recipes t ps calls now u
   pub full : r ≡ Err Exhausted → IsFullBelow u
 
 -- nothing happened but a call
-pub gained-none : (recipes : List (Recipe Dependency)) (old new : List Entry) → executed new ≡ executed old → executed new ≡ executed old ++ executions recipes []
-gained-none recipes old new n = n ∙ sym (append-nil (executed old))
+pub gained-none : (recipes : List (Recipe Dependency)) (old new : Kept) → executed_in new ≡ executed_in old → executed_in new ≡ executed_in old ++ executions recipes []
+gained-none recipes old new n = n ∙ sym (append-nil (executed_in old))
 
-pub gave : (recipes : List (Recipe Dependency)) (tops : List Task) (before : List Asked) (done : List Pair) (bound : ℕ) (s now : State) (ts : List Task) (old new : List Entry)
+pub gave : (recipes : List (Recipe Dependency)) (tops : List Task) (before : List Asked) (done : List Pair) (bound : ℕ) (s now : State) (ts : List Task) (old new : Kept)
     (r : Result State Halt) →
     now.number ≡ s.number → now.table ≡ has same_pair done → now.calls ≡ add_at s.calls s.number (length ts) → AreIn done ts → new ≡ old → (r ≡ Ok now) ⊎ (r ≡ Err Memory) →
     Accounts recipes tops before done bound s ts old new r Empty
@@ -108,7 +107,7 @@ gave recipes tops before done bound s now ts old new r m t c d n h =
       even = refl;
     } in
     record {
-      gained = gained-none recipes old new (ap executed n);
+      gained = gained-none recipes old new (ap executed_in n);
       fits = tt;
       low = none-below bound;
       whole = λ x k. elim (h) [
@@ -122,9 +121,9 @@ gave recipes tops before done bound s now ts old new r m t c d n h =
     }
 
 -- what failed
-pub broke : (recipes : List (Recipe Dependency)) (tops : List Task) (before : List Asked) (done : List Pair) (bound : ℕ) (s : State) (ts : List Task) (old new : List Entry)
+pub broke : (recipes : List (Recipe Dependency)) (tops : List Task) (before : List Asked) (done : List Pair) (bound : ℕ) (s : State) (ts : List Task) (old new : Kept)
     (r : Result State Halt) (u : OnceTables) (e : Halt) →
-    r ≡ Err e → executed new ≡ executed old ++ executions recipes (begun u) → Fits recipes tops before done u → AllLow bound (own u) →
+    r ≡ Err e → executed_in new ≡ executed_in old ++ executions recipes (begun u) → Fits recipes tops before done u → AllLow bound (own u) →
     (e ≡ Exhausted → (2 ^ 64 ≤ length (known tops (before ++ asks u))) ⊎ IsFullBelow u) → Accounts recipes tops before done bound s ts old new r u
 broke recipes tops before done bound s ts old new r u e h g f l k = record {
   gained = g;
@@ -188,14 +187,14 @@ full-then tops before u v (inl h) = inl (subst (λ as0. 2 ^ 64 ≤ length (known
 full-then tops before u v (inr h) = inr (full-join u v h)
 
 pub accounts-then : (recipes : List (Recipe Dependency)) (tops : List Task) (before : List Asked) (done : List Pair) (k bound : ℕ) (s now : State) (t : Task) (ts : List Task)
-    (old mid new : List Entry) (r : Result State Halt) (u v : OnceTables) →
+    (old mid new : Kept) (r : Result State Halt) (u v : OnceTables) →
     k ≤ bound → s.number < length s.calls → Accounts recipes tops before done k s (t ∷ []) old mid (Ok now) u →
     Accounts recipes tops (before ++ asks u) (done ++ own u) bound now ts mid new r v →
     Accounts recipes tops before done bound s (t ∷ ts) old new r (join u v)
 accounts-then recipes tops before done k bound s now t ts old mid new r u v l n a b =
     let w : Walked recipes done (t ∷ []) s now u = a.whole now refl in
     record {
-      gained = joined-begun recipes u v (executed old) (executed mid) (executed new) a.gained b.gained;
+      gained = joined-begun recipes u v (executed_in old) (executed_in mid) (executed_in new) a.gained b.gained;
       fits = Fits-join recipes tops u v before done w.named w.complete a.fits b.fits;
       low = joined-low u v bound (AllLow-more k bound (own u) l a.low) b.low;
       whole = λ end h. walked-then recipes done t ts s now end u v n w (b.whole end h);
@@ -203,13 +202,13 @@ accounts-then recipes tops before done k bound s now t ts old mid new r u v l n 
     }
 
 pub accounts-broke : (recipes : List (Recipe Dependency)) (tops : List Task) (before : List Asked) (done : List Pair) (k bound : ℕ) (s : State) (t : Task) (ts : List Task)
-    (old new : List Entry) (r : Result State Halt) (e : Halt) (u : OnceTables) →
+    (old new : Kept) (r : Result State Halt) (e : Halt) (u : OnceTables) →
     k ≤ bound → r ≡ Err e → Accounts recipes tops before done k s (t ∷ []) old new (Err e) u → Accounts recipes tops before done bound s (t ∷ ts) old new r u
 accounts-broke recipes tops before done k bound s t ts old new r e u l h a =
     broke recipes tops before done bound s (t ∷ ts) old new r u e h a.gained a.fits (AllLow-more k bound (own u) l a.low) (λ j. a.full (ap (λ x. Err x) j))
 
 -- a call is counted, unless the last number was reached
-pub count-split : {A : Type 0} (p : Question → Option Answer) (c limit : ℕ) (x : State) (next : State → Steps A) (old new : List Entry) (r : Result A Halt) →
+pub count-split : {A : Type 0} (p : Question → Option Answer) (c limit : ℕ) (x : State) (next : State → Steps A) (old new : Kept) (r : Result A Halt) →
     Took p (and_then (cond (c + 1 == limit) (Fail Exhausted) (Give x)) next) old new r →
     (((new ≡ old) × (c + 1 ≡ limit) × (r ≡ Err Exhausted)) ⊎ ((new ≡ old) × (r ≡ Err Memory))) ⊎ Took p (next x) old new r
 count-split {A} p c limit x next old new r t = elim (cases_Bool (c + 1 == limit)) [
@@ -258,14 +257,14 @@ full-asked tops before a u (inl h) = inl (subst (λ as0. 2 ^ 64 ≤ length (know
 full-asked tops before a u (inr h) = inr h
 
 -- a task begun, and then no more
-runs-gained : (recipes : List (Recipe Dependency)) (t : Task) (ps ss : List Task) (v : OnceTables) (old mid new : List Entry) →
-    executed mid ≡ executed old ++ executions recipes (t ∷ []) → executed new ≡ executed mid ++ executions recipes (begun v) →
-    executed new ≡ executed old ++ executions recipes (begun (Runs t ps ss v Empty))
-runs-gained recipes t ps ss v old mid new h k = joined-begun recipes (Runs t ps [] Empty Empty) v (executed old) (executed mid) (executed new) h k
-    ∙ ap (λ x. executed old ++ executions recipes (t ∷ x)) (sym (append-nil (begun v)))
+runs-gained : (recipes : List (Recipe Dependency)) (t : Task) (ps ss : List Task) (v : OnceTables) (old mid new : Kept) →
+    executed_in mid ≡ executed_in old ++ executions recipes (t ∷ []) → executed_in new ≡ executed_in mid ++ executions recipes (begun v) →
+    executed_in new ≡ executed_in old ++ executions recipes (begun (Runs t ps ss v Empty))
+runs-gained recipes t ps ss v old mid new h k = joined-begun recipes (Runs t ps [] Empty Empty) v (executed_in old) (executed_in mid) (executed_in new) h k
+    ∙ ap (λ x. executed_in old ++ executions recipes (t ∷ x)) (sym (append-nil (begun v)))
 
 -- a table of its own, from what happened under it
-pub fresh-of : (recipes : List (Recipe Dependency)) (t : Task) (ts : List Task) (bound : ℕ) (calls : List ℕ) (now : State) (old new : List Entry) (r : Result (List ℕ) Halt) (u : OnceTables) →
+pub fresh-of : (recipes : List (Recipe Dependency)) (t : Task) (ts : List Task) (bound : ℕ) (calls : List ℕ) (now : State) (old new : Kept) (r : Result (List ℕ) Halt) (u : OnceTables) →
     Accounts recipes (t ∷ ts) [] [] bound (opened calls) (t ∷ ts) old new (Ok now) u → (r ≡ Ok now.calls) ⊎ (r ≡ Err Memory) → IsFresh recipes (t ∷ ts) calls old new r u
 fresh-of recipes t ts bound calls now old new r u a h =
     let w : Walked recipes [] (t ∷ ts) (opened calls) now u = a.whole now refl in
@@ -288,7 +287,7 @@ full-tops : (ts : List Task) (u : OnceTables) → (2 ^ 64 ≤ length (known ts (
 full-tops ts u (inl h) = inl (subst (λ m. 2 ^ 64 ≤ m) (length-known_tops ts u) h)
 full-tops ts u (inr h) = inr h
 
-pub fresh-broke : (recipes : List (Recipe Dependency)) (ts : List Task) (bound : ℕ) (s : State) (calls : List ℕ) (old new : List Entry) (r : Result (List ℕ) Halt) (e : Halt) (u : OnceTables) →
+pub fresh-broke : (recipes : List (Recipe Dependency)) (ts : List Task) (bound : ℕ) (s : State) (calls : List ℕ) (old new : Kept) (r : Result (List ℕ) Halt) (e : Halt) (u : OnceTables) →
     Accounts recipes ts [] [] bound s ts old new (Err e) u → r ≡ Err e → IsFresh recipes ts calls old new r u
 fresh-broke recipes ts bound s calls old new r e u a h = record {
   gained = a.gained;
@@ -305,10 +304,10 @@ run-fits : (recipes : List (Recipe Dependency)) (before : List Asked) (done : Li
 run-fits recipes before done t ps ss v i n d m = record { asked_before = i; unbegun = n; priors_begun = d; named = m }
 
 -- the block failed before its subsequents
-pub block-broke : (recipes : List (Recipe Dependency)) (tops : List Task) (before : List Asked) (done : List Pair) (t : Task) (ps : List Task) (calls : List ℕ) (old new : List Entry)
+pub block-broke : (recipes : List (Recipe Dependency)) (tops : List Task) (before : List Asked) (done : List Pair) (t : Task) (ps : List Task) (calls : List ℕ) (old new : Kept)
     (r : Result (List ℕ) Halt) (e : Halt) →
     In (with_priors t ps) before → has same_pair done t.pair ≡ false → AreIn done ps → r ≡ Err e → (e ≡ Exhausted → ⊥) →
-    executed new ≡ executed old ++ executions recipes (t ∷ []) → Blocks recipes tops before done t ps calls old new r (Runs t ps [] Empty Empty)
+    executed_in new ≡ executed_in old ++ executions recipes (t ∷ []) → Blocks recipes tops before done t ps calls old new r (Runs t ps [] Empty Empty)
 block-broke recipes tops before done t ps calls old new r e i n d h k g = record {
   gained = g;
   fits = (run-fits recipes before done t ps [] Empty i n d (inr (refl, refl, refl)), tt, tt);
@@ -318,9 +317,9 @@ block-broke recipes tops before done t ps calls old new r e i n d h k g = record
 }
 
 -- nor was it begun
-pub block-none : (recipes : List (Recipe Dependency)) (tops : List Task) (before : List Asked) (done : List Pair) (t : Task) (ps : List Task) (calls : List ℕ) (old new : List Entry)
+pub block-none : (recipes : List (Recipe Dependency)) (tops : List Task) (before : List Asked) (done : List Pair) (t : Task) (ps : List Task) (calls : List ℕ) (old new : Kept)
     (r : Result (List ℕ) Halt) (e : Halt) →
-    r ≡ Err e → (e ≡ Exhausted → ⊥) → executed new ≡ executed old → Blocks recipes tops before done t ps calls old new r Empty
+    r ≡ Err e → (e ≡ Exhausted → ⊥) → executed_in new ≡ executed_in old → Blocks recipes tops before done t ps calls old new r Empty
 block-none recipes tops before done t ps calls old new r e h k g = record {
   gained = gained-none recipes old new g;
   fits = tt;
@@ -331,9 +330,9 @@ block-none recipes tops before done t ps calls old new r e h k g = record {
 
 -- its subsequents ran, or failed
 pub block-ran : (recipes : List (Recipe Dependency)) (tops : List Task) (before : List Asked) (done : List Pair) (t : Task) (ps ss : List Task) (calls : List ℕ)
-    (old mid new : List Entry) (r : Result (List ℕ) Halt) (v : OnceTables) →
+    (old mid new : Kept) (r : Result (List ℕ) Halt) (v : OnceTables) →
     In (with_priors t ps) before → has same_pair done t.pair ≡ false → AreIn done ps → AreNamed recipes (subsequent_dependencies recipes t.pair.recipe) ss →
-    executed mid ≡ executed old ++ executions recipes (t ∷ []) → IsFresh recipes ss calls mid new r v → Blocks recipes tops before done t ps calls old new r (Runs t ps ss v Empty)
+    executed_in mid ≡ executed_in old ++ executions recipes (t ∷ []) → IsFresh recipes ss calls mid new r v → Blocks recipes tops before done t ps calls old new r (Runs t ps ss v Empty)
 block-ran recipes tops before done t ps ss calls old mid new r v i n d m g f =
     let same : length ps + 0 ≡ length ps = omega arith in
     record {
@@ -355,8 +354,8 @@ block-ran recipes tops before done t ps ss calls old mid new r v i n d m g f =
     }
 
 -- the task whose priors could not be asked for
-pub ask-broke : (recipes : List (Recipe Dependency)) (tops : List Task) (before : List Asked) (done : List Pair) (s : State) (t : Task) (old new : List Entry) (r : Result State Halt) (e : Halt) →
-    Stands tops before done (suc t.pair.recipe) s (t ∷ []) → has same_pair done t.pair ≡ false → r ≡ Err e → (e ≡ Exhausted → ⊥) → executed new ≡ executed old →
+pub ask-broke : (recipes : List (Recipe Dependency)) (tops : List Task) (before : List Asked) (done : List Pair) (s : State) (t : Task) (old new : Kept) (r : Result State Halt) (e : Halt) →
+    Stands tops before done (suc t.pair.recipe) s (t ∷ []) → has same_pair done t.pair ≡ false → r ≡ Err e → (e ≡ Exhausted → ⊥) → executed_in new ≡ executed_in old →
     Accounts recipes tops before done (suc t.pair.recipe) s (t ∷ []) old new r (Asks (with_priors t []) Empty)
 ask-broke recipes tops before done s t old new r e a n h k g =
     let f : AskFits recipes tops before (with_priors t []) Empty = record {
@@ -377,10 +376,10 @@ ask-fits recipes tops before done s t ps u a n m = record {
 }
 
 -- its priors failed
-pub priors-broke : (recipes : List (Recipe Dependency)) (tops : List Task) (before : List Asked) (done : List Pair) (s : State) (t : Task) (ps : List Task) (old mid new : List Entry)
+pub priors-broke : (recipes : List (Recipe Dependency)) (tops : List Task) (before : List Asked) (done : List Pair) (s : State) (t : Task) (ps : List Task) (old mid new : Kept)
     (r : Result State Halt) (e : Halt) (u : OnceTables) →
     Stands tops before done (suc t.pair.recipe) s (t ∷ []) → has same_pair done t.pair ≡ false → AreNamed recipes (prior_dependencies recipes t.pair.recipe) ps →
-    executed mid ≡ executed old → r ≡ Err e → Accounts recipes tops (before ++ with_priors t ps ∷ []) done t.pair.recipe (counted s) ps mid new (Err e) u →
+    executed_in mid ≡ executed_in old → r ≡ Err e → Accounts recipes tops (before ++ with_priors t ps ∷ []) done t.pair.recipe (counted s) ps mid new (Err e) u →
     Accounts recipes tops before done (suc t.pair.recipe) s (t ∷ []) old new r (Asks (with_priors t ps) u)
 priors-broke recipes tops before done s t ps old mid new r e u a n m g h c =
     broke recipes tops before done (suc t.pair.recipe) s (t ∷ []) old new r (Asks (with_priors t ps) u) e h
@@ -390,10 +389,10 @@ priors-broke recipes tops before done s t ps old mid new r e u a n m g h c =
     (λ j. full-asked tops before (with_priors t ps) u (c.full (ap (λ x. Err x) j)))
 
 -- the task after its priors and its block, all but what comes of it
-visit-gained : (recipes : List (Recipe Dependency)) (u v : OnceTables) (old mid next new : List Entry) → executed mid ≡ executed old →
-    executed next ≡ executed mid ++ executions recipes (begun u) → executed new ≡ executed next ++ executions recipes (begun v) →
-    executed new ≡ executed old ++ executions recipes (begun (join u v))
-visit-gained recipes u v old mid next new g h k = joined-begun recipes u v (executed old) (executed next) (executed new) (h ∙ ap (λ x. x ++ executions recipes (begun u)) g) k
+visit-gained : (recipes : List (Recipe Dependency)) (u v : OnceTables) (old mid next new : Kept) → executed_in mid ≡ executed_in old →
+    executed_in next ≡ executed_in mid ++ executions recipes (begun u) → executed_in new ≡ executed_in next ++ executions recipes (begun v) →
+    executed_in new ≡ executed_in old ++ executions recipes (begun (join u v))
+visit-gained recipes u v old mid next new g h k = joined-begun recipes u v (executed_in old) (executed_in next) (executed_in new) (h ∙ ap (λ x. x ++ executions recipes (begun u)) g) k
 
 -- the table after the block
 table-put : (table : OnceTable) (now done : List Pair) (pair : Pair) → table ≡ has same_pair now → now ++ pair ∷ [] ≡ done → put table pair ≡ has same_pair done
@@ -404,9 +403,9 @@ table-put table now done pair h k =
 
 -- the block failed after the priors
 pub visit-broke : (recipes : List (Recipe Dependency)) (tops : List Task) (before : List Asked) (done : List Pair) (s now : State) (t : Task) (ps : List Task) (calls : List ℕ)
-    (old mid next new : List Entry) (r : Result State Halt) (e : Halt) (u v : OnceTables) →
+    (old mid next new : Kept) (r : Result State Halt) (e : Halt) (u v : OnceTables) →
     Stands tops before done (suc t.pair.recipe) s (t ∷ []) → has same_pair done t.pair ≡ false → AreNamed recipes (prior_dependencies recipes t.pair.recipe) ps →
-    executed mid ≡ executed old → r ≡ Err e → Accounts recipes tops (before ++ with_priors t ps ∷ []) done t.pair.recipe (counted s) ps mid next (Ok now) u →
+    executed_in mid ≡ executed_in old → r ≡ Err e → Accounts recipes tops (before ++ with_priors t ps ∷ []) done t.pair.recipe (counted s) ps mid next (Ok now) u →
     Blocks recipes tops ((before ++ with_priors t ps ∷ []) ++ asks u) (done ++ own u) t ps calls next new (Err e) v →
     Accounts recipes tops before done (suc t.pair.recipe) s (t ∷ []) old new r (Asks (with_priors t ps) (join u v))
 visit-broke recipes tops before done s now t ps calls old mid next new r e u v a n m g h c b =
@@ -440,9 +439,9 @@ visit-walked recipes done s now t ps calls u v m w b =
     }
 
 pub visit-ran : (recipes : List (Recipe Dependency)) (tops : List Task) (before : List Asked) (done : List Pair) (s now : State) (t : Task) (ps : List Task) (calls : List ℕ)
-    (old mid next new : List Entry) (r : Result State Halt) (u v : OnceTables) →
+    (old mid next new : Kept) (r : Result State Halt) (u v : OnceTables) →
     Stands tops before done (suc t.pair.recipe) s (t ∷ []) → has same_pair done t.pair ≡ false → AreNamed recipes (prior_dependencies recipes t.pair.recipe) ps →
-    executed mid ≡ executed old → Accounts recipes tops (before ++ with_priors t ps ∷ []) done t.pair.recipe (counted s) ps mid next (Ok now) u →
+    executed_in mid ≡ executed_in old → Accounts recipes tops (before ++ with_priors t ps ∷ []) done t.pair.recipe (counted s) ps mid next (Ok now) u →
     Blocks recipes tops ((before ++ with_priors t ps ∷ []) ++ asks u) (done ++ own u) t ps now.calls next new (Ok calls) v →
     (r ≡ Ok (ran now t calls)) ⊎ (r ≡ Err Memory) →
     Accounts recipes tops before done (suc t.pair.recipe) s (t ∷ []) old new r (Asks (with_priors t ps) (join u v))

@@ -2,12 +2,12 @@
 use Rattle.std.specs.Prelude.{◌≡◌, ◌≤◌, ◌^◌, ℕ, ◌+◌, true, false, List, [], ◌∷◌, ◌++◌, length, map, flat_map, ◌⊎◌, Option, Some, None, Result, Ok, Err}
 use Rattle.std.specs.List.{All, slice_get}
 use Rattle.just_paths.specs.declared.modulepath.Modulepath.{Modulepath}
+use Rattle.just_parts.specs.Steps.{Kept, executed_in}
 use Rattle.just_parts.specs.declared.dependency.Dependency.{Dependency}
 use Rattle.just_errors.specs.declared.halt.Halt.{Halt}
 use Rattle.just_errors.specs.declared.halt.Halt.TheVariants.{Memory, Exhausted, Failed}
-use Rattle.just_parts.specs.declared.layers.host.Entry.{Entry}
 use Rattle.just_parts.specs.declared.recipe.Recipe.{Recipe}
-use Rattle.just_parts.specs.Host.{Executed, executed}
+use Rattle.just_parts.specs.Host.{Executed}
 use Rattle.just_running.specs.declared.pair.Pair.{Pair}
 use Rattle.just_running.specs.Firsts.{has}
 use Rattle.just_running.specs.declared.task.Task.{Task}
@@ -135,8 +135,8 @@ abbrev pub IsFull : List Task → OnceTables → Type 0
 IsFull tops t = (2 ^ 64 ≤ length tops + asked_count t) ⊎ IsFullBelow t
 
 -- The account of a run of these tops, for every host: the recipes executed, in order, are those of a tree of once tables.
-pub record HasAccount (recipes : List (Recipe Dependency)) (old new : List Entry) (tops : List Task) (t : OnceTables) : Type 0 where
-  pub gained : executed new ≡ executed old ++ executions recipes (begun t)
+pub record HasAccount (recipes : List (Recipe Dependency)) (old new : Kept) (tops : List Task) (t : OnceTables) : Type 0 where
+  pub gained : executed_in new ≡ executed_in old ++ executions recipes (begun t)
   pub fits : Fits recipes tops [] [] t
 
 -- a run that succeeds: each top was begun, and the calls are counted

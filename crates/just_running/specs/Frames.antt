@@ -9,7 +9,7 @@ use Rattle.just_parts.specs.declared.dependency.Dependency.{Dependency}
 use Rattle.just_parts.specs.declared.recipe.Recipe.{Recipe}
 use Rattle.just_parts.specs.Evaluation.{Inquiry}
 use Rattle.just_parts.specs.Host.{Answer}
-use Rattle.just_parts.specs.Steps.{Question, Steps, Give, and_then, Took, both}
+use Rattle.just_parts.specs.Steps.{Kept, kept_by, Question, Steps, Give, and_then, Took, both}
 use Rattle.just_running.specs.declared.course.Course.{Course}
 use Rattle.just_running.specs.declared.frame.Frame.{Frame}
 use Rattle.just_running.specs.declared.frame.Frame.TheVariants.{Call, Block, Back}
@@ -90,8 +90,8 @@ abbrev pub left_with : Leaves → Frame → Course → Steps State
 left_with leaves frame course = left leaves (course.frames.items ++ frame ∷ []) (state_of course)
 
 -- steps were taken, from the first to the second where it succeeds
-abbrev pub Goes : {A U : Type 0} → (Question → Option Answer) → Steps A → List Entry → Steps A → List Entry → Result U Halt → Type 0
-Goes {A} promised first old second mid (Ok u) = (new : List Entry) (r : Result A Halt) → Took promised second mid new r → Took promised first old new r
+abbrev pub Goes : {A U : Type 0} → (Question → Option Answer) → Steps A → Kept → Steps A → Kept → Result U Halt → Type 0
+Goes {A} promised first old second mid (Ok u) = (new : Kept) (r : Result A Halt) → Took promised second mid new r → Took promised first old new r
 Goes promised first old second mid (Err e) = Took promised first old mid (Err e)
 
 -- a value in place of that of a success
@@ -100,20 +100,20 @@ with_value x (Ok u) = Ok x
 with_value x (Err e) = Err e
 
 -- a frame leads from what was left to what is left
-abbrev pub Leads : (Inquiry → Option Answer) → (Entry → Option Answer) → List (Recipe Dependency) → Frame → Course → List Entry → Course → List Entry → Result (Unit {0}) Halt → Type 0
+abbrev pub Leads : (Inquiry → Option Answer) → (Entry → Option Answer) → List (Recipe Dependency) → Frame → Course → Kept → Course → Kept → Result (Unit {0}) Halt → Type 0
 Leads evaluator host recipes frame old kept new keeps result =
     Goes (both evaluator host) (left_with (leaves_of recipes) frame old) kept (left_of (leaves_of recipes) new) keeps result
 
 -- the call of a task, which asks the host nothing; and its block
-abbrev pub Calls : (Inquiry → Option Answer) → List (Recipe Dependency) → Task → Course → Course → Result (Unit {0}) Halt → Type 0
-Calls evaluator recipes task old new result =
-    (host : Entry → Option Answer) (kept : List Entry) → Leads evaluator host recipes (Call task) old kept new kept result
+abbrev pub Calls : (Inquiry → Option Answer) → List (Recipe Dependency) → Task → Course → List Inquiry → Course → List Inquiry → Result (Unit {0}) Halt → Type 0
+Calls evaluator recipes task old before new later result =
+    (host : Entry → Option Answer) (entries : List Entry) → Leads evaluator host recipes (Call task) old (kept_by entries before) new (kept_by entries later) result
 
-abbrev pub Blocks : (Inquiry → Option Answer) → (Entry → Option Answer) → List (Recipe Dependency) → Task → Course → List Entry → Course → List Entry → Result (Unit {0}) Halt → Type 0
+abbrev pub Blocks : (Inquiry → Option Answer) → (Entry → Option Answer) → List (Recipe Dependency) → Task → Course → Kept → Course → Kept → Result (Unit {0}) Halt → Type 0
 Blocks evaluator host recipes task old kept new keeps result = Leads evaluator host recipes (Block task) old kept new keeps result
 
 -- all that was left was taken
-abbrev pub Finishes : (Inquiry → Option Answer) → (Entry → Option Answer) → List (Recipe Dependency) → Course → List Entry → Course → List Entry → Result (Unit {0}) Halt → Type 0
+abbrev pub Finishes : (Inquiry → Option Answer) → (Entry → Option Answer) → List (Recipe Dependency) → Course → Kept → Course → Kept → Result (Unit {0}) Halt → Type 0
 Finishes evaluator host recipes old kept new keeps result =
     Took (both evaluator host) (left_of (leaves_of recipes) old) kept keeps (with_value (state_of new) result)
 

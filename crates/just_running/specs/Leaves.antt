@@ -9,7 +9,7 @@ use Rattle.just_parts.specs.declared.layers.host.Entry.TheVariants.{Begin}
 use Rattle.just_parts.specs.declared.recipe.Recipe.{Recipe}
 use Rattle.just_parts.specs.Evaluation.{Inquiry}
 use Rattle.just_parts.specs.Host.{Answer}
-use Rattle.just_parts.specs.Steps.{Steps, Give, Asks, ToHost, Took, both}
+use Rattle.just_parts.specs.Steps.{Kept, kept_by, Steps, Give, Asks, ToHost, Took, both}
 use Rattle.just_running.specs.declared.task.Task.{Task}
 use Rattle.just_running.specs.Pairs.{priors, subsequents}
 use Rattle.just_running.specs.Walking.{Leaves}
@@ -38,9 +38,10 @@ follow_steps recipes t = Give (subsequents recipes t)
 abbrev pub leaves_of : List (Recipe Dependency) → Leaves
 leaves_of recipes = record { ask = ask_steps recipes; execute = execute_steps recipes; follow = follow_steps recipes }
 
--- for the private functions: a leaf that asks the host nothing, and the body
-abbrev pub AsksAlone : (Inquiry → Option Answer) → Steps (List Task) → Result (List Task) Halt → Type 0
-AsksAlone evaluator steps result = (host : Entry → Option Answer) (kept : List Entry) → Took (both evaluator host) steps kept kept result
+-- for the private functions: a leaf that asks the host nothing, where the evaluator has kept these questions before and after it; and the body
+abbrev pub AsksAlone : (Inquiry → Option Answer) → Steps (List Task) → List Inquiry → List Inquiry → Result (List Task) Halt → Type 0
+AsksAlone evaluator steps before later result =
+    (host : Entry → Option Answer) (entries : List Entry) → Took (both evaluator host) steps (kept_by entries before) (kept_by entries later) result
 
-abbrev pub Executes : (Inquiry → Option Answer) → (Entry → Option Answer) → List (Recipe Dependency) → Task → List Entry → List Entry → Result (Unit {0}) Halt → Type 0
+abbrev pub Executes : (Inquiry → Option Answer) → (Entry → Option Answer) → List (Recipe Dependency) → Task → Kept → Kept → Result (Unit {0}) Halt → Type 0
 Executes evaluator host recipes task old new result = Took (both evaluator host) (execute_steps recipes task) old new result

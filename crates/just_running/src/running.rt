@@ -2,6 +2,7 @@
 ghost use Rattle.std.specs.Prelude.{◌<◌, length, OnOk};
 ghost use Rattle.std.specs.List.{All};
 ghost use Rattle.just_parts.specs.Host.{KeepsPromises};
+ghost use Rattle.just_parts.specs.Steps.{kept_by};
 ghost use Rattle.just_running.specs.Frames.{Blocks, Calls, Finishes, IsLighter, IsOpen, IsSound, Leads, items_of};
 ghost use Rattle.just_running.specs.Leaves.{AsksAlone, Executes, ask_steps, follow_steps};
 ghost use Rattle.just_running.specs.Pairs.{AllBelow};
@@ -33,7 +34,8 @@ fn ask<'src, E: Evaluation>(
     requires place { task.now.pair.recipe < length recipes.now }
     requires resolved { All IsResolved recipes.now }
     ensures keeps { KeepsPromises (E.promised _evaluation.old) (E.promised _evaluation.new) }
-    ensures took { AsksAlone (E.promised _evaluation.old) (ask_steps recipes.now task.now) (items_of result) }
+    ensures took { let took = AsksAlone (E.promised _evaluation.old) (ask_steps recipes.now task.now) in
+        took (E.inquiries _evaluation.old) (E.inquiries _evaluation.new) (items_of result) }
 {
     Ok(name_all(alloc, recipes, recipes.priors(task.pair.recipe))?)
 }
@@ -48,7 +50,8 @@ fn follow<'src, E: Evaluation>(
     requires place { task.now.pair.recipe < length recipes.now }
     requires resolved { All IsResolved recipes.now }
     ensures keeps { KeepsPromises (E.promised _evaluation.old) (E.promised _evaluation.new) }
-    ensures took { AsksAlone (E.promised _evaluation.old) (follow_steps recipes.now task.now) (items_of result) }
+    ensures took { let took = AsksAlone (E.promised _evaluation.old) (follow_steps recipes.now task.now) in
+        took (E.inquiries _evaluation.old) (E.inquiries _evaluation.new) (items_of result) }
 {
     Ok(name_all(alloc, recipes, recipes.subsequents(task.pair.recipe))?)
 }
@@ -64,7 +67,9 @@ fn execute<'src, E: Evaluation, H: Host>(
     requires resolved { All IsResolved recipes.now }
     ensures keeps { KeepsPromises (E.promised _evaluation.old) (E.promised _evaluation.new) }
     ensures keeps_host { KeepsPromises (H.promised host.old) (H.promised host.new) }
-    ensures took { Executes (E.promised _evaluation.old) (H.promised host.old) recipes.now task.now (H.entries host.old) (H.entries host.new) result }
+    ensures took { let first = kept_by (H.entries host.old) (E.inquiries _evaluation.old) in
+        let last = kept_by (H.entries host.new) (E.inquiries _evaluation.new) in
+        Executes (E.promised _evaluation.old) (H.promised host.old) recipes.now task.now first last result }
 {
     let recipe = recipes.at(task.pair.recipe);
     host.begin(recipe.recipe_path(), &task.pair.groups)?;
@@ -84,7 +89,8 @@ fn call_task<'src, E: Evaluation>(
     requires place { task.pair.recipe < length recipes.now }
     requires sound { IsSound (length recipes.now) run.old }
     ensures keeps { KeepsPromises (E.promised evaluation.old) (E.promised evaluation.new) }
-    ensures goes { Calls (E.promised evaluation.old) recipes.now task run.old run.new result }
+    ensures goes { let goes = Calls (E.promised evaluation.old) recipes.now task run.old (E.inquiries evaluation.old) in
+        goes run.new (E.inquiries evaluation.new) result }
     ensures sound { OnOk result (IsSound (length recipes.now) run.new) }
     ensures lighter { OnOk result (IsLighter run.new.frames.items run.old.frames.items (Frame.Call task)) }
 {
@@ -113,7 +119,9 @@ fn run_block<'src, E: Evaluation, H: Host>(
     requires sound { IsSound (length recipes.now) run.old }
     ensures keeps { KeepsPromises (E.promised evaluation.old) (E.promised evaluation.new) }
     ensures keeps_host { KeepsPromises (H.promised host.old) (H.promised host.new) }
-    ensures goes { Blocks (E.promised evaluation.old) (H.promised host.old) recipes.now task run.old (H.entries host.old) run.new (H.entries host.new) result }
+    ensures goes { let first = kept_by (H.entries host.old) (E.inquiries evaluation.old) in
+        let last = kept_by (H.entries host.new) (E.inquiries evaluation.new) in
+        Blocks (E.promised evaluation.old) (H.promised host.old) recipes.now task run.old first run.new last result }
     ensures sound { OnOk result (IsSound (length recipes.now) run.new) }
     ensures lighter { OnOk result (IsLighter run.new.frames.items run.old.frames.items (Frame.Block task)) }
 {
@@ -139,7 +147,9 @@ fn take<'src, E: Evaluation, H: Host>(
     requires sound { IsSound (length recipes.now) run.old }
     ensures keeps { KeepsPromises (E.promised evaluation.old) (E.promised evaluation.new) }
     ensures keeps_host { KeepsPromises (H.promised host.old) (H.promised host.new) }
-    ensures goes { Leads (E.promised evaluation.old) (H.promised host.old) recipes.now frame run.old (H.entries host.old) run.new (H.entries host.new) result }
+    ensures goes { let first = kept_by (H.entries host.old) (E.inquiries evaluation.old) in
+        let last = kept_by (H.entries host.new) (E.inquiries evaluation.new) in
+        Leads (E.promised evaluation.old) (H.promised host.old) recipes.now frame run.old first run.new last result }
     ensures sound { OnOk result (IsSound (length recipes.now) run.new) }
     ensures lighter { OnOk result (IsLighter run.new.frames.items run.old.frames.items frame) }
 {
@@ -166,7 +176,9 @@ fn finish<'src, E: Evaluation, H: Host>(
     requires sound { IsSound (length recipes.now) run.old }
     ensures keeps { KeepsPromises (E.promised evaluation.old) (E.promised evaluation.new) }
     ensures keeps_host { KeepsPromises (H.promised host.old) (H.promised host.new) }
-    ensures took { Finishes (E.promised evaluation.old) (H.promised host.old) recipes.now run.old (H.entries host.old) run.new (H.entries host.new) result }
+    ensures took { let first = kept_by (H.entries host.old) (E.inquiries evaluation.old) in
+        let last = kept_by (H.entries host.new) (E.inquiries evaluation.new) in
+        Finishes (E.promised evaluation.old) (H.promised host.old) recipes.now run.old first run.new last result }
 {
     while let Some(frame) = run.frames.pop() {
         take(alloc, recipes, evaluation, host, run, frame)?;
@@ -187,7 +199,9 @@ fn start<'src, E: Evaluation, H: Host>(
     requires below { AllBelow (length recipes.now) tasks.items }
     ensures keeps { KeepsPromises (E.promised evaluation.old) (E.promised evaluation.new) }
     ensures keeps_host { KeepsPromises (H.promised host.old) (H.promised host.new) }
-    ensures took { Starts (E.promised evaluation.old) (H.promised host.old) recipes.now tasks.items (H.entries host.old) (H.entries host.new) result }
+    ensures took { let first = kept_by (H.entries host.old) (E.inquiries evaluation.old) in
+        let last = kept_by (H.entries host.new) (E.inquiries evaluation.new) in
+        Starts (E.promised evaluation.old) (H.promised host.old) recipes.now tasks.items first last result }
 {
     if tasks.is_empty() {
         return Ok(Report {
@@ -218,8 +232,12 @@ pub fn run_tasks<'src, E: Evaluation, H: Host>(
     requires below { AllBelow (length recipes.now) tops.items }
     ensures keeps { KeepsPromises (E.promised evaluation.old) (E.promised evaluation.new) }
     ensures keeps_host { KeepsPromises (H.promised host.old) (H.promised host.new) }
-    ensures account { IsRun recipes.now tops.items (H.entries host.old) (H.entries host.new) result }
-    ensures expected { IsAsExpected (E.promised evaluation.old) (H.promised host.old) recipes.now tops.items (H.entries host.old) (H.entries host.new) result }
+    ensures account { let first = kept_by (H.entries host.old) (E.inquiries evaluation.old) in
+        let last = kept_by (H.entries host.new) (E.inquiries evaluation.new) in
+        IsRun recipes.now tops.items first last result }
+    ensures expected { let first = kept_by (H.entries host.old) (E.inquiries evaluation.old) in
+        let last = kept_by (H.entries host.new) (E.inquiries evaluation.new) in
+        IsAsExpected (E.promised evaluation.old) (H.promised host.old) recipes.now tops.items first last result }
 {
     recipes.are_ordered();
     start(alloc, recipes, evaluation, host, tops)

@@ -1,5 +1,5 @@
 //! The layer that evaluates expressions.
-ghost use Rattle.std.specs.Prelude.{◌≡◌, Option, Some, IfOk, IfErr, flat_map, map};
+ghost use Rattle.std.specs.Prelude.{◌≡◌, List, Option, Some, IfOk, IfErr, flat_map, map};
 ghost use Rattle.std.specs.HashMap.{get};
 ghost use Rattle.std.specs.HashSet.{contains};
 ghost use Rattle.std.specs.List.{All};
@@ -26,6 +26,9 @@ use std::collections::{HashMap, HashSet};
 /// What evaluates expressions. While compiling what it answers is a function of what it is asked in names: numbers, and the
 /// order in which variables are evaluated, make no difference. Each question asks that what is read is bound.
 pub trait Evaluation {
+    /// For which variables it was asked in runs, in order.
+    ghost inquiries: { Self → List Inquiry };
+
     /// The answer to a question of a run, where that is fixed for good.
     ghost promised: { Self → Inquiry → Option Answer };
 

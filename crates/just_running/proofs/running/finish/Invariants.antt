@@ -1,9 +1,8 @@
 use Rattle.std.proofs.Common.{List, length, ◌^◌}
 use Rattle.std.specs.Prelude.{Result}
 use Rattle.just_errors.specs.declared.halt.Halt.{Halt}
-use Rattle.just_parts.specs.declared.layers.host.Entry.{Entry}
 use Rattle.just_parts.specs.Host.{KeepsPromises}
-use Rattle.just_parts.specs.Steps.{Took, both}
+use Rattle.just_parts.specs.Steps.{Kept, Took, both, kept_by}
 use Rattle.just_running.specs.Frames.{IsSound, left_of, weight}
 use Rattle.just_running.specs.Leaves.{leaves_of}
 use Rattle.just_running.specs.Walking.{State}
@@ -14,8 +13,8 @@ invariant-loop-frame g l = record {
   keeps : KeepsPromises (g.E.Evaluation.promised l.fn.evaluation) (g.E.Evaluation.promised l.evaluation);
   keeps_host : KeepsPromises (g.H.Host.promised l.fn.host) (g.H.Host.promised l.host);
   sound : IsSound (length l.recipes) l.run;
-  rest : (new : List Entry) (r : Result State Halt) → Took (both (g.E.Evaluation.promised l.evaluation) (g.H.Host.promised l.host)) (left_of (leaves_of l.recipes) l.run) (g.H.Host.entries l.host) new r
-      → Took (both (g.E.Evaluation.promised l.fn.evaluation) (g.H.Host.promised l.fn.host)) (left_of (leaves_of l.recipes) l.fn.run) (g.H.Host.entries l.fn.host) new r;
+  rest : (new : Kept) (r : Result State Halt) → Took (both (g.E.Evaluation.promised l.evaluation) (g.H.Host.promised l.host)) (left_of (leaves_of l.recipes) l.run) (kept_by (g.H.Host.entries l.host) (g.E.Evaluation.inquiries l.evaluation)) new r
+      → Took (both (g.E.Evaluation.promised l.fn.evaluation) (g.H.Host.promised l.fn.host)) (left_of (leaves_of l.recipes) l.fn.run) (kept_by (g.H.Host.entries l.fn.host) (g.E.Evaluation.inquiries l.fn.evaluation)) new r;
 }
 
 abbrev pub decreases-loop-frame : goal.decreases-loop-frame

@@ -1,5 +1,6 @@
 use Rattle.std.proofs.Common.{◌≡◌, ◌∙◌, ◌≤◌, true, map, length, refl, sym, ap, subst, arith, rules}
 use Rattle.std.proofs.lemmas.List.{length-map}
+use Rattle.just_parts.specs.Steps.{kept_by}
 use Rattle.just_names.specs.Texts.{texts}
 use Rattle.just_invoke.specs.Going.{ComesTo}
 use Rattle.just_invoke.specs.Outcome.{refused}
@@ -66,7 +67,7 @@ returns-clause-outcome g c =
     ] in
     went c.args.self.now c.args.recipes.now (texts c.args.words.now) c.args.config.now p q (map invoked_of c.in_ok-invocations.invocations.items) c.in_ok-invocations.ensures.split
     (λ yes. subst (λ n. n ≤ 1) (sym (length-map c.in_ok-invocations.invocations.items invoked_of)) (few yes)) c.in_ok-check_variables.ensures.ok _ _ c.run_invocations.result
-    (subst (λ is. ComesTo p q c.args.recipes.now is (g.H.Host.entries c.args.host.now) (g.H.Host.entries c.run_invocations.new.host) c.run_invocations.result) c.as_slice-2.ensures.value c.run_invocations.ensures.comes)
+    (subst (λ is. ComesTo p q c.args.recipes.now is (kept_by (g.H.Host.entries c.args.host.now) (g.E.Evaluation.inquiries c.args.evaluation.now)) (kept_by (g.H.Host.entries c.run_invocations.new.host) (g.E.Evaluation.inquiries c.run_invocations.new.evaluation)) c.run_invocations.result) c.as_slice-2.ensures.value c.run_invocations.ensures.comes)
 
 pub returns-clause-expected : goal.returns-clause-expected
 returns-clause-expected g c =
@@ -78,4 +79,4 @@ returns-clause-expected g c =
     ] in
     went-expected c.args.self.now c.args.recipes.now (texts c.args.words.now) c.args.config.now p q (map invoked_of c.in_ok-invocations.invocations.items) c.in_ok-invocations.ensures.split
     (λ yes. subst (λ n. n ≤ 1) (sym (length-map c.in_ok-invocations.invocations.items invoked_of)) (few yes)) c.in_ok-check_variables.ensures.ok _ _ c.run_invocations.result
-    (subst (λ is. ComesTo p q c.args.recipes.now is (g.H.Host.entries c.args.host.now) (g.H.Host.entries c.run_invocations.new.host) c.run_invocations.result) c.as_slice-2.ensures.value c.run_invocations.ensures.comes)
+    (subst (λ is. ComesTo p q c.args.recipes.now is (kept_by (g.H.Host.entries c.args.host.now) (g.E.Evaluation.inquiries c.args.evaluation.now)) (kept_by (g.H.Host.entries c.run_invocations.new.host) (g.E.Evaluation.inquiries c.run_invocations.new.evaluation)) c.run_invocations.result) c.as_slice-2.ensures.value c.run_invocations.ensures.comes)
