@@ -11,9 +11,7 @@ use Rattle.just_graph.proofs.Index.{some_same}
 use Rattle.just_graph.proofs.Members.{In, contained, in_map, is_in}
 use Rattle.just_parts.specs.Asts.{AstKey, same_ast_key}
 use Rattle.just_names.specs.Texts.{Text}
-use Rattle.just_parts.specs.declared.dependency.Dependency.{Dependency}
 use Rattle.just_parts.specs.Items.{Ast, Item}
-use Rattle.just_parts.specs.declared.recipe.Recipe.{Recipe}
 use Rattle.just_invoke.specs.declared.justfile.Justfile.{Justfile, out-Justfile, out-roll-Justfile}
 use Rattle.just_making.specs.Analysis.{AreKeysOf, HasDefault, HasKeysOf, IsDefaultAmong, IsOf}
 use Rattle.just_joining.specs.Files.{ArePlaced, AreRows, asts_in}

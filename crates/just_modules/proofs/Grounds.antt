@@ -1,5 +1,5 @@
 -- The groups of rules that are kept before another.
-use Rattle.std.proofs.Common.{◌≡◌, arith, subst}
+use Rattle.std.proofs.Common.{arith, subst}
 use Rattle.just_errors.specs.Causes.{Cause, Keeps}
 use Rattle.just_parts.specs.Layers.{Layers}
 use Rattle.just_parts.specs.Syntax.{SyntaxAnswers}

@@ -1,5 +1,5 @@
 -- The module at a place, as it is checked.
-use Rattle.std.proofs.Common.{◌≡◌, ◌∙◌, ℕ, suc, Bool, List, [], ◌∷◌, length, Option, Some, sym, ap, subst}
+use Rattle.std.proofs.Common.{◌≡◌, ◌∙◌, ℕ, suc, List, [], ◌∷◌, length, Option, Some, sym, ap, subst}
 use Rattle.std.specs.Prelude.{slice_get}
 use Rattle.just_constants.specs.Constants.{evaluated_in}
 use Rattle.just_constants.specs.Documented.{AreDocumented}
@@ -10,22 +10,20 @@ use Rattle.just_invoke.specs.declared.justfile.Justfile.{Justfile, out-Justfile}
 use Rattle.just_joining.specs.Contents.{Contents}
 use Rattle.just_joining.specs.Definitions.{contents_in}
 use Rattle.just_joining.specs.Files.{asts_in}
-use Rattle.just_joining.specs.Groups.{BreaksContents, KeepsBefore, KeepsContents, OfBodies}
+use Rattle.just_joining.specs.Groups.{BreaksContents, KeepsBefore, OfBodies}
 use Rattle.just_joining.specs.Named.{contents_from, said_from}
 use Rattle.just_joining.specs.OfPlaces.{contents_of_place, labels_of_place}
 use Rattle.just_joining.specs.declared.files.Files.{Files}
 use Rattle.just_joining.specs.declared.joined.Joined.{Joined}
 use Rattle.just_making.specs.Analysis.{BreaksRecipes}
-use Rattle.just_checking.specs.Evaluated.{AreLabels, IsChecked, overridden_in}
+use Rattle.just_checking.specs.Evaluated.{IsChecked}
 use Rattle.just_modules.specs.Evaluated.{IsEvaluatedTo}
 use Rattle.just_modules.specs.Steps.{BreaksPlace, KeepsPlace, path_at, path_in}
 use Rattle.just_checking.specs.declared.checking.Checked.{Checked}
 use Rattle.just_modules.proofs.Grounds.{all_kept, recipes_broken}
 use Rattle.just_names.specs.Texts.{Text}
-use Rattle.just_names.specs.declared.number.Number.{Number}
 use Rattle.just_notes.specs.Labels.{label_by}
 use Rattle.just_notes.specs.declared.labels.Label.{Label}
-use Rattle.just_parts.specs.Evaluator.{values_of}
 use Rattle.just_parts.specs.Items.{Ast}
 use Rattle.just_parts.specs.Layers.{Given, Layers, layers_at}
 use Rattle.just_expressions.specs.declared.expression.Expression.{Expression}

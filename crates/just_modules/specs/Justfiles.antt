@@ -1,8 +1,6 @@
 -- What modules are compiled to.
-use Rattle.std.specs.Prelude.{◌≡◌, ℕ, Bool, List, [], ◌∷◌, map, flat_map, get_or, Option, None, Some}
-use Rattle.std.specs.Map.{values_of}
+use Rattle.std.specs.Prelude.{◌≡◌, Bool, List, [], ◌∷◌, map, flat_map, Option, Some}
 use Rattle.just_parts.specs.Asts.{AstKey}
-use Rattle.just_table.specs.Entries.{put}
 use Rattle.just_names.specs.Texts.{Text}
 use Rattle.just_names.specs.declared.number.Number.{Number}
 use Rattle.just_parts.specs.declared.dependency.Dependency.{Dependency}
@@ -11,14 +9,12 @@ use Rattle.just_parts.specs.Layers.{Given, layers_at}
 use Rattle.just_parts.specs.declared.layers.ast.UnresolvedDependency.{UnresolvedDependency}
 use Rattle.just_parts.specs.declared.recipe.Recipe.{Recipe}
 use Rattle.std.specs.List.{Contains}
-use Rattle.just_invoke.specs.Module.{module_name}
-use Rattle.just_invoke.specs.declared.justfile.Justfile.{Justfile, out-Justfile, roll-Justfile}
+use Rattle.just_invoke.specs.declared.justfile.Justfile.{Justfile, out-Justfile}
 use Rattle.just_making.specs.Analysis.{HasDefault, IsOf}
 use Rattle.just_making.specs.Labelled.{by_name, label_in, notes_in}
 use Rattle.just_modules.specs.Evaluated.{IsEvaluatedTo}
 use Rattle.just_notes.specs.Labels.{doc_by}
 use Rattle.just_notes.specs.Notes.{absent_by, features_by, notes_of, warnings_by}
-use Rattle.just_notes.specs.declared.labels.Label.{Label}
 use Rattle.just_notes.specs.declared.notes.Notes.{Notes}
 use Rattle.just_modules.specs.Modules.{Module, Forest, Empty, Tree, path_of}
 use Rattle.just_making.specs.Variables.{HasVariables}

@@ -102,22 +102,3 @@ module _ (number_of : List ℕ → Option Number) where
       given_shape (shape.Variable name number) ≡ shape.Variable name (number_of (text_of_name name))
   numbers_of-Variable name number =
       numbers_at (Shape-F.Variable name number) (shape.rolls-Variable name number) (shape.rolls-Variable name (number_of (text_of_name name)))
-
-pub ruleset shapes = (
-  numbers_of-And,
-  numbers_of-Assert,
-  numbers_of-Backtick,
-  numbers_of-Call,
-  numbers_of-Comparison,
-  numbers_of-Concatenation,
-  numbers_of-Conditional,
-  numbers_of-FormatString,
-  numbers_of-Group,
-  numbers_of-Join,
-  numbers_of-List,
-  numbers_of-ListConcatenation,
-  numbers_of-Not,
-  numbers_of-Or,
-  numbers_of-StringLiteral,
-  numbers_of-Variable,
-)

@@ -1,4 +1,4 @@
-use Rattle.std.proofs.Common.{◌≡◌, ◌∙◌, ap, subst, sym}
+use Rattle.std.proofs.Common.{◌∙◌, ap, sym}
 use Rattle.just_constants.specs.Documented.{doc_expressions}
 use Rattle.just_joining.specs.Definitions.{contents_in}
 use Rattle.just_joining.specs.Files.{asts_in}

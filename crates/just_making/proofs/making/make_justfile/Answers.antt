@@ -1,4 +1,4 @@
-use Rattle.std.proofs.Common.{◌≡◌, ◌∙◌, List, length, rules, subst, sym}
+use Rattle.std.proofs.Common.{◌≡◌, List, length, rules, subst, sym}
 use Rattle.just_invoke.specs.declared.justfile.Justfile.TheViews.{the_lemmas}
 use Rattle.just_parts.specs.declared.layers.ast.UnresolvedDependency.{UnresolvedDependency}
 use Rattle.just_parts.specs.declared.recipe.Recipe.{Recipe}

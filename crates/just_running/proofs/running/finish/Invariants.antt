@@ -1,4 +1,4 @@
-use Rattle.std.proofs.Common.{List, length, ◌^◌}
+use Rattle.std.proofs.Common.{length, ◌^◌}
 use Rattle.std.specs.Prelude.{Result}
 use Rattle.just_errors.specs.declared.halt.Halt.{Halt}
 use Rattle.just_parts.specs.Host.{KeepsPromises}
