@@ -9,10 +9,13 @@ use just_paths::Modulepath;
 use std::alloc::{AllocError, Global};
 use std::marker::Model;
 
-/// A host that keeps what it was asked, and answers every call that it is done. Contracts see the list of entries.
+/// A host that keeps what it was asked, and answers every call that it is done, but for one where it is made so.
+/// Contracts see the list of entries.
 #[derive(Debug, Drop)]
 pub struct Recorder {
     entries: Sequence<Entry>,
+    // How many calls are answered before one is refused; none where none is.
+    left: Option<usize>,
 }
 
 impl Model for Recorder {
@@ -31,6 +34,30 @@ impl Recorder {
     {
         Recorder {
             entries: Sequence::new(alloc),
+            left: None,
+        }
+    }
+
+    /// A host that was asked nothing, and that is refused memory at one call, after it has answered so many.
+    pub fn refused_after(alloc: Global, answered: usize) -> Recorder
+        ensures { result ≡ [] }
+    {
+        Recorder {
+            entries: Sequence::new(alloc),
+            left: Some(answered),
+        }
+    }
+
+    // Whether this call is refused. If not, one less is answered before one is.
+    fn is_refused(&mut self) -> bool
+        ensures { self.new ≡ self.old }
+    {
+        match self.left {
+            Some(left) => {
+                self.left = left.checked_sub(1);
+                left == 0
+            }
+            None => false,
         }
     }
 
@@ -53,6 +80,9 @@ impl Host for Recorder {
     ghost promised = { λ recorder entry. Some Answer.Done };
 
     fn begin(&mut self, path: &Modulepath, groups: &Groups) -> Result<(), AllocError> {
+        if self.is_refused() {
+            return Err(AllocError);
+        }
         let path = path.clone()?;
         let groups = groups.clone()?;
         self.entries.push(Entry::Begin { path, groups })

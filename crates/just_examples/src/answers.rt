@@ -36,7 +36,7 @@ fn compile<'src>(
 fn add_whole(
     compilation: &Compilation,
     alloc: Global,
-    config: &Config,
+    asked: &Asked,
     words: &[&str],
     text: &mut String,
 ) -> Result<(), AllocError>
@@ -52,7 +52,16 @@ fn add_whole(
     add_loaded(justfile, asts.len(), text)?;
     add_modules(justfile, recipes, overrides, alloc, text)?;
     add_split(justfile, recipes, alloc, words, text)?;
-    add_run(justfile, recipes, overrides, alloc, config, words, text)
+    add_run(
+        justfile,
+        recipes,
+        overrides,
+        alloc,
+        &asked.config,
+        words,
+        asked.answered,
+        text,
+    )
 }
 
 // Adds what the files of a source map are compiled to, and what words do.
@@ -70,7 +79,7 @@ fn add_sources(
     let pairs = read_pairs(alloc, asked.conflicts.as_str())?;
     let syntax = PlainSyntax::with_conflicts(pairs.as_slice());
     match compile(alloc, sources, &syntax, &asked.config, root) {
-        Ok(compilation) => add_whole(&compilation, alloc, &asked.config, words, text),
+        Ok(compilation) => add_whole(&compilation, alloc, asked, words, text),
         Err(error) => add_fault(text, &error),
     }
 }

@@ -13,6 +13,7 @@ enum Part {
     Root,
     Conflicts,
     Override,
+    Refused,
     Word,
 }
 
@@ -36,6 +37,8 @@ pub struct Asked {
     pub root: String,
     /// Pairs of settings with a comma between the two, a blank after each: the second may not stand beside the first.
     pub conflicts: String,
+    /// How many calls the host answers before it is refused memory, where it is.
+    pub answered: Option<usize>,
     /// The words, with their marks resolved.
     pub words: Vec<String>,
     next: Part,
@@ -48,6 +51,7 @@ impl Asked {
             config: Config::new(alloc),
             root: String::from_str(alloc, "/justfile")?,
             conflicts: String::new(alloc),
+            answered: None,
             words: Vec::new(alloc),
             next: Part::OptionOrWord,
         })
@@ -61,6 +65,7 @@ impl Asked {
             "--justfile" => self.next = Part::Root,
             "--conflicts" => self.next = Part::Conflicts,
             "--override" => self.next = Part::Override,
+            "--refused" => self.next = Part::Refused,
             _ => {
                 self.next = Part::Word;
                 self.words.push(unmarked(alloc, part)?)?;
@@ -89,6 +94,7 @@ impl Asked {
             Part::Root => self.root = unmarked(alloc, part)?,
             Part::Conflicts => write!(self.conflicts, "{part} ")?,
             Part::Override => self.take_override(alloc, part)?,
+            Part::Refused => self.answered = part.parse::<usize>().ok(),
             Part::Word => {
                 self.words.push(unmarked(alloc, part)?)?;
                 return Ok(());
@@ -99,8 +105,8 @@ impl Asked {
     }
 }
 
-/// What stands behind `$ just`: the options `--one`, `--home PATH`, `--justfile PATH`, `--conflicts A,B` and
-/// `--override PATH=VALUE`, then words.
+/// What stands behind `$ just`: the options `--one`, `--home PATH`, `--justfile PATH`, `--conflicts A,B`,
+/// `--override PATH=VALUE` and `--refused COUNT`, then words.
 pub fn read_asked(alloc: Global, line: &str) -> Result<Asked, AllocError> {
     let mut asked = Asked::new(alloc)?;
     for part in line.split_whitespace() {

@@ -1,6 +1,6 @@
 //! The lines that tell what a compilation has.
-use just_data::Text;
-use just_invoke::{Justfile, Recipes};
+use just_data::{Exact, Text};
+use just_invoke::{Justfile, RecipeKey, Recipes};
 use just_lines::lists::{add_list, next};
 use just_parts::Recipe;
 use just_parts::layers::{Interpreter, Number};
@@ -24,6 +24,7 @@ struct Lines {
     entrances: String,
     numbers: HashSet<u64>,
     count: u64,
+    copied: u64,
 }
 
 impl Lines {
@@ -44,6 +45,7 @@ impl Lines {
             entrances: String::new(alloc),
             numbers: HashSet::new(alloc),
             count: 0,
+            copied: 0,
         }
     }
 }
@@ -210,6 +212,19 @@ fn add_order(module: &Justfile, text: &mut String) -> Result<(), AllocError> {
     Ok(())
 }
 
+// Whether a copy of a value is equal to it.
+fn is_copied<T: Exact + PartialEq + Drop>(value: &T) -> Result<bool, AllocError> {
+    Ok(value.clone()? == *value)
+}
+
+// Counts a recipe where copies of it and of its key are equal to them.
+fn add_copies(key: &RecipeKey, recipe: &Recipe, lines: &mut Lines) -> Result<(), AllocError> {
+    if is_copied(key)? && is_copied(recipe)? {
+        lines.copied = lines.copied.saturating_add(1);
+    }
+    Ok(())
+}
+
 // Adds the recipes of a module, in the order of its table.
 fn add_recipes<'src>(
     module: &Justfile<'src>,
@@ -220,6 +235,7 @@ fn add_recipes<'src>(
     for key in module.recipes.values() {
         if let Some(recipe) = recipes.get(key.number) {
             add_recipe(recipe, alloc, lines)?;
+            add_copies(key, recipe, lines)?;
         }
     }
     Ok(())
@@ -270,7 +286,8 @@ fn lines_of<'src>(
 }
 
 /// Adds what the root's module and those in it have: their files, docs, settings and variables, and of the recipes the
-/// depths, the files and how many different numbers they have. The values that override variables are those of `overrides`.
+/// depths, the files, how many different numbers they have, and how many are equal to their copies. The values that override
+/// variables are those of `overrides`.
 pub fn add_modules<'src>(
     root: &Justfile<'src>,
     recipes: &Recipes<'src>,
@@ -291,7 +308,8 @@ pub fn add_modules<'src>(
     writeln!(text, "order{}", lines.order)?;
     writeln!(text, "recipes{}", lines.recipes)?;
     writeln!(text, "entrances{}", lines.entrances)?;
-    writeln!(text, "numbers {} of {}", lines.numbers.len(), lines.count)
+    writeln!(text, "numbers {} of {}", lines.numbers.len(), lines.count)?;
+    writeln!(text, "copied {} of {}", lines.copied, lines.count)
 }
 
 /// Adds the loaded files, and how many texts were read.

@@ -103,7 +103,8 @@ fn add_calls(text: &mut String, calls: &[u64]) -> Result<(), AllocError> {
     text.push('\n')
 }
 
-/// Adds what a run of words did, and what it answered.
+/// Adds what a run of words did, and what it answered. The host is refused memory after so many calls, where a number is
+/// given.
 pub fn add_run<'src>(
     root: &Justfile<'src>,
     recipes: &Recipes<'src>,
@@ -111,11 +112,15 @@ pub fn add_run<'src>(
     alloc: Global,
     config: &Config,
     words: &[&str],
+    answered: Option<usize>,
     text: &mut String,
 ) -> Result<(), AllocError>
     requires { IsClosed root.now recipes.now }
 {
-    let mut host = Recorder::new(alloc);
+    let mut host = match answered {
+        Some(answered) => Recorder::refused_after(alloc, answered),
+        None => Recorder::new(alloc),
+    };
     let ran = run(alloc, root, recipes, overrides, config, &mut host, words);
     add_executed(text, host.entries())?;
     match ran {

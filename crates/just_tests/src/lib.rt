@@ -1,5 +1,0 @@
-//! Tests of whole compilations and their runs.
-#![tactic(auto)]
-
-#[cfg(test)]
-mod compilations;
