@@ -38,13 +38,13 @@ impl Recorder {
         }
     }
 
-    /// A host that was asked nothing, and that is refused memory at one call, after it has answered so many.
-    pub fn refused_after(alloc: Global, answered: usize) -> Recorder
+    /// A host that was asked nothing, and that is refused memory at one call. Calls count from 1; at 0 none is refused.
+    pub fn memory_at(alloc: Global, call: usize) -> Recorder
         ensures { result ≡ [] }
     {
         Recorder {
             entries: Sequence::new(alloc),
-            left: Some(answered),
+            left: call.checked_sub(1),
         }
     }
 

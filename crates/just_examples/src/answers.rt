@@ -59,7 +59,7 @@ fn add_whole(
         alloc,
         &asked.config,
         words,
-        asked.answered,
+        asked.memory_at,
         text,
     )
 }

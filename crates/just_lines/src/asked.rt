@@ -13,7 +13,7 @@ enum Part {
     Root,
     Conflicts,
     Override,
-    Refused,
+    Memory,
     Word,
 }
 
@@ -37,8 +37,8 @@ pub struct Asked {
     pub root: String,
     /// Pairs of settings with a comma between the two, a blank after each: the second may not stand beside the first.
     pub conflicts: String,
-    /// How many calls the host answers before it is refused memory, where it is.
-    pub answered: Option<usize>,
+    /// The call at which the host is refused memory, where there is one. Calls count from 1.
+    pub memory_at: Option<usize>,
     /// The words, with their marks resolved.
     pub words: Vec<String>,
     next: Part,
@@ -51,7 +51,7 @@ impl Asked {
             config: Config::new(alloc),
             root: String::from_str(alloc, "/justfile")?,
             conflicts: String::new(alloc),
-            answered: None,
+            memory_at: None,
             words: Vec::new(alloc),
             next: Part::OptionOrWord,
         })
@@ -65,7 +65,7 @@ impl Asked {
             "--justfile" => self.next = Part::Root,
             "--conflicts" => self.next = Part::Conflicts,
             "--override" => self.next = Part::Override,
-            "--refused" => self.next = Part::Refused,
+            "--memory" => self.next = Part::Memory,
             _ => {
                 self.next = Part::Word;
                 self.words.push(unmarked(alloc, part)?)?;
@@ -94,7 +94,7 @@ impl Asked {
             Part::Root => self.root = unmarked(alloc, part)?,
             Part::Conflicts => write!(self.conflicts, "{part} ")?,
             Part::Override => self.take_override(alloc, part)?,
-            Part::Refused => self.answered = part.parse::<usize>().ok(),
+            Part::Memory => self.memory_at = part.parse::<usize>().ok(),
             Part::Word => {
                 self.words.push(unmarked(alloc, part)?)?;
                 return Ok(());
@@ -106,7 +106,7 @@ impl Asked {
 }
 
 /// What stands behind `$ just`: the options `--one`, `--home PATH`, `--justfile PATH`, `--conflicts A,B`,
-/// `--override PATH=VALUE` and `--refused COUNT`, then words.
+/// `--override PATH=VALUE` and `--memory CALL`, then words.
 pub fn read_asked(alloc: Global, line: &str) -> Result<Asked, AllocError> {
     let mut asked = Asked::new(alloc)?;
     for part in line.split_whitespace() {

@@ -103,8 +103,7 @@ fn add_calls(text: &mut String, calls: &[u64]) -> Result<(), AllocError> {
     text.push('\n')
 }
 
-/// Adds what a run of words did, and what it answered. The host is refused memory after so many calls, where a number is
-/// given.
+/// Adds what a run of words did, and what it answered. The host is refused memory at a call, where one is given.
 pub fn add_run<'src>(
     root: &Justfile<'src>,
     recipes: &Recipes<'src>,
@@ -112,13 +111,13 @@ pub fn add_run<'src>(
     alloc: Global,
     config: &Config,
     words: &[&str],
-    answered: Option<usize>,
+    memory_at: Option<usize>,
     text: &mut String,
 ) -> Result<(), AllocError>
     requires { IsClosed root.now recipes.now }
 {
-    let mut host = match answered {
-        Some(answered) => Recorder::refused_after(alloc, answered),
+    let mut host = match memory_at {
+        Some(call) => Recorder::memory_at(alloc, call),
         None => Recorder::new(alloc),
     };
     let ran = run(alloc, root, recipes, overrides, config, &mut host, words);
