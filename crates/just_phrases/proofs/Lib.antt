@@ -6,6 +6,7 @@ pub mod Fronts
 pub mod Heads
 pub mod Joined
 pub mod Listed
+pub mod Marks
 pub mod Names
 pub mod Programs
 pub mod Props

@@ -73,6 +73,24 @@ abbrev pub is_bracket_close : Kind → Bool
 is_bracket_close kind.BracketClose = true
 is_bracket_close _ = false
 
+-- whether the second kind is the first
+abbrev pub is_mark : Kind → Kind → Bool
+is_mark kind.Name = is_name
+is_mark kind.Quoted = is_quoted
+is_mark kind.Colon = is_colon
+is_mark kind.Assign = is_assign
+is_mark kind.Equals = is_equals
+is_mark kind.And = is_and
+is_mark kind.Question = is_question
+is_mark kind.Star = is_star
+is_mark kind.Plus = is_plus
+is_mark kind.At = is_at_sign
+is_mark kind.Comma = is_comma
+is_mark kind.ParenOpen = is_paren_open
+is_mark kind.ParenClose = is_paren_close
+is_mark kind.BracketOpen = is_bracket_open
+is_mark kind.BracketClose = is_bracket_close
+
 -- a lexeme of such a kind
 abbrev pub stands_there : (Kind → Bool) → Option Lexeme → Bool
 stands_there is None = false

@@ -3,14 +3,11 @@ ghost use Rattle.std.specs.Prelude.{◌≡◌, ◌<◌, ◌≤◌, ◌+◌, ◌^
 ghost use Rattle.just_phrases.specs.Attributes as spec;
 
 use crate::definitions::after_part;
-use crate::places::{
-    bracket_close_at, bracket_open_at, equals_at, literal_at, name_at, paren_close_at,
-    paren_open_at, quoted_at,
-};
+use crate::places::{literal_at, mark_at, name_at, quoted_at};
 use just_attributes::{ArgumentAttribute, ArgumentProperty, Attribute, NamedAttribute};
 use just_data::Text;
 use just_expressions::Expression;
-use just_lexer::lexer::Lexeme;
+use just_lexer::lexer::{Kind, Lexeme};
 use just_lexer::spelling::Spelling;
 use just_literals::StringLiteral;
 use just_names::Name;
@@ -56,14 +53,14 @@ pub struct Properties<'src> {
 fn ends_at<'src>(lexemes: &[Lexeme<'src>], at: usize) -> bool
     ensures { result ≡ spec.ends_at lexemes.now at }
 {
-    bracket_close_at(lexemes, at) && at + 1 == lexemes.len()
+    mark_at(lexemes, at, Kind::BracketClose) && at + 1 == lexemes.len()
 }
 
 // Whether an attribute with something in parentheses ends at a place, and the line with it.
 fn closes_at<'src>(lexemes: &[Lexeme<'src>], at: usize) -> bool
     ensures { result ≡ spec.closes_at lexemes.now at }
 {
-    paren_close_at(lexemes, at) && ends_at(lexemes, at + 1)
+    mark_at(lexemes, at, Kind::ParenClose) && ends_at(lexemes, at + 1)
 }
 
 // The attribute that this word is alone.
@@ -102,7 +99,7 @@ fn value_at<'src>(
     ensures is { IfOk result (λ found. found ≡ spec.value_at spelling.now at) }
     ensures fits { IfOk result (λ found. IfSome found (λ _. at + 2 < 2 ^ 64)) }
 {
-    if equals_at(spelling.as_slice(), at) {
+    if mark_at(spelling.as_slice(), at, Kind::Equals) {
         literal_at(spelling, at + 1)
     } else {
         Ok(None)
@@ -172,7 +169,7 @@ fn add_pattern<'src>(
     ensures is { IfOk result (λ end. spec.told end properties.new ≡ spec.with_pattern spelling.now key.entry at properties.old) }
     ensures further { IfOk result (λ end. IfSome end (λ e. at ≤ e)) }
 {
-    if properties.pattern.is_some() || !equals_at(spelling.as_slice(), at) {
+    if properties.pattern.is_some() || !mark_at(spelling.as_slice(), at, Kind::Equals) {
         return Ok(None);
     }
     let Some(Found { made, end }) = read_expression(spelling, at + 1)? else {
@@ -216,7 +213,7 @@ fn add_properties<'src>(
 {
     let lexemes = spelling.as_slice();
     let mut at = start;
-    while !paren_close_at(lexemes, at) {
+    while !mark_at(lexemes, at, Kind::ParenClose) {
         let Some(end) = add_property(spelling, at, properties)? else {
             return Ok(None);
         };
@@ -346,7 +343,7 @@ pub fn read_attribute<'src>(spelling: &Spelling<'src>) -> Result<Option<Mark<'sr
     ensures { IfOk result (λ found. found ≡ spec.attribute spelling.now) }
 {
     let lexemes = spelling.as_slice();
-    if !bracket_open_at(lexemes, 0) {
+    if !mark_at(lexemes, 0, Kind::BracketOpen) {
         return Ok(None);
     }
     let Some(name) = name_at(lexemes, 1) else {
@@ -356,7 +353,7 @@ pub fn read_attribute<'src>(spelling: &Spelling<'src>) -> Result<Option<Mark<'sr
         let attribute = bare(name.lexeme());
         return Ok(marked(name, attribute));
     }
-    if !paren_open_at(lexemes, 2) {
+    if !mark_at(lexemes, 2, Kind::ParenOpen) {
         return Ok(None);
     }
     match name.lexeme() {

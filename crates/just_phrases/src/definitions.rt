@@ -2,11 +2,11 @@
 ghost use Rattle.std.specs.Prelude.{◌≡◌, ◌<◌, ◌≤◌, length, IfOk, IfSome};
 ghost use Rattle.just_phrases.specs.Definitions as spec;
 
-use crate::places::{assign_at, comma_at, name_at, paren_close_at, paren_open_at, word_at};
+use crate::places::{mark_at, name_at, word_at};
 use just_attributes::{Set, Setting};
 use just_data::Sequence;
 use just_expressions::{Expression, Shape};
-use just_lexer::lexer::Lexeme;
+use just_lexer::lexer::{Kind, Lexeme};
 use just_lexer::spelling::Spelling;
 use just_literals::Interpreter;
 use just_names::{Name, Number};
@@ -44,10 +44,10 @@ pub fn after_part<'src>(lexemes: &[Lexeme<'src>], at: usize) -> Option<usize>
     ensures is { result ≡ spec.after_part lexemes.now at }
     ensures within { IfSome result (λ next. (at ≤ next) × (next ≤ length lexemes.now)) }
 {
-    if comma_at(lexemes, at) {
+    if mark_at(lexemes, at, Kind::Comma) {
         return Some(at + 1);
     }
-    if paren_close_at(lexemes, at) {
+    if mark_at(lexemes, at, Kind::ParenClose) {
         Some(at)
     } else {
         None
@@ -78,7 +78,7 @@ fn set_to<'src>(lexemes: &[Lexeme<'src>]) -> Option<bool>
     if lexemes.len() == 2 {
         return Some(true);
     }
-    if lexemes.len() != 4 || !assign_at(lexemes, 2) {
+    if lexemes.len() != 4 || !mark_at(lexemes, 2, Kind::Assign) {
         return None;
     }
     if word_at(lexemes, 3, "true") {
@@ -140,7 +140,7 @@ fn program<'src>(
 ) -> Result<Option<Interpreter<Expression<'src>>>, AllocError>
     ensures { IfOk result (λ found. found ≡ spec.program spelling.now) }
 {
-    if !assign_at(spelling.as_slice(), 2) {
+    if !mark_at(spelling.as_slice(), 2, Kind::Assign) {
         return Ok(None);
     }
     match whole_expression(spelling, 3)? {
@@ -214,7 +214,7 @@ fn assignment_at<'src>(
     let Some(name) = name_at(lexemes, at) else {
         return Ok(None);
     };
-    if !assign_at(lexemes, at + 1) {
+    if !mark_at(lexemes, at + 1, Kind::Assign) {
         return Ok(None);
     }
     let private = is_private(&name);
@@ -240,7 +240,7 @@ pub fn read_assignment<'src>(
     ensures { IfOk result (λ found. found ≡ spec.assignment spelling.now) }
 {
     let lexemes = spelling.as_slice();
-    if assign_at(lexemes, 1) {
+    if mark_at(lexemes, 1, Kind::Assign) {
         return assignment_at(spelling, 0, false, false);
     }
     if word_at(lexemes, 0, "export") {
@@ -273,7 +273,7 @@ fn read_parameters<'src>(
             None => return Ok(None),
         }
     }
-    if paren_close_at(lexemes, at) {
+    if mark_at(lexemes, at, Kind::ParenClose) {
         Ok(Some((made, at + 1)))
     } else {
         Ok(None)
@@ -291,13 +291,13 @@ pub fn read_function<'src>(
     let Some(name) = name_at(lexemes, 0) else {
         return Ok(None);
     };
-    if !paren_open_at(lexemes, 1) {
+    if !mark_at(lexemes, 1, Kind::ParenOpen) {
         return Ok(None);
     }
     let Some((parameters, end)) = read_parameters(spelling.alloc(), lexemes, 2)? else {
         return Ok(None);
     };
-    if !assign_at(lexemes, end) {
+    if !mark_at(lexemes, end, Kind::Assign) {
         return Ok(None);
     }
     match whole_expression(spelling, end + 1)? {

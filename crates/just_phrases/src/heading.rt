@@ -3,10 +3,10 @@ ghost use Rattle.std.specs.Prelude.{◌≡◌, ◌<◌, ◌≤◌, length, IfOk,
 ghost use Rattle.just_phrases.specs.Places.{GoesOn};
 ghost use Rattle.just_phrases.specs.Heading as spec;
 
-use crate::places::{and_at, at_sign_at, colon_at, equals_at, name_at, plus_at, star_at};
+use crate::places::{mark_at, name_at};
 use just_data::{Sequence, Text};
 use just_expressions::Expression;
-use just_lexer::lexer::Lexeme;
+use just_lexer::lexer::{Kind, Lexeme};
 use just_lexer::spelling::Spelling;
 use just_names::{Name, Number};
 use just_plain::expressions::{Found, read_operand};
@@ -96,7 +96,7 @@ fn named_parameter<'src>(
     let Some(name) = name_at(lexemes, at) else {
         return Ok(None);
     };
-    if !equals_at(lexemes, at + 1) {
+    if !mark_at(lexemes, at + 1, Kind::Equals) {
         let made = make_parameter(spelling.alloc(), name, kind, None)?;
         return Ok(Some((made, at + 1)));
     }
@@ -119,10 +119,10 @@ fn read_parameter<'src>(
     ensures further { IfOk result (λ found. IfSome found (λ f. GoesOn spelling.now at f.1)) }
 {
     let lexemes = spelling.as_slice();
-    if star_at(lexemes, at) {
+    if mark_at(lexemes, at, Kind::Star) {
         return named_parameter(spelling, at + 1, ParameterKind::Star);
     }
-    if plus_at(lexemes, at) {
+    if mark_at(lexemes, at, Kind::Plus) {
         return named_parameter(spelling, at + 1, ParameterKind::Plus);
     }
     named_parameter(spelling, at, ParameterKind::Singular)
@@ -141,7 +141,7 @@ fn read_parameters<'src>(
     let mut made = Sequence::new(spelling.alloc());
     let mut at = start;
     while at < lexemes.len() {
-        if colon_at(lexemes, at) {
+        if mark_at(lexemes, at, Kind::Colon) {
             return Ok(Some((made, at)));
         }
         match read_parameter(spelling, at)? {
@@ -190,7 +190,7 @@ fn read_dependencies<'src>(
     if end == lexemes.len() {
         return Ok(Some((priors, Sequence::new(alloc))));
     }
-    if !and_at(lexemes, end) {
+    if !mark_at(lexemes, end, Kind::And) {
         return Ok(None);
     }
     let (subsequents, end) = read_names(alloc, lexemes, end + 1)?;
@@ -233,7 +233,7 @@ pub fn read_heading<'src>(spelling: &Spelling<'src>) -> Result<Option<Heading<'s
     ensures { IfOk result (λ found. found ≡ spec.heading spelling.now) }
 {
     let lexemes = spelling.as_slice();
-    let quiet = at_sign_at(lexemes, 0);
+    let quiet = mark_at(lexemes, 0, Kind::At);
     let at = if quiet { 1 } else { 0 };
     match name_at(lexemes, at) {
         None => Ok(None),

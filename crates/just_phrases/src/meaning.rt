@@ -6,10 +6,10 @@ ghost use Rattle.just_phrases.specs.Meaning as spec;
 use crate::attributes::{Mark, read_attribute};
 use crate::definitions::{read_assignment, read_function, read_set, read_unexport};
 use crate::heading::{Heading, read_heading};
-use crate::places::{assign_at, literal_at, name_at, question_at, word_at};
+use crate::places::{literal_at, mark_at, name_at, word_at};
 use just_attributes::Set;
 use just_data::Sequence;
-use just_lexer::lexer::{Lexeme, is_blank, lex};
+use just_lexer::lexer::{Kind, Lexeme, is_blank, lex};
 use just_lexer::lines::TextLine;
 use just_lexer::spelling::Spelling;
 use just_literals::{ListUse, StringLiteral};
@@ -79,7 +79,7 @@ pub struct Said<'src> {
 fn is_optional<'src>(lexemes: &[Lexeme<'src>]) -> bool
     ensures { result ≡ spec.is_optional lexemes.now }
 {
-    if !question_at(lexemes, 1) {
+    if !mark_at(lexemes, 1, Kind::Question) {
         return false;
     }
     let (word, question) = (&lexemes[0].token, &lexemes[1].token);
@@ -210,7 +210,7 @@ fn read_lexemes<'src>(spelling: &Spelling<'src>) -> Result<Meaning<'src>, AllocE
 fn after_bracket<'src>(lexemes: &[Lexeme<'src>]) -> usize
     ensures { result ≡ spec.after_bracket lexemes.now }
 {
-    if word_at(lexemes, 0, "set") && assign_at(lexemes, 2) {
+    if word_at(lexemes, 0, "set") && mark_at(lexemes, 2, Kind::Assign) {
         4
     } else {
         1
