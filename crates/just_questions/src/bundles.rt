@@ -1,6 +1,6 @@
 //! Files of a bundle, the search among them, and a table.
 use crate::items::{parse, root_source};
-use just_bench::PlainSyntax;
+use just_syntax::PlainSyntax;
 use just_bench::bundle::read_sources;
 use just_data::{BorrowedText, Text};
 use just_loader::{Sources, find_module_file};

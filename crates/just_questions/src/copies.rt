@@ -1,6 +1,7 @@
 //! Copies: what was read, and what is asked of a host, is equal to its copy.
 use crate::items::{parse, root_source};
-use just_bench::{PlainSyntax, Recorder};
+use just_bench::Recorder;
+use just_syntax::PlainSyntax;
 use just_data::{Exact, Sequence, Text};
 use just_lines::faults::add_fault;
 use just_parts::layers::{Error, Groups, Host};

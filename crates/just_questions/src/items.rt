@@ -1,5 +1,5 @@
 //! What a text says, item by item.
-use just_bench::PlainSyntax;
+use just_syntax::PlainSyntax;
 use just_data::Text;
 use just_lines::faults::add_fault;
 use just_lines::lists::before;

@@ -1,7 +1,8 @@
 //! The lines that tell what words mean, and what a run of them did.
 ghost use Rattle.just_invoke.specs.Closed.{IsClosed};
 
-use just_bench::{PlainEvaluation, PlainSyntax, Recorder, StopWriter};
+use just_bench::{PlainEvaluation, Recorder, StopWriter};
+use just_syntax::PlainSyntax;
 use just_data::Text;
 use just_invoke::{Invocation, InvocationParser, Justfile, Recipes, Report};
 use just_lines::faults::add_fault;

@@ -1,5 +1,5 @@
 //! The lines that tell what a variable refers to, and which variables it needs.
-use just_bench::PlainSyntax;
+use just_syntax::PlainSyntax;
 use just_data::Text;
 use just_invoke::Justfile;
 use just_parts::layers::{Assignment, Number};

@@ -1,0 +1,3 @@
+pub mod Distinct
+pub mod Kept
+pub mod Numbers

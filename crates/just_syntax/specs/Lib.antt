@@ -1,0 +1,5 @@
+pub mod Answers
+pub mod Conflicts
+pub mod Numbering
+pub mod Refusal
+pub mod Sigils
