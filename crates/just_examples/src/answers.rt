@@ -5,15 +5,15 @@ ghost use Rattle.just_invoke.specs.Closed.{IsClosed};
 
 use just_analyzer::layers::{Config, Error};
 use just_analyzer::{Compilation, Compiler, Modulepath, Sources, is_clean};
-use just_bench::bundle::read_sources;
 use just_bench::PlainEvaluation;
-use just_syntax::PlainSyntax;
+use just_bench::bundle::read_sources;
 use just_lines::asked::{Asked, read_asked};
 use just_lines::faults::add_fault;
 use just_lines::written::unmarked;
 use just_questions::bundles::{answer_file, answer_find, answer_table};
 use just_questions::copies::answer_copy;
 use just_questions::items::{answer_conflicts, answer_parse, answer_read, read_pairs};
+use just_syntax::PlainSyntax;
 use just_tellings::modules::{add_loaded, add_modules};
 use just_tellings::runs::{add_run, add_split};
 use just_tellings::variables::add_variable;

@@ -7,8 +7,8 @@ use just_analyzer::layers::{Config, Error};
 use just_analyzer::{Compilation, Compiler, Sources, is_clean};
 use just_bench::bundle::{read_sources, read_text};
 use just_bench::{PlainEvaluation, Recorder, StopWriter};
-use just_syntax::PlainSyntax;
 use just_output::{Fault, tell, tell_usage, write_entries};
+use just_syntax::PlainSyntax;
 use std::alloc::Global;
 use std::io::{Read, Write};
 

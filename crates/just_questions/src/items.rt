@@ -1,5 +1,4 @@
 //! What a text says, item by item.
-use just_syntax::PlainSyntax;
 use just_data::Text;
 use just_lines::faults::add_fault;
 use just_lines::lists::before;
@@ -7,6 +6,7 @@ use just_lines::readings::add_readings;
 use just_parts::Source;
 use just_parts::layers::{Ast, Error, Item, Keyword, LoadError, Numerator, StringLiteral, Syntax};
 use just_paths::is_clean;
+use just_syntax::PlainSyntax;
 use std::alloc::{AllocError, Global};
 
 // Adds the text of a path in brackets, its token, and how many bytes stand before it.

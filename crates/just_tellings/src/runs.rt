@@ -2,12 +2,12 @@
 ghost use Rattle.just_invoke.specs.Closed.{IsClosed};
 
 use just_bench::{PlainEvaluation, Recorder, StopWriter};
-use just_syntax::PlainSyntax;
 use just_data::Text;
 use just_invoke::{Invocation, InvocationParser, Justfile, Recipes, Report};
 use just_lines::faults::add_fault;
 use just_lines::lists::{add_group, add_list, before};
 use just_parts::layers::{Config, Entry, Error, Groups, Number};
+use just_syntax::PlainSyntax;
 use std::alloc::{AllocError, Global};
 use std::collections::HashMap;
 

@@ -1,9 +1,9 @@
 //! The lines that tell what a variable refers to, and which variables it needs.
-use just_syntax::PlainSyntax;
 use just_data::Text;
 use just_invoke::Justfile;
 use just_parts::layers::{Assignment, Number};
 use just_references::{Reference, References};
+use just_syntax::PlainSyntax;
 use std::alloc::{AllocError, Global};
 use std::collections::HashMap;
 
