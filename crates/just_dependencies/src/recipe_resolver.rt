@@ -1,4 +1,4 @@
-ghost use Rattle.std.specs.Prelude.{◌≡◌, ◌<◌, ℕ, Bool, [], length, get_or, slice_index, map, IfOk, IfErr};
+ghost use Rattle.std.specs.Prelude.{◌≡◌, ◌<◌, Bool, [], length, get_or, map, IfOk, IfErr};
 ghost use Rattle.std.specs.Str.{bytes_eq};
 ghost use Rattle.std.specs.HashMap.{get};
 ghost use Rattle.std.specs.List.{All, Contains};
@@ -16,6 +16,7 @@ ghost use Rattle.just_joining.specs.Rules.{Dependencies};
 
 use crate::unresolved_recipe::resolve;
 use just_data::{BorrowedText, Sequence};
+use just_graph::{all_nodes, order};
 use just_joining::definitions::{Definitions, recipe_at};
 use just_parts::layers::{CompileError, CompileErrorKind, Error, Namepath, Settings, Token};
 use just_paths::Modulepath;
@@ -115,18 +116,6 @@ fn rows<'a, 'src>(
     Ok(rows)
 }
 
-// The numbers below a count, in order.
-fn places_below(alloc: Global, count: usize) -> Result<Vec<usize>, AllocError>
-    ensures count { IfOk result (λ places. length places.items ≡ count) }
-    ensures places { IfOk result (λ places. (k : ℕ) → k < count → slice_index places.items k ≡ k) }
-{
-    let mut places = Vec::new(alloc);
-    for place in 0..count {
-        places.push(place)?;
-    }
-    Ok(places)
-}
-
 // The names of the recipes at places.
 fn names_at<'a, 'src>(
     alloc: Global,
@@ -185,8 +174,8 @@ fn ordered<'a, 'src>(
     ensures ordered { IfOk result (λ order. IsOrderOf (recipes_in definitions.now) order.items) }
     ensures named { (lists : Bool) → IfErr result (Reports (Dependencies lists (recipes_in definitions.now))) }
 {
-    let roots = places_below(alloc, definitions.recipes.len())?;
-    match just_graph::order(alloc, rows, roots.as_slice())? {
+    let roots = all_nodes(alloc, definitions.recipes.len())?;
+    match order(alloc, rows, roots.as_slice())? {
         Ok(order) => Ok(order),
         Err(circle) => {
             let closing = circle[circle.len() - 2];

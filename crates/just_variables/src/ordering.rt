@@ -1,6 +1,6 @@
 //! The order in which variables are evaluated.
 
-ghost use Rattle.std.specs.Prelude.{◌≡◌, ◌<◌, ℕ, length, map, slice_index, IfErr, IfOk};
+ghost use Rattle.std.specs.Prelude.{◌≡◌, ◌<◌, length, map, IfErr, IfOk};
 ghost use Rattle.std.specs.List.{All};
 ghost use Rattle.just_errors.specs.Causes.{Keeps, Reports};
 ghost use Rattle.just_index.specs.Index.{name_at};
@@ -13,21 +13,10 @@ ghost use Rattle.just_variables.specs.Steps.{AreRowsOf, IsCircleAt, IsOrderAt, n
 use crate::checking::{Known, check_names};
 use crate::nodes::{Nodes, keys_in, nodes_of};
 use just_data::{BorrowedText, Sequence};
+use just_graph::all_nodes;
 use just_parts::layers::{CompileError, CompileErrorKind, Error, Syntax};
 use just_through::order_through;
 use std::alloc::{AllocError, Global};
-
-// The numbers below a count, in order.
-fn places_below(alloc: Global, count: usize) -> Result<Vec<usize>, AllocError>
-    ensures count { IfOk result (λ places. length places.items ≡ count) }
-    ensures places { IfOk result (λ places. (k : ℕ) → k < count → slice_index places.items k ≡ k) }
-{
-    let mut places = Vec::new(alloc);
-    for place in 0..count {
-        places.push(place)?;
-    }
-    Ok(places)
-}
 
 // The names at places.
 fn names_at<'src>(
@@ -85,7 +74,7 @@ fn ordered<'a, 'src, S: Syntax>(
     ensures ordered { IfOk result (λ order. IsOrderAt (known_in (S.answers known.now.syntax.now) known.now) order.items) }
     ensures named { IfErr result (Reports (Expressions (known_in (S.answers known.now.syntax.now) known.now))) }
 {
-    let roots = places_below(alloc, known.assignments.len())?;
+    let roots = all_nodes(alloc, known.assignments.len())?;
     match order_through(
         alloc,
         nodes.rows.as_slice(),

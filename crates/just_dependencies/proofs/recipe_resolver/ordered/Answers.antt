@@ -27,7 +27,7 @@ order-requires-clause-roots c = λ k d h.
     let same : length c.as_slice.result.now ≡ c.len.result = ap length c.as_slice.ensures.value ∙ c.in_ok-roots.ensures.count in
     let count : c.len.result ≡ length c.args.definitions.now.recipes.items = grind (arith, common_steps) in
     let at : get_or c.as_slice.result.now k d ≡ k =
-    get_or_default c.as_slice.result.now k d 0 h ∙ (ap (λ xs. slice_index xs k) c.as_slice.ensures.value ∙ c.in_ok-roots.ensures.places k (omega arith)) in
+    get_or_default c.as_slice.result.now k d 0 h ∙ (ap (λ xs. slice_index xs k) c.as_slice.ensures.value ∙ c.in_ok-roots.ensures.each k (omega arith)) in
     omega (arith, c.requires.rows.count)
 
 pub returns-in-Ok-clause-kept : goal.returns-in-Ok-clause-kept
@@ -37,7 +37,7 @@ returns-in-Ok-clause-kept c = λ lists _ h.
     let rows = subst (λ n. EachRow (IsRow (recipes_in c.args.definitions.now)) n c.args.rows.now) (sym long) c.requires.rows in
     let o : IsOrder (HasEdge c.args.rows.now) (length c.args.rows.now) c.as_slice.result.now c.in-Ok.order.items = rw c.in-Ok.is at c.in_ok-order.ensures.ordered in
     dependencies_kept (recipes_in c.args.definitions.now) c.requires.different c.args.rows.now rows c.as_slice.result.now c.in-Ok.order.items
-    (λ i l. ap (λ xs. slice_index xs i) c.as_slice.ensures.value ∙ c.in_ok-roots.ensures.places i (omega arith))
+    (λ i l. ap (λ xs. slice_index xs i) c.as_slice.ensures.value ∙ c.in_ok-roots.ensures.each i (omega arith))
     (ap length c.as_slice.ensures.value ∙ (c.in_ok-roots.ensures.count ∙ (count ∙ sym long)))
     o h
 
@@ -48,7 +48,7 @@ returns-in-Ok-clause-ordered c =
     let rows = subst (λ n. EachRow (IsRow (recipes_in c.args.definitions.now)) n c.args.rows.now) (sym long) c.requires.rows in
     let o : IsOrder (HasEdge c.args.rows.now) (length c.args.rows.now) c.as_slice.result.now c.in-Ok.order.items = rw c.in-Ok.is at c.in_ok-order.ensures.ordered in
     is_order_of (recipes_in c.args.definitions.now) c.requires.different c.args.rows.now rows c.as_slice.result.now c.in-Ok.order.items
-    (λ i l. ap (λ xs. slice_index xs i) c.as_slice.ensures.value ∙ c.in_ok-roots.ensures.places i (omega arith))
+    (λ i l. ap (λ xs. slice_index xs i) c.as_slice.ensures.value ∙ c.in_ok-roots.ensures.each i (omega arith))
     (ap length c.as_slice.ensures.value ∙ (c.in_ok-roots.ensures.count ∙ (count ∙ sym long)))
     o
 

@@ -24,7 +24,7 @@ order_through-requires-clause-roots g c =
     let long = ap length c.as_slice.ensures.value in
     let many = c.len.ensures.len in
     subst (All (λ a. a < length c.as_slice.result.now)) (sym c.as_slice-3.ensures.value)
-    (roots_inside c.in_ok-roots.roots.items c.len.result (length c.as_slice.result.now) c.in_ok-roots.ensures.count c.in_ok-roots.ensures.places (omega (arith, within, long, many)))
+    (roots_inside c.in_ok-roots.roots.items c.len.result (length c.as_slice.result.now) c.in_ok-roots.ensures.count c.in_ok-roots.ensures.each (omega (arith, within, long, many)))
 
 pub returns-in-Ok-clause-kept : goal.returns-in-Ok-clause-kept
 returns-in-Ok-clause-kept g c =
@@ -32,7 +32,7 @@ returns-in-Ok-clause-kept g c =
     let many = c.len.ensures.len in
     let o : IsOrderThrough (HasEdge c.as_slice.result.now) c.as_slice-2.result.now c.as_slice-3.result.now c.in-Ok.order.items = rw c.in-Ok.is at c.in_ok-order.ensures.ordered in
     expressions_kept m (different m.assignments c.requires.variables) (different m.functions c.requires.functions) c.args.nodes.now.rows.items c.requires.rows c.as_slice-3.result.now c.in-Ok.order.items
-    (λ a h. subst (λ xs. Contains xs a) (sym c.as_slice-3.ensures.value) (roots_all c.in_ok-roots.roots.items c.len.result c.in_ok-roots.ensures.count c.in_ok-roots.ensures.places a (omega (arith, many))))
+    (λ a h. subst (λ xs. Contains xs a) (sym c.as_slice-3.ensures.value) (roots_all c.in_ok-roots.roots.items c.len.result c.in_ok-roots.ensures.count c.in_ok-roots.ensures.each a (omega (arith, many))))
     (order_in m _ _ _ _ _ c.as_slice.ensures.value (c.as_slice-2.ensures.value ∙ c.requires.solid) o)
     c.requires.values c.requires.bodies
 
@@ -42,7 +42,7 @@ returns-in-Ok-clause-ordered g c =
     let many = c.len.ensures.len in
     let o : IsOrderThrough (HasEdge c.as_slice.result.now) c.as_slice-2.result.now c.as_slice-3.result.now c.in-Ok.order.items = rw c.in-Ok.is at c.in_ok-order.ensures.ordered in
     order_at m (different m.assignments c.requires.variables) (different m.functions c.requires.functions) c.args.nodes.now.rows.items c.requires.rows c.as_slice-3.result.now c.in-Ok.order.items
-    (λ a h. subst (λ xs. Contains xs a) (sym c.as_slice-3.ensures.value) (roots_all c.in_ok-roots.roots.items c.len.result c.in_ok-roots.ensures.count c.in_ok-roots.ensures.places a (omega (arith, many))))
+    (λ a h. subst (λ xs. Contains xs a) (sym c.as_slice-3.ensures.value) (roots_all c.in_ok-roots.roots.items c.len.result c.in_ok-roots.ensures.count c.in_ok-roots.ensures.each a (omega (arith, many))))
     (order_in m _ _ _ _ _ c.as_slice.ensures.value (c.as_slice-2.ensures.value ∙ c.requires.solid) o)
 
 pub circle_error-requires : goal.circle_error-requires
