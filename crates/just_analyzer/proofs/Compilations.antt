@@ -4,10 +4,10 @@ use Rattle.std.specs.Option.{option_or}
 use Rattle.just_parts.specs.Asts.{AstKey}
 use Rattle.just_errors.specs.Causes.{Keeps, Reports}
 use Rattle.just_names.specs.Texts.{Text}
-use Rattle.just_parts.specs.declared.dependency.Dependency.{Dependency}
+use Rattle.just_recipe.specs.declared.dependency.Dependency.{Dependency}
 use Rattle.just_parts.specs.Items.{Ast}
 use Rattle.just_errors.specs.declared.error.Error.{Error}
-use Rattle.just_parts.specs.declared.recipe.Recipe.{Recipe}
+use Rattle.just_recipe.specs.declared.recipe.Recipe.{Recipe}
 use Rattle.just_invoke.specs.declared.justfile.Justfile.{Justfile}
 use Rattle.just_parts.specs.Evaluator.{Evaluator}
 use Rattle.just_names.specs.declared.number.Number.{Number}

@@ -11,12 +11,12 @@ use Rattle.just_graph.proofs.Members.{In, contained, is_in}
 use Rattle.just_parts.specs.Asts.{AstKey, same_ast_key}
 use Rattle.just_parts.specs.Bare.{bare_item}
 use Rattle.just_paths.specs.Clean.{folder_of}
-use Rattle.just_parts.specs.Edge.{absolute_of}
+use Rattle.just_items.specs.Edge.{absolute_of}
 use Rattle.just_parts.specs.Located.{located_item, with_depth}
 use Rattle.just_names.specs.Texts.{Text}
 use Rattle.just_parts.specs.Syntax.{numbers}
 use Rattle.just_parts.specs.Items.{Ast, Item}
-use Rattle.just_parts.specs.declared.layers.ast.Item.TheVariants as item
+use Rattle.just_items.specs.declared.item.Item.TheVariants as item
 use Rattle.just_paths.specs.declared.modulepath.Modulepath.{Modulepath}
 use Rattle.just_parts.proofs.AstKeys.{key_same}
 use Rattle.just_parts.proofs.Edges.{bare_twice}

@@ -16,7 +16,7 @@ use Rattle.just_notes.specs.declared.labels.Label.{Label}
 use Rattle.just_parts.specs.Bare.{bare_item}
 use Rattle.just_parts.specs.Evaluator.{Values}
 use Rattle.just_parts.specs.Items.{Ast, Item}
-use Rattle.just_parts.specs.declared.layers.ast.Item.TheVariants as item
+use Rattle.just_items.specs.declared.item.Item.TheVariants as item
 use Rattle.just_expressions.specs.declared.expression.Expression.{Expression}
 
 abbrev expressions_of : Label → List Expression

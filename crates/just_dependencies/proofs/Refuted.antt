@@ -7,8 +7,8 @@ use Rattle.just_graph.specs.Graph.{HasEdge, targets}
 use Rattle.just_graph.specs.Building.{EachRow}
 use Rattle.just_graph.specs.Steps.{IsOrder, order_by}
 use Rattle.just_names.specs.Name.{texts_of_path}
-use Rattle.just_parts.specs.declared.layers.ast.UnresolvedDependency.{UnresolvedDependency}
-use Rattle.just_parts.specs.declared.recipe.Recipe.{Recipe}
+use Rattle.just_recipe.specs.declared.dependency.UnresolvedDependency.{UnresolvedDependency}
+use Rattle.just_recipe.specs.declared.recipe.Recipe.{Recipe}
 use Rattle.just_index.specs.Index.{AreDifferent}
 use Rattle.just_joining.specs.Recipes.{name_of, least_of, recipe_at, names_of, Depends}
 use Rattle.just_joining.specs.Rows.{IsRow, IsOrderOf}

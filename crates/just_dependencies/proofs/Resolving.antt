@@ -6,14 +6,14 @@ use Rattle.std.proofs.lemmas.List.{get_or_default, get_or-map, length-map, map-a
 use Rattle.std.proofs.lemmas.Option.{slice_get_within, get_or_from_slice_get}
 use Rattle.std.proofs.lemmas.List.Elements.{Contains-get_or, All-push}
 use Rattle.just_graph.specs.Steps.{in_take, IsOnce}
-use Rattle.just_parts.specs.declared.dependency.Dependency.{Dependency}
+use Rattle.just_recipe.specs.declared.dependency.Dependency.{Dependency}
 use Rattle.just_names.specs.declared.name.Namepath.{Namepath}
 use Rattle.just_names.specs.declared.number.Number.{Number}
-use Rattle.just_parts.specs.declared.layers.ast.UnresolvedDependency.{UnresolvedDependency}
+use Rattle.just_recipe.specs.declared.dependency.UnresolvedDependency.{UnresolvedDependency}
 use Rattle.just_paths.specs.declared.modulepath.Modulepath.{Modulepath}
-use Rattle.just_parts.specs.declared.recipe.Recipe.{Recipe}
-use Rattle.just_parts.specs.Recipes.{numbers, needs, IsNew}
-use Rattle.just_parts.specs.Recipes.{IsResolved}
+use Rattle.just_recipe.specs.declared.recipe.Recipe.{Recipe}
+use Rattle.just_recipe.specs.Recipes.{numbers, needs, IsNew}
+use Rattle.just_recipe.specs.Recipes.{IsResolved}
 use Rattle.just_index.specs.Index.{AreDifferent}
 use Rattle.just_joining.specs.Recipes.{names_of, Depends}
 use Rattle.just_joining.specs.Rows.{IsRow, IsOrderOf}

@@ -2,7 +2,7 @@ ghost use Rattle.std.specs.Prelude.{◌≡◌, ◌<◌, IfOk, length};
 ghost use Rattle.std.specs.List.{All};
 ghost use Rattle.just_joining.specs.Definitions.{recipes_in};
 ghost use Rattle.just_joining.specs.Resolved.{linked, Resolves};
-ghost use Rattle.just_parts.specs.declared.layers.ast.UnresolvedDependency.{UnresolvedDependency};
+ghost use Rattle.just_recipe.specs.declared.dependency.UnresolvedDependency.{UnresolvedDependency};
 
 use just_data::Sequence;
 use just_joining::definitions::{Definitions, recipe_at};

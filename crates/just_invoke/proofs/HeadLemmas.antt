@@ -7,11 +7,11 @@ use Rattle.std.specs.Option.{option_copied}
 use Rattle.std.specs.Borrow.{Bor}
 use Rattle.std.proofs.lemmas.List.{take_more, drop_more, map-append}
 use Rattle.just_names.specs.Texts.{Text, texts}
-use Rattle.just_parts.specs.declared.dependency.Dependency.{Dependency}
-use Rattle.just_parts.specs.declared.recipe.Recipe.{Recipe}
+use Rattle.just_recipe.specs.declared.dependency.Dependency.{Dependency}
+use Rattle.just_recipe.specs.declared.recipe.Recipe.{Recipe}
 use Rattle.just_invoke.specs.declared.justfile.Justfile.{Justfile}
 use Rattle.just_invoke.specs.Closed.{IsHeld}
-use Rattle.just_parts.specs.Recipes.{find_number}
+use Rattle.just_recipe.specs.Recipes.{find_number}
 use Rattle.just_invoke.specs.Cause.{Cause}
 use Rattle.just_invoke.specs.Head.{Held, WordsLead, WordsMislead, IsHead, has_colon, is_empty, PathLeads, NoPath, NoHead}
 

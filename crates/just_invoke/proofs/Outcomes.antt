@@ -4,7 +4,7 @@ use Rattle.std.specs.Prelude.{IsErrAnd, Result}
 use Rattle.std.proofs.lemmas.Bool.{true≢false}
 use Rattle.just_parts.proofs.StepLemmas.{after-none}
 use Rattle.just_parts.specs.Steps.{Kept}
-use Rattle.just_parts.specs.declared.dependency.Dependency.{Dependency}
+use Rattle.just_recipe.specs.declared.dependency.Dependency.{Dependency}
 use Rattle.just_parts.specs.declared.layers.config.Config.{Config}
 use Rattle.just_errors.specs.declared.error.Error.{Error}
 use Rattle.just_errors.specs.declared.error.Error.TheVariants.{Load, Compile, Invocation, Run, Exhausted, Memory}
@@ -12,7 +12,7 @@ use Rattle.just_errors.specs.declared.error.RunError.TheVariants.{ExcessInvocati
 use Rattle.just_errors.specs.declared.halt.Halt.{Halt}
 use Rattle.just_errors.specs.declared.halt.Halt.TheVariants as halt
 use Rattle.just_parts.specs.declared.layers.host.Entry.{Entry}
-use Rattle.just_parts.specs.declared.recipe.Recipe.{Recipe}
+use Rattle.just_recipe.specs.declared.recipe.Recipe.{Recipe}
 use Rattle.just_parts.specs.Evaluation.{Inquiry}
 use Rattle.just_errors.specs.Halts.{come_to}
 use Rattle.just_parts.specs.Host.{Answer}

@@ -5,8 +5,8 @@ use Rattle.std.proofs.lemmas.List.{append_assoc, take-append-drop, drop-drop, ap
 use Rattle.std.specs.Borrow.{Bor}
 use Rattle.just_names.specs.Texts.{Text, texts}
 use Rattle.just_records.specs.declared.parameter.Parameter.{Parameter}
-use Rattle.just_parts.specs.declared.dependency.Dependency.{Dependency}
-use Rattle.just_parts.specs.declared.recipe.Recipe.{Recipe}
+use Rattle.just_recipe.specs.declared.dependency.Dependency.{Dependency}
+use Rattle.just_recipe.specs.declared.recipe.Recipe.{Recipe}
 use Rattle.just_invoke.specs.declared.justfile.Justfile.{Justfile}
 use Rattle.just_invoke.specs.Cause.{Cause, not_yet}
 use Rattle.just_invoke.specs.Head.{Words, Held, name_of, IsHead}

@@ -4,8 +4,8 @@ use Rattle.std.specs.Bool.{MatchBool}
 use Rattle.std.proofs.lemmas.Bool.{cases_lt}
 use Rattle.just_names.specs.Texts.{Text}
 use Rattle.just_records.specs.declared.parameter.Parameter.{Parameter}
-use Rattle.just_parts.specs.declared.dependency.Dependency.{Dependency}
-use Rattle.just_parts.specs.declared.recipe.Recipe.{Recipe}
+use Rattle.just_recipe.specs.declared.dependency.Dependency.{Dependency}
+use Rattle.just_recipe.specs.declared.recipe.Recipe.{Recipe}
 use Rattle.just_invoke.specs.declared.justfile.Justfile.{Justfile}
 use Rattle.just_invoke.specs.Closed.{recipe_named}
 use Rattle.just_invoke.specs.Head.{Words, Held, WordsLead, IsHead, has_colon, is_empty, IsPathWord, PathLeads}

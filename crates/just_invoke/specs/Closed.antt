@@ -3,11 +3,11 @@ use Rattle.std.specs.Prelude.{◌≡◌, ℕ, List, Option, Some, None, IsSome}
 use Rattle.std.specs.List.{All, Contains}
 use Rattle.just_table.specs.Entries.{find}
 use Rattle.just_names.specs.declared.number.Number.{Number}
-use Rattle.just_parts.specs.declared.dependency.Dependency.{Dependency}
-use Rattle.just_parts.specs.declared.recipe.Recipe.{Recipe}
+use Rattle.just_recipe.specs.declared.dependency.Dependency.{Dependency}
+use Rattle.just_recipe.specs.declared.recipe.Recipe.{Recipe}
 use Rattle.just_invoke.specs.declared.justfile.Justfile.{Justfile, out-Justfile}
 use Rattle.just_invoke.specs.declared.justfile.RecipeKey.{RecipeKey}
-use Rattle.just_parts.specs.Recipes.{find_number, IsResolved}
+use Rattle.just_recipe.specs.Recipes.{find_number, IsResolved}
 
 -- the recipe is held, under its number
 abbrev pub IsHeld : List (Recipe Dependency) → Recipe Dependency → Type 0

@@ -6,8 +6,8 @@ use Rattle.just_names.specs.Token.{lexeme}
 use Rattle.just_records.specs.Parameter.{least_arguments}
 use Rattle.just_names.specs.Texts.{Text, text_of}
 use Rattle.just_paths.specs.Modulepath.{IsWordPath, IsArgumentPath}
-use Rattle.just_parts.specs.declared.dependency.Dependency.{Dependency}
-use Rattle.just_parts.specs.declared.recipe.Recipe.{Recipe}
+use Rattle.just_recipe.specs.declared.dependency.Dependency.{Dependency}
+use Rattle.just_recipe.specs.declared.recipe.Recipe.{Recipe}
 use Rattle.just_invoke.specs.declared.justfile.Justfile.{Justfile, out-Justfile}
 use Rattle.just_invoke.specs.declared.justfile.RecipeKey.{RecipeKey}
 use Rattle.just_invoke.specs.Closed.{recipe_named, default_recipe}

@@ -1,8 +1,8 @@
 -- Recipes for which no words are read yet.
 use Rattle.std.specs.Prelude.{Bool, true, false, ◌||◌}
 use Rattle.std.specs.List.{list_any}
-use Rattle.just_parts.specs.declared.dependency.Dependency.{Dependency}
-use Rattle.just_parts.specs.declared.recipe.Recipe.{Recipe}
+use Rattle.just_recipe.specs.declared.dependency.Dependency.{Dependency}
+use Rattle.just_recipe.specs.declared.recipe.Recipe.{Recipe}
 use Rattle.just_records.specs.Parameter.{is_option}
 use Rattle.just_attributes.specs.declared.attribute.Attribute.{Attribute}
 use Rattle.just_attributes.specs.declared.attribute.Attribute.TheVariants as attribute

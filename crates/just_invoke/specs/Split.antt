@@ -1,8 +1,8 @@
 -- Words as invocations, and why words are none.
 use Rattle.std.specs.Prelude.{◌≡◌, ◌≢◌, ◌⊎◌, ℕ, List, [], ◌∷◌, ◌++◌, length, Option, Some, None, if◌then◌else◌}
 use Rattle.just_records.specs.Parameter.{least_arguments, most_words}
-use Rattle.just_parts.specs.declared.dependency.Dependency.{Dependency}
-use Rattle.just_parts.specs.declared.recipe.Recipe.{Recipe}
+use Rattle.just_recipe.specs.declared.dependency.Dependency.{Dependency}
+use Rattle.just_recipe.specs.declared.recipe.Recipe.{Recipe}
 use Rattle.just_invoke.specs.declared.invocation.Invocation.{Invocation}
 use Rattle.just_invoke.specs.declared.justfile.Justfile.{Justfile}
 use Rattle.just_invoke.specs.Cause.{Cause, count_mismatch, not_yet}

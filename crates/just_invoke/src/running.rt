@@ -1,6 +1,6 @@
 ghost use Rattle.std.specs.List.{All};
 ghost use Rattle.just_parts.specs.Host.{KeepsPromises};
-ghost use Rattle.just_parts.specs.Recipes.{IsResolved};
+ghost use Rattle.just_recipe.specs.Recipes.{IsResolved};
 ghost use Rattle.just_parts.specs.Steps.{kept_by};
 ghost use Rattle.just_invoke.specs.declared.invocation.Invocation.{Invocation};
 ghost use Rattle.just_invoke.specs.Closed.{IsHeld};

@@ -12,8 +12,8 @@ use Rattle.just_graph.specs.Steps.{IsOnce}
 use Rattle.just_graph.proofs.Leveling.{Once, is_once}
 use Rattle.just_graph.proofs.Members.{In, contained, from_map, in_map, is_in}
 use Rattle.just_names.specs.Texts.{Text}
-use Rattle.just_parts.specs.declared.layers.ast.UnresolvedDependency.{UnresolvedDependency}
-use Rattle.just_parts.specs.declared.recipe.Recipe.{Recipe}
+use Rattle.just_recipe.specs.declared.dependency.UnresolvedDependency.{UnresolvedDependency}
+use Rattle.just_recipe.specs.declared.recipe.Recipe.{Recipe}
 use Rattle.just_index.specs.Index.{AreDifferent, name_at}
 use Rattle.just_joining.specs.Kept.{claim_at, claim_of_recipe, gives_way, kept, kept_recipes, left_of, lies_above, lies_beside, no_claim, stays}
 use Rattle.just_joining.specs.Recipes.{names_of}

@@ -12,8 +12,8 @@ use Rattle.just_graph.proofs.Leveling.{Once, once_append, once_at_last, is_once}
 use Rattle.just_graph.proofs.Members.{In, contained, in_cases, is_in}
 use Rattle.just_parts.specs.Asts.{AstKey, same_ast_key}
 use Rattle.just_parts.specs.Items.{Ast, Item}
-use Rattle.just_parts.specs.declared.layers.ast.UnresolvedDependency.{UnresolvedDependency}
-use Rattle.just_parts.specs.declared.recipe.Recipe.{Recipe}
+use Rattle.just_recipe.specs.declared.dependency.UnresolvedDependency.{UnresolvedDependency}
+use Rattle.just_recipe.specs.declared.recipe.Recipe.{Recipe}
 use Rattle.just_joining.specs.Analyzable.{AreAnalyzable}
 use Rattle.just_joining.specs.Files.{ArePlaced, AreRows, asts_in}
 use Rattle.just_joining.specs.Named.{recipes_by, recipes_from}

@@ -14,8 +14,8 @@ use Rattle.just_parts.specs.Layers.{Layers}
 use Rattle.just_parts.specs.Needs.{Needs}
 use Rattle.just_parts.specs.Reading.{IsReadIn}
 use Rattle.just_parts.specs.Syntax.{SyntaxAnswers}
-use Rattle.just_parts.specs.declared.layers.ast.UnresolvedDependency.{UnresolvedDependency}
-use Rattle.just_parts.specs.declared.recipe.Recipe.{Recipe}
+use Rattle.just_recipe.specs.declared.dependency.UnresolvedDependency.{UnresolvedDependency}
+use Rattle.just_recipe.specs.declared.recipe.Recipe.{Recipe}
 use Rattle.just_attributes.specs.declared.attribute.ArgumentProperty.{ArgumentProperty}
 use Rattle.just_attributes.specs.declared.attribute.Attribute.{Attribute}
 use Rattle.just_attributes.specs.declared.attribute.Attribute.TheVariants as attribute

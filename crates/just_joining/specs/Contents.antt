@@ -11,8 +11,8 @@ use Rattle.just_attributes.specs.declared.setting.Set.{Set}
 use Rattle.just_index.specs.Index.{texts_of_names}
 use Rattle.just_errors.specs.declared.error.Definition.{Definition}
 use Rattle.just_errors.specs.declared.error.Definition.TheVariants as definition
-use Rattle.just_parts.specs.declared.layers.ast.UnresolvedDependency.{UnresolvedDependency}
-use Rattle.just_parts.specs.declared.recipe.Recipe.{Recipe}
+use Rattle.just_recipe.specs.declared.dependency.UnresolvedDependency.{UnresolvedDependency}
+use Rattle.just_recipe.specs.declared.recipe.Recipe.{Recipe}
 
 -- The recipes, the functions and the variables of a module, the names of the modules that it declares and what their docs are evaluated from, the names of the variables that it unexports, what it sets, and where it needs lists, in the order of its files and then of their texts.
 pub record Contents : Type 0 where

@@ -9,8 +9,8 @@ use Rattle.just_errors.specs.declared.error.CompileErrorKind.TheVariants as kind
 use Rattle.just_attributes.specs.declared.attribute.Attribute.{Attribute}
 use Rattle.just_attributes.specs.declared.attribute.Attribute.TheVariants as attribute
 use Rattle.just_attributes.specs.declared.attribute.NamedAttribute.{NamedAttribute}
-use Rattle.just_parts.specs.declared.layers.ast.UnresolvedDependency.{UnresolvedDependency}
-use Rattle.just_parts.specs.declared.recipe.Recipe.{Recipe}
+use Rattle.just_recipe.specs.declared.dependency.UnresolvedDependency.{UnresolvedDependency}
+use Rattle.just_recipe.specs.declared.recipe.Recipe.{Recipe}
 use Rattle.just_joining.specs.Recipes.{line_of, name_of, recipe_at, token_of}
 
 -- the attribute says that it is run without words

@@ -1,8 +1,8 @@
 -- A module's recipes, functions, variables, names and settings, and where it needs lists.
 use Rattle.std.specs.Prelude.{List}
 use Rattle.just_joining.specs.declared.definitions.Definitions.{Definitions}
-use Rattle.just_parts.specs.declared.layers.ast.UnresolvedDependency.{UnresolvedDependency}
-use Rattle.just_parts.specs.declared.recipe.Recipe.{Recipe}
+use Rattle.just_recipe.specs.declared.dependency.UnresolvedDependency.{UnresolvedDependency}
+use Rattle.just_recipe.specs.declared.recipe.Recipe.{Recipe}
 use Rattle.just_records.specs.declared.assignment.Assignment.{Assignment}
 use Rattle.just_expressions.specs.declared.expression.Expression.{Expression}
 use Rattle.just_records.specs.declared.function_definition.FunctionDefinition.{FunctionDefinition}

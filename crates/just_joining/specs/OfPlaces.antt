@@ -4,8 +4,8 @@ use Rattle.std.specs.List.{All}
 use Rattle.just_graph.specs.Graph.{targets}
 use Rattle.just_errors.specs.Causes.{Cause}
 use Rattle.just_parts.specs.Items.{Item}
-use Rattle.just_parts.specs.declared.layers.ast.UnresolvedDependency.{UnresolvedDependency}
-use Rattle.just_parts.specs.declared.recipe.Recipe.{Recipe}
+use Rattle.just_recipe.specs.declared.dependency.UnresolvedDependency.{UnresolvedDependency}
+use Rattle.just_recipe.specs.declared.recipe.Recipe.{Recipe}
 use Rattle.just_names.specs.declared.name.Name.{Name}
 use Rattle.just_notes.specs.Labels.{label_by}
 use Rattle.just_notes.specs.declared.labels.Label.{Label}

@@ -6,7 +6,7 @@ use Rattle.just_parts.specs.Bare.{ast_of_items, bare_item}
 use Rattle.just_parts.specs.Located.{located_item}
 use Rattle.just_names.specs.Name.{text_of_name}
 use Rattle.just_parts.specs.Items.{Ast, Item}
-use Rattle.just_parts.specs.declared.layers.ast.Item.TheVariants as item
+use Rattle.just_items.specs.declared.item.Item.TheVariants as item
 use Rattle.just_names.specs.declared.name.Name.{Name}
 use Rattle.just_paths.specs.declared.modulepath.Modulepath.{Modulepath}
 use Rattle.just_literals.specs.declared.list_use.ListUse.{ListUse}

@@ -2,8 +2,8 @@
 use Rattle.std.specs.Prelude.{◌≡◌, ℕ, ◌<◌, List, [], ◌∷◌, length, get_or, slice_index}
 use Rattle.std.specs.List.{Contains}
 use Rattle.just_graph.specs.Steps.{IsOnce, ListsStepsFirst}
-use Rattle.just_parts.specs.declared.layers.ast.UnresolvedDependency.{UnresolvedDependency}
-use Rattle.just_parts.specs.declared.recipe.Recipe.{Recipe}
+use Rattle.just_recipe.specs.declared.dependency.UnresolvedDependency.{UnresolvedDependency}
+use Rattle.just_recipe.specs.declared.recipe.Recipe.{Recipe}
 use Rattle.just_names.specs.Name.{texts_of_path}
 use Rattle.just_names.specs.Token.{Place}
 use Rattle.just_names.specs.declared.name.Namepath.{Namepath}

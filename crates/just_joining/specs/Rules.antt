@@ -15,8 +15,8 @@ use Rattle.just_literals.specs.declared.list_use.ListUse.{ListUse}
 use Rattle.just_attributes.specs.declared.setting.Set.{Set}
 use Rattle.just_literals.specs.declared.settings.Settings.{Settings}
 use Rattle.just_parts.specs.Syntax.{SyntaxAnswers}
-use Rattle.just_parts.specs.declared.layers.ast.UnresolvedDependency.{UnresolvedDependency}
-use Rattle.just_parts.specs.declared.recipe.Recipe.{Recipe}
+use Rattle.just_recipe.specs.declared.dependency.UnresolvedDependency.{UnresolvedDependency}
+use Rattle.just_recipe.specs.declared.recipe.Recipe.{Recipe}
 use Rattle.just_joining.specs.Contents.{Contents, Defined, Signature, defined_in, function_names, function_texts, module_of_name, signatures, texts_of_defined, variable_names}
 use Rattle.just_index.specs.Index.{texts_of_names, Repeats, name_at}
 use Rattle.just_joining.specs.Shells.{Shells}

@@ -13,10 +13,10 @@ use Rattle.just_records.specs.declared.line.Line.{Line}
 use Rattle.just_literals.specs.declared.settings.Settings.{Settings}
 use Rattle.just_literals.specs.declared.sigil.Sigil.TheVariants as sigil
 use Rattle.just_parts.specs.Groups.{BeginsGroup, front, is_indented}
-use Rattle.just_parts.specs.Script.{is_script}
+use Rattle.just_recipe.specs.Script.{is_script}
 use Rattle.just_parts.specs.Syntax.{SyntaxAnswers}
-use Rattle.just_parts.specs.declared.layers.ast.UnresolvedDependency.{UnresolvedDependency}
-use Rattle.just_parts.specs.declared.recipe.Recipe.{Recipe}
+use Rattle.just_recipe.specs.declared.dependency.UnresolvedDependency.{UnresolvedDependency}
+use Rattle.just_recipe.specs.declared.recipe.Recipe.{Recipe}
 use Rattle.just_joining.specs.Recipes.{name_of, recipe_at}
 
 -- What is broken at a line that begins a group: it has the sigils `?` and `-`, or it is indented further than its body. It is told at the text that it begins with.

@@ -21,7 +21,7 @@ use Rattle.just_parts.specs.Syntax.{components_of}
 use Rattle.just_errors.specs.declared.error.Error.{Error}
 use Rattle.just_names.specs.declared.name.Name.{Name}
 use Rattle.just_names.specs.declared.name.Namepath.{Namepath}
-use Rattle.just_parts.specs.declared.source.Source.{Source}
+use Rattle.just_source.specs.declared.source.Source.{Source}
 use Rattle.just_loader.specs.Keys.{FileStep}
 use Rattle.just_loader.specs.Loaded.{entered, names_in, names_on, own_after}
 use Rattle.just_loader.specs.Placed.{file_at, name_at, text_step}

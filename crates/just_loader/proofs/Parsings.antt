@@ -12,7 +12,7 @@ use Rattle.just_parts.specs.Syntax.{AreRising, numbers}
 use Rattle.just_parts.specs.Items.{Ast}
 use Rattle.just_errors.specs.declared.error.Error.{Error}
 use Rattle.just_errors.specs.declared.error.Error.TheVariants as error
-use Rattle.just_parts.specs.declared.source.Source.{Source}
+use Rattle.just_source.specs.declared.source.Source.{Source}
 use Rattle.just_loader.specs.Keys.{spends_at}
 use Rattle.just_loader.specs.Loaded.{IsAstOf}
 use Rattle.just_loader.specs.Placed.{file_at, file_node}

@@ -2,7 +2,7 @@
 use Rattle.std.specs.Prelude.{◌==◌, Bool, List, [], ◌∷◌, ◌++◌, map, is_some, Option, None, Some, codes, if◌then◌else◌}
 use Rattle.std.specs.Option.{option_map}
 use Rattle.just_parts.specs.Bare.{bare_item}
-use Rattle.just_parts.specs.Edge.{Edge, Imports, Declares, edge_of}
+use Rattle.just_items.specs.Edge.{Edge, Imports, Declares, edge_of}
 use Rattle.just_table.specs.Entries.{find}
 use Rattle.just_paths.specs.Join.{clean_join}
 use Rattle.just_names.specs.Name.{text_of_name}

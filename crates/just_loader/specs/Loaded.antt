@@ -8,7 +8,7 @@ use Rattle.just_parts.specs.Asts.{AstKey, same_ast_key}
 use Rattle.just_parts.specs.Bare.{bare_ast}
 use Rattle.just_errors.specs.Causes.{Keeps, Reports}
 use Rattle.just_paths.specs.Clean.{folder_of}
-use Rattle.just_parts.specs.Edge.{with_absolute}
+use Rattle.just_items.specs.Edge.{with_absolute}
 use Rattle.just_parts.specs.Syntax.{AreRising, IsFrom, PriorsAreDependencies, components_of, numbers}
 use Rattle.just_names.specs.Texts.{Text}
 use Rattle.just_names.specs.Name.{names_of_path}
@@ -16,7 +16,7 @@ use Rattle.just_names.specs.declared.name.Name.{Name}
 use Rattle.just_names.specs.declared.name.Namepath.{Namepath}
 use Rattle.just_parts.specs.Items.{Ast, Item}
 use Rattle.just_errors.specs.declared.error.Error.{Error}
-use Rattle.just_parts.specs.declared.source.Source.{Source}
+use Rattle.just_source.specs.declared.source.Source.{Source}
 use Rattle.just_loader.specs.Keys.{AreFirstFiles, FileKey, FileNode, FileStep, IsKey, IsLeastFileDepth, NamesInFiles, ast_key}
 use Rattle.just_loader.specs.Links.{Link, Nowhere, To, Fault}
 use Rattle.just_loader.specs.Reached.{World, ast_of, link, relative_to_root}

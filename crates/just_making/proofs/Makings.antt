@@ -4,10 +4,10 @@ use Rattle.std.specs.List.{Contains}
 use Rattle.std.proofs.lemmas.List.{get_or_default, length-map}
 use Rattle.just_graph.proofs.Index.{got_in}
 use Rattle.just_graph.proofs.Members.{In, contained, in_map, is_in}
-use Rattle.just_parts.specs.declared.dependency.Dependency.{Dependency}
-use Rattle.just_parts.specs.declared.layers.ast.UnresolvedDependency.{UnresolvedDependency}
+use Rattle.just_recipe.specs.declared.dependency.Dependency.{Dependency}
+use Rattle.just_recipe.specs.declared.dependency.UnresolvedDependency.{UnresolvedDependency}
 use Rattle.just_paths.specs.declared.modulepath.Modulepath.{Modulepath}
-use Rattle.just_parts.specs.declared.recipe.Recipe.{Recipe}
+use Rattle.just_recipe.specs.declared.recipe.Recipe.{Recipe}
 use Rattle.just_parts.specs.Items.{Ast}
 use Rattle.just_parts.specs.Syntax.{SyntaxAnswers}
 use Rattle.just_names.specs.Texts.{Text}
@@ -17,7 +17,7 @@ use Rattle.just_records.specs.declared.function_definition.FunctionDefinition.{F
 use Rattle.just_constants.specs.Variables.{AreVariables, known_with_numbers}
 use Rattle.just_numbering.specs.Resolved.{AreInOrder}
 use Rattle.just_names.specs.declared.number.Number.{Number}
-use Rattle.just_parts.specs.Recipes.{numbers}
+use Rattle.just_recipe.specs.Recipes.{numbers}
 use Rattle.just_invoke.specs.declared.justfile.Justfile.{Justfile, out-Justfile}
 use Rattle.just_invoke.specs.declared.justfile.RecipeKey.{RecipeKey}
 use Rattle.just_making.specs.Analysis.{AreKeysOf, HasKeysOf, IsDefaultOf, IsOf}

@@ -2,7 +2,7 @@
 
 ghost use Rattle.std.specs.Prelude.{◌≡◌, ◌<◌, false, IsTrue, IfErr, IfOk, IfSome, OnOk, Some, length};
 ghost use Rattle.just_errors.specs.Causes.{Keeps, Reports};
-ghost use Rattle.just_parts.specs.Recipes.{numbers};
+ghost use Rattle.just_recipe.specs.Recipes.{numbers};
 ghost use Rattle.just_invoke.specs.declared.justfile.Justfile.{out-Justfile};
 ghost use Rattle.just_making.specs.Analysis.{AreKeysOf, HasKeysOf, IsBefore, IsBetter, IsDefaultBy, IsDefaultOf, IsDefaultPlace, IsOf};
 ghost use Rattle.just_making.specs.Labelled.{notes_in};

@@ -17,7 +17,7 @@ use Rattle.just_names.specs.Texts.{Text}
 use Rattle.just_names.specs.Name.{text_of_name}
 use Rattle.just_parts.specs.Items.{Ast}
 use Rattle.just_paths.specs.declared.modulepath.Modulepath.{Modulepath}
-use Rattle.just_parts.specs.Recipes.{IsResolved}
+use Rattle.just_recipe.specs.Recipes.{IsResolved}
 use Rattle.just_invoke.specs.declared.justfile.Justfile.{Justfile, out-Justfile, out-roll-Justfile}
 use Rattle.just_joining.specs.Analyzable.{AreAnalyzable}
 use Rattle.just_modules.specs.Analyzed.{ComeAfter, IsAnalyzed}

@@ -10,15 +10,15 @@ use Rattle.just_graph.proofs.Members.{In, contained, from_map, in_cases, in_flat
 use Rattle.just_parts.specs.Asts.{AstKey}
 use Rattle.just_table.specs.Entries.{find, put}
 use Rattle.just_names.specs.Texts.{Text}
-use Rattle.just_parts.specs.declared.dependency.Dependency.{Dependency}
+use Rattle.just_recipe.specs.declared.dependency.Dependency.{Dependency}
 use Rattle.just_parts.specs.Items.{Ast}
-use Rattle.just_parts.specs.declared.layers.ast.UnresolvedDependency.{UnresolvedDependency}
+use Rattle.just_recipe.specs.declared.dependency.UnresolvedDependency.{UnresolvedDependency}
 use Rattle.just_names.specs.declared.number.Number.{Number}
-use Rattle.just_parts.specs.declared.recipe.Recipe.{Recipe}
+use Rattle.just_recipe.specs.declared.recipe.Recipe.{Recipe}
 use Rattle.just_invoke.specs.Closed.{AreClosed, IsClosed, all_closed, recipe_of_key, recipe_of_number}
-use Rattle.just_parts.specs.Recipes.{IsResolved}
+use Rattle.just_recipe.specs.Recipes.{IsResolved}
 use Rattle.just_invoke.specs.Module.{module_name}
-use Rattle.just_parts.specs.Recipes.{find_number, numbers}
+use Rattle.just_recipe.specs.Recipes.{find_number, numbers}
 use Rattle.just_invoke.specs.declared.justfile.Justfile.{Justfile, out-Justfile}
 use Rattle.just_invoke.specs.declared.justfile.RecipeKey.{RecipeKey}
 use Rattle.just_making.specs.Analysis.{IsDefaultAmong, IsDefaultOf, IsKeyOf}

@@ -11,12 +11,12 @@ use Rattle.just_graph.specs.Unfolded.{AreApart}
 use Rattle.just_parts.specs.Asts.{AstKey, same_ast_key}
 use Rattle.just_errors.specs.Causes.{Reports}
 use Rattle.just_names.specs.Texts.{Text}
-use Rattle.just_parts.specs.declared.dependency.Dependency.{Dependency}
+use Rattle.just_recipe.specs.declared.dependency.Dependency.{Dependency}
 use Rattle.just_parts.specs.Items.{Ast}
 use Rattle.just_parts.specs.Layers.{Given}
 use Rattle.just_errors.specs.declared.error.Error.{Error}
 use Rattle.just_paths.specs.declared.modulepath.Modulepath.{Modulepath}
-use Rattle.just_parts.specs.declared.recipe.Recipe.{Recipe}
+use Rattle.just_recipe.specs.declared.recipe.Recipe.{Recipe}
 use Rattle.just_invoke.specs.Closed.{AreClosed}
 use Rattle.just_invoke.specs.declared.justfile.Justfile.{Justfile}
 use Rattle.just_modules.specs.Groups.{KeepsModules, NamesModules}

@@ -3,7 +3,7 @@ use Rattle.std.specs.Prelude.{Bool, true, List, [], ◌∷◌, ◌++◌, Option,
 use Rattle.just_names.specs.Texts.{Text}
 use Rattle.just_names.specs.Name.{text_of_name}
 use Rattle.just_parts.specs.Items.{Ast, Item}
-use Rattle.just_parts.specs.declared.layers.ast.Item.TheVariants as item
+use Rattle.just_items.specs.declared.item.Item.TheVariants as item
 use Rattle.just_literals.specs.declared.unstable_feature.UnstableFeature.{UnstableFeature}
 use Rattle.just_literals.specs.declared.warning.Warning.{Warning}
 use Rattle.just_table.specs.Entries.{put_all}

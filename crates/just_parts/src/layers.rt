@@ -2,16 +2,14 @@
 
 pub mod ast;
 pub mod config;
-pub mod edge;
 pub mod evaluation;
 pub mod host;
 pub mod output;
 pub mod syntax;
 pub mod value;
 
-pub use ast::{Ast, Item, UnresolvedDependency};
+pub use ast::{Ast, Item};
 pub use config::Config;
-pub use edge::Edge;
 pub use evaluation::Evaluation;
 pub use host::{Entry, Groups, Host};
 pub use just_attributes::{
@@ -23,11 +21,13 @@ pub use just_errors::{
     RunError, SourceError, error,
 };
 pub use just_expressions::{ConditionalOperator, Expression, Shape};
+pub use just_items::Edge;
 pub use just_literals::{
     Binding, Interpreter, Keyword, ListUse, Pattern, Scope, Settings, Sigil, Signal, StringLiteral,
     UnstableFeature, Warning,
 };
 pub use just_names::{Exhausted, ListFeature, Name, Namepath, Number, Numerator, Token};
+pub use just_recipe::UnresolvedDependency;
 pub use just_records::{
     Assignment, Fragment, FunctionDefinition, FunctionParameter, Line, Parameter, ParameterKind,
 };

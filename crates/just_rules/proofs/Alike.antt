@@ -24,10 +24,10 @@ use Rattle.just_parts.specs.Evaluator.{Values, Wanted, bare_set, functions_by_na
 use Rattle.just_parts.specs.Layers.{Layers}
 use Rattle.just_parts.specs.Located.{located_assignment}
 use Rattle.just_references.specs.Numbers.{bare}
-use Rattle.just_parts.specs.Script.{is_script, is_shell}
+use Rattle.just_recipe.specs.Script.{is_script, is_shell}
 use Rattle.just_parts.specs.Syntax.{SyntaxAnswers}
-use Rattle.just_parts.specs.declared.layers.ast.UnresolvedDependency.{UnresolvedDependency}
-use Rattle.just_parts.specs.declared.recipe.Recipe.{Recipe}
+use Rattle.just_recipe.specs.declared.dependency.UnresolvedDependency.{UnresolvedDependency}
+use Rattle.just_recipe.specs.declared.recipe.Recipe.{Recipe}
 use Rattle.just_names.specs.declared.name.Name.{Name}
 use Rattle.just_names.specs.declared.name.Namepath.{Namepath}
 use Rattle.just_errors.specs.declared.error.Definition.TheVariants as definition

@@ -8,9 +8,9 @@ use Rattle.just_parts.specs.Located.{located_recipe}
 use Rattle.just_names.specs.Name.{text_of_name}
 use Rattle.just_names.specs.declared.name.Name.{Name}
 use Rattle.just_records.specs.Parameter.{is_required, is_variadic, least_arguments, most_arguments}
-use Rattle.just_parts.specs.declared.layers.ast.UnresolvedDependency.{UnresolvedDependency}
+use Rattle.just_recipe.specs.declared.dependency.UnresolvedDependency.{UnresolvedDependency}
 use Rattle.just_records.specs.declared.parameter.Parameter.{Parameter}
-use Rattle.just_parts.specs.declared.recipe.Recipe.{Recipe}
+use Rattle.just_recipe.specs.declared.recipe.Recipe.{Recipe}
 use Rattle.just_joining.specs.Recipes.{named_paths, dependency_paths, is_defaulted, is_needed}
 use Rattle.just_rules.proofs.Alike.{outline_of}
 

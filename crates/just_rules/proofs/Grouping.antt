@@ -18,10 +18,10 @@ use Rattle.just_literals.specs.declared.settings.Settings.{Settings}
 use Rattle.just_literals.specs.declared.sigil.Sigil.{Sigil}
 use Rattle.just_literals.specs.declared.sigil.Sigil.TheVariants as sigil
 use Rattle.just_parts.specs.Groups.{BeginsGroup, after_comment, after_end, first, front, is_indented}
-use Rattle.just_parts.specs.Script.{is_script}
+use Rattle.just_recipe.specs.Script.{is_script}
 use Rattle.just_parts.specs.Syntax.{SyntaxAnswers}
-use Rattle.just_parts.specs.declared.layers.ast.UnresolvedDependency.{UnresolvedDependency}
-use Rattle.just_parts.specs.declared.recipe.Recipe.{Recipe}
+use Rattle.just_recipe.specs.declared.dependency.UnresolvedDependency.{UnresolvedDependency}
+use Rattle.just_recipe.specs.declared.recipe.Recipe.{Recipe}
 use Rattle.just_joining.specs.Recipes.{name_of, recipe_at}
 use Rattle.just_joining.specs.Shells.{FirstLine, Lines, ScriptAttribute, ShellRecipe, Shells, ends_group, extra_whitespace, guard_and_infallible, invalid_attribute, is_of_scripts, of_attributes, of_line, of_lines, of_recipe}
 

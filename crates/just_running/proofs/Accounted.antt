@@ -5,12 +5,12 @@ use Rattle.std.proofs.lemmas.Bool.{cases_Bool, cond-true, cond-false}
 use Rattle.std.proofs.lemmas.List.{append-nil}
 use Rattle.std.proofs.lemmas.List.Elements.{All-head, All-tail, All-nil, All-cons, All-weaker, All-map}
 use Rattle.just_paths.specs.declared.modulepath.Modulepath.{Modulepath}
-use Rattle.just_parts.specs.declared.dependency.Dependency.{Dependency}
+use Rattle.just_recipe.specs.declared.dependency.Dependency.{Dependency}
 use Rattle.just_errors.specs.declared.halt.Halt.{Halt}
 use Rattle.just_errors.specs.declared.halt.Halt.TheVariants.{Memory, Exhausted, Failed}
 use Rattle.just_parts.specs.declared.layers.host.Entry.{Entry}
 use Rattle.just_parts.specs.declared.layers.host.Entry.TheVariants.{Begin}
-use Rattle.just_parts.specs.declared.recipe.Recipe.{Recipe}
+use Rattle.just_recipe.specs.declared.recipe.Recipe.{Recipe}
 use Rattle.just_parts.specs.Host.{Answer, Executed, executed}
 use Rattle.just_parts.specs.Steps.{Kept, executed_in, Question, Steps, Give, and_then, Took}
 use Rattle.just_parts.proofs.StepLemmas.{took-split}
@@ -20,7 +20,7 @@ use Rattle.just_running.specs.Firsts.{has}
 use Rattle.just_running.specs.Leaves.{begin_steps, recipe_steps, leaves_of}
 use Rattle.just_running.specs.declared.task.Task.{Task}
 use Rattle.just_running.specs.Pairs.{OnceTable, same_pair, place_of, task_of, prior_dependencies, subsequent_dependencies, AllBelow}
-use Rattle.just_parts.specs.Recipes.{IsOrdered}
+use Rattle.just_recipe.specs.Recipes.{IsOrdered}
 use Rattle.just_running.specs.Walking.{Leaves, State, counted, all_steps, opened, fresh_steps, block_steps, ran, ran_steps, visit_steps, walk_steps}
 use Rattle.just_running.proofs.Joined.{with_priors, asks, join, still-new, In-left, In-right, add-zero, none-in, none-below}
 use Rattle.just_running.proofs.Places.{priors-before, subsequents-before}

@@ -1,7 +1,7 @@
 -- The tasks that recipes name stand at lower places.
 use Rattle.std.proofs.Common.{ℕ, zero, suc, List, [], ◌∷◌, Option, None, Ok, refl, subst}
-use Rattle.just_parts.specs.declared.dependency.Dependency.{Dependency}
-use Rattle.just_parts.specs.declared.recipe.Recipe.{Recipe}
+use Rattle.just_recipe.specs.declared.dependency.Dependency.{Dependency}
+use Rattle.just_recipe.specs.declared.recipe.Recipe.{Recipe}
 use Rattle.just_parts.specs.Evaluation.{Inquiry}
 use Rattle.just_parts.specs.Host.{Answer}
 use Rattle.just_parts.specs.Steps.{Question, both, kept_by}
@@ -11,7 +11,7 @@ use Rattle.just_running.specs.Leaves.{AsksAlone, ask_steps, follow_steps, leaves
 use Rattle.just_running.specs.Lower.{IsLower}
 use Rattle.just_running.specs.declared.task.Task.{Task}
 use Rattle.just_running.specs.Pairs.{AllBelow}
-use Rattle.just_parts.specs.Recipes.{IsOrdered}
+use Rattle.just_recipe.specs.Recipes.{IsOrdered}
 use Rattle.just_running.specs.Run.{subsequents_by, parts, Each, IsEvenPart, IsEven}
 use Rattle.just_running.proofs.Places.{priors-before, subsequents-before}
 

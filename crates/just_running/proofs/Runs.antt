@@ -1,10 +1,10 @@
 -- A run of tasks, from the steps that it takes.
 use Rattle.std.proofs.Common.{◌≡◌, List, [], length, Option, Ok, Err, refl, subst}
 use Rattle.std.specs.Prelude.{Result}
-use Rattle.just_parts.specs.declared.dependency.Dependency.{Dependency}
+use Rattle.just_recipe.specs.declared.dependency.Dependency.{Dependency}
 use Rattle.just_errors.specs.declared.halt.Halt.{Halt}
 use Rattle.just_parts.specs.declared.layers.host.Entry.{Entry}
-use Rattle.just_parts.specs.declared.recipe.Recipe.{Recipe}
+use Rattle.just_recipe.specs.declared.recipe.Recipe.{Recipe}
 use Rattle.just_errors.specs.Halts.{without}
 use Rattle.just_parts.specs.Evaluation.{Inquiry}
 use Rattle.just_parts.specs.Host.{Answer}
@@ -13,7 +13,7 @@ use Rattle.just_running.specs.declared.running.Report.{Report}
 use Rattle.just_running.specs.declared.task.Task.{Task}
 use Rattle.just_running.specs.Leaves.{leaves_of}
 use Rattle.just_running.specs.Pairs.{AllBelow}
-use Rattle.just_parts.specs.Recipes.{IsOrdered}
+use Rattle.just_recipe.specs.Recipes.{IsOrdered}
 use Rattle.just_running.specs.Reports.{calls_in, IsRun, IsAsExpected, Starts, expected_steps}
 use Rattle.just_running.specs.Walking.{fresh_steps, walk_steps}
 use Rattle.just_running.proofs.Accounted.{fresh-account}

@@ -2,11 +2,11 @@
 use Rattle.std.specs.Prelude.{ℕ, List, Option, Some, None, Result}
 use Rattle.std.specs.List.{slice_get}
 use Rattle.just_paths.specs.declared.modulepath.Modulepath.{Modulepath}
-use Rattle.just_parts.specs.declared.dependency.Dependency.{Dependency}
+use Rattle.just_recipe.specs.declared.dependency.Dependency.{Dependency}
 use Rattle.just_errors.specs.declared.halt.Halt.{Halt}
 use Rattle.just_parts.specs.declared.layers.host.Entry.{Entry}
 use Rattle.just_parts.specs.declared.layers.host.Entry.TheVariants.{Begin}
-use Rattle.just_parts.specs.declared.recipe.Recipe.{Recipe}
+use Rattle.just_recipe.specs.declared.recipe.Recipe.{Recipe}
 use Rattle.just_parts.specs.Evaluation.{Inquiry}
 use Rattle.just_parts.specs.Host.{Answer}
 use Rattle.just_parts.specs.Steps.{Kept, kept_by, Steps, Give, Asks, ToHost, Took, both}

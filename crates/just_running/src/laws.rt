@@ -1,14 +1,14 @@
 //! Laws: calls that do nothing, whose contracts say what definitions keep.
 ghost use Rattle.std.specs.Prelude.{◌≤◌, ℕ, List, Result, Err, length};
-ghost use Rattle.just_parts.specs.declared.dependency.Dependency.{Dependency};
+ghost use Rattle.just_recipe.specs.declared.dependency.Dependency.{Dependency};
 ghost use Rattle.just_errors.specs.declared.halt.Halt.{Halt};
 ghost use Rattle.just_parts.specs.declared.layers.host.Entry.{Entry};
-ghost use Rattle.just_parts.specs.declared.recipe.Recipe.{Recipe};
+ghost use Rattle.just_recipe.specs.declared.recipe.Recipe.{Recipe};
 ghost use Rattle.just_parts.specs.Host.{Answer};
 ghost use Rattle.just_parts.specs.Steps.{Question, Follows};
 ghost use Rattle.just_running.specs.declared.task.Task.{Task};
 ghost use Rattle.just_running.specs.Leaves.{leaves_of};
-ghost use Rattle.just_parts.specs.Recipes.{IsOrdered};
+ghost use Rattle.just_recipe.specs.Recipes.{IsOrdered};
 ghost use Rattle.just_running.specs.Reports.{IsEnough, IsOne};
 ghost use Rattle.just_running.specs.Run.{IsEven};
 

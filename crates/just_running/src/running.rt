@@ -6,7 +6,7 @@ ghost use Rattle.just_parts.specs.Steps.{kept_by};
 ghost use Rattle.just_running.specs.Frames.{Blocks, Calls, Finishes, IsLighter, IsOpen, IsSound, Leads, items_of};
 ghost use Rattle.just_running.specs.Leaves.{AsksAlone, Executes, ask_steps, follow_steps};
 ghost use Rattle.just_running.specs.Pairs.{AllBelow};
-ghost use Rattle.just_parts.specs.Recipes.{IsOrdered, IsResolved};
+ghost use Rattle.just_recipe.specs.Recipes.{IsOrdered, IsResolved};
 ghost use Rattle.just_running.specs.Reports.{IsAsExpected, IsRun, Starts};
 
 use crate::course::{Course, count_call, push_calls};

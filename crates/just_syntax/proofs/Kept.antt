@@ -8,7 +8,7 @@ use Rattle.just_names.specs.Token.{Place, lexeme}
 use Rattle.just_parts.specs.Bare.{bare_item, bare_parameter}
 use Rattle.just_parts.specs.Items.{Item}
 use Rattle.just_parts.specs.Syntax.{AttributesNameParameters, IsPlain, NamesParameter, PriorsAreDependencies, Refuses}
-use Rattle.just_parts.specs.declared.layers.ast.Item.TheVariants as item
+use Rattle.just_items.specs.declared.item.Item.TheVariants as item
 use Rattle.just_attributes.specs.declared.attribute.Attribute.{Attribute}
 use Rattle.just_attributes.specs.declared.attribute.Attribute.TheVariants as attribute
 use Rattle.just_expressions.specs.declared.expression.Expression.{Expression}

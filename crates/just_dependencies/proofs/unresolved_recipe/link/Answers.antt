@@ -1,5 +1,5 @@
 use Rattle.std.proofs.Common.{◌∙◌, ap, sym, arith, slice_index}
-use Rattle.just_parts.specs.declared.layers.ast.UnresolvedDependency.{UnresolvedDependency}
+use Rattle.just_recipe.specs.declared.dependency.UnresolvedDependency.{UnresolvedDependency}
 use Rattle.just_joining.specs.Definitions.{recipes_in}
 use Rattle.just_dependencies.proofs.Resolving.{linked_more}
 use Rattle.just_dependencies.proofs.unresolved_recipe.link.Goals as goal

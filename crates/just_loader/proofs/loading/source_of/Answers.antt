@@ -1,7 +1,7 @@
 use Rattle.std.proofs.Common.{◌≡◌, ◌∙◌, ◌<◌, length, ap, sym, subst, arith}
 use Rattle.just_graph.specs.declared.unfolding.Step.{Step}
 use Rattle.just_paths.specs.Clean.{IsClean}
-use Rattle.just_parts.specs.declared.source.Source.{Source}
+use Rattle.just_source.specs.declared.source.Source.{Source}
 use Rattle.just_loader.specs.Loading.{CameInWorlds}
 use Rattle.just_loader.specs.Placed.{file_at}
 use Rattle.just_loader.specs.Scanned.{EntersName}

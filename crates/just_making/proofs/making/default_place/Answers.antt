@@ -1,6 +1,6 @@
 use Rattle.std.proofs.Common.{◌≡◌, length, sym, subst, arith}
 use Rattle.std.specs.List.{Contains}
-use Rattle.just_parts.specs.Recipes.{numbers}
+use Rattle.just_recipe.specs.Recipes.{numbers}
 use Rattle.just_joining.specs.Definitions.{recipes_in}
 use Rattle.just_dependencies.proofs.Resolving.{number_read}
 use Rattle.just_making.specs.Analysis.{IsDefaultPlace}

@@ -1,4 +1,4 @@
-use Rattle.just_parts.specs.Recipes.{numbers}
+use Rattle.just_recipe.specs.Recipes.{numbers}
 use Rattle.just_joining.specs.Definitions.{recipes_in}
 use Rattle.just_making.specs.Analysis.{IsDefaultPlace}
 use Rattle.just_making.proofs.making.default_place.Given as goal

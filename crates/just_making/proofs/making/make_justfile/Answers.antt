@@ -1,7 +1,7 @@
 use Rattle.std.proofs.Common.{◌≡◌, List, length, rules, subst, sym}
 use Rattle.just_invoke.specs.declared.justfile.Justfile.TheViews.{the_lemmas}
-use Rattle.just_parts.specs.declared.layers.ast.UnresolvedDependency.{UnresolvedDependency}
-use Rattle.just_parts.specs.declared.recipe.Recipe.{Recipe}
+use Rattle.just_recipe.specs.declared.dependency.UnresolvedDependency.{UnresolvedDependency}
+use Rattle.just_recipe.specs.declared.recipe.Recipe.{Recipe}
 use Rattle.just_joining.specs.Definitions.{contents_in, recipes_in}
 use Rattle.just_index.specs.Index.{AreDifferent}
 use Rattle.just_joining.specs.Recipes.{names_of}

@@ -1,7 +1,7 @@
 use Rattle.std.proofs.Common.{List, ◌++◌, None, length, ap, sym, subst, ◌∙◌}
-use Rattle.just_parts.specs.declared.layers.ast.UnresolvedDependency.{UnresolvedDependency}
-use Rattle.just_parts.specs.declared.recipe.Recipe.{Recipe}
-use Rattle.just_parts.specs.Recipes.{numbers}
+use Rattle.just_recipe.specs.declared.dependency.UnresolvedDependency.{UnresolvedDependency}
+use Rattle.just_recipe.specs.declared.recipe.Recipe.{Recipe}
+use Rattle.just_recipe.specs.Recipes.{numbers}
 use Rattle.just_joining.specs.Contents.{Contents}
 use Rattle.just_joining.specs.Definitions.{recipes_in}
 use Rattle.just_joining.specs.Recipes.{recipes_of}

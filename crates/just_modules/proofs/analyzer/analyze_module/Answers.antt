@@ -13,8 +13,8 @@ use Rattle.just_making.specs.Analysis.{BreaksRecipes, IsDefaultAmong, IsMarked, 
 use Rattle.just_modules.proofs.Grounds.{recipes_kept}
 use Rattle.just_making.proofs.Makings.{default_resolved, resolved_numbers, variables_had}
 use Rattle.just_modules.proofs.analyzer.analyze_module.Goals as goal
-use Rattle.just_parts.specs.declared.layers.ast.UnresolvedDependency.{UnresolvedDependency}
-use Rattle.just_parts.specs.declared.recipe.Recipe.{Recipe}
+use Rattle.just_recipe.specs.declared.dependency.UnresolvedDependency.{UnresolvedDependency}
+use Rattle.just_recipe.specs.declared.recipe.Recipe.{Recipe}
 
 pub returns-in_err-default-clause-named : goal.returns-in_err-default-clause-named
 returns-in_err-default-clause-named g c =

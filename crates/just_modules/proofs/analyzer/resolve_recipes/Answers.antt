@@ -4,8 +4,8 @@ use Rattle.std.proofs.lemmas.Result.{IfErr-weaker}
 use Rattle.just_graph.specs.Steps.{IsOnce}
 use Rattle.just_errors.specs.Causes.{Keeps, Reports}
 use Rattle.just_errors.proofs.Lifts.{reports_by}
-use Rattle.just_parts.specs.declared.layers.ast.UnresolvedDependency.{UnresolvedDependency}
-use Rattle.just_parts.specs.declared.recipe.Recipe.{Recipe}
+use Rattle.just_recipe.specs.declared.dependency.UnresolvedDependency.{UnresolvedDependency}
+use Rattle.just_recipe.specs.declared.recipe.Recipe.{Recipe}
 use Rattle.just_joining.specs.Definitions.{contents_in, recipes_in}
 use Rattle.just_index.specs.Index.{AreDifferent}
 use Rattle.just_joining.specs.Recipes.{names_of}

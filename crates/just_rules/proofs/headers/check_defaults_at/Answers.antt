@@ -4,8 +4,8 @@ use Rattle.std.proofs.lemmas.Option.{slice_get_read}
 use Rattle.just_graph.proofs.Index.{map_get}
 use Rattle.just_names.specs.Name.{text_of_name}
 use Rattle.just_records.specs.declared.parameter.Parameter.{Parameter}
-use Rattle.just_parts.specs.declared.layers.ast.UnresolvedDependency.{UnresolvedDependency}
-use Rattle.just_parts.specs.declared.recipe.Recipe.{Recipe}
+use Rattle.just_recipe.specs.declared.dependency.UnresolvedDependency.{UnresolvedDependency}
+use Rattle.just_recipe.specs.declared.recipe.Recipe.{Recipe}
 use Rattle.just_joining.specs.Recipes.{FollowsDefault, NoneFollows}
 use Rattle.just_joining.specs.Definitions.{recipes_in}
 use Rattle.just_joining.proofs.RecipePlaces.{has_needed, length-lent}

@@ -1,4 +1,4 @@
-//! What a resolved recipe depends on.
+//! What recipes depend on.
 use just_data::Exact;
 use just_names::{Namepath, Number};
 
@@ -12,6 +12,19 @@ pub struct Dependency<'src> {
 }
 
 impl<'src> Exact for Dependency<'src> {
+    ghost use Rattle.std.proofs.Common.{rules};
+
+    ghost exact = { Prim.search rules };
+}
+
+/// What a recipe of a source text depends on.
+#[derive(Clone, Debug, PartialEq, Eq, Drop)]
+pub struct UnresolvedDependency<'src> {
+    /// The names by which the recipe is named.
+    pub recipe: Namepath<'src>,
+}
+
+impl<'src> Exact for UnresolvedDependency<'src> {
     ghost use Rattle.std.proofs.Common.{rules};
 
     ghost exact = { Prim.search rules };

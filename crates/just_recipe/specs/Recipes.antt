@@ -1,8 +1,8 @@
 -- Recipes as a list, each after those that it depends on.
 use Rattle.std.specs.Prelude.{◌≡◌, ◌≤◌, ℕ, ◌<◌, ◌==◌, List, [], ◌∷◌, ◌++◌, map, length, Option, Some, IsSome, slice_index, find}
 use Rattle.std.specs.List.{All, Contains}
-use Rattle.just_parts.specs.declared.dependency.Dependency.{Dependency}
-use Rattle.just_parts.specs.declared.recipe.Recipe.{Recipe}
+use Rattle.just_recipe.specs.declared.dependency.Dependency.{Dependency}
+use Rattle.just_recipe.specs.declared.recipe.Recipe.{Recipe}
 
 -- the numbers of recipes, in order
 abbrev pub numbers : List (Recipe Dependency) → List ℕ

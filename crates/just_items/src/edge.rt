@@ -1,8 +1,8 @@
 //! How an item leads to a file.
 ghost use Rattle.std.specs.Prelude.{◌≡◌, option_map};
-ghost use Rattle.just_parts.specs.Edge.{edge_of, lent_edge, with_absolute};
+ghost use Rattle.just_items.specs.Edge.{edge_of, lent_edge, with_absolute};
 
-use crate::layers::ast::Item;
+use crate::item::Item;
 use just_data::Text;
 use just_literals::StringLiteral;
 use just_names::Name;
@@ -23,7 +23,7 @@ pub enum Edge<'item, 'src> {
     },
 }
 
-impl<'src> Item<'src> {
+impl<'src, R> Item<'src, R> {
     /// How the item leads to a file, where it does.
     pub fn edge<'item>(&'item self) -> Option<Edge<'item, 'src>>
         ensures { option_map lent_edge result ≡ edge_of self.now }

@@ -1,7 +1,7 @@
 -- Recipes as they are resolved.
 use Rattle.std.specs.Prelude.{List, [], None, Some}
 use Rattle.just_paths.specs.declared.modulepath.Modulepath.{Modulepath}
-use Rattle.just_parts.specs.declared.recipe.Recipe.{Recipe}
+use Rattle.just_recipe.specs.declared.recipe.Recipe.{Recipe}
 
 -- the recipe with these dependencies, before it is resolved
 abbrev pub unresolved : {D E : Type 0} → Recipe D → List E → Recipe E

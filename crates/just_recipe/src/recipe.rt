@@ -2,11 +2,10 @@
 ghost use Rattle.std.specs.Prelude.{◌≡◌, ◌≤◌, length, take, drop, count_by, IsSome, Some};
 ghost use Rattle.std.specs.List.{list_any};
 ghost use Rattle.just_records.specs.declared.parameter.Parameter.{Parameter};
-ghost use Rattle.just_parts.specs.Script.{is_shell};
+ghost use Rattle.just_recipe.specs.Script.{is_shell};
 ghost use Rattle.just_records.specs.Parameter.{is_required, is_variadic, least_arguments, most_arguments};
 
-use crate::dependency::Dependency;
-use crate::layers::ast::UnresolvedDependency;
+use crate::dependency::{Dependency, UnresolvedDependency};
 use just_attributes::{Attribute, NamedAttribute};
 use just_chain::Chain;
 use just_data::{Exact, Sequence, Text};
@@ -136,7 +135,7 @@ impl<'src> Recipe<'src> {
 }
 
 impl<'src, D> Recipe<'src, D> {
-    ghost use Rattle.just_parts.specs.Script.{is_script};
+    ghost use Rattle.just_recipe.specs.Script.{is_script};
 
     /// Whether its body is a script, and not lines for a shell, under these settings.
     pub fn is_script(&self, settings: &Settings) -> bool
@@ -189,7 +188,7 @@ impl<'src, D> Recipe<'src, D> {
 
 impl<'src, D> Recipe<'src, D> {
     ghost use Rattle.std.specs.Prelude.{◌≡◌, IfOk};
-    ghost use Rattle.just_parts.specs.Resolved.{resolved, unresolved};
+    ghost use Rattle.just_recipe.specs.Resolved.{resolved, unresolved};
 
     // The recipe with these dependencies, before it is resolved.
     fn unresolved<E: Drop>(

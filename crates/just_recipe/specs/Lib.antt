@@ -1,0 +1,3 @@
+pub mod Recipes
+pub mod Resolved
+pub mod Script
