@@ -1,11 +1,14 @@
-//! What the program writes: a line for each recipe that began, and the line of a fault.
+//! A run over the layers of the bench, and what the program writes: a line for each recipe that began, and the line of
+//! a fault.
 #![tactic(auto)]
 
 mod entries;
 mod fault;
 mod one_line;
+mod run;
 mod told;
 
 pub use entries::write_entries;
 pub use fault::Fault;
+pub use run::{run_and_write, run_words};
 pub use told::{tell, tell_usage};

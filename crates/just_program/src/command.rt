@@ -5,9 +5,9 @@ ghost use Rattle.just_invoke.specs.Closed.{IsClosed};
 
 use just_analyzer::layers::{Config, Error};
 use just_analyzer::{Compilation, Compiler, Sources, is_clean};
+use just_bench::PlainEvaluation;
 use just_bench::bundle::{read_sources, read_text};
-use just_bench::{PlainEvaluation, Recorder, StopWriter};
-use just_output::{Fault, tell, tell_usage, write_entries};
+use just_output::{Fault, run_and_write, tell, tell_usage};
 use just_syntax::PlainSyntax;
 use std::alloc::Global;
 use std::io::{Read, Write};
@@ -32,51 +32,6 @@ fn compile<'src>(
     )
 }
 
-// Runs the words. The host records what began, before a fault too.
-fn run_words<'src>(
-    alloc: Global,
-    compilation: &Compilation<'src>,
-    config: &Config,
-    host: &mut Recorder,
-    words: &[&str],
-) -> Result<(), Error<'src>>
-    requires { IsClosed compilation.now.justfile compilation.now.recipes }
-{
-    let mut writer = StopWriter::new(alloc, 0)?;
-    compilation.justfile.run(
-        alloc,
-        config,
-        &compilation.recipes,
-        &PlainSyntax::new(),
-        &mut PlainEvaluation,
-        host,
-        &mut writer,
-        words,
-        &compilation.overrides,
-    )?;
-    Ok(())
-}
-
-// Runs the words, and writes which recipes began.
-fn run_compilation<'src, W: Write>(
-    alloc: Global,
-    compilation: &Compilation<'src>,
-    config: &Config,
-    words: &[&str],
-    output: &mut W,
-) -> Result<(), Fault<'src>>
-    requires { IsClosed compilation.now.justfile compilation.now.recipes }
-{
-    let mut host = Recorder::new(alloc);
-    let ran = run_words(alloc, compilation, config, &mut host, words);
-    let is_written = write_entries(output, host.entries()).is_ok();
-    match ran {
-        Err(error) => Err(Fault::Analyzer(error)),
-        Ok(()) if is_written => Ok(()),
-        Ok(()) => Err(Fault::Write),
-    }
-}
-
 // Compiles the root of a source map, and runs the words.
 fn run_sources<'src, W: Write>(
     alloc: Global,
@@ -89,7 +44,15 @@ fn run_sources<'src, W: Write>(
 {
     let config = Config::new(alloc);
     match compile(alloc, sources, &config, root) {
-        Ok(compilation) => run_compilation(alloc, &compilation, &config, words, output),
+        Ok(compilation) => {
+            let Compilation {
+                justfile,
+                recipes,
+                overrides,
+                ..
+            } = &compilation;
+            run_and_write(alloc, justfile, recipes, overrides, &config, words, output)
+        }
         Err(error) => Err(Fault::Analyzer(error)),
     }
 }

@@ -1,41 +1,15 @@
 //! The lines that tell what words mean, and what a run of them did.
 ghost use Rattle.just_invoke.specs.Closed.{IsClosed};
 
-use just_bench::{PlainEvaluation, Recorder, StopWriter};
+use just_bench::{PlainEvaluation, Recorder};
 use just_data::Text;
-use just_invoke::{Invocation, InvocationParser, Justfile, Recipes, Report};
+use just_invoke::{Invocation, InvocationParser, Justfile, Recipes};
 use just_lines::faults::add_fault;
 use just_lines::lists::{add_group, add_list, before};
-use just_parts::layers::{Config, Entry, Error, Groups, Number};
-use just_syntax::PlainSyntax;
+use just_output::run_words;
+use just_parts::layers::{Config, Entry, Groups, Number};
 use std::alloc::{AllocError, Global};
 use std::collections::HashMap;
-
-// Runs words over a compiled module.
-fn run<'src>(
-    alloc: Global,
-    root: &Justfile<'src>,
-    recipes: &Recipes<'src>,
-    overrides: &HashMap<Number, Text>,
-    config: &Config,
-    host: &mut Recorder,
-    words: &[&str],
-) -> Result<Report, Error<'src>>
-    requires { IsClosed root.now recipes.now }
-{
-    let mut writer = StopWriter::new(alloc, 0)?;
-    root.run(
-        alloc,
-        config,
-        recipes,
-        &PlainSyntax::new(),
-        &mut PlainEvaluation,
-        host,
-        &mut writer,
-        words,
-        overrides,
-    )
-}
 
 // Adds an invocation: the path of its recipe, and its groups in brackets.
 fn add_invocation(text: &mut String, invocation: &Invocation) -> Result<(), AllocError> {
@@ -121,7 +95,7 @@ pub fn add_run<'src>(
         Some(call) => Recorder::memory_at(alloc, call),
         None => Recorder::new(alloc),
     };
-    let ran = run(alloc, root, recipes, overrides, config, &mut host, words);
+    let ran = run_words(alloc, root, recipes, overrides, config, &mut host, words);
     add_executed(text, host.entries())?;
     match ran {
         Ok(report) => add_calls(text, report.calls.as_slice()),

@@ -1,0 +1,61 @@
+//! The run of a compiled module over the layers of the bench.
+ghost use Rattle.just_invoke.specs.Closed.{IsClosed};
+
+use crate::entries::write_entries;
+use crate::fault::Fault;
+use just_bench::{PlainEvaluation, Recorder, StopWriter};
+use just_data::Text;
+use just_invoke::{Justfile, Recipes, Report};
+use just_parts::layers::{Config, Error, Number};
+use just_syntax::PlainSyntax;
+use std::alloc::Global;
+use std::collections::HashMap;
+use std::io::Write;
+
+/// Runs words over a compiled module. The host records what begins.
+pub fn run_words<'src>(
+    alloc: Global,
+    root: &Justfile<'src>,
+    recipes: &Recipes<'src>,
+    overrides: &HashMap<Number, Text>,
+    config: &Config,
+    host: &mut Recorder,
+    words: &[&str],
+) -> Result<Report, Error<'src>>
+    requires { IsClosed root.now recipes.now }
+{
+    let mut writer = StopWriter::new(alloc, 0)?;
+    root.run(
+        alloc,
+        config,
+        recipes,
+        &PlainSyntax::new(),
+        &mut PlainEvaluation,
+        host,
+        &mut writer,
+        words,
+        overrides,
+    )
+}
+
+/// Runs words over a compiled module, and writes which recipes began, before a fault too.
+pub fn run_and_write<'src, W: Write>(
+    alloc: Global,
+    root: &Justfile<'src>,
+    recipes: &Recipes<'src>,
+    overrides: &HashMap<Number, Text>,
+    config: &Config,
+    words: &[&str],
+    output: &mut W,
+) -> Result<(), Fault<'src>>
+    requires { IsClosed root.now recipes.now }
+{
+    let mut host = Recorder::new(alloc);
+    let ran = run_words(alloc, root, recipes, overrides, config, &mut host, words);
+    let is_written = write_entries(output, host.entries()).is_ok();
+    match ran {
+        Err(error) => Err(Fault::Analyzer(error)),
+        Ok(_) if is_written => Ok(()),
+        Ok(_) => Err(Fault::Write),
+    }
+}
