@@ -1,12 +1,9 @@
 pub mod Asking
 pub mod Coming
 pub mod Documenting
-pub mod Evaluating
 pub mod Judged
-pub mod Judging
 pub mod Once
 pub mod Overriding
-pub mod Resolving
 pub mod Similar
 pub mod Tables
 pub mod Walking

@@ -4,7 +4,7 @@ ghost use Rattle.std.specs.Prelude.{◌≡◌, ◌∷◌, [], IfOk, IfErr, OnOk,
 ghost use Rattle.std.specs.List.{Contains};
 ghost use Rattle.just_constants.specs.Constants.{CoversAll, CoversSets, NamesFaultIn, evaluated_in};
 ghost use Rattle.just_constants.specs.Overrides.{overridden_among};
-ghost use Rattle.just_constants.specs.Variables.{AreVariablesOf, known_with_numbers};
+ghost use Rattle.just_assignments.specs.Variables.{AreVariablesOf, known_with_numbers};
 ghost use Rattle.just_errors.specs.Causes.{Keeps, Reports};
 ghost use Rattle.just_joining.specs.Constants as rule;
 ghost use Rattle.just_joining.specs.Definitions.{contents_in, sets_in};
@@ -19,8 +19,8 @@ ghost use Rattle.just_parts.specs.Misnaming.{Misnames};
 
 use crate::expressions::{constant_expressions, settings_expressions};
 use crate::overrides::{by_number, overrides_of};
-use crate::variables::{Variables, copied};
-use just_data::Text;
+use just_assignments::Variables;
+use just_data::{Text, copied};
 use just_joining::definitions::{Definitions, set_at};
 use just_needs::needed_references;
 use just_parts::layers::{

@@ -14,7 +14,7 @@ use Rattle.just_names.specs.Texts.{Text}
 use Rattle.just_names.specs.declared.name.Name.{Name}
 use Rattle.just_records.specs.declared.assignment.Assignment.{Assignment}
 use Rattle.just_records.specs.declared.function_definition.FunctionDefinition.{FunctionDefinition}
-use Rattle.just_constants.specs.Variables.{AreVariables, known_with_numbers}
+use Rattle.just_assignments.specs.Variables.{AreVariables, known_with_numbers}
 use Rattle.just_numbering.specs.Resolved.{AreInOrder}
 use Rattle.just_names.specs.declared.number.Number.{Number}
 use Rattle.just_recipe.specs.Recipes.{numbers}

@@ -7,7 +7,7 @@ ghost use Rattle.just_graph.specs.Steps.{IsOnce};
 ghost use Rattle.just_invoke.specs.declared.justfile.Justfile.{Justfile};
 ghost use Rattle.just_making.specs.Labelled.{AreTaken, labelled_as, slot};
 
-use just_data::Sequence;
+use just_data::{Sequence, copied};
 use just_invoke::Justfile;
 use just_notes::Label;
 use just_table::Table;
@@ -47,13 +47,6 @@ fn values<'src>(
     Ok(Sequence::from_vec(modules))
 }
 
-// A label once more.
-fn copied_label<'src>(label: &Label<'src>) -> Result<Label<'src>, AllocError>
-    ensures { IfOk result (λ copy. copy ≡ label.now) }
-{
-    label.clone()
-}
-
 /// Takes what is held at a place.
 pub fn take_at<'src>(slots: &mut Vec<Option<Justfile<'src>>>, place: usize) -> Justfile<'src>
     requires inside { place < length slots.old.items }
@@ -84,7 +77,7 @@ pub fn take_inner<'src>(
     let mut table = Table::new(alloc);
     for at in 0..row.len() {
         let justfile = take_at(slots, row[at]);
-        let label = copied_label(&labels[at])?;
+        let label = copied(&labels[at])?;
         table.insert(labelled(justfile, label))?;
     }
     let modules = values(alloc, table)?;

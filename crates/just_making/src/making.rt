@@ -13,7 +13,7 @@ ghost use Rattle.just_joining.specs.Kept.{kept_recipes};
 ghost use Rattle.just_joining.specs.Named.{recipes_by};
 ghost use Rattle.just_joining.specs.Recipes.{names_of};
 
-use just_constants::Variables;
+use just_assignments::Variables;
 use just_data::{Sequence, Shared, Text};
 use just_dependencies::marked_place;
 use just_invoke::{Justfile, RecipeKey, Recipes};

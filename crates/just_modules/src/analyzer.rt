@@ -7,7 +7,7 @@ ghost use Rattle.just_graph.specs.Steps.{IsOnce};
 ghost use Rattle.just_parts.specs.Asts.{same_ast_key};
 ghost use Rattle.just_errors.specs.Causes.{Keeps, Reports};
 ghost use Rattle.just_invoke.specs.declared.justfile.Justfile.{out-Justfile};
-ghost use Rattle.just_constants.specs.Variables.{AreVariablesOf};
+ghost use Rattle.just_assignments.specs.Variables.{AreVariablesOf};
 ghost use Rattle.just_joining.specs.Analyzable.{AreAnalyzable};
 ghost use Rattle.just_joining.specs.Definitions.{contents_in, recipes_in};
 ghost use Rattle.just_making.specs.Analysis.{BreaksRecipes, HasDefault, IsOf};
@@ -21,7 +21,7 @@ ghost use Rattle.just_joining.specs.Resolved.{AreNew, AreResolved, HasPriors, un
 ghost use Rattle.just_parts.specs.Layers.{given_of};
 
 use crate::compiling::{Gathered, compile_in_order};
-use just_constants::Variables;
+use just_assignments::Variables;
 use just_data::{Sequence, Shared, Text};
 use just_dependencies::{order_recipes, resolve_in_order};
 use just_invoke::{Justfile, Recipes};

@@ -6,10 +6,10 @@ ghost use Rattle.just_names.specs.Name.{text_of_name};
 ghost use Rattle.just_table.specs.Entries.{put_all};
 ghost use Rattle.just_joining.specs.Definitions.{contents_in, functions_in, variables_in};
 ghost use Rattle.just_joining.specs.Known.{functions_under, known_of};
-ghost use Rattle.just_constants.specs.Variables.{AreVariablesOf};
+ghost use Rattle.just_assignments.specs.Variables.{AreVariablesOf};
 ghost use Rattle.just_parts.specs.Misnaming.{Expressions};
 
-use just_data::{Exact, Sequence};
+use just_data::{Sequence, copied};
 use just_joining::definitions::{Definitions, function_at, variable_at};
 use just_joining::kept::keep_variables;
 use just_numbering::resolve_assignments;
@@ -41,13 +41,6 @@ fn function_table<'a, 'src>(
         functions.insert(function_at(definitions, place).clone()?)?;
     }
     Ok(functions)
-}
-
-/// A value once more.
-pub fn copied<T: Exact>(value: &T) -> Result<T, AllocError>
-    ensures { IfOk result (λ copy. copy ≡ value.now) }
-{
-    value.clone()
 }
 
 // The variables, under their names.

@@ -6,8 +6,8 @@ use Rattle.just_joining.proofs.RecipePlaces.{length-lent}
 use Rattle.just_joining.specs.Known.{functions_under}
 use Rattle.just_names.specs.Name.{text_of_name}
 use Rattle.just_records.specs.declared.function_definition.FunctionDefinition.{FunctionDefinition}
-use Rattle.just_constants.proofs.Evaluating.{one_put}
-use Rattle.just_constants.proofs.variables.function_table.Goals as goal
+use Rattle.just_assignments.proofs.Copies.{one_put}
+use Rattle.just_assignments.proofs.variables.function_table.Goals as goal
 
 pub loop-place-preserved : goal.loop-place-preserved
 loop-place-preserved c =

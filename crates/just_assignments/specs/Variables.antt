@@ -2,7 +2,7 @@
 use Rattle.std.specs.Prelude.{◌≡◌, List}
 use Rattle.just_joining.specs.Contents.{Contents}
 use Rattle.just_joining.specs.Known.{functions_under, variables_under}
-use Rattle.just_constants.specs.declared.variables.Variables.{Variables}
+use Rattle.just_assignments.specs.declared.variables.Variables.{Variables}
 use Rattle.just_names.specs.Texts.{Text}
 use Rattle.just_names.specs.declared.name.Name.{Name}
 use Rattle.just_parts.specs.Syntax.{SyntaxAnswers}

@@ -9,10 +9,10 @@ use Rattle.just_parts.specs.Known.{Known, known}
 use Rattle.just_parts.specs.Misnaming.{Expressions}
 use Rattle.just_joining.specs.Definitions.{contents_in, variables_in}
 use Rattle.just_joining.specs.Known.{known_of, variables_under}
-use Rattle.just_constants.specs.Variables.{AreVariables, known_with_numbers}
-use Rattle.just_constants.proofs.Judging.{breaks_known, keeps_known}
-use Rattle.just_constants.proofs.Resolving.{are_variables}
-use Rattle.just_constants.proofs.variables.resolve_variables.Goals as goal
+use Rattle.just_assignments.specs.Variables.{AreVariables, known_with_numbers}
+use Rattle.just_assignments.proofs.Judging.{breaks_known, keeps_known}
+use Rattle.just_assignments.proofs.Resolving.{are_variables}
+use Rattle.just_assignments.proofs.variables.resolve_variables.Goals as goal
 
 pub returns-in_err-resolved-clause-named : goal.returns-in_err-resolved-clause-named
 returns-in_err-resolved-clause-named g c =

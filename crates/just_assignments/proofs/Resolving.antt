@@ -18,7 +18,7 @@ use Rattle.just_joining.specs.Kept.{kept_variables}
 use Rattle.just_numbering.specs.Numbered.{name_of_assignment, name_of_function}
 use Rattle.just_numbering.specs.Resolved.{AreInOrder, ResolvesTo}
 use Rattle.just_parts.specs.Known.{Known, known}
-use Rattle.just_constants.specs.Variables.{AreVariables, known_with_numbers}
+use Rattle.just_assignments.specs.Variables.{AreVariables, known_with_numbers}
 
 all_keyed : {V : Type 0} (key_of : V → List ℕ) (es : List (List ℕ × V)) → IsKeyed key_of es → (vs : List V) → IsKeyed key_of (put_all key_of es vs)
 all_keyed key_of es keyed [] = keyed

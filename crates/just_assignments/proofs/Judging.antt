@@ -16,7 +16,7 @@ use Rattle.just_parts.specs.Misnaming.{Expressions}
 use Rattle.just_variables.proofs.Alike.{alike_changed, changed, changed_alike, expressions_alike, parameter_names, put_changed}
 use Rattle.just_joining.specs.Contents.{Contents}
 use Rattle.just_joining.specs.Known.{functions_under, known_of, variables_under}
-use Rattle.just_constants.specs.Variables.{known_with_numbers}
+use Rattle.just_assignments.specs.Variables.{known_with_numbers}
 use Rattle.just_joining.specs.Kept.{claim_of_variable, gives_way, kept, kept_variables, left_of}
 use Rattle.just_joining.specs.declared.kept.Claim.{Claim}
 

@@ -6,8 +6,8 @@ use Rattle.just_records.specs.declared.assignment.Assignment.{Assignment}
 use Rattle.just_table.specs.Entries.{put_all}
 use Rattle.just_joining.specs.Definitions.{variables_in}
 use Rattle.just_joining.proofs.RecipePlaces.{length-lent}
-use Rattle.just_constants.proofs.Evaluating.{one_put}
-use Rattle.just_constants.proofs.variables.variable_table.Goals as goal
+use Rattle.just_assignments.proofs.Copies.{one_put}
+use Rattle.just_assignments.proofs.variables.variable_table.Goals as goal
 
 pub loop-place-preserved : goal.loop-place-preserved
 loop-place-preserved c =
