@@ -1,5 +1,4 @@
 pub mod Edges
-pub mod Later
 pub mod RecipeCircles
 pub mod Refuted
 pub mod Resolving

@@ -12,19 +12,13 @@ use Rattle.just_names.specs.declared.number.Number.{Number}
 use Rattle.just_recipe.specs.declared.dependency.UnresolvedDependency.{UnresolvedDependency}
 use Rattle.just_paths.specs.declared.modulepath.Modulepath.{Modulepath}
 use Rattle.just_recipe.specs.declared.recipe.Recipe.{Recipe}
-use Rattle.just_recipe.specs.Recipes.{numbers, needs, IsNew}
-use Rattle.just_recipe.specs.Recipes.{IsResolved}
+use Rattle.just_recipe.specs.Recipes.{IsNew, IsResolved, needs, numbers}
 use Rattle.just_index.specs.Index.{AreDifferent}
 use Rattle.just_joining.specs.Recipes.{names_of, Depends}
 use Rattle.just_joining.specs.Rows.{IsRow, IsOrderOf}
+use Rattle.just_joining.proofs.RecipePlaces.{number_read}
 use Rattle.just_joining.specs.Resolved.{unresolved_numbers, number_at, HasPriors, linked, Resolves, IsMadeOf, AreMadeOf, Resolving, AreResolved}
 use Rattle.just_dependencies.proofs.Edges.{row_steps}
-
--- the number of a recipe that is read
-pub number_read : (rs : List (Recipe UnresolvedDependency)) (place : ℕ) (r : Recipe UnresolvedDependency) → slice_get rs place ≡ Some r → number_at rs place ≡ r.number.0
-number_read [] place r e = cc
-number_read (x ∷ rs) zero r e = let same : x ≡ r = cc in ap (λ (q : Recipe UnresolvedDependency). q.number.0) same
-number_read (x ∷ rs) (suc place) r e = number_read rs place r e
 
 linked_suc : (rs : List (Recipe UnresolvedDependency)) (ds : List UnresolvedDependency) (ps : List ℕ) (k : ℕ) (d : UnresolvedDependency) → k < length ds → k < length ps
     → linked rs (take (suc k) ds) (take (suc k) ps) ≡ linked rs (take k ds) (take k ps) ++ record { path = (get_or ds k d).recipe; recipe = record { 0 = number_at rs (slice_index ps k) } } ∷ []

@@ -10,6 +10,7 @@ use Rattle.just_errors.specs.declared.error.CompileErrorKind.TheVariants as kind
 use Rattle.just_names.specs.Name.{text_of_name}
 use Rattle.just_names.specs.declared.name.Name.{Name}
 use Rattle.just_joining.specs.Recipes.{FollowsDefault, NoneFollows, name_of, named_parameters, parameter_names, lent, no_recipe, recipe_at, names_of}
+use Rattle.just_joining.specs.Resolved.{number_at}
 use Rattle.just_index.specs.Index.{name_at, Repeats, AreDifferent}
 use Rattle.just_errors.specs.Causes.{Cause, Broken}
 use Rattle.just_names.specs.Token.{Place}
@@ -19,6 +20,12 @@ pub recipe_read : (rs : List (Recipe UnresolvedDependency)) (i : ℕ) (r : Recip
 recipe_read [] i r e = cc
 recipe_read (x ∷ rs) zero r e = let same : x ≡ r = cc in sym same
 recipe_read (x ∷ rs) (suc i) r e = recipe_read rs i r e
+
+-- the number of a recipe that is read
+pub number_read : (rs : List (Recipe UnresolvedDependency)) (place : ℕ) (r : Recipe UnresolvedDependency) → slice_get rs place ≡ Some r → number_at rs place ≡ r.number.0
+number_read [] place r e = cc
+number_read (x ∷ rs) zero r e = let same : x ≡ r = cc in ap (λ (q : Recipe UnresolvedDependency). q.number.0) same
+number_read (x ∷ rs) (suc place) r e = number_read rs place r e
 
 -- the name at a place
 pub name_at_place : (rs : List (Recipe UnresolvedDependency)) (i : ℕ) → i < length rs → name_at (names_of rs) i ≡ name_of (recipe_at rs i)

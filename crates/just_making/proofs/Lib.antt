@@ -1,4 +1,3 @@
-pub mod Defaults
 pub mod Held
 pub mod Keys
 pub mod Makings

@@ -9,18 +9,12 @@ use Rattle.just_recipe.specs.declared.dependency.UnresolvedDependency.{Unresolve
 use Rattle.just_paths.specs.declared.modulepath.Modulepath.{Modulepath}
 use Rattle.just_recipe.specs.declared.recipe.Recipe.{Recipe}
 use Rattle.just_parts.specs.Items.{Ast}
-use Rattle.just_parts.specs.Syntax.{SyntaxAnswers}
-use Rattle.just_names.specs.Texts.{Text}
-use Rattle.just_names.specs.declared.name.Name.{Name}
-use Rattle.just_records.specs.declared.assignment.Assignment.{Assignment}
-use Rattle.just_records.specs.declared.function_definition.FunctionDefinition.{FunctionDefinition}
-use Rattle.just_assignments.specs.Variables.{AreVariables, known_with_numbers}
-use Rattle.just_numbering.specs.Resolved.{AreInOrder}
 use Rattle.just_names.specs.declared.number.Number.{Number}
 use Rattle.just_recipe.specs.Recipes.{numbers}
 use Rattle.just_invoke.specs.declared.justfile.Justfile.{Justfile, out-Justfile}
 use Rattle.just_invoke.specs.declared.justfile.RecipeKey.{RecipeKey}
-use Rattle.just_making.specs.Analysis.{AreKeysOf, HasKeysOf, IsDefaultOf, IsOf}
+use Rattle.just_joining.specs.Defaults.{IsDefaultOf}
+use Rattle.just_making.specs.Analysis.{AreKeysOf, HasKeysOf, IsOf}
 use Rattle.just_joining.specs.Contents.{Contents}
 use Rattle.just_joining.specs.Kept.{kept_recipes}
 use Rattle.just_joining.specs.Resolved.{AreMadeOf, AreResolved, number_at, unresolved_numbers}
@@ -70,12 +64,3 @@ pub default_resolved : (rs : List (Recipe UnresolvedDependency)) (path : Modulep
 default_resolved rs path made own default so d = default_of_same (numbers made) (unresolved_numbers rs) own default (resolved_numbers rs path made so) (λ n c.
     let count : length (unresolved_numbers rs) ≡ length rs = length-map rs (λ (r : Recipe UnresolvedDependency). r.number.0) in
     subst (Contains (numbers made)) (get_or_default (unresolved_numbers rs) c.0 0 n c.1 ∙ c.2) (so.there c.0 (omega (arith, c.1, count)))) d
-
--- variables that are resolved, by equal tables
-pub variables_had : (answers : SyntaxAnswers) (m : Contents) (assignments : List (Text × Assignment)) (functions : List (Text × FunctionDefinition)) (order : List Name) → AreVariables answers m assignments functions order
-    → (vs : List (Text × Assignment)) (fs : List (Text × FunctionDefinition)) (ns : List Name) → vs ≡ assignments → fs ≡ functions → ns ≡ order → AreVariables answers m vs fs ns
-variables_had answers m assignments functions order is vs fs ns same alike ordered = record {
-  assignments_are = same ∙ is.assignments_are;
-  functions_are = alike ∙ is.functions_are;
-  evaluation_order = subst (AreInOrder (known_with_numbers answers m)) (sym ordered) is.evaluation_order;
-}

@@ -1,6 +1,6 @@
 //! The modules in a module, which are compiled before it.
 
-ghost use Rattle.std.specs.Prelude.{◌≡◌, ◌<◌, ℕ, List, IfOk, IfSome, OnOk, Some, get_or, length, map};
+ghost use Rattle.std.specs.Prelude.{◌≡◌, ◌<◌, ℕ, List, IfOk, OnOk, Some, length, map};
 ghost use Rattle.std.specs.List.{All, Contains};
 ghost use Rattle.std.specs.Map.{values_of};
 ghost use Rattle.just_graph.specs.Steps.{IsOnce};

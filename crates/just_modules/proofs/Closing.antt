@@ -16,18 +16,18 @@ use Rattle.just_recipe.specs.declared.dependency.UnresolvedDependency.{Unresolve
 use Rattle.just_names.specs.declared.number.Number.{Number}
 use Rattle.just_recipe.specs.declared.recipe.Recipe.{Recipe}
 use Rattle.just_invoke.specs.Closed.{AreClosed, IsClosed, all_closed, recipe_of_key, recipe_of_number}
-use Rattle.just_recipe.specs.Recipes.{IsResolved}
+use Rattle.just_recipe.specs.Recipes.{IsResolved, find_number, numbers}
 use Rattle.just_invoke.specs.Module.{module_name}
-use Rattle.just_recipe.specs.Recipes.{find_number, numbers}
 use Rattle.just_invoke.specs.declared.justfile.Justfile.{Justfile, out-Justfile}
 use Rattle.just_invoke.specs.declared.justfile.RecipeKey.{RecipeKey}
-use Rattle.just_making.specs.Analysis.{IsDefaultAmong, IsDefaultOf, IsKeyOf}
+use Rattle.just_joining.specs.Defaults.{IsDefaultAmong, IsDefaultOf}
+use Rattle.just_making.specs.Analysis.{IsKeyOf}
 use Rattle.just_making.specs.Labelled.{by_name, held_by_name}
 use Rattle.just_modules.specs.Justfiles.{AreCompiled, Built, Made, IsCompiled, none, one, recipes_in, recipes_of_all}
 use Rattle.just_modules.specs.Modules.{Forest, Module}
 use Rattle.just_graph.proofs.Index.{some_same}
 use Rattle.std.specs.Option.{option_map}
-use Rattle.just_dependencies.proofs.Later.{marked_or_none}
+use Rattle.just_defaults.proofs.Later.{marked_or_none}
 use Rattle.just_joining.specs.Kept.{kept_recipes}
 use Rattle.just_joining.specs.Recipes.{recipes_of}
 use Rattle.just_joining.specs.Resolved.{number_at, unresolved_numbers}

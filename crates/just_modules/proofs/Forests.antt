@@ -13,7 +13,8 @@ use Rattle.just_parts.specs.Asts.{AstKey, same_ast_key}
 use Rattle.just_names.specs.Texts.{Text}
 use Rattle.just_parts.specs.Items.{Ast, Item}
 use Rattle.just_invoke.specs.declared.justfile.Justfile.{Justfile, out-Justfile, out-roll-Justfile}
-use Rattle.just_making.specs.Analysis.{AreKeysOf, HasDefault, HasKeysOf, IsDefaultAmong, IsOf}
+use Rattle.just_joining.specs.Defaults.{IsDefaultAmong}
+use Rattle.just_making.specs.Analysis.{AreKeysOf, HasDefault, HasKeysOf, IsOf}
 use Rattle.just_joining.specs.Files.{ArePlaced, AreRows, asts_in}
 use Rattle.just_joining.specs.Joined.{IsJoined}
 use Rattle.just_constants.specs.Documented.{AreDocumented, HasDoc}

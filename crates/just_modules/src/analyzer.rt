@@ -23,13 +23,14 @@ ghost use Rattle.just_parts.specs.Layers.{given_of};
 use crate::compiling::{Gathered, compile_in_order};
 use just_assignments::Variables;
 use just_data::{Sequence, Shared, Text};
+use just_defaults::default_of;
 use just_dependencies::{order_recipes, resolve_in_order};
 use just_invoke::{Justfile, Recipes};
 use just_joining::definitions::Definitions;
 use just_joining::files::{file_rows, place_files, place_of};
 use just_joining::joined::arrange;
 use just_joining::kept::keep_recipes;
-use just_making::{Surroundings, default_of, labelled, make_justfile, take_at};
+use just_making::{Surroundings, labelled, make_justfile, take_at};
 use just_notes::Label;
 use just_parts::layers::{
     Ast, Config, Error, Evaluation, Name, Number, Settings, StringLiteral, Syntax,

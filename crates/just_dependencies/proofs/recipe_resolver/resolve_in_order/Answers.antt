@@ -8,7 +8,8 @@ use Rattle.just_joining.specs.Definitions.{recipes_in}
 use Rattle.just_joining.specs.Rows.{IsRow}
 use Rattle.just_joining.specs.Resolved.{number_at}
 use Rattle.just_joining.proofs.RecipePlaces.{length-lent}
-use Rattle.just_dependencies.proofs.Resolving.{number_read, is_new, are_there, resolving_more, is_resolved, needs_of, priors_at}
+use Rattle.just_joining.proofs.RecipePlaces.{number_read}
+use Rattle.just_dependencies.proofs.Resolving.{is_new, are_there, resolving_more, is_resolved, needs_of, priors_at}
 use Rattle.just_dependencies.proofs.recipe_resolver.resolve_in_order.Goals as goal
 
 pub push-requires-clause-is_new : goal.push-requires-clause-is_new

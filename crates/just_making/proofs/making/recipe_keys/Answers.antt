@@ -6,7 +6,7 @@ use Rattle.just_recipe.specs.declared.recipe.Recipe.{Recipe}
 use Rattle.just_joining.specs.Definitions.{recipes_in}
 use Rattle.just_joining.specs.Recipes.{name_of, recipe_at}
 use Rattle.just_joining.proofs.RecipePlaces.{length-lent}
-use Rattle.just_dependencies.proofs.Resolving.{number_read}
+use Rattle.just_joining.proofs.RecipePlaces.{number_read}
 use Rattle.just_making.proofs.Keys.{keys_more}
 use Rattle.just_making.proofs.Held.{keys_held_more}
 use Rattle.just_making.proofs.making.recipe_keys.Goals as goal

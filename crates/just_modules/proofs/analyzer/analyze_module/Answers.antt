@@ -3,15 +3,16 @@ use Rattle.std.proofs.lemmas.Result.{IfErr-weaker}
 use Rattle.just_errors.specs.Causes.{Keeps, Reports}
 use Rattle.just_errors.proofs.Lifts.{reports_by}
 use Rattle.just_graph.proofs.Members.{contained, is_in}
-use Rattle.just_joining.specs.Defaults.{Defaults, NoneMarked}
+use Rattle.just_joining.specs.Defaults.{Defaults, IsDefaultAmong, IsMarked, NoneMarked}
 use Rattle.just_joining.specs.Definitions.{contents_in, recipes_in}
 use Rattle.just_joining.specs.Kept.{kept_recipes}
 use Rattle.just_joining.specs.Named.{recipes_by}
 use Rattle.just_joining.specs.Resolved.{unresolved_numbers}
 use Rattle.just_joining.proofs.Keeping.{kept_number}
-use Rattle.just_making.specs.Analysis.{BreaksRecipes, IsDefaultAmong, IsMarked, in_defaults}
+use Rattle.just_making.specs.Analysis.{BreaksRecipes, in_defaults}
 use Rattle.just_modules.proofs.Grounds.{recipes_kept}
-use Rattle.just_making.proofs.Makings.{default_resolved, resolved_numbers, variables_had}
+use Rattle.just_assignments.proofs.Resolving.{variables_had}
+use Rattle.just_making.proofs.Makings.{default_resolved, resolved_numbers}
 use Rattle.just_modules.proofs.analyzer.analyze_module.Goals as goal
 use Rattle.just_recipe.specs.declared.dependency.UnresolvedDependency.{UnresolvedDependency}
 use Rattle.just_recipe.specs.declared.recipe.Recipe.{Recipe}

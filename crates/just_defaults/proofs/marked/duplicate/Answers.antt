@@ -1,10 +1,10 @@
 use Rattle.std.proofs.Common.{◌≡◌, ◌≢◌, ◌<◌, ◌∙◌, length, ap, sym, arith}
 use Rattle.just_joining.specs.Definitions.{recipes_in}
 use Rattle.just_joining.specs.Recipes.{name_of}
-use Rattle.just_dependencies.proofs.Later.{told_default}
+use Rattle.just_defaults.proofs.Later.{told_default}
 use Rattle.just_joining.proofs.RecipePlaces.{length-lent}
-use Rattle.just_dependencies.proofs.defaults.duplicate.Goals.{then-is_later, else-is_later}
-use Rattle.just_dependencies.proofs.defaults.duplicate.Goals as goal
+use Rattle.just_defaults.proofs.marked.duplicate.Goals.{then-is_later, else-is_later}
+use Rattle.just_defaults.proofs.marked.duplicate.Goals as goal
 
 pub returns : goal.returns
 returns c =

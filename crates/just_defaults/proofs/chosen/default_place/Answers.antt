@@ -2,10 +2,10 @@ use Rattle.std.proofs.Common.{◌≡◌, length, sym, subst, arith}
 use Rattle.std.specs.List.{Contains}
 use Rattle.just_recipe.specs.Recipes.{numbers}
 use Rattle.just_joining.specs.Definitions.{recipes_in}
-use Rattle.just_dependencies.proofs.Resolving.{number_read}
-use Rattle.just_making.specs.Analysis.{IsDefaultPlace}
-use Rattle.just_making.proofs.Defaults.{is_not, is_resolved, passes_by, takes_better}
-use Rattle.just_making.proofs.making.default_place.Goals as goal
+use Rattle.just_joining.proofs.RecipePlaces.{number_read}
+use Rattle.just_joining.specs.Defaults.{IsDefaultPlace}
+use Rattle.just_defaults.proofs.Defaults.{is_not, is_resolved, passes_by, takes_better}
+use Rattle.just_defaults.proofs.chosen.default_place.Goals as goal
 
 pub loop-place-preserved-then-is_none : goal.loop-place-preserved-then-is_none
 loop-place-preserved-then-is_none c =

@@ -6,8 +6,8 @@ use Rattle.just_joining.specs.Contents.{Contents}
 use Rattle.just_joining.specs.Definitions.{recipes_in}
 use Rattle.just_joining.specs.Recipes.{recipes_of}
 use Rattle.just_joining.proofs.RecipePlaces.{length-lent}
-use Rattle.just_making.specs.Analysis.{IsDefaultPlace}
-use Rattle.just_making.proofs.making.own_default.Goals as goal
+use Rattle.just_joining.specs.Defaults.{IsDefaultPlace}
+use Rattle.just_defaults.proofs.chosen.own_default.Goals as goal
 
 pub returns-in-None : goal.returns-in-None
 returns-in-None c = λ c'.

@@ -1,8 +1,8 @@
 use Rattle.std.proofs.Common.{◌∙◌, arith, is_lt}
 use Rattle.std.specs.Cmp.Lexicographic.{slice_cmp}
 use Rattle.std.specs.Ordering.{nat_cmp}
-use Rattle.just_dependencies.proofs.Later.{later_by_name, later_by_no_less, less_by, not_less_by}
-use Rattle.just_dependencies.proofs.defaults.is_later.Goals as goal
+use Rattle.just_defaults.proofs.Later.{later_by_name, later_by_no_less, less_by, not_less_by}
+use Rattle.just_defaults.proofs.marked.is_later.Goals as goal
 
 pub returns-then-line-clause-yes : goal.returns-then-line-clause-yes
 returns-then-line-clause-yes c = λ yes. later_by_name c.args.first.now c.args.second.now (omega (arith, c.if-line.true, c.line.ensures, c.line-2.ensures)) (less_by _ c.lt.result (c.lt.ensures ∙ (λ i. is_lt (slice_cmp nat_cmp (c.lexeme.ensures i) (c.lexeme-then-line.ensures i)))) yes)

@@ -1,9 +1,9 @@
 use Rattle.std.proofs.Common.{refl, subst, sym, inl, inr}
 use Rattle.just_joining.specs.Definitions.{recipes_in}
-use Rattle.just_making.proofs.Defaults.{itself, read_before}
-use Rattle.just_making.specs.Analysis.{IsBetter}
+use Rattle.just_defaults.proofs.Defaults.{itself, read_before}
+use Rattle.just_joining.specs.Defaults.{IsBetter}
 use Rattle.just_joining.specs.Recipes.{recipe_at}
-use Rattle.just_making.proofs.making.better.Goals as goal
+use Rattle.just_defaults.proofs.chosen.better.Goals as goal
 
 pub returns-then-comes_before : goal.returns-then-comes_before
 returns-then-comes_before c =

@@ -13,10 +13,9 @@ use Rattle.just_recipe.specs.declared.recipe.Recipe.{Recipe}
 use Rattle.just_recipe.specs.Recipes.{find_number, numbers}
 use Rattle.just_running.proofs.Places.{found-number}
 use Rattle.just_names.specs.declared.number.Number.{Number}
-use Rattle.just_joining.specs.Defaults.{IsMarkedPlace}
-use Rattle.just_making.specs.Analysis.{IsBefore, IsBetter, IsDefault, IsDefaultPlace, IsMarked}
+use Rattle.just_joining.specs.Defaults.{IsBefore, IsBetter, IsDefault, IsDefaultPlace, IsMarked, IsMarkedPlace}
 use Rattle.just_joining.specs.Recipes.{name_of, line_of, recipe_at}
-use Rattle.just_dependencies.proofs.Later.{cmp, greater_not_less}
+use Rattle.just_defaults.proofs.Later.{cmp, greater_not_less}
 use Rattle.just_joining.specs.Resolved.{number_at}
 
 equal_not_less : (o : Ordering) → o ≡ Equal → o ≢ Less

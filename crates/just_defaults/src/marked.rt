@@ -1,5 +1,5 @@
 //! The rule of recipes that are run without words.
-ghost use Rattle.std.specs.Prelude.{◌≡◌, ◌≢◌, ◌<◌, true, length, IsTrue, false, IfErr, IfOk, IfSome, OnOk};
+ghost use Rattle.std.specs.Prelude.{◌≡◌, ◌≢◌, ◌<◌, true, length, IsTrue, false, IfErr, IfOk, OnOk};
 ghost use Rattle.std.specs.List.{list_any};
 ghost use Rattle.just_errors.specs.Causes.{Broken, Keeps, Reports};
 ghost use Rattle.just_joining.specs.Defaults.{Defaults, IsLater, IsMarkedPlace, is_default, is_marked};
