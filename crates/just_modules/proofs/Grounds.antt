@@ -2,12 +2,9 @@
 use Rattle.std.proofs.Common.{arith, subst}
 use Rattle.just_errors.specs.Causes.{Cause, Keeps}
 use Rattle.just_parts.specs.Layers.{Layers}
-use Rattle.just_parts.specs.Syntax.{SyntaxAnswers}
-use Rattle.just_literals.specs.declared.settings.Settings.{Settings}
 use Rattle.just_constants.proofs.Once.{evaluated_once}
 use Rattle.just_joining.specs.Constants.{Docs, Evaluated, IsEvaluated}
 use Rattle.just_joining.specs.Contents.{Contents}
-use Rattle.just_joining.specs.Defaults.{Defaults}
 use Rattle.just_joining.specs.Groups.{BodiesAndDocs, Breaks, BreaksContents, KeepsBefore, KeepsContents, OfAliases, OfBodies, OfConstants, OfDependencies, OfExpressions, OfHeaders, OfNames, in_docs, in_bodies as in_body}
 use Rattle.just_joining.specs.Kept.{kept_recipes}
 use Rattle.just_joining.specs.Rules.{Bodies, Dependencies, Under, under}
@@ -41,12 +38,6 @@ module _ (layers : Layers) (m : Contents) (earlier : KeepsBefore layers OfBodies
   groups_kept bodies dependencies aliases OfBodies = bodies
   groups_kept bodies dependencies aliases OfDependencies = dependencies
   groups_kept bodies dependencies aliases OfAliases = aliases
-
--- what is kept of recipes
-pub recipes_kept : (answers : SyntaxAnswers) (s : Settings) (m : Contents) → Keeps (Bodies answers s m) → Keeps (Dependencies s.lists (kept_recipes m.recipes)) → Keeps (Defaults (kept_recipes m.recipes)) → Keeps (BreaksRecipes answers s m)
-recipes_kept answers s m bodies dependencies defaults c (in_bodies b) = bodies c b
-recipes_kept answers s m bodies dependencies defaults c (in_dependencies kept b) = dependencies c b
-recipes_kept answers s m bodies dependencies defaults c (in_defaults kept also b) = defaults c b
 
 -- what is kept of a module as it is evaluated, and what is broken
 module _ (layers : Layers) (m : Contents) (it : Evaluated) (is : IsEvaluated layers m it) where

@@ -1,118 +1,24 @@
 //! The analysis of a module, and of the modules in it.
 
-ghost use Rattle.std.specs.Prelude.{◌≡◌, ◌≤◌, IfErr, IfOk, IsSome, None, Some, length};
+ghost use Rattle.std.specs.Prelude.{◌≡◌, ◌≤◌, IfErr, IfOk, IsSome, None, length};
 ghost use Rattle.std.specs.HashMap.{get, spare};
-ghost use Rattle.std.specs.List.{All};
-ghost use Rattle.just_graph.specs.Steps.{IsOnce};
 ghost use Rattle.just_parts.specs.Asts.{same_ast_key};
-ghost use Rattle.just_errors.specs.Causes.{Keeps, Reports};
-ghost use Rattle.just_invoke.specs.declared.justfile.Justfile.{out-Justfile};
-ghost use Rattle.just_assignments.specs.Variables.{AreVariablesOf};
 ghost use Rattle.just_joining.specs.Analyzable.{AreAnalyzable};
-ghost use Rattle.just_joining.specs.Definitions.{contents_in, recipes_in};
-ghost use Rattle.just_making.specs.Analysis.{BreaksRecipes, HasDefault, IsOf};
 ghost use Rattle.just_modules.specs.Analyzed.{AnalyzesAt, AreInserted, NamesAnalyzed};
-ghost use Rattle.just_making.specs.Labelled.{notes_in};
-ghost use Rattle.just_making.specs.Variables.{HasVariables};
-ghost use Rattle.just_joining.specs.Named.{AreAdded, recipes_by};
-ghost use Rattle.just_joining.specs.Rules.{Bodies, Dependencies};
-ghost use Rattle.just_joining.specs.Kept.{kept_recipes};
-ghost use Rattle.just_joining.specs.Resolved.{AreNew, AreResolved, HasPriors, unresolved_numbers};
 ghost use Rattle.just_parts.specs.Layers.{given_of};
 
 use crate::compiling::{Gathered, compile_in_order};
-use just_assignments::Variables;
 use just_data::{Sequence, Shared, Text};
-use just_defaults::default_of;
-use just_dependencies::{order_recipes, resolve_in_order};
 use just_invoke::{Justfile, Recipes};
-use just_joining::definitions::Definitions;
 use just_joining::files::{file_rows, place_files, place_of};
 use just_joining::joined::arrange;
-use just_joining::kept::keep_recipes;
-use just_making::{Surroundings, labelled, make_justfile, take_at};
+use just_making::{labelled, take_at};
 use just_notes::Label;
-use just_parts::layers::{
-    Ast, Config, Error, Evaluation, Name, Number, Settings, StringLiteral, Syntax,
-};
+use just_parts::layers::{Ast, Config, Error, Evaluation, Name, Number, StringLiteral, Syntax};
 use just_paths::Modulepath;
-use just_rules::bodies::{check_bodies, index_recipes};
 use just_rules::module_names::check_module_names;
 use std::alloc::{AllocError, Global};
 use std::collections::HashMap;
-
-// The recipes of the module at a path that are kept, with these settings, and the same resolved, each after those
-// that it depends on. An error names a rule that is broken in its bodies, or where these are kept in its dependencies.
-fn resolve_recipes<'src, 'a, S: Syntax>(
-    alloc: Global,
-    definitions: &Definitions<'src, 'a>,
-    syntax: &S,
-    settings: &Settings,
-    path: &Modulepath,
-) -> Result<(Definitions<'src, 'a>, Recipes<'src>), Error<'src>>
-    requires once { IsOnce (unresolved_numbers (recipes_in definitions.now)) }
-    requires priors { All HasPriors (recipes_in definitions.now) }
-    ensures bodies { IfOk result (λ _. Keeps (Bodies (S.answers syntax.now) settings.now (contents_in definitions.now))) }
-    ensures dependencies { IfOk result (λ _. Keeps (Dependencies settings.now.lists (kept_recipes (recipes_in definitions.now)))) }
-    ensures recipes { IfOk result (λ made. recipes_in made.0 ≡ kept_recipes (recipes_in definitions.now)) }
-    ensures resolved { IfOk result (λ made. AreResolved (kept_recipes (recipes_in definitions.now)) path.now made.1) }
-    ensures named { IfErr result (Reports (BreaksRecipes (S.answers syntax.now) settings.now (contents_in definitions.now))) }
-{
-    check_bodies(alloc, syntax, definitions, settings)?;
-    let kept = keep_recipes(alloc, definitions)?;
-    let index = index_recipes(alloc, &kept)?;
-    let (rows, order) = order_recipes(alloc, &kept, &index, settings)?;
-    let made = resolve_in_order(alloc, &kept, rows.as_slice(), order.as_slice(), path)?;
-    Ok((kept, made))
-}
-
-/// Analyzes the recipes of a module with these definitions, of which `ast` says its own file: checks them under its
-/// settings, resolves them, and adds them to the others. An error names a rule that is broken.
-pub fn analyze_module<'a, 'src, S: Syntax>(
-    alloc: Global,
-    definitions: &Definitions<'src, 'a>,
-    ast: &Ast<'src>,
-    syntax: &S,
-    variables: Variables<'src>,
-    settings: Settings,
-    surroundings: Surroundings<'src>,
-    recipes: &mut Recipes<'src>,
-) -> Result<Justfile<'src>, Error<'src>>
-    requires once { IsOnce (unresolved_numbers (recipes_in definitions.now)) }
-    requires priors { All HasPriors (recipes_in definitions.now) }
-    requires apart { AreNew recipes.old (recipes_in definitions.now) }
-    requires variables { AreVariablesOf (S.answers syntax.now) (contents_in definitions.now) variables }
-    ensures kept { IfOk result (λ _. Keeps (BreaksRecipes (S.answers syntax.now) settings (contents_in definitions.now))) }
-    ensures added { IfOk result (λ _. AreAdded (kept_recipes (recipes_in definitions.now)) ast.now.module_path recipes.old recipes.new) }
-    ensures fields { IfOk result (IsOf (contents_in definitions.now) ast.now surroundings.entry.loaded surroundings.entry.source) }
-    ensures default { IfOk result (HasDefault (contents_in definitions.now) (recipes_by (S.answers syntax.now).enabled (Some ast.now))) }
-    ensures settings { IfOk result (λ j. (out-Justfile j).settings ≡ settings) }
-    ensures variables { IfOk result (HasVariables (S.answers syntax.now) (contents_in definitions.now)) }
-    ensures modules { IfOk result (λ j. (out-Justfile j).modules ≡ surroundings.entry.modules) }
-    ensures notes { IfOk result (λ j. notes_in j ≡ surroundings.entry.notes) }
-    ensures named { IfErr result (Reports (BreaksRecipes (S.answers syntax.now) settings (contents_in definitions.now))) }
-{
-    let (kept, mut made) = resolve_recipes(
-        alloc,
-        definitions,
-        syntax,
-        &settings,
-        &ast.module_path,
-    )?;
-    let default = default_of(alloc, &kept, ast, syntax, &made)?;
-    recipes.append(&mut made)?;
-    let justfile = make_justfile(
-        alloc,
-        definitions,
-        &kept,
-        ast,
-        default,
-        variables,
-        settings,
-        surroundings,
-    )?;
-    Ok(justfile)
-}
 
 // Copies of quoted texts.
 fn literals<'src>(

@@ -16,7 +16,7 @@ ghost use Rattle.just_making.specs.Analysis.{BreaksRecipes};
 ghost use Rattle.just_modules.specs.Parts.{AreSurroundings, IsAnalyzedFrom};
 ghost use Rattle.just_modules.specs.Steps.{BreaksInOrder, BreaksPlace, CanCompile, CanCompileAll, CompilesAt, HaveCompiledAll, made_in};
 
-use crate::analyzer::analyze_module;
+use just_analysis::analyze_module;
 use just_checking::{Checked, check_files, notes_at};
 use just_constants::Constants;
 use just_data::{Sequence, Shared, Text};

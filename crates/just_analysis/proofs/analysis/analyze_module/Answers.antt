@@ -10,10 +10,10 @@ use Rattle.just_joining.specs.Named.{recipes_by}
 use Rattle.just_joining.specs.Resolved.{unresolved_numbers}
 use Rattle.just_joining.proofs.Keeping.{kept_number}
 use Rattle.just_making.specs.Analysis.{BreaksRecipes, in_defaults}
-use Rattle.just_modules.proofs.Grounds.{recipes_kept}
+use Rattle.just_analysis.proofs.Grounds.{recipes_kept}
 use Rattle.just_assignments.proofs.Resolving.{variables_had}
 use Rattle.just_making.proofs.Makings.{default_resolved, resolved_numbers}
-use Rattle.just_modules.proofs.analyzer.analyze_module.Goals as goal
+use Rattle.just_analysis.proofs.analysis.analyze_module.Goals as goal
 use Rattle.just_recipe.specs.declared.dependency.UnresolvedDependency.{UnresolvedDependency}
 use Rattle.just_recipe.specs.declared.recipe.Recipe.{Recipe}
 

@@ -14,7 +14,7 @@ use Rattle.just_joining.specs.Rules.{Bodies, Dependencies}
 use Rattle.just_joining.proofs.Keeping.{kept_all, kept_different, kept_once}
 use Rattle.just_dependencies.proofs.Resolving.{all_resolved}
 use Rattle.just_making.specs.Analysis.{BreaksRecipes, in_bodies, in_dependencies}
-use Rattle.just_modules.proofs.analyzer.resolve_recipes.Goals as goal
+use Rattle.just_analysis.proofs.analysis.resolve_recipes.Goals as goal
 
 pub order_recipes-requires-clause-different : goal.order_recipes-requires-clause-different
 order_recipes-requires-clause-different g c = subst (λ (rs : List (Recipe UnresolvedDependency)). AreDifferent (names_of rs)) (sym c.in_ok-kept.ensures) (kept_different (recipes_in c.args.definitions.now))
