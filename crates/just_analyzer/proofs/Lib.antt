@@ -1,4 +1,3 @@
 pub mod Compilations
 pub mod Numbers
-pub mod Paths
 pub mod Readings

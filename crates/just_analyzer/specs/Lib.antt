@@ -1,4 +1,3 @@
 pub mod Compiled
-pub mod Paths
 pub mod Readings
 pub mod Rules

@@ -1,41 +1,18 @@
 ghost use Rattle.std.specs.Prelude.{◌≡◌, option_to_list, IfOk, IfErr};
-ghost use Rattle.std.specs.HashMap.{get};
-ghost use Rattle.std.specs.Str.{bytes_eq};
 ghost use Rattle.just_paths.specs.Clean.{IsClean};
-ghost use Rattle.just_parts.specs.Asts.{same_ast_key};
 ghost use Rattle.just_loader.specs.ModuleFile.{TellsSeveral, module_files};
 ghost use Rattle.just_loader.specs.Reached.{world_of};
 ghost use Rattle.just_parts.specs.Layers.{override_at};
 ghost use Rattle.just_analyzer.specs.Compiled.{Compiles};
-ghost use Rattle.just_analyzer.specs.Paths.{AreRelative};
 
-use crate::compilation::Compilation;
+use just_compilation::{Compilation, relative_paths};
 use just_data::{Shared, Text};
-use just_loader::{Loaded, Sources, load, relative_path};
+use just_loader::{Loaded, Sources, load};
 use just_modules::Analyzer;
-use just_parts::layers::{Ast, Config, Error, Evaluation, Name, Syntax};
-use just_paths::{Modulepath, folder_of};
-use std::alloc::{AllocError, Global};
+use just_parts::layers::{Config, Error, Evaluation, Name, Syntax};
+use just_paths::Modulepath;
+use std::alloc::Global;
 use std::collections::HashMap;
-
-// The path that is shown of each file: from the folder of the root, where it lies below it.
-fn relative_paths<'src>(
-    alloc: Global,
-    asts: &HashMap<(Modulepath, Text), Ast<'src>>,
-    root: &str,
-) -> Result<HashMap<Text, Text>, AllocError>
-    requires { IsClean root.now }
-    ensures { IfOk result (λ paths. AreRelative root.now (get same_ast_key asts.now) (get bytes_eq paths)) }
-{
-    let folder = folder_of(root);
-    let mut paths = HashMap::new(alloc);
-    for (key, _) in asts {
-        let shown = relative_path(alloc, folder, key.1.as_str())?;
-        let shown = Text::from_str(alloc, shown)?;
-        paths.insert(key.1.clone()?, shown)?;
-    }
-    Ok(paths)
-}
 
 /// Compiles source maps.
 pub struct Compiler;

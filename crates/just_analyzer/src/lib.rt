@@ -1,11 +1,10 @@
 //! Compiles a source map of justfiles, or names a broken rule. What its callers name of the crates below is here too.
 #![tactic(auto)]
 
-pub mod compilation;
 pub mod compiler;
 
-pub use compilation::Compilation;
 pub use compiler::Compiler;
+pub use just_compilation::Compilation;
 pub use just_invoke::{Invocation, InvocationParser, Justfile, RecipeKey, Recipes, Report};
 pub use just_loader::Sources;
 pub use just_modules::Analyzer;

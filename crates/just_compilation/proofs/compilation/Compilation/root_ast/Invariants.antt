@@ -2,7 +2,7 @@ use Rattle.std.proofs.Common.{◌≡◌}
 use Rattle.std.specs.HashMap.{get}
 use Rattle.std.specs.Map.{lookup}
 use Rattle.just_parts.specs.Asts.{same_ast_key, root_ast_key}
-use Rattle.just_analyzer.proofs.compilation.Compilation.root_ast.Given as goal
+use Rattle.just_compilation.proofs.compilation.Compilation.root_ast.Given as goal
 
 abbrev pub invariant-loop-key : goal.invariant-loop-key
 invariant-loop-key l =
