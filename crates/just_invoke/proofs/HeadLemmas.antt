@@ -1,11 +1,10 @@
 -- Heads, and why there is none.
-use Rattle.std.proofs.Common.{◌≡◌, ℕ, zero, suc, ◌+◌, ◌<◌, Bool, true, false, List, [], ◌∷◌, ◌++◌, Option, Some, None, length, get_or, take, drop, refl, sym, ap, ◌∙◌, subst, eqb, cond, IfSome}
+use Rattle.std.proofs.Common.{◌≡◌, ℕ, zero, suc, Bool, true, false, List, [], ◌∷◌, Option, Some, None, length, take, drop, refl, sym, ap, ◌∙◌, subst, eqb, cond, IfSome}
 use Rattle.std.proofs.Math.Dec.{eqb-suc-zero}
 use Rattle.std.proofs.lemmas.Bool.{eqb-true}
 use Rattle.std.specs.Bool.{MatchBool}
 use Rattle.std.specs.Option.{option_copied}
 use Rattle.std.specs.Borrow.{Bor}
-use Rattle.std.proofs.lemmas.List.{take_more, drop_more, map-append}
 use Rattle.just_names.specs.Texts.{Text, texts}
 use Rattle.just_recipe.specs.declared.dependency.Dependency.{Dependency}
 use Rattle.just_recipe.specs.declared.recipe.Recipe.{Recipe}
@@ -13,15 +12,8 @@ use Rattle.just_invoke.specs.declared.justfile.Justfile.{Justfile}
 use Rattle.just_invoke.specs.Closed.{IsHeld}
 use Rattle.just_recipe.specs.Recipes.{find_number}
 use Rattle.just_invoke.specs.Cause.{Cause}
-use Rattle.just_invoke.specs.Head.{Held, WordsLead, WordsMislead, IsHead, has_colon, is_empty, PathLeads, NoPath, NoHead}
-
-pub texts_front : (names : List (Bor Text)) (i : ℕ) (d : Bor Text) → i < length names →
-    texts (take (i + 1) names) ≡ texts (take i names) ++ (get_or names i d).now ∷ []
-texts_front names i d h = ap texts (take_more names i d h) ∙ map-append (λ w. w.now) (take i names) (get_or names i d ∷ [])
-
-pub texts_back : (names : List (Bor Text)) (i : ℕ) (d : Bor Text) → i < length names →
-    texts (drop i names) ≡ (get_or names i d).now ∷ texts (drop (i + 1) names)
-texts_back names i d h = ap texts (drop_more names i d h)
+use Rattle.just_words.specs.Words.{has_colon, is_empty}
+use Rattle.just_invoke.specs.Head.{Held, WordsLead, WordsMislead, IsHead, PathLeads, NoPath, NoHead}
 
 number_step : (b : Bool) (x : Recipe Dependency) (rest : Option (Recipe Dependency)) (n : ℕ) (r : Recipe Dependency) → (b ≡ true → x.number.0 ≡ n) →
     (rest ≡ Some r → r.number.0 ≡ n) → cond b (Some x) rest ≡ Some r → r.number.0 ≡ n

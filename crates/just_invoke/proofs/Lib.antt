@@ -5,5 +5,4 @@ pub mod Leftovers
 pub mod Namings
 pub mod Outcomes
 pub mod SplitLemmas
-pub mod TailLemmas
 pub mod Unique

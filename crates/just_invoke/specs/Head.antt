@@ -1,21 +1,16 @@
 -- The front of the words that names a recipe.
-use Rattle.std.specs.Prelude.{◌≡◌, ◌⊎◌, Bool, true, false, not, ◌&&◌, ◌==◌, Option, Some, None, List, [], ◌∷◌}
+use Rattle.std.specs.Prelude.{◌≡◌, ◌⊎◌, Bool, true, false, not, ◌&&◌, Option, Some, None, List, [], ◌∷◌}
 use Rattle.std.specs.Bool.{MatchBool}
-use Rattle.std.specs.List.{list_any}
 use Rattle.just_names.specs.Token.{lexeme}
 use Rattle.just_records.specs.Parameter.{least_arguments}
 use Rattle.just_names.specs.Texts.{Text, text_of}
-use Rattle.just_paths.specs.Modulepath.{IsWordPath, IsArgumentPath}
 use Rattle.just_recipe.specs.declared.dependency.Dependency.{Dependency}
 use Rattle.just_recipe.specs.declared.recipe.Recipe.{Recipe}
 use Rattle.just_invoke.specs.declared.justfile.Justfile.{Justfile, out-Justfile}
 use Rattle.just_invoke.specs.declared.justfile.RecipeKey.{RecipeKey}
 use Rattle.just_invoke.specs.Closed.{recipe_named, default_recipe}
+use Rattle.just_words.specs.Words.{IsPathWord, Words, has_colon, is_empty}
 use Rattle.just_invoke.specs.Cause.{Cause, unknown_recipe, unknown_submodule, expected_submodule, no_recipes, no_default, default_requires}
-
--- words, as texts
-abbrev pub Words : Type 0
-Words = List Text
 
 -- the recipes that are held
 abbrev pub Held : Type 0
@@ -33,20 +28,6 @@ TakesDefault root recipes r = (default_recipe root recipes ≡ Some r) × (least
 abbrev pub WordsLead : Justfile → Held → Words → Words → Recipe Dependency → Type 0
 WordsLead root recipes [] rest r = (rest ≡ []) × TakesDefault root recipes r
 WordsLead root recipes (n ∷ ns) rest r = (ns ≡ []) × (recipe_named root recipes n ≡ Some r)
-
--- a `:` is in the word
-abbrev pub has_colon : Text → Bool
-has_colon = list_any (λ b. b == 58)
-
--- there are no words
-abbrev pub is_empty : Words → Bool
-is_empty [] = true
-is_empty (_ ∷ _) = false
-
--- the word is a path of these names; one `::` is dropped at the end of the last word of the input
-abbrev pub IsPathWord : Bool → Text → Words → Type 0
-IsPathWord true word names = IsArgumentPath word names
-IsPathWord false word names = IsWordPath word names
 
 -- the word is a path that leads to the recipe
 abbrev pub PathLeads : Justfile → Held → Bool → Text → Recipe Dependency → Type 0

@@ -3,8 +3,6 @@ pub mod Closed
 pub mod Going
 pub mod Head
 pub mod Module
-pub mod Options
 pub mod Outcome
 pub mod Split
-pub mod Tail
 pub mod Variables

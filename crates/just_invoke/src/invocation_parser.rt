@@ -1,30 +1,26 @@
 //! What command words mean.
-ghost use Rattle.std.specs.Prelude.{◌≡◌, ◌≤◌, ◌<◌, ◌++◌, ◌∷◌, [], ℕ, true, false, Some, IfOk, IfErr, IfSome, OnOk, OnErr, map, length, take, drop, slice_set, slice_index_or, vec_len};
-ghost use Rattle.std.specs.List.{All, list_any};
+ghost use Rattle.std.specs.Prelude.{◌≡◌, ◌≤◌, ◌<◌, ◌∷◌, [], true, false, Some, IfOk, IfErr, IfSome, map, length, take, drop};
+ghost use Rattle.std.specs.List.{All};
 ghost use Rattle.std.specs.Option.{option_copied};
 ghost use Rattle.just_names.specs.Texts.{texts};
-ghost use Rattle.just_records.specs.Parameter.{is_option, is_variadic, most_words};
-ghost use Rattle.just_records.specs.declared.parameter.Parameter.{Parameter};
 ghost use Rattle.just_errors.specs.declared.error.Error.TheVariants as error;
 ghost use Rattle.just_errors.specs.declared.error.InvocationError.TheVariants as fault;
 ghost use Rattle.just_invoke.specs.Cause.{cause_of, not_yet, IsExpected};
 ghost use Rattle.just_invoke.specs.Closed.{recipe_named, default_recipe, IsHeld, IsClosed};
 ghost use Rattle.just_invoke.specs.declared.justfile.Justfile.{out-Justfile};
-ghost use Rattle.just_invoke.specs.Head.{Words, name_of, has_colon, is_empty, goes_on, TakesDefault, NoDefault, BadName, WordsLead, WordsMislead, IsPathWord, PathLeads, NoPath, IsHead, NoHead};
-ghost use Rattle.just_invoke.specs.Options.{has_options, is_of_parameter};
-ghost use Rattle.just_invoke.specs.Tail.{shown, first_variadic, IsTail, is_missing, any_missing};
+ghost use Rattle.just_invoke.specs.Head.{name_of, goes_on, TakesDefault, NoDefault, BadName, WordsLead, WordsMislead, PathLeads, NoPath, IsHead, NoHead};
 ghost use Rattle.just_invoke.specs.Split.{invoked_of, misfit, Invokes, Chain, IsSplit, Stops, IsFault};
 
 use crate::invocation::Invocation;
 use crate::justfile::Justfile;
 use just_data::{BorrowedText, Text};
 use just_parts::Recipe;
-use just_parts::layers::{
-    Attribute, Error, Evaluation, InvocationError, NamedAttribute, Parameter, RunError,
-};
-use just_paths::Modulepath;
+use just_parts::layers::{Error, Evaluation, InvocationError, RunError};
 use just_running::Recipes;
-use std::alloc::{AllocError, Global};
+use just_words::{
+    any_missing, as_words, contains_colon, has_options, most_words, path_word, read_tail,
+};
+use std::alloc::Global;
 
 /// Reads command words as invocations of recipes.
 pub struct InvocationParser;
@@ -187,39 +183,6 @@ fn walk<'run, 'src>(
     Ok((recipe, 1))
 }
 
-fn contains_colon(word: &str) -> bool
-    ensures { result ≡ has_colon word.now }
-{
-    for byte in word.as_bytes() {
-        if *byte == b':' {
-            return true;
-        }
-    }
-    false
-}
-
-// The path that a word with a colon is.
-fn path_word(alloc: Global, word: &str, last: bool) -> Result<Result<Modulepath, ()>, AllocError>
-    ensures path { IfOk result (λ found. IfOk found (λ p. IsPathWord last word.now p.components)) }
-    ensures refusal { IfOk result (λ found. OnErr found ((names : Words) → IsPathWord last word.now names → ⊥)) }
-{
-    if last {
-        Modulepath::from_argument(alloc, word)
-    } else {
-        Modulepath::try_from(alloc, &[word])
-    }
-}
-
-fn as_words<'a>(alloc: Global, components: &'a [Text]) -> Result<Vec<&'a str>, AllocError>
-    ensures { IfOk result (λ words. texts words.items ≡ components.now) }
-{
-    let mut words = Vec::new(alloc);
-    for component in components {
-        words.push(component.as_str())?;
-    }
-    Ok(words)
-}
-
 // Walks all the names, which are one word.
 fn walk_path<'run, 'src>(
     alloc: Global,
@@ -284,115 +247,6 @@ fn parse_head<'run, 'src>(
     Ok((recipe, 1))
 }
 
-// The place of the first variadic parameter, or the number of parameters.
-fn first_variadic(parameters: &[Parameter]) -> usize
-    ensures { result ≡ first_variadic parameters.now }
-{
-    let mut place = 0;
-    for parameter in parameters {
-        if parameter.kind.is_variadic() {
-            return place;
-        }
-        place += 1;
-    }
-    place
-}
-
-// As many empty groups as there are parameters.
-fn empty_groups<'words>(
-    alloc: Global,
-    parameters: &[Parameter],
-) -> Result<Vec<Vec<&'words str>>, AllocError>
-    ensures count { IfOk result (λ groups. length (shown groups.items) ≡ length parameters.now) }
-    ensures each { IfOk result (λ groups. (j : ℕ) → slice_index_or (shown groups.items) j [] ≡ []) }
-{
-    let mut groups = Vec::new(alloc);
-    for _ in parameters {
-        groups.push(Vec::new(alloc))?;
-    }
-    Ok(groups)
-}
-
-// Puts a word at the end of one group.
-fn push_at<'words>(
-    groups: &mut Vec<Vec<&'words str>>,
-    place: usize,
-    word: &'words str,
-) -> Result<(), AllocError>
-    requires { place < vec_len groups.old }
-    ensures { OnOk result (shown groups.new.items
-        ≡ slice_set (shown groups.old.items) place (slice_index_or (shown groups.old.items) place [] ++ word.now ∷ [])) }
-{
-    groups[place].push(word)?;
-    Ok(())
-}
-
-// The groups of the words that the parameters take, and how many words these are.
-fn read_tail<'words>(
-    alloc: Global,
-    parameters: &[Parameter],
-    words: &[&'words str],
-) -> Result<(Vec<Vec<&'words str>>, usize), AllocError>
-    ensures within { IfOk result (λ found. found.1 ≤ length words.now) }
-    ensures count { IfOk result (λ found. vec_len found.0 ≡ length parameters.now) }
-    ensures tail { IfOk result (λ found. IsTail parameters.now (texts (take found.1 words.now)) (texts (drop found.1 words.now)) (shown found.0.items)) }
-{
-    let variadic = first_variadic(parameters);
-    let mut groups = empty_groups(alloc, parameters)?;
-    let mut taken = 0;
-    for word in words {
-        let place = taken.min(variadic);
-        if place >= parameters.len() {
-            return Ok((groups, taken));
-        }
-        push_at(&mut groups, place, word)?;
-        taken += 1;
-    }
-    Ok((groups, taken))
-}
-
-fn is_missing(parameter: &Parameter, group: &[&str]) -> bool
-    ensures { result ≡ is_missing parameter.now (texts group.now) }
-{
-    match group {
-        [] => parameter.is_required(),
-        _ => false,
-    }
-}
-
-// Whether some group is empty that may not be.
-fn any_missing(parameters: &[Parameter], groups: &[Vec<&str>]) -> bool
-    requires { length groups.now ≡ length parameters.now }
-    ensures { result ≡ any_missing parameters.now (shown groups.now) }
-{
-    for (place, parameter) in parameters.iter().enumerate() {
-        if is_missing(parameter, &groups[place]) {
-            return true;
-        }
-    }
-    false
-}
-
-// Whether a parameter takes all words from its place on.
-fn any_variadic(parameters: &[Parameter]) -> bool
-    ensures { result ≡ list_any (λ (p : Parameter). is_variadic p.kind) parameters.now }
-{
-    parameters
-        .iter()
-        .any(|parameter| parameter.kind.is_variadic())
-}
-
-// How many words a recipe takes at most: one for each parameter, or any number where one is variadic.
-fn most_words(parameters: &[Parameter]) -> usize
-    ensures { result ≡ most_words parameters.now }
-{
-    if any_variadic(parameters) {
-        usize::MAX - 1
-    } else {
-        parameters.len()
-    }
-}
-
 // Why a recipe is not run with so many positional words.
 fn count_mismatch<'src>(recipe: &Recipe<'src>, found: usize) -> Error<'src>
     ensures cause { cause_of result ≡ Some (misfit recipe.now found) }
@@ -404,29 +258,6 @@ fn count_mismatch<'src>(recipe: &Recipe<'src>, found: usize) -> Error<'src>
         min: recipe.min_arguments(),
         max: most_words(recipe.parameters.as_slice()),
     })
-}
-
-// Whether an attribute says something of a parameter.
-fn any_of_parameter(attributes: &[NamedAttribute]) -> bool
-    ensures { result ≡ list_any is_of_parameter attributes.now }
-{
-    attributes
-        .iter()
-        .any(|named| matches!(named.attribute, Attribute::Arg(_)))
-}
-
-// Whether a parameter is given by an option.
-fn any_option(parameters: &[Parameter]) -> bool
-    ensures { result ≡ list_any is_option parameters.now }
-{
-    parameters.iter().any(|parameter| parameter.is_option())
-}
-
-// Whether a parameter is given by an option, or an attribute says something of one.
-fn has_options<'src>(recipe: &Recipe<'src>) -> bool
-    ensures { result ≡ has_options recipe.now }
-{
-    any_of_parameter(recipe.attributes.as_slice()) || any_option(recipe.parameters.as_slice())
 }
 
 // That no words are read for a recipe yet.

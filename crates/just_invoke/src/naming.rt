@@ -1,4 +1,4 @@
-ghost use Rattle.std.specs.Prelude.{◌≡◌, length, map, IfOk};
+ghost use Rattle.std.specs.Prelude.{◌≡◌, length, IfOk};
 ghost use Rattle.std.specs.List.{All};
 ghost use Rattle.just_running.specs.Pairs.{AllBelow};
 ghost use Rattle.just_invoke.specs.declared.invocation.Invocation.{Invocation};
@@ -6,32 +6,9 @@ ghost use Rattle.just_invoke.specs.Closed.{IsHeld};
 ghost use Rattle.just_invoke.specs.Outcome.{tops_of};
 
 use crate::invocation::Invocation;
-use just_data::{Sequence, Text};
-use just_parts::layers::Groups;
 use just_running::{Pair, Recipes, Task};
+use just_words::copy_groups;
 use std::alloc::{AllocError, Global};
-
-// The texts of words.
-fn copy_words(alloc: Global, words: &[&str]) -> Result<Sequence<Text>, AllocError>
-    ensures { IfOk result (λ texts. texts ≡ map (λ word. word.now) words.now) }
-{
-    let mut texts = Sequence::new(alloc);
-    for word in words {
-        texts.push(Text::from_str(alloc, word)?)?;
-    }
-    Ok(texts)
-}
-
-// The texts of groups of words.
-fn copy_groups(alloc: Global, arguments: &[Vec<&str>]) -> Result<Groups, AllocError>
-    ensures { IfOk result (λ groups. groups ≡ map (λ words. map (λ word. word.now) words.items) arguments.now) }
-{
-    let mut groups = Sequence::new(alloc);
-    for words in arguments {
-        groups.push(copy_words(alloc, words)?)?;
-    }
-    Ok(groups)
-}
 
 /// The tasks of invocations.
 pub fn name_tops<'src>(
