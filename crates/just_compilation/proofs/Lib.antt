@@ -1,1 +1,1 @@
-pub mod Paths
+pub mod ShownPaths

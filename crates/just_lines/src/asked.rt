@@ -39,8 +39,7 @@ pub struct Asked {
     pub conflicts: String,
     /// The call at which the host is refused memory, where there is one. Calls count from 1.
     pub memory_at: Option<usize>,
-    /// The words, with their marks resolved.
-    pub words: Vec<String>,
+    words: Vec<String>,
     next: Part,
 }
 
@@ -55,6 +54,19 @@ impl Asked {
             words: Vec::new(alloc),
             next: Part::OptionOrWord,
         })
+    }
+
+    /// The words, borrowed.
+    pub fn words(&self, alloc: Global) -> Result<Vec<&str>, AllocError> {
+        self.words.iter().map(|word| word.as_str()).collect(alloc)
+    }
+
+    /// The first word, or an empty one.
+    pub fn first_word(&self) -> &str {
+        match self.words.first() {
+            Some(word) => word.as_str(),
+            None => "",
+        }
     }
 
     // An option or a word. What follows the first word is a word.

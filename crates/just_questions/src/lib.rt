@@ -1,6 +1,10 @@
 //! Questions of the worked examples that the crates below the analyzer answer.
 #![tactic(auto)]
 
-pub mod bundles;
-pub mod copies;
+mod answers;
+mod bundles;
+mod copies;
 pub mod items;
+mod paths;
+
+pub use answers::answer;

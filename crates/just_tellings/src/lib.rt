@@ -1,6 +1,7 @@
 //! The lines of worked examples that tell what a compilation has, what words mean in it, and what a run did.
 #![tactic(auto)]
 
-pub mod modules;
-pub mod runs;
+pub mod compiled;
+mod modules;
+mod runs;
 pub mod variables;

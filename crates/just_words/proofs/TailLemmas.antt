@@ -1,6 +1,6 @@
 -- Tails and their groups.
 use Rattle.std.proofs.Common.{◌≡◌, ◌≢◌, ℕ, suc, ◌+◌, ◌<◌, Bool, true, false, cond, eqb, List, [], ◌∷◌, ◌++◌, length, get_or, set, take, drop, refl, sym, ap, ◌∙◌, arith, eq-eqb, ◌||◌}
-use Rattle.std.proofs.lemmas.List.{length-map, length-take-le, append-nil, map-append, map-set, get_or-map, get_or-set_same, get_or-set_other, drop_more}
+use Rattle.std.proofs.lemmas.List.{length-map, length-take-le, append-nil, map-append, map-set, get_or-map, get_or-set_same, get_or-set_other, drop_more, take_more}
 use Rattle.std.proofs.lemmas.Bool.{cases_eq, ne_eqb}
 use Rattle.std.proofs.Common.{⊎_elim}
 use Rattle.std.specs.Borrow.{Bor}

@@ -3,7 +3,7 @@ use Rattle.std.specs.HashMap.{get}
 use Rattle.std.specs.Map.{keys_of}
 use Rattle.std.specs.Str.{bytes_eq}
 use Rattle.just_loader.specs.ModuleFile.{relative}
-use Rattle.just_compilation.proofs.Paths.{held_path, one_less}
+use Rattle.just_compilation.proofs.ShownPaths.{held_path, one_less}
 use Rattle.just_compilation.proofs.paths.relative_paths.Goals as goal
 
 pub loop-key-preserved : goal.loop-key-preserved

@@ -1,7 +1,7 @@
 use Rattle.std.specs.HashMap.{get}
 use Rattle.std.specs.Map.{keys_of}
 use Rattle.std.specs.Str.{bytes_eq}
-use Rattle.just_compilation.proofs.Paths.{HaveSoFar}
+use Rattle.just_compilation.proofs.ShownPaths.{HaveSoFar}
 use Rattle.just_compilation.proofs.paths.relative_paths.Given as goal
 
 abbrev pub invariant-loop-key : goal.invariant-loop-key
