@@ -9,7 +9,7 @@ use just_bench::PlainEvaluation;
 use just_bench::bundle::read_sources;
 use just_lines::asked::{Asked, read_asked};
 use just_lines::faults::add_fault;
-use just_questions::items::read_pairs;
+use just_readings::{answer_text, read_pairs};
 use just_syntax::PlainSyntax;
 use just_tellings::compiled::add_compiled;
 use just_tellings::variables::add_variable;
@@ -29,13 +29,14 @@ fn compile<'src>(
     Compiler::compile(alloc, config, syntax, &PlainEvaluation, sources, root)
 }
 
-// Adds what the files of a source map are compiled to, and what words do.
+// Adds what the files of a source map are compiled to and what words do, or what a variable of the root's module refers to
+// and which variables it needs.
 fn add_sources(
     text: &mut String,
     alloc: Global,
     sources: &Sources,
+    kind: &str,
     asked: &Asked,
-    words: &[&str],
 ) -> Result<(), AllocError> {
     let root = asked.root.as_str();
     if !is_clean(root) {
@@ -52,58 +53,26 @@ fn add_sources(
                 overrides,
                 ..
             } = &compilation;
-            let texts = asts.len();
-            add_compiled(
-                justfile, recipes, overrides, texts, alloc, asked, words, text,
-            )
+            match kind {
+                "variable" => add_variable(alloc, justfile, overrides, asked.first_word(), text),
+                _ => add_compiled(justfile, recipes, overrides, asts.len(), alloc, asked, text),
+            }
         }
         Err(error) => add_fault(text, &error),
     }
 }
 
-// Adds what a variable of the root's module refers to, and which variables it needs.
-fn add_of_variable(
-    text: &mut String,
+// Answers a line `$ just` or `$ variable` over a bundle. The first word of the second is a name.
+fn answer_compiled(
     alloc: Global,
-    sources: &Sources,
-    asked: &Asked,
-    name: &str,
-) -> Result<(), AllocError> {
-    let root = asked.root.as_str();
-    if !is_clean(root) {
-        return text.push_str("error NotClean\n");
-    }
-    match compile(alloc, sources, &PlainSyntax::new(), &asked.config, root) {
-        Ok(
-            Compilation {
-                justfile,
-                overrides,
-                ..
-            },
-        ) => add_variable(alloc, &justfile, &overrides, name, text),
-        Err(error) => add_fault(text, &error),
-    }
-}
-
-// Answers a line `$ just` over a bundle.
-fn answer_just(alloc: Global, bundle: &str, line: &str) -> Result<String, AllocError> {
+    bundle: &str,
+    kind: &str,
+    line: &str,
+) -> Result<String, AllocError> {
     let mut answer = String::new(alloc);
     let asked = read_asked(alloc, line)?;
-    let words = asked.words(alloc)?;
     match read_sources(alloc, bundle) {
-        Ok(sources) => add_sources(&mut answer, alloc, &sources, &asked, words.as_slice())?,
-        Err(error) => writeln!(answer, "error Bundle: {error}")?,
-    }
-    Ok(answer)
-}
-
-// Answers a line `$ variable` over a bundle. The first word is the name.
-fn answer_variable(alloc: Global, bundle: &str, line: &str) -> Result<String, AllocError> {
-    let mut answer = String::new(alloc);
-    let asked = read_asked(alloc, line)?;
-    let name = asked.first_word();
-    match read_sources(alloc, bundle) {
-        Ok(sources) => add_of_variable(&mut answer, alloc, &sources, &asked, name)?,
+        Ok(sources) => add_sources(&mut answer, alloc, &sources, kind, &asked)?,
         Err(error) => writeln!(answer, "error Bundle: {error}")?,
     }
     Ok(answer)
@@ -113,8 +82,8 @@ fn answer_variable(alloc: Global, bundle: &str, line: &str) -> Result<String, Al
 pub fn answer(alloc: Global, bundle: &str, question: &str) -> Result<Option<String>, AllocError> {
     let (kind, rest) = question.split_once(' ').unwrap_or((question, ""));
     match kind {
-        "just" => Ok(Some(answer_just(alloc, bundle, rest)?)),
-        "variable" => Ok(Some(answer_variable(alloc, bundle, rest)?)),
+        "just" | "variable" => Ok(Some(answer_compiled(alloc, bundle, kind, rest)?)),
+        "parse" | "read" | "conflicts" => Ok(Some(answer_text(alloc, kind, rest)?)),
         _ => just_questions::answer(alloc, bundle, kind, rest),
     }
 }

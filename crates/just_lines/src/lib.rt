@@ -1,9 +1,8 @@
-//! The lines of worked examples: how a case is written, and what tells of texts and of faults.
+//! The lines of worked examples: how a case is written, and what tells of a fault.
 #![tactic(auto)]
 
 pub mod asked;
 pub mod cases;
 pub mod faults;
 pub mod lists;
-pub mod readings;
 pub mod written;

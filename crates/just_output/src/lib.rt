@@ -1,5 +1,4 @@
-//! A run over the layers of the bench, and what the program writes: a line for each recipe that began, and the line of
-//! a fault.
+//! What the program writes: a line for each recipe that a run began, and the line of a fault.
 #![tactic(auto)]
 
 mod entries;
@@ -10,5 +9,5 @@ mod told;
 
 pub use entries::write_entries;
 pub use fault::Fault;
-pub use run::{run_and_write, run_words};
+pub use run::run_and_write;
 pub use told::{tell, tell_usage};

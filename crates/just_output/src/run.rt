@@ -1,42 +1,16 @@
-//! The run of a compiled module over the layers of the bench.
+//! The run of a compiled module, and what is written of it.
 ghost use Rattle.just_invoke.specs.Closed.{IsClosed};
 
 use crate::entries::write_entries;
 use crate::fault::Fault;
-use just_bench::{PlainEvaluation, Recorder, StopWriter};
+use just_bench::Recorder;
 use just_data::Text;
-use just_invoke::{Justfile, Recipes, Report};
-use just_parts::layers::{Config, Error, Number};
-use just_syntax::PlainSyntax;
+use just_invoke::{Justfile, Recipes};
+use just_parts::layers::{Config, Number};
+use just_runner::run_words;
 use std::alloc::Global;
 use std::collections::HashMap;
 use std::io::Write;
-
-/// Runs words over a compiled module. The host records what begins.
-pub fn run_words<'src>(
-    alloc: Global,
-    root: &Justfile<'src>,
-    recipes: &Recipes<'src>,
-    overrides: &HashMap<Number, Text>,
-    config: &Config,
-    host: &mut Recorder,
-    words: &[&str],
-) -> Result<Report, Error<'src>>
-    requires { IsClosed root.now recipes.now }
-{
-    let mut writer = StopWriter::new(alloc, 0)?;
-    root.run(
-        alloc,
-        config,
-        recipes,
-        &PlainSyntax::new(),
-        &mut PlainEvaluation,
-        host,
-        &mut writer,
-        words,
-        overrides,
-    )
-}
 
 /// Runs words over a compiled module, and writes which recipes began, before a fault too.
 pub fn run_and_write<'src, W: Write>(

@@ -1,7 +1,6 @@
 //! Answers, by the kind of a question.
 use crate::bundles::{answer_file, answer_find, answer_table};
 use crate::copies::answer_copy;
-use crate::items::{answer_conflicts, answer_parse, answer_read};
 use crate::paths::{answer_argument, answer_path};
 use just_lines::written::unmarked;
 use std::alloc::{AllocError, Global};
@@ -16,13 +15,10 @@ pub fn answer(
 ) -> Result<Option<String>, AllocError> {
     let text = unmarked(alloc, rest)?;
     let answer = match kind {
-        "parse" => answer_parse(alloc, text.as_str())?,
-        "read" => answer_read(alloc, text.as_str())?,
         "copy" => answer_copy(alloc, text.as_str())?,
         "file" => answer_file(alloc, text.as_str())?,
         "find" => answer_find(alloc, bundle, rest)?,
         "table" => answer_table(alloc, rest)?,
-        "conflicts" => answer_conflicts(alloc, text.as_str())?,
         "path" => answer_path(alloc, rest)?,
         "argument" => answer_argument(alloc, rest)?,
         _ => return Ok(None),

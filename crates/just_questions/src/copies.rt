@@ -1,10 +1,10 @@
 //! Copies: what was read, and what is asked of a host, is equal to its copy.
-use crate::items::{parse, root_source};
 use just_bench::Recorder;
 use just_data::{Exact, Sequence, Text};
 use just_lines::faults::add_fault;
 use just_parts::layers::{Error, Groups, Host};
 use just_paths::Modulepath;
+use just_runner::{parse, root_source};
 use just_syntax::PlainSyntax;
 use std::alloc::{AllocError, Global};
 

@@ -4,7 +4,6 @@
 mod answers;
 mod bundles;
 mod copies;
-pub mod items;
 mod paths;
 
 pub use answers::answer;

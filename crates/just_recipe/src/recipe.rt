@@ -1,9 +1,8 @@
 //! Recipes, as a text says them and resolved.
 ghost use Rattle.std.specs.Prelude.{◌≡◌, ◌≤◌, length, take, drop, count_by, IsSome, Some};
 ghost use Rattle.std.specs.List.{list_any};
-ghost use Rattle.just_records.specs.declared.parameter.Parameter.{Parameter};
 ghost use Rattle.just_recipe.specs.Script.{is_shell};
-ghost use Rattle.just_records.specs.Parameter.{is_required, is_variadic, least_arguments, most_arguments};
+ghost use Rattle.just_records.specs.Parameter.{is_required, least_arguments, most_arguments};
 
 use crate::dependency::{Dependency, UnresolvedDependency};
 use just_attributes::{Attribute, NamedAttribute};
@@ -13,7 +12,7 @@ use just_errors::ArgumentRange;
 use just_literals::Settings;
 use just_names::{Name, Number};
 use just_paths::Modulepath;
-use just_records::{Line, Parameter};
+use just_records::{Line, Parameter, any_variadic};
 use std::alloc::{AllocError, Global};
 
 /// A recipe. Its first `priors` dependencies run before it, the others after it. The last three fields are there once
@@ -96,14 +95,6 @@ fn least(parameters: &[Parameter]) -> usize
         .iter()
         .filter(|parameter| parameter.is_required())
         .count()
-}
-
-fn any_variadic(parameters: &[Parameter]) -> bool
-    ensures { result ≡ list_any (λ (p : Parameter). is_variadic p.kind) parameters.now }
-{
-    parameters
-        .iter()
-        .any(|parameter| parameter.kind.is_variadic())
 }
 
 impl<'src> Recipe<'src> {

@@ -9,4 +9,4 @@ pub mod parameter;
 pub use assignment::Assignment;
 pub use function_definition::{FunctionDefinition, FunctionParameter};
 pub use line::{Fragment, Line};
-pub use parameter::{Parameter, ParameterKind};
+pub use parameter::{Parameter, ParameterKind, any_variadic};

@@ -1,5 +1,7 @@
 //! Parameters of recipes.
 ghost use Rattle.std.specs.Prelude.{◌≡◌, IfOk};
+ghost use Rattle.std.specs.List.{list_any};
+ghost use Rattle.just_records.specs.declared.parameter.Parameter.{Parameter};
 ghost use Rattle.just_records.specs.Parameter.{is_name, is_option, is_required, is_variadic};
 
 use just_data::{Exact, Text};
@@ -155,4 +157,13 @@ impl<'src> Clone for Parameter<'src> {
 
 impl<'src> Exact for Parameter<'src> {
     ghost exact = { λ x y h. h };
+}
+
+/// Whether a parameter takes all words from its place on.
+pub fn any_variadic(parameters: &[Parameter]) -> bool
+    ensures { result ≡ list_any (λ (p : Parameter). is_variadic p.kind) parameters.now }
+{
+    parameters
+        .iter()
+        .any(|parameter| parameter.kind.is_variadic())
 }

@@ -2,6 +2,5 @@
 #![tactic(auto)]
 
 pub mod compiled;
-mod modules;
 mod runs;
 pub mod variables;

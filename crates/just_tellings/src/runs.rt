@@ -6,8 +6,8 @@ use just_data::Text;
 use just_invoke::{Invocation, InvocationParser, Justfile, Recipes};
 use just_lines::faults::add_fault;
 use just_lines::lists::{add_group, add_list, before};
-use just_output::run_words;
 use just_parts::layers::{Config, Entry, Groups, Number};
+use just_runner::run_words;
 use std::alloc::{AllocError, Global};
 use std::collections::HashMap;
 

@@ -1,12 +1,11 @@
 //! The words that a recipe takes after its head.
 ghost use Rattle.std.specs.Prelude.{◌≡◌, ◌≤◌, ◌<◌, ◌++◌, ◌∷◌, [], ℕ, IfOk, OnOk, length, take, drop, slice_set, slice_index_or, vec_len};
-ghost use Rattle.std.specs.List.{list_any};
 ghost use Rattle.just_names.specs.Texts.{texts};
-ghost use Rattle.just_records.specs.Parameter.{is_variadic, most_words};
-ghost use Rattle.just_records.specs.declared.parameter.Parameter.{Parameter};
+ghost use Rattle.just_records.specs.Parameter.{most_words};
 ghost use Rattle.just_words.specs.Tail.{shown, first_variadic, IsTail, is_missing, any_missing};
 
 use just_parts::layers::Parameter;
+use just_records::any_variadic;
 use std::alloc::{AllocError, Global};
 
 // The place of the first variadic parameter, or the number of parameters.
@@ -96,15 +95,6 @@ pub fn any_missing(parameters: &[Parameter], groups: &[Vec<&str>]) -> bool
         }
     }
     false
-}
-
-// Whether a parameter takes all words from its place on.
-fn any_variadic(parameters: &[Parameter]) -> bool
-    ensures { result ≡ list_any (λ (p : Parameter). is_variadic p.kind) parameters.now }
-{
-    parameters
-        .iter()
-        .any(|parameter| parameter.kind.is_variadic())
 }
 
 /// How many words a recipe takes at most: one for each parameter, or any number where one is variadic.

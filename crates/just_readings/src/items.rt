@@ -1,11 +1,11 @@
 //! What a text says, item by item.
+use crate::readings::add_readings;
 use just_data::Text;
 use just_lines::faults::add_fault;
 use just_lines::lists::before;
-use just_lines::readings::add_readings;
-use just_parts::Source;
-use just_parts::layers::{Ast, Error, Item, Keyword, LoadError, Numerator, StringLiteral, Syntax};
-use just_paths::is_clean;
+use just_lines::written::unmarked;
+use just_parts::layers::{Item, Keyword, StringLiteral, Syntax};
+use just_runner::parse;
 use just_syntax::PlainSyntax;
 use std::alloc::{AllocError, Global};
 
@@ -63,47 +63,6 @@ fn add_items(text: &mut String, items: &[Item]) -> Result<(), AllocError> {
     text.push('\n')
 }
 
-/// The source of the root `/justfile`.
-pub fn root_source<'src>(alloc: Global) -> Result<Source<'src>, Error<'src>> {
-    let path = "/justfile";
-    if !is_clean(path) {
-        return Err(Error::Load(LoadError::Load {
-            path: Text::from_str(alloc, path)?,
-        }));
-    }
-    Ok(Source::root(alloc, path)?)
-}
-
-/// What a grammar reads in a text, the root.
-pub fn parse<'src>(
-    alloc: Global,
-    syntax: &PlainSyntax,
-    text: &'src str,
-) -> Result<Ast<'src>, Error<'src>> {
-    let source = root_source(alloc)?;
-    syntax.parse_source(alloc, &mut Numerator::new(), "justfile", &source, text)
-}
-
-/// Answers what a text says, item by item with all that was read of each, or its fault.
-pub fn answer_read(alloc: Global, text: &str) -> Result<String, AllocError> {
-    let mut answer = String::new(alloc);
-    match parse(alloc, &PlainSyntax::new(), text) {
-        Ok(ast) => add_readings(&ast, &mut answer)?,
-        Err(error) => add_fault(&mut answer, &error)?,
-    }
-    Ok(answer)
-}
-
-/// Answers what a text says, or its fault.
-pub fn answer_parse(alloc: Global, text: &str) -> Result<String, AllocError> {
-    let mut answer = String::new(alloc);
-    match parse(alloc, &PlainSyntax::new(), text) {
-        Ok(ast) => add_items(&mut answer, ast.items.as_slice())?,
-        Err(error) => add_fault(&mut answer, &error)?,
-    }
-    Ok(answer)
-}
-
 // The keyword of a name.
 fn keyword(alloc: Global, name: &str) -> Result<Keyword, AllocError> {
     Ok(Keyword {
@@ -141,16 +100,37 @@ fn add_conflicts(
     Ok(())
 }
 
-/// Answers which settings may not stand beside those of a text, where of each pair before the ` | ` the second may not
-/// stand beside the first.
-pub fn answer_conflicts(alloc: Global, rest: &str) -> Result<String, AllocError> {
+// Adds what is told of the items of a text, by the kind of the question, or the fault of the text.
+fn add_told(
+    alloc: Global,
+    syntax: &PlainSyntax,
+    kind: &str,
+    text: &str,
+    answer: &mut String,
+) -> Result<(), AllocError> {
+    match parse(alloc, syntax, text) {
+        Ok(ast) => match kind {
+            "parse" => add_items(answer, ast.items.as_slice()),
+            "read" => add_readings(&ast, answer),
+            _ => add_conflicts(alloc, syntax, ast.items.as_slice(), answer),
+        },
+        Err(error) => add_fault(answer, &error),
+    }
+}
+
+/// Answers what a text says, or its fault: `parse` what each item is, `read` all that was read of each, and `conflicts` which
+/// settings may not stand beside those of the text behind a ` | `, where of each pair before that the second may not stand
+/// beside the first.
+pub fn answer_text(alloc: Global, kind: &str, rest: &str) -> Result<String, AllocError> {
     let mut answer = String::new(alloc);
-    let (written, text) = rest.split_once(" | ").unwrap_or((rest, ""));
+    let unmarked = unmarked(alloc, rest)?;
+    let text = unmarked.as_str();
+    let (written, text) = match kind {
+        "conflicts" => text.split_once(" | ").unwrap_or((text, "")),
+        _ => ("", text),
+    };
     let pairs = read_pairs(alloc, written)?;
     let syntax = PlainSyntax::with_conflicts(pairs.as_slice());
-    match parse(alloc, &syntax, text) {
-        Ok(ast) => add_conflicts(alloc, &syntax, ast.items.as_slice(), &mut answer)?,
-        Err(error) => add_fault(&mut answer, &error)?,
-    }
+    add_told(alloc, &syntax, kind, text, &mut answer)?;
     Ok(answer)
 }
