@@ -14,7 +14,7 @@ ghost use Rattle.just_parts.specs.Known.{none_hidden};
 ghost use Rattle.just_parts.specs.Layers.{given_of, layers_at, override_at};
 ghost use Rattle.just_parts.specs.Needs.{HaveNumbersApart};
 ghost use Rattle.just_expressions.specs.declared.expression.Expression.{Expression};
-ghost use Rattle.just_variables.specs.Lent.{known_in};
+ghost use Rattle.just_known.specs.Lent.{known_in};
 ghost use Rattle.just_parts.specs.Misnaming.{Misnames};
 
 use crate::expressions::{constant_expressions, settings_expressions};
@@ -22,12 +22,12 @@ use crate::overrides::{by_number, overrides_of};
 use just_assignments::Variables;
 use just_data::{Text, copied};
 use just_joining::definitions::{Definitions, set_at};
+use just_known::{Known, check_expression};
 use just_needs::needed_references;
 use just_parts::layers::{
     Config, Error, Evaluation, Expression, Number, Scope, Set, Setting, Settings, Syntax,
 };
 use just_paths::Modulepath;
-use just_variables::{Known, check_expression};
 use std::alloc::{AllocError, Global};
 use std::collections::HashSet;
 

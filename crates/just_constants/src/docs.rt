@@ -12,9 +12,9 @@ ghost use Rattle.just_parts.specs.Evaluator.{values_of};
 use just_assignments::Variables;
 use just_data::{Text, copied};
 use just_joining::definitions::Definitions;
+use just_known::{Known, check_expression};
 use just_notes::Label;
 use just_parts::layers::{Error, Evaluation, Expression, Scope, Syntax, joined};
-use just_variables::{Known, check_expression};
 use std::alloc::{AllocError, Global};
 use std::collections::HashSet;
 

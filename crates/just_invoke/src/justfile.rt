@@ -3,6 +3,7 @@ use crate::invocation_parser::InvocationParser;
 use crate::running::run_invocations;
 use crate::variables::check_variables;
 use just_data::{BorrowedText, Exact, Sequence, Shared, Text};
+use just_known::Known;
 use just_needs::assignment_references;
 use just_parts::layers::{
     Assignment, Config, Error, Evaluation, FunctionDefinition, Host, Name, Number, Output,
@@ -11,7 +12,6 @@ use just_parts::layers::{
 use just_paths::Modulepath;
 use just_running::{Recipes, Report};
 use just_table::{Keyed, Table};
-use just_variables::Known;
 use std::alloc::{AllocError, Global};
 use std::collections::{HashMap, HashSet};
 

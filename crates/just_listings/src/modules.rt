@@ -263,39 +263,30 @@ fn add_whole<'src>(
     add_recipes(module, recipes, alloc, lines)
 }
 
-// A module and those in it with their recipes, each before those that it declares.
-fn lines_of<'src>(
+// Adds a module and those in it with their recipes, each before those that it declares.
+fn add_all<'src>(
     root: &Justfile<'src>,
     recipes: &Recipes<'src>,
     overrides: &HashMap<Number, Text>,
     alloc: Global,
-) -> Result<Lines, AllocError> {
-    let mut lines = Lines::new(alloc);
+    lines: &mut Lines,
+) -> Result<(), AllocError> {
     let mut left = Vec::new(alloc);
     left.push(root)?;
     for _ in 0..u64::MAX {
         let Some(module) = left.pop() else {
             break;
         };
-        add_whole(module, recipes, overrides, alloc, &mut lines)?;
+        add_whole(module, recipes, overrides, alloc, lines)?;
         for inner in module.modules.as_slice().iter().rev() {
             left.push(inner)?;
         }
     }
-    Ok(lines)
+    Ok(())
 }
 
-/// Adds what the root's module and those in it have: their files, docs, settings and variables, and of the recipes the
-/// depths, the files, how many different numbers they have, and how many are equal to their copies. The values that override
-/// variables are those of `overrides`.
-pub fn add_modules<'src>(
-    root: &Justfile<'src>,
-    recipes: &Recipes<'src>,
-    overrides: &HashMap<Number, Text>,
-    alloc: Global,
-    text: &mut String,
-) -> Result<(), AllocError> {
-    let lines = lines_of(root, recipes, overrides, alloc)?;
+// Adds the lines to a text.
+fn add_lines(lines: &Lines, text: &mut String) -> Result<(), AllocError> {
     writeln!(text, "modules{}", lines.modules)?;
     writeln!(text, "labels{}", lines.labels)?;
     writeln!(text, "docs{}", lines.docs)?;
@@ -310,6 +301,21 @@ pub fn add_modules<'src>(
     writeln!(text, "entrances{}", lines.entrances)?;
     writeln!(text, "numbers {} of {}", lines.numbers.len(), lines.count)?;
     writeln!(text, "copied {} of {}", lines.copied, lines.count)
+}
+
+/// Adds what the root's module and those in it have: their files, docs, settings and variables, and of the recipes the
+/// depths, the files, how many different numbers they have, and how many are equal to their copies. The values that override
+/// variables are those of `overrides`.
+pub fn add_modules<'src>(
+    root: &Justfile<'src>,
+    recipes: &Recipes<'src>,
+    overrides: &HashMap<Number, Text>,
+    alloc: Global,
+    text: &mut String,
+) -> Result<(), AllocError> {
+    let mut lines = Lines::new(alloc);
+    add_all(root, recipes, overrides, alloc, &mut lines)?;
+    add_lines(&lines, text)
 }
 
 /// Adds the loaded files, and how many texts were read.

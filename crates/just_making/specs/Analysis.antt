@@ -3,20 +3,16 @@ use Rattle.std.specs.Prelude.{◌≡◌, ℕ, ◌<◌, List, length, Some}
 use Rattle.std.specs.List.{AllByRecursion}
 use Rattle.std.specs.Option.{option_map}
 use Rattle.just_table.specs.Entries.{find}
-use Rattle.just_literals.specs.declared.settings.Settings.{Settings}
 use Rattle.just_parts.specs.Items.{Ast}
 use Rattle.just_invoke.specs.declared.justfile.Justfile.{Justfile, out-Justfile}
 use Rattle.just_recipe.specs.declared.dependency.UnresolvedDependency.{UnresolvedDependency}
 use Rattle.just_recipe.specs.declared.recipe.Recipe.{Recipe}
-use Rattle.just_errors.specs.Causes.{Cause, Keeps}
-use Rattle.just_parts.specs.Syntax.{SyntaxAnswers}
 use Rattle.just_invoke.specs.declared.justfile.RecipeKey.{RecipeKey}
 use Rattle.just_joining.specs.Contents.{Contents}
-use Rattle.just_joining.specs.Defaults.{Defaults, IsDefaultAmong}
+use Rattle.just_joining.specs.Defaults.{IsDefaultAmong}
 use Rattle.just_joining.specs.Recipes.{name_of, recipe_at}
 use Rattle.just_joining.specs.Kept.{kept_recipes}
 use Rattle.just_joining.specs.Resolved.{number_at}
-use Rattle.just_joining.specs.Rules.{Bodies, Dependencies}
 
 -- a key has the number and the name of one of the first n recipes, as it stands there
 abbrev pub IsKeyOf : List (Recipe UnresolvedDependency) → ℕ → RecipeKey → Type 0
@@ -43,9 +39,3 @@ pub record IsOf (m : Contents) (ast : Ast) (loaded : List (List ℕ)) (source : 
   pub source_is : (out-Justfile justfile).source ≡ source
   pub module_path : (out-Justfile justfile).module_path ≡ ast.module_path
   pub working_directory : (out-Justfile justfile).working_directory ≡ ast.working_directory
-
--- What is broken of recipes under settings: in their bodies, or where these are kept in their dependencies, or where these are kept too in which is the default.
-pub data BreaksRecipes (answers : SyntaxAnswers) (settings : Settings) (m : Contents) : Cause → Type 0 where
-  in_bodies : {c : Cause} → Bodies answers settings m c → BreaksRecipes answers settings m c
-  in_dependencies : {c : Cause} → Keeps (Bodies answers settings m) → Dependencies settings.lists (kept_recipes m.recipes) c → BreaksRecipes answers settings m c
-  in_defaults : {c : Cause} → Keeps (Bodies answers settings m) → Keeps (Dependencies settings.lists (kept_recipes m.recipes)) → Defaults (kept_recipes m.recipes) c → BreaksRecipes answers settings m c

@@ -89,6 +89,10 @@ pub fn make_justfile<'a, 'src>(
     ensures modules { IfOk result (λ j. (out-Justfile j).modules ≡ surroundings.entry.modules) }
     ensures notes { IfOk result (λ j. notes_in j ≡ surroundings.entry.notes) }
 {
+    let recipes = recipe_keys(alloc, kept)?;
+    let unexports = copied_names(alloc, definitions.unexports.as_slice())?;
+    let module_path = ast.module_path.clone()?;
+    let working_directory = ast.working_directory.clone()?;
     let Surroundings {
         loaded,
         modules,
@@ -114,16 +118,16 @@ pub fn make_justfile<'a, 'src>(
         functions,
         groups: Sequence::new(alloc),
         loaded,
-        module_path: ast.module_path.clone()?,
+        module_path,
         modules,
         name: None,
         private: false,
-        recipes: recipe_keys(alloc, kept)?,
+        recipes,
         settings,
         source,
         unstable_features,
-        unexports: copied_names(alloc, definitions.unexports.as_slice())?,
+        unexports,
         warnings,
-        working_directory: ast.working_directory.clone()?,
+        working_directory,
     })
 }

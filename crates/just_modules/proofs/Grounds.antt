@@ -8,7 +8,7 @@ use Rattle.just_joining.specs.Contents.{Contents}
 use Rattle.just_joining.specs.Groups.{BodiesAndDocs, Breaks, BreaksContents, KeepsBefore, KeepsContents, OfAliases, OfBodies, OfConstants, OfDependencies, OfExpressions, OfHeaders, OfNames, in_docs, in_bodies as in_body}
 use Rattle.just_joining.specs.Kept.{kept_recipes}
 use Rattle.just_joining.specs.Rules.{Bodies, Dependencies, Under, under}
-use Rattle.just_making.specs.Analysis.{BreaksRecipes, in_bodies, in_defaults, in_dependencies}
+use Rattle.just_resolving.specs.Broken.{BreaksRecipes, in_bodies, in_defaults, in_dependencies}
 
 module _ (layers : Layers) (m : Contents) (earlier : KeepsBefore layers OfBodies m) where
   before_dependencies : Keeps (Breaks layers OfBodies m) → KeepsBefore layers OfDependencies m

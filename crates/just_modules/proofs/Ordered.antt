@@ -24,7 +24,7 @@ use Rattle.just_joining.specs.OfPlaces.{recipes_of_place}
 use Rattle.just_modules.specs.Steps.{BreaksInOrder, BreaksPlace, CanCompileAll, CompilesPlace, HaveCompiled, IsCompiledAt}
 use Rattle.just_joining.specs.declared.files.Files.{Files}
 use Rattle.just_joining.specs.declared.joined.Joined.{Joined}
-use Rattle.just_making.proofs.Makings.{made_numbers}
+use Rattle.just_resolving.proofs.Resolved.{made_numbers}
 use Rattle.just_parts.specs.Layers.{Given}
 use Rattle.just_literals.specs.declared.settings.Settings.{Settings}
 

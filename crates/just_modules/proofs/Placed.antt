@@ -15,7 +15,7 @@ use Rattle.just_joining.specs.Named.{contents_from, said_from}
 use Rattle.just_joining.specs.OfPlaces.{contents_of_place, labels_of_place}
 use Rattle.just_joining.specs.declared.files.Files.{Files}
 use Rattle.just_joining.specs.declared.joined.Joined.{Joined}
-use Rattle.just_making.specs.Analysis.{BreaksRecipes}
+use Rattle.just_resolving.specs.Broken.{BreaksRecipes}
 use Rattle.just_checking.specs.Evaluated.{IsChecked}
 use Rattle.just_modules.specs.Evaluated.{IsEvaluatedTo}
 use Rattle.just_modules.specs.Steps.{BreaksPlace, KeepsPlace, path_at, path_in}

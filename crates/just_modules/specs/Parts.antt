@@ -9,7 +9,7 @@ use Rattle.just_joining.specs.Kept.{kept_recipes}
 use Rattle.just_joining.specs.Named.{AreAdded, recipes_by}
 use Rattle.just_joining.specs.declared.files.Files.{Files}
 use Rattle.just_joining.specs.declared.joined.Joined.{Joined}
-use Rattle.just_making.specs.Analysis.{BreaksRecipes, HasDefault, IsOf}
+use Rattle.just_making.specs.Analysis.{HasDefault, IsOf}
 use Rattle.just_making.specs.Labelled.{by_name, notes_in, slot, with_labels}
 use Rattle.just_modules.specs.Justfiles.{Made}
 use Rattle.just_checking.specs.Noted.{notes_of_place}
@@ -21,6 +21,7 @@ use Rattle.just_notes.specs.declared.labels.Label.{Label}
 use Rattle.just_parts.specs.Asts.{AstKey}
 use Rattle.just_parts.specs.Items.{Ast, Item}
 use Rattle.just_parts.specs.Syntax.{SyntaxAnswers}
+use Rattle.just_resolving.specs.Broken.{BreaksRecipes}
 
 -- What the module at a place has besides its recipes: the list of loaded files, its own file, what is noted of its files, and the modules in it, which were held, under labels.
 pub record AreSurroundings (enabled : Item → Bool) (files : Files) (joined : Joined) (loaded : List Text) (p : ℕ) (labels : List Label) (held : List (Option Justfile)) (it : Surroundings) : Type 0 where

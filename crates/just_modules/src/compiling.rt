@@ -12,20 +12,20 @@ ghost use Rattle.just_parts.specs.Layers.{given_of};
 ghost use Rattle.just_joining.specs.Definitions.{contents_in, recipes_in};
 ghost use Rattle.just_joining.specs.Resolved.{AreNew, HasPriors, unresolved_numbers};
 ghost use Rattle.just_joining.specs.OfPlaces.{recipes_of_place};
-ghost use Rattle.just_making.specs.Analysis.{BreaksRecipes};
+ghost use Rattle.just_resolving.specs.Broken.{BreaksRecipes};
 ghost use Rattle.just_modules.specs.Parts.{AreSurroundings, IsAnalyzedFrom};
 ghost use Rattle.just_modules.specs.Steps.{BreaksInOrder, BreaksPlace, CanCompile, CanCompileAll, CompilesAt, HaveCompiledAll, made_in};
 
-use just_analysis::analyze_module;
 use just_checking::{Checked, check_files, notes_at};
 use just_constants::Constants;
 use just_data::{Sequence, Shared, Text};
 use just_invoke::{Justfile, Recipes};
 use just_joining::files::{Files, ast_at};
 use just_joining::joined::Joined;
-use just_making::{Surroundings, take_inner};
+use just_making::{Surroundings, make_justfile, take_inner};
 use just_notes::Label;
 use just_parts::layers::{Ast, Config, Error, Evaluation, Number, Syntax};
+use just_resolving::resolve_module;
 use std::alloc::{AllocError, Global};
 
 /// What modules that are compiled add.
@@ -77,7 +77,7 @@ fn analyze_checked<'b, 'src, S: Syntax>(
     alloc: Global,
     ast: &Ast<'src>,
     syntax: &S,
-    checked: Checked<'src, 'b>,
+    mut checked: Checked<'src, 'b>,
     surroundings: Surroundings<'src>,
     gathered: &mut Gathered<'src>,
 ) -> Result<Justfile<'src>, Error<'src>>
@@ -89,27 +89,33 @@ fn analyze_checked<'b, 'src, S: Syntax>(
         IfOk result (is (made_in gathered.old) (made_in gathered.new)) }
     ensures named { IfErr result (Reports (BreaksRecipes (S.answers syntax.now) checked.entry.constants.settings (contents_in checked.entry.definitions))) }
 {
+    gathered
+        .overridden
+        .append(&mut checked.constants.overridden)?;
+    let (kept, default) = resolve_module(
+        alloc,
+        &checked.definitions,
+        ast,
+        syntax,
+        &checked.constants.settings,
+        &mut gathered.recipes,
+    )?;
     let Checked {
         definitions,
         variables,
         constants,
         ..
     } = checked;
-    let Constants {
-        settings,
-        mut overridden,
-        ..
-    } = constants;
-    gathered.overridden.append(&mut overridden)?;
-    let justfile = analyze_module(
+    let Constants { settings, .. } = constants;
+    let justfile = make_justfile(
         alloc,
         &definitions,
+        &kept,
         ast,
-        syntax,
+        default,
         variables,
         settings,
         surroundings,
-        &mut gathered.recipes,
     )?;
     Ok(justfile)
 }

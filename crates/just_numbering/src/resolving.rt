@@ -12,10 +12,11 @@ ghost use Rattle.just_parts.specs.Misnaming.{Expressions};
 
 use crate::numbering::{numbered_assignment, numbered_function, variable_numbers};
 use just_data::BorrowedText;
+use just_known::Known;
 use just_numbers::Numbers;
 use just_parts::layers::{Assignment, Error, FunctionDefinition, Name, Number, Syntax};
 use just_table::Table;
-use just_variables::{Known, order_assignments};
+use just_variables::order_assignments;
 use std::alloc::{AllocError, Global};
 use std::collections::HashMap;
 use std::mem::replace;

@@ -2,7 +2,7 @@
 use just_bench::Recorder;
 use just_data::{Exact, Sequence, Text};
 use just_lines::faults::add_fault;
-use just_parts::layers::{Error, Groups, Host};
+use just_parts::layers::{Groups, Host};
 use just_paths::Modulepath;
 use just_runner::{parse, root_source};
 use just_syntax::PlainSyntax;
@@ -22,13 +22,20 @@ fn add_copy<T: Exact + PartialEq + Drop>(
     )
 }
 
-// Adds what becomes of the items of a text and of where they are from.
-fn add_items<'src>(alloc: Global, read: &'src str, text: &mut String) -> Result<(), Error<'src>> {
-    let ast = parse(alloc, &PlainSyntax::new(), read)?;
-    add_copy(&ast.items, "items", text)?;
-    let source = root_source(alloc)?;
-    add_copy(&source, "source", text)?;
-    Ok(())
+// Adds what becomes of the items of a text, or its fault.
+fn add_items(alloc: Global, read: &str, text: &mut String) -> Result<(), AllocError> {
+    match parse(alloc, &PlainSyntax::new(), read) {
+        Ok(ast) => add_copy(&ast.items, "items", text),
+        Err(error) => add_fault(text, &error),
+    }
+}
+
+// Adds what becomes of the source of a root.
+fn add_source(alloc: Global, text: &mut String) -> Result<(), AllocError> {
+    match root_source(alloc) {
+        Ok(source) => add_copy(&source, "source", text),
+        Err(error) => add_fault(text, &error),
+    }
 }
 
 // One group of one word.
@@ -61,14 +68,17 @@ fn add_data(alloc: Global, text: &mut String) -> Result<(), AllocError> {
     add_copy(&numbers, "numbers", text)
 }
 
+fn add_copies(alloc: Global, read: &str, text: &mut String) -> Result<(), AllocError> {
+    add_items(alloc, read, text)?;
+    add_source(alloc, text)?;
+    add_call(alloc, text)?;
+    add_data(alloc, text)
+}
+
 /// Answers whether copies of the items of a text, of their source, of a call and of numbers are equal to what they are
 /// of.
 pub fn answer_copy(alloc: Global, read: &str) -> Result<String, AllocError> {
     let mut answer = String::new(alloc);
-    if let Err(error) = add_items(alloc, read, &mut answer) {
-        add_fault(&mut answer, &error)?;
-    }
-    add_call(alloc, &mut answer)?;
-    add_data(alloc, &mut answer)?;
+    add_copies(alloc, read, &mut answer)?;
     Ok(answer)
 }

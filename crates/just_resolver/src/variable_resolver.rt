@@ -13,13 +13,13 @@ ghost use Rattle.just_parts.specs.Misnaming.{Expressions, Misnames, MisnamesCall
 ghost use Rattle.just_parts.specs.Reading.{Reads};
 
 use just_data::{BorrowedText, Text};
+use just_known::{Known, check_call, check_expression, hidden_names};
 use just_numbering::{parameter_numbers, resolve_assignments};
 use just_numbers::{Numbers, numbered};
 use just_parts::layers::{
     Assignment, Error, Expression, FunctionDefinition, FunctionParameter, Name, Number, Syntax,
 };
 use just_table::Table;
-use just_variables::{Known, check_call, check_expression, hidden_names};
 use std::alloc::{AllocError, Global};
 use std::collections::{HashMap, HashSet};
 

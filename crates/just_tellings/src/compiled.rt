@@ -10,22 +10,18 @@ use just_parts::layers::Number;
 use std::alloc::{AllocError, Global};
 use std::collections::HashMap;
 
-/// Adds what a compilation of so many texts has, what words mean in it, and what running them does.
-pub fn add_compiled<'src>(
+// Adds what words mean in a compilation, and what running them does.
+fn add_words<'src>(
     root: &Justfile<'src>,
     recipes: &Recipes<'src>,
     overrides: &HashMap<Number, Text>,
-    texts: usize,
     alloc: Global,
     asked: &Asked,
+    words: &[&str],
     text: &mut String,
 ) -> Result<(), AllocError>
     requires { IsClosed root.now recipes.now }
 {
-    let words = asked.words(alloc)?;
-    let words = words.as_slice();
-    add_loaded(root, texts, text)?;
-    add_modules(root, recipes, overrides, alloc, text)?;
     add_split(root, recipes, alloc, words, text)?;
     add_run(
         root,
@@ -37,4 +33,22 @@ pub fn add_compiled<'src>(
         asked.memory_at,
         text,
     )
+}
+
+/// Adds what a compilation of so many texts has, what the words mean in it, and what running them does.
+pub fn add_compiled<'src>(
+    root: &Justfile<'src>,
+    recipes: &Recipes<'src>,
+    overrides: &HashMap<Number, Text>,
+    texts: usize,
+    alloc: Global,
+    asked: &Asked,
+    text: &mut String,
+) -> Result<(), AllocError>
+    requires { IsClosed root.now recipes.now }
+{
+    add_loaded(root, texts, text)?;
+    add_modules(root, recipes, overrides, alloc, text)?;
+    let words = asked.words(alloc)?;
+    add_words(root, recipes, overrides, alloc, asked, words.as_slice(), text)
 }

@@ -9,7 +9,8 @@ use Rattle.just_names.specs.Texts.{Text}
 use Rattle.just_records.specs.declared.function_definition.FunctionDefinition.{FunctionDefinition}
 use Rattle.just_records.specs.declared.function_definition.FunctionParameter.{FunctionParameter}
 use Rattle.just_parts.specs.Known.{hides}
-use Rattle.just_variables.specs.Steps.{Scoped, body_scoped, rows_of, scoped, targets_of}
+use Rattle.just_known.specs.Scopes.{Scoped, body_scoped, scoped}
+use Rattle.just_variables.specs.Steps.{rows_of, targets_of}
 
 -- the row of one more body
 pub body_row_more : (t : Scoped → List ℕ) (first : List (List ℕ)) (rows more : List (Vec ℕ Global)) (row : Vec ℕ Global) (fs : List (Bor FunctionDefinition)) (f : Bor FunctionDefinition) (ps : List FunctionParameter) (hidden : Text → Bool)

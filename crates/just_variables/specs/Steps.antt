@@ -7,27 +7,11 @@ use Rattle.std.specs.declared.alloc.Global.{Global}
 use Rattle.std.specs.declared.vec.Vec.{Vec}
 use Rattle.just_index.specs.Index.{IsIndex, name_at}
 use Rattle.just_names.specs.Texts.{Text}
-use Rattle.just_records.specs.declared.assignment.Assignment.{Assignment}
-use Rattle.just_expressions.specs.declared.expression.Expression.{Expression}
-use Rattle.just_records.specs.declared.function_definition.FunctionDefinition.{FunctionDefinition}
 use Rattle.just_references.specs.Body.{Calls, Mention, Names}
-use Rattle.just_parts.specs.Known.{Known, hides, none_hidden}
+use Rattle.just_known.specs.Scopes.{Scoped, body_scoped, value_scoped}
+use Rattle.just_parts.specs.Known.{Known}
 use Rattle.just_parts.specs.Misnaming.{IsCircleOf}
 use Rattle.just_parts.specs.Reading.{IsEvaluationOrder, mentions}
-
--- An expression, and which names are hidden in its scope.
-pub record Scoped : Type 0 where
-  pub hidden : Text → Bool
-  pub expression : Expression
-
-abbrev pub scoped : (Text → Bool) → Expression → Scoped
-scoped hidden expression = record { hidden = hidden; expression = expression }
-
-abbrev pub value_scoped : Assignment → Scoped
-value_scoped a = scoped none_hidden a.value
-
-abbrev pub body_scoped : FunctionDefinition → Scoped
-body_scoped f = scoped (hides f.parameters) f.body
 
 -- the expressions of the nodes: the values, then the bodies
 abbrev pub nodes_of : Known → List Scoped

@@ -1,9 +1,7 @@
-//! Variables and functions: what names in expressions stand for, and the order in which variables are evaluated.
+//! The variables and functions of a module as nodes of a graph, and the order in which the variables are evaluated.
 #![tactic(auto)]
 
-mod checking;
 mod nodes;
 mod ordering;
 
-pub use checking::{Known, check_call, check_expression, hidden_names};
 pub use ordering::order_assignments;

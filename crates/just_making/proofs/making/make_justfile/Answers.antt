@@ -17,6 +17,6 @@ pub returns-clause-fields : goal.returns-clause-fields
 returns-clause-fields c =
     let many : length (recipes_in c.args.kept.now) ≡ length c.args.kept.now.recipes.items = length-lent c.args.kept.now.recipes.items in
     is_of (contents_in c.args.definitions.now) (recipes_in c.args.kept.now) c.args.ast.now c.args.surroundings.loaded c.args.surroundings.source _
-    (length c.args.kept.now.recipes.items) c.in_ok-recipe_keys.field-0 c.requires.recipes many (search (rules, the_lemmas))
-    c.in_ok-recipe_keys.ensures.keys c.in_ok-recipe_keys.ensures.held (search (rules, the_lemmas))
+    (length c.args.kept.now.recipes.items) c.in_ok-recipes.recipes c.requires.recipes many (search (rules, the_lemmas))
+    c.in_ok-recipes.ensures.keys c.in_ok-recipes.ensures.held (search (rules, the_lemmas))
     (search (rules, the_lemmas)) (search (rules, the_lemmas)) (search (rules, the_lemmas)) (search (rules, the_lemmas))

@@ -15,10 +15,11 @@ use Rattle.just_joining.specs.Named.{contents_from, name_by, recipes_by, said_fr
 use Rattle.just_joining.specs.Resolved.{AreResolved, HasPriors, unresolved_numbers}
 use Rattle.just_joining.proofs.Joining.{row_lent}
 use Rattle.just_index.specs.Index.{texts_of_names, AreDifferent}
-use Rattle.just_making.specs.Analysis.{BreaksRecipes, HasDefault}
+use Rattle.just_making.specs.Analysis.{HasDefault}
 use Rattle.just_making.specs.Labelled.{by_name, with_labels}
 use Rattle.just_making.specs.Variables.{HasVariables}
 use Rattle.just_making.proofs.Makings.{is_of_same}
+use Rattle.just_resolving.specs.Broken.{BreaksRecipes}
 use Rattle.just_modules.proofs.Placed.{breaks_place, breaks_recipes, contents_are, evaluated_to, keeps_place, labels_many, variables_resolved}
 use Rattle.just_modules.proofs.compiling.compile_place.Goals as goal
 use Rattle.just_parts.specs.Layers.{given_of, layers_at}

@@ -1,0 +1,2 @@
+pub mod Grounds
+pub mod Resolved
