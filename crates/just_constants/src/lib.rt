@@ -4,8 +4,6 @@
 
 mod constants;
 mod docs;
-mod expressions;
-mod overrides;
 
 pub use constants::{Constants, evaluate_constants};
 pub use docs::document;

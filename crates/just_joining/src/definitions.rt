@@ -1,4 +1,5 @@
 ghost use Rattle.std.specs.Prelude.{◌≡◌, ◌<◌, IfOk, Some, length, slice_get};
+ghost use Rattle.just_joining.specs.Contents.{function_names, signatures};
 ghost use Rattle.just_joining.specs.Recipes.{recipes_of, recipe_at};
 ghost use Rattle.just_joining.specs.Definitions.{functions_in, lists_in, recipes_in, sets_in, variables_in};
 
@@ -175,4 +176,18 @@ pub fn list_at<'b, 'a, 'src>(
     ensures { slice_get (lists_in definitions.now) place ≡ Some result.now }
 {
     &*definitions.lists[place]
+}
+
+/// The names of the functions.
+pub fn function_names<'a, 'src>(
+    alloc: Global,
+    definitions: &Definitions<'src, 'a>,
+) -> Result<Vec<Name<'src>>, AllocError>
+    ensures { IfOk result (λ names. names.items ≡ function_names (signatures (functions_in definitions.now))) }
+{
+    let mut names = Vec::new(alloc);
+    for place in 0..definitions.functions.len() {
+        names.push(function_at(definitions, place).name.copied())?;
+    }
+    Ok(names)
 }

@@ -6,3 +6,4 @@ pub mod definitions;
 pub mod files;
 pub mod joined;
 pub mod kept;
+pub mod redefinition;

@@ -12,13 +12,13 @@ ghost use Rattle.just_joining.specs.Resolved.{AreNew, AreResolved, HasPriors, un
 ghost use Rattle.just_joining.specs.Rules.{Bodies, Dependencies};
 ghost use Rattle.just_resolving.specs.Broken.{BreaksRecipes};
 
+use just_bodies::{check_bodies, index_recipes};
 use just_defaults::default_of;
 use just_dependencies::{order_recipes, resolve_in_order};
 use just_joining::definitions::Definitions;
 use just_joining::kept::keep_recipes;
 use just_parts::layers::{Ast, Error, Number, Settings, Syntax};
 use just_paths::Modulepath;
-use just_rules::bodies::{check_bodies, index_recipes};
 use just_running::Recipes;
 use std::alloc::Global;
 

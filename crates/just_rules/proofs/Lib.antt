@@ -1,9 +1,5 @@
 pub mod Alike
 pub mod BareOutlines
-pub mod Defining
 pub mod Excluded
 pub mod Following
-pub mod Grouping
 pub mod Holding
-pub mod Leave
-pub mod Signatures

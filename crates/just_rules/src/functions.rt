@@ -8,10 +8,10 @@ ghost use Rattle.just_index.specs.Index.{texts_of_names, AreDifferent};
 ghost use Rattle.just_joining.specs.Definitions.{functions_in};
 ghost use Rattle.just_joining.specs.Rules.{Functions, RepeatsParameter};
 
-use crate::headers::told;
 use just_data::BorrowedText;
 use just_index::repeated_name;
-use just_joining::definitions::{Definitions, function_at};
+use just_joining::definitions::{Definitions, function_at, function_names};
+use just_joining::redefinition::told;
 use just_parts::layers::error::Definition;
 use just_parts::layers::{CompileError, CompileErrorKind, Error, FunctionDefinition, Name};
 use std::alloc::{AllocError, Global};
@@ -54,20 +54,6 @@ fn check_function<'src>(
     }
 }
 
-/// The names of the functions.
-pub(crate) fn names_of<'a, 'src>(
-    alloc: Global,
-    definitions: &Definitions<'src, 'a>,
-) -> Result<Vec<Name<'src>>, AllocError>
-    ensures { IfOk result (λ names. names.items ≡ function_names (signatures (functions_in definitions.now))) }
-{
-    let mut names = Vec::new(alloc);
-    for place in 0..definitions.functions.len() {
-        names.push(function_at(definitions, place).name.copied())?;
-    }
-    Ok(names)
-}
-
 // Refuses the second of two functions that have one name.
 fn check_different<'a, 'src>(
     alloc: Global,
@@ -76,7 +62,7 @@ fn check_different<'a, 'src>(
     ensures kept { OnOk result (AreDifferent (texts_of_names (function_names (signatures (functions_in definitions.now))))) }
     ensures named { IfErr result (Reports (Functions (signatures (functions_in definitions.now)))) }
 {
-    let names = names_of(alloc, definitions)?;
+    let names = function_names(alloc, definitions)?;
     match repeated_name(alloc, names.as_slice())? {
         None => Ok(()),
         Some((first, second)) => Err(Error::Compile(told(

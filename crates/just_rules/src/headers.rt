@@ -1,18 +1,17 @@
 ghost use Rattle.std.specs.Prelude.{◌≡◌, ◌<◌, ℕ, length, IfOk, IfErr, IfNone, IfSome, OnOk, map};
 ghost use Rattle.just_names.specs.Name.{text_of_name};
 ghost use Rattle.just_records.specs.declared.parameter.Parameter.{Parameter};
-ghost use Rattle.just_errors.specs.declared.error.CompileErrorKind.TheVariants as kind;
 ghost use Rattle.just_index.specs.Index.{AreDifferent, texts_of_names};
 ghost use Rattle.just_joining.specs.Recipes.{FollowsDefault, NoneFollows, is_defaulted, is_needed, parameter_names, recipe_at};
 ghost use Rattle.just_joining.specs.Definitions.{contents_in, recipes_in};
 ghost use Rattle.just_errors.specs.Causes.{Keeps, Reports};
-ghost use Rattle.just_joining.specs.Contents.{defined};
-ghost use Rattle.just_joining.specs.Rules.{Headers, IsRedefinition, Modules, Parameters, Unexports};
+ghost use Rattle.just_joining.specs.Rules.{Headers, Modules, Parameters, Unexports};
 
 use crate::settings::check_sets;
 use just_data::BorrowedText;
 use just_index::{index_names, repeated_name};
 use just_joining::definitions::{Definitions, recipe_at};
+use just_joining::redefinition::redefinition;
 use just_parts::layers::error::Definition;
 use just_parts::layers::{CompileError, CompileErrorKind, Error, Name, Parameter, Syntax};
 use std::alloc::{AllocError, Global};
@@ -128,42 +127,6 @@ fn check_parameters<'a, 'src>(
         check_defaults_at(definitions, place)?;
     }
     Ok(())
-}
-
-/// Tells a definition that comes after another one of its name.
-pub(crate) fn told<'src>(
-    first: Definition,
-    first_name: &Name<'src>,
-    second: Definition,
-    second_name: &Name<'src>,
-) -> CompileError<'src>
-    ensures token { result.token ≡ second_name.now.token }
-    ensures kind { result.kind ≡ kind.Redefinition first second (text_of_name second_name.now) first_name.now.token.line }
-{
-    CompileError {
-        token: second_name.token.copied(),
-        kind: CompileErrorKind::Redefinition {
-            first_type: first,
-            second_type: second,
-            name: BorrowedText::new(second_name.lexeme()),
-            first: first_name.line(),
-        },
-    }
-}
-
-/// The error of two definitions of one name, in the order in which they are met: the one on the smaller line is the first.
-pub(crate) fn redefinition<'src>(
-    first: Definition,
-    first_name: &Name<'src>,
-    second: Definition,
-    second_name: &Name<'src>,
-) -> CompileError<'src>
-    ensures { IsRedefinition (defined first first_name.now) (defined second second_name.now) result.token result.kind }
-{
-    if second_name.line() < first_name.line() {
-        return told(second, second_name, first, first_name);
-    }
-    told(first, first_name, second, second_name)
 }
 
 /// Checks that the names of a module's modules are different.

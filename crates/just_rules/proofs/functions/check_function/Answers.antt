@@ -6,7 +6,7 @@ use Rattle.just_names.specs.Name.{text_of_name}
 use Rattle.just_names.specs.declared.name.Name.{Name}
 use Rattle.just_joining.specs.Contents.{signature}
 use Rattle.just_index.specs.Index.{texts_of_names, Repeats}
-use Rattle.just_rules.proofs.Signatures.{parameter_repeated}
+use Rattle.just_joining.proofs.Signatures.{parameter_repeated}
 use Rattle.just_rules.proofs.functions.check_function.Goals as goal
 
 pub returns-clause-named : goal.returns-clause-named

@@ -8,7 +8,7 @@ use Rattle.just_errors.proofs.Lifts.{reports_by}
 use Rattle.just_joining.specs.Contents.{signature}
 use Rattle.just_joining.specs.Definitions.{functions_in}
 use Rattle.just_joining.specs.Rules.{Functions, RepeatsParameter, of_function}
-use Rattle.just_rules.proofs.Signatures.{functions_kept}
+use Rattle.just_joining.proofs.Signatures.{functions_kept}
 use Rattle.just_joining.proofs.RecipePlaces.{length-lent}
 use Rattle.just_rules.proofs.functions.check_functions.Goals as goal
 

@@ -4,7 +4,7 @@ use Rattle.just_errors.specs.Causes.{Reports}
 use Rattle.just_errors.proofs.Lifts.{reports_by}
 use Rattle.just_joining.specs.Definitions.{contents_in, recipes_in, sets_in}
 use Rattle.just_joining.specs.Rules.{Headers, Parameters, Sets, Unexports, of_parameters, of_sets, of_unexports}
-use Rattle.just_rules.proofs.Defining.{headers_kept}
+use Rattle.just_joining.proofs.Defining.{headers_kept}
 use Rattle.just_rules.proofs.headers.check_headers.Goals as goal
 
 pub returns-in_err-check_parameters-clause-named : goal.returns-in_err-check_parameters-clause-named

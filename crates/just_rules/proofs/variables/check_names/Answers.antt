@@ -6,7 +6,7 @@ use Rattle.just_joining.specs.Contents.{signatures, variable_names}
 use Rattle.just_joining.specs.Definitions.{contents_in, functions_in, sets_in, variables_in}
 use Rattle.just_joining.specs.Rules.{Functions, Names, Variables, of_functions, of_variables}
 use Rattle.just_joining.specs.Settings.{allows_variables}
-use Rattle.just_rules.proofs.Defining.{names_kept}
+use Rattle.just_joining.proofs.Defining.{names_kept}
 use Rattle.just_rules.proofs.variables.check_names.Goals as goal
 
 pub returns-in_err-check_variables-clause-named : goal.returns-in_err-check_variables-clause-named

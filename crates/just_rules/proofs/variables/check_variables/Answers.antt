@@ -8,7 +8,7 @@ use Rattle.just_index.specs.Index.{texts_of_names, AreApart, AreDifferent}
 use Rattle.just_joining.specs.Definitions.{sets_in, variables_in}
 use Rattle.just_joining.specs.Rules.{AssignedTwice, Unexported, Variables, assigned_twice, unexported}
 use Rattle.just_joining.specs.Settings.{allows_variables}
-use Rattle.just_rules.proofs.Defining.{variables_kept}
+use Rattle.just_joining.proofs.Defining.{variables_kept}
 use Rattle.just_rules.proofs.variables.check_variables.Goals.{then-not-allows_variables+in_ok-check_once, else-not-allows_variables}
 use Rattle.just_rules.proofs.variables.check_variables.Goals as goal
 

@@ -1,0 +1,2 @@
+pub mod Overriding
+pub mod Walking
