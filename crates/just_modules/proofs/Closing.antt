@@ -27,7 +27,7 @@ use Rattle.just_modules.specs.Justfiles.{AreCompiled, Built, Made, IsCompiled, n
 use Rattle.just_modules.specs.Modules.{Forest, Module}
 use Rattle.just_graph.proofs.Index.{some_same}
 use Rattle.std.specs.Option.{option_map}
-use Rattle.just_defaults.proofs.Later.{marked_or_none}
+use Rattle.just_resolving.proofs.Later.{marked_or_none}
 use Rattle.just_joining.specs.Kept.{kept_recipes}
 use Rattle.just_joining.specs.Recipes.{recipes_of}
 use Rattle.just_joining.specs.Resolved.{number_at, unresolved_numbers}

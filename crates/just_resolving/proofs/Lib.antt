@@ -1,2 +1,10 @@
+pub mod Defaults
+pub mod Edges
 pub mod Grounds
+pub mod Grouping
+pub mod Later
+pub mod RecipeCircles
+pub mod Refuted
 pub mod Resolved
+pub mod Resolving
+pub mod Targets

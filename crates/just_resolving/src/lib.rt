@@ -1,6 +1,13 @@
-//! The recipes of one module: checked, resolved and added to those of the others, and which of them is the default.
+//! The recipes of one module: the rules of their bodies, of what they depend on and of the default, and what they are
+//! resolved to, added to the recipes of the other modules.
 #![tactic(auto)]
 
-mod resolving;
+mod bodies;
+mod chosen;
+mod marked;
+mod recipe_resolver;
+mod resolution;
+mod shells;
+mod unresolved_recipe;
 
-pub use resolving::resolve_module;
+pub use resolution::resolve_module;

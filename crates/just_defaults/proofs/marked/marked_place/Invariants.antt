@@ -1,6 +1,0 @@
-use Rattle.just_joining.specs.Defaults.{IsMarkedPlace}
-use Rattle.just_joining.specs.Definitions.{recipes_in}
-use Rattle.just_defaults.proofs.marked.marked_place.Given as goal
-
-abbrev pub invariant-loop-place : goal.invariant-loop-place
-invariant-loop-place l = IsMarkedPlace (recipes_in l.definitions) l.place l.marked

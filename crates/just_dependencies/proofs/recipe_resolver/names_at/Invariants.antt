@@ -1,7 +1,0 @@
-use Rattle.std.proofs.Common.{◌≡◌, take, map}
-use Rattle.just_joining.specs.Recipes.{name_of, recipe_at}
-use Rattle.just_joining.specs.Definitions.{recipes_in}
-use Rattle.just_dependencies.proofs.recipe_resolver.names_at.Given as goal
-
-abbrev pub invariant-loop-place : goal.invariant-loop-place
-invariant-loop-place l = l.names ≡ map (λ place. name_of (recipe_at (recipes_in l.definitions) place)) (take l.place-index l.places)

@@ -1,6 +1,0 @@
-use Rattle.just_joining.specs.Definitions.{recipes_in}
-use Rattle.just_joining.specs.Resolved.{Resolving}
-use Rattle.just_dependencies.proofs.recipe_resolver.resolve_in_order.Given as goal
-
-abbrev pub invariant-loop-n : goal.invariant-loop-n
-invariant-loop-n l = Resolving (recipes_in l.definitions) l.module_path l.order l.n l.recipes
