@@ -5,7 +5,7 @@ use Rattle.just_parts.specs.Evaluator.{Evaluator}
 use Rattle.just_loader.specs.Keys.{NamesInFiles}
 use Rattle.just_loader.specs.Reached.{World}
 use Rattle.just_modules.specs.Groups.{KeepsModules, NamesModules}
-use Rattle.just_modules.specs.Modules.{AreModules, Forest}
+use Rattle.just_compiling.specs.Modules.{AreModules, Forest}
 use Rattle.just_joining.specs.Reading.{Reading}
 use Rattle.just_analyzer.specs.Readings.{IsReadingOf, Overrides, given_in, root_heading}
 

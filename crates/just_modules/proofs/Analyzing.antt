@@ -26,12 +26,12 @@ use Rattle.just_joining.specs.Files.{ArePlaced, AreRows}
 use Rattle.just_modules.specs.Groups.{KeepsGroups, NamesModules}
 use Rattle.just_joining.specs.Joined.{AreArranged, AreJoined, GoDeeper, IsJoined}
 use Rattle.just_making.specs.Labelled.{label_in, labelled_as, slot}
-use Rattle.just_modules.specs.Justfiles.{AreCompiled, Built, Made, recipes_of_all}
+use Rattle.just_compiling.specs.Justfiles.{AreCompiled, Built, Made, recipes_of_all}
 use Rattle.just_notes.specs.declared.labels.Label.{Label}
-use Rattle.just_modules.specs.Modules.{AreModules, Empty, Forest, HasModule, Heading, IsHeading, Module, Tree, a_module, after_it, first, in_it, no_module}
+use Rattle.just_compiling.specs.Modules.{AreModules, Empty, Forest, HasModule, Heading, IsHeading, Module, Tree, a_module, after_it, first, in_it, no_module}
 use Rattle.just_joining.specs.Reading.{Reading, reading_of}
 use Rattle.just_joining.specs.OfPlaces.{RepeatsNames, labels_of_place, names_of_place}
-use Rattle.just_modules.specs.Steps.{BreaksInOrder, CanCompileAll, HaveCompiled}
+use Rattle.just_compiling.specs.Steps.{BreaksInOrder, CanCompileAll, HaveCompiled}
 use Rattle.just_joining.specs.declared.files.Files.{Files}
 use Rattle.just_joining.specs.declared.files.Rows.{Rows}
 use Rattle.just_joining.specs.declared.joined.Joined.{Joined}

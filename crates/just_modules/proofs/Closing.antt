@@ -23,8 +23,8 @@ use Rattle.just_invoke.specs.declared.justfile.RecipeKey.{RecipeKey}
 use Rattle.just_joining.specs.Defaults.{IsDefaultAmong, IsDefaultOf}
 use Rattle.just_making.specs.Analysis.{IsKeyOf}
 use Rattle.just_making.specs.Labelled.{by_name, held_by_name}
-use Rattle.just_modules.specs.Justfiles.{AreCompiled, Built, Made, IsCompiled, none, one, recipes_in, recipes_of_all}
-use Rattle.just_modules.specs.Modules.{Forest, Module}
+use Rattle.just_compiling.specs.Justfiles.{AreCompiled, Built, Made, IsCompiled, none, one, recipes_in, recipes_of_all}
+use Rattle.just_compiling.specs.Modules.{Forest, Module}
 use Rattle.just_graph.proofs.Index.{some_same}
 use Rattle.std.specs.Option.{option_map}
 use Rattle.just_resolving.proofs.Later.{marked_or_none}

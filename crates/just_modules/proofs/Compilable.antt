@@ -16,7 +16,7 @@ use Rattle.just_joining.specs.Files.{ArePlaced, AreRows}
 use Rattle.just_joining.specs.Joined.{AreJoined, IsJoined}
 use Rattle.just_joining.specs.Reading.{Submodule}
 use Rattle.just_joining.specs.OfPlaces.{labels_of_place, names_of_place}
-use Rattle.just_modules.specs.Steps.{CanCompile, CanCompileAll}
+use Rattle.just_compiling.specs.Steps.{CanCompile, CanCompileAll}
 use Rattle.just_joining.specs.declared.files.Files.{Files}
 use Rattle.just_joining.specs.declared.files.Rows.{Rows}
 use Rattle.just_joining.specs.declared.joined.Joined.{Joined}

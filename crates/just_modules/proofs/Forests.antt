@@ -18,11 +18,11 @@ use Rattle.just_making.specs.Analysis.{AreKeysOf, HasDefault, HasKeysOf, IsOf}
 use Rattle.just_joining.specs.Files.{ArePlaced, AreRows, asts_in}
 use Rattle.just_joining.specs.Joined.{IsJoined}
 use Rattle.just_constants.specs.Documented.{AreDocumented, HasDoc}
-use Rattle.just_modules.specs.Evaluated.{IsEvaluatedTo}
+use Rattle.just_compiling.specs.Evaluated.{IsEvaluatedTo}
 use Rattle.just_making.specs.Labelled.{label_in, labelled_as, with_labels}
-use Rattle.just_modules.specs.Justfiles.{AreCompiled, Built, IsCompiled, Made, contents_in, none, notes_said, one, recipes_in}
+use Rattle.just_compiling.specs.Justfiles.{AreCompiled, Built, IsCompiled, Made, contents_in, none, notes_said, one, recipes_in}
 use Rattle.just_checking.specs.Noted.{notes_from}
-use Rattle.just_modules.specs.Modules.{Empty, Forest, Heading, Module, Tree, headings_in}
+use Rattle.just_compiling.specs.Modules.{Empty, Forest, Heading, Module, Tree, headings_in}
 use Rattle.just_joining.specs.Contents.{Contents}
 use Rattle.just_joining.specs.Kept.{kept_recipes}
 use Rattle.just_joining.specs.Named.{contents_from, function_by, lists_by, name_by, said_from, recipes_by, recipes_from, set_by, unexported_by, variable_by}
@@ -31,7 +31,7 @@ use Rattle.just_joining.specs.Recipes.{recipes_of}
 use Rattle.just_joining.specs.Reading.{Submodule, items_in}
 use Rattle.just_joining.specs.Resolved.{AreResolved}
 use Rattle.just_joining.specs.OfPlaces.{contents_of_place, labels_of_place, recipes_of_place}
-use Rattle.just_modules.specs.Steps.{IsCompiledAt, path_at, path_in}
+use Rattle.just_compiling.specs.Steps.{IsCompiledAt, path_at, path_in}
 use Rattle.just_joining.specs.declared.files.Files.{Files}
 use Rattle.just_notes.specs.declared.labels.Label.{Label}
 use Rattle.just_notes.specs.declared.notes.Notes.{Notes}
@@ -41,7 +41,7 @@ use Rattle.just_joining.specs.declared.joined.Joined.{Joined}
 use Rattle.just_parts.proofs.AstKeys.{keys_equivalent}
 use Rattle.just_modules.proofs.Closing.{own_joined}
 use Rattle.just_joining.proofs.FilePlaces.{says}
-use Rattle.just_modules.proofs.Placed.{many_labels}
+use Rattle.just_compiling.proofs.Placed.{many_labels}
 use Rattle.just_modules.proofs.ModulePlaces.{TreeAt, file_inside, join_at, module_of, tree_at}
 use Rattle.just_modules.proofs.Ready.{labels_are}
 use Rattle.just_parts.specs.Layers.{Given, Layers, layers_at}

@@ -9,7 +9,7 @@ use Rattle.just_parts.specs.Asts.{AstKey, same_ast_key}
 use Rattle.just_parts.specs.Items.{Ast, Item}
 use Rattle.just_joining.specs.Files.{ArePlaced, AreRows}
 use Rattle.just_joining.specs.Joined.{IsJoined}
-use Rattle.just_modules.specs.Modules.{Heading, IsHeading, heading_of, of_module, of_root}
+use Rattle.just_compiling.specs.Modules.{Heading, IsHeading, heading_of, of_module, of_root}
 use Rattle.just_joining.specs.Reading.{Reading, reading_of}
 use Rattle.just_joining.specs.declared.files.Files.{Files}
 use Rattle.just_joining.specs.declared.files.Rows.{Rows}

@@ -12,7 +12,7 @@ use Rattle.just_joining.specs.Files.{ArePlaced, AreRows}
 use Rattle.just_joining.specs.Groups.{BreaksContents, KeepsContents, OfHeaders}
 use Rattle.just_modules.specs.Groups.{HasGround, KeepsGroups, KeepsModules, NamesModules, in_module}
 use Rattle.just_joining.specs.Joined.{IsJoined}
-use Rattle.just_modules.specs.Modules.{Heading, IsHeading, Module, a_module, contents_of, no_module}
+use Rattle.just_compiling.specs.Modules.{Heading, IsHeading, Module, a_module, contents_of, no_module}
 use Rattle.just_joining.specs.Reading.{Reading, reading_of}
 use Rattle.just_joining.specs.Rules.{Modules, of_modules}
 use Rattle.just_joining.specs.OfPlaces.{contents_of_place, names_of_place}
@@ -21,7 +21,7 @@ use Rattle.just_joining.specs.declared.files.Rows.{Rows}
 use Rattle.just_joining.specs.declared.joined.Joined.{Joined}
 use Rattle.just_rules.proofs.Alike.{AreAlikeContents, breaks_alike, kept_alike}
 use Rattle.just_joining.proofs.FilePlaces.{says}
-use Rattle.just_modules.specs.Steps.{BreaksPlace, KeepsPlace, path_at, path_in}
+use Rattle.just_compiling.specs.Steps.{BreaksPlace, KeepsPlace, path_at, path_in}
 use Rattle.just_modules.proofs.ModulePlaces.{IsListed, TreeAt, file_inside, module_of, tree_at}
 use Rattle.just_modules.proofs.Ready.{docs_are, functions_are, lists_are, names_are, recipes_are, sets_are, unexports_are, variables_are}
 

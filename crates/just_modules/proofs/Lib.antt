@@ -3,14 +3,11 @@ pub mod Analyzing
 pub mod Closing
 pub mod Compilable
 pub mod Forests
-pub mod Grounds
 pub mod Headed
 pub mod Inserting
 pub mod Keeping
 pub mod ModulePaths
 pub mod ModulePlaces
-pub mod Ordered
-pub mod Placed
 pub mod Ready
 pub mod TableValues
 pub mod VariableNumbers

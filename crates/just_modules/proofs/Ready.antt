@@ -36,7 +36,7 @@ use Rattle.just_joining.specs.declared.joined.Joined.{Joined}
 use Rattle.just_rules.proofs.Alike.{AreAlike, outline_of, outlines_of}
 use Rattle.just_rules.proofs.BareOutlines.{outline_located}
 use Rattle.just_joining.proofs.FilePlaces.{are_graphs, says}
-use Rattle.just_modules.specs.Modules.{items_of}
+use Rattle.just_compiling.specs.Modules.{items_of}
 use Rattle.just_modules.proofs.ModulePlaces.{no_ast}
 
 abbrev name_of : Submodule → Name

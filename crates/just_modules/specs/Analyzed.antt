@@ -4,7 +4,7 @@ use Rattle.std.specs.HashMap.{HashMap, get}
 use Rattle.std.specs.List.{Contains}
 use Rattle.std.specs.Option.{option_or}
 use Rattle.just_evaluated.specs.Overrides.{last_of}
-use Rattle.just_modules.specs.declared.compiling.Gathered.{Gathered}
+use Rattle.just_compiling.specs.declared.compiling.Gathered.{Gathered}
 use Rattle.just_names.specs.declared.number.Number.{Number}
 use Rattle.just_parts.specs.Needs.{same_number}
 use Rattle.just_graph.specs.Unfolded.{AreApart}
@@ -21,8 +21,8 @@ use Rattle.just_invoke.specs.Closed.{AreClosed}
 use Rattle.just_invoke.specs.declared.justfile.Justfile.{Justfile}
 use Rattle.just_modules.specs.Groups.{KeepsModules, NamesModules}
 use Rattle.just_making.specs.Labelled.{label_in}
-use Rattle.just_modules.specs.Justfiles.{AreCompiled, Built, overridden_of_all, recipes_of_all}
-use Rattle.just_modules.specs.Modules.{AreModules, Empty, Forest, Heading, IsHeading, Module, Tree, heading}
+use Rattle.just_compiling.specs.Justfiles.{AreCompiled, Built, overridden_of_all, recipes_of_all}
+use Rattle.just_compiling.specs.Modules.{AreModules, Empty, Forest, Heading, IsHeading, Module, Tree, heading}
 use Rattle.just_joining.specs.Reading.{reading_of}
 use Rattle.just_notes.specs.declared.labels.Label.{Label}
 

@@ -7,7 +7,7 @@ ghost use Rattle.just_joining.specs.Analyzable.{AreAnalyzable};
 ghost use Rattle.just_modules.specs.Analyzed.{AnalyzesAt, AreInserted, NamesAnalyzed};
 ghost use Rattle.just_parts.specs.Layers.{given_of};
 
-use crate::compiling::{Gathered, compile_in_order};
+use just_compiling::{Gathered, compile_in_order};
 use just_data::{Sequence, Shared, Text};
 use just_invoke::{Justfile, Recipes};
 use just_joining::files::{file_rows, place_files, place_of};
@@ -95,7 +95,7 @@ impl Analyzer {
     ghost use Rattle.just_parts.specs.Asts.{same_ast_key};
     ghost use Rattle.just_joining.specs.Analyzable.{AreAnalyzable, HavePaths};
     ghost use Rattle.just_modules.specs.Analyzed.{AreAsBefore, Analyzes, NamesAnalyzed};
-    ghost use Rattle.just_modules.specs.Modules.{label};
+    ghost use Rattle.just_compiling.specs.Modules.{label};
     ghost use Rattle.just_parts.specs.Layers.{given_of};
 
     /// The justfile of the module at `module_path`, whose own file is `root`, with the label that it is given (`name`,

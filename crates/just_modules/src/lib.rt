@@ -1,7 +1,6 @@
-//! The rules of a module, and what its recipes are resolved to.
+//! The analysis of all modules: their rules, group by group, and what they are compiled to.
 #![tactic(auto)]
 
 mod analyzer;
-mod compiling;
 
 pub use analyzer::Analyzer;

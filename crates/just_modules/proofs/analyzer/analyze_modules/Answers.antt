@@ -12,9 +12,9 @@ use Rattle.just_errors.proofs.Lifts.{reports_by}
 use Rattle.just_modules.specs.Analyzed.{IsAnalyzed}
 use Rattle.just_joining.specs.Joined.{AreArranged, AreGraphs}
 use Rattle.just_making.specs.Labelled.{labelled_as}
-use Rattle.just_modules.specs.Modules.{heading}
+use Rattle.just_compiling.specs.Modules.{heading}
 use Rattle.just_joining.specs.OfPlaces.{RepeatsNames}
-use Rattle.just_modules.specs.Steps.{BreaksInOrder, CanCompileAll, HaveCompiled, made_in}
+use Rattle.just_compiling.specs.Steps.{BreaksInOrder, CanCompileAll, HaveCompiled, made_in}
 use Rattle.just_modules.proofs.Analyzing.{all_can, broken_named, files_there, go_deeper, is_analyzed, repeats_named, root_held, rows_many}
 use Rattle.just_joining.proofs.FilePlaces.{are_graphs, place_back}
 use Rattle.just_rules.proofs.Holding.{holds_all, place_known}

@@ -11,7 +11,7 @@ use Rattle.just_loader.specs.Reached.{World, world_of}
 use Rattle.just_loader.proofs.HeldKeys.{root_held}
 use Rattle.just_modules.specs.Analyzed.{IsAnalyzed}
 use Rattle.just_modules.specs.Groups.{NamesModules}
-use Rattle.just_modules.specs.Modules.{heading, label}
+use Rattle.just_compiling.specs.Modules.{heading, label}
 use Rattle.just_joining.specs.Reading.{reading_of}
 use Rattle.just_analyzer.specs.Readings.{given_in, root_heading}
 use Rattle.just_analyzer.specs.Rules.{Names, in_files, in_modules}

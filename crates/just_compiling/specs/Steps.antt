@@ -15,13 +15,13 @@ use Rattle.just_parts.specs.Layers.{Given, layers_at}
 use Rattle.just_parts.specs.Items.{Ast, Item}
 use Rattle.just_invoke.specs.declared.justfile.Justfile.{Justfile, out-Justfile}
 use Rattle.just_making.specs.Analysis.{HasDefault, IsOf}
-use Rattle.just_modules.specs.Evaluated.{IsEvaluatedTo}
+use Rattle.just_compiling.specs.Evaluated.{IsEvaluatedTo}
 use Rattle.just_index.specs.Index.{texts_of_names, AreDifferent}
 use Rattle.just_joining.specs.Analyzable.{assignment_numbers}
 use Rattle.just_joining.specs.Files.{asts_in, keys_in}
 use Rattle.just_making.specs.Labelled.{by_name, notes_in, slot, with_labels}
-use Rattle.just_modules.specs.Justfiles.{Made}
-use Rattle.just_modules.specs.declared.compiling.Gathered.{Gathered}
+use Rattle.just_compiling.specs.Justfiles.{Made}
+use Rattle.just_compiling.specs.declared.compiling.Gathered.{Gathered}
 use Rattle.just_checking.specs.Noted.{notes_of_place}
 use Rattle.just_making.specs.Variables.{HasVariables}
 use Rattle.just_joining.specs.Groups.{BreaksContents, KeepsContents}

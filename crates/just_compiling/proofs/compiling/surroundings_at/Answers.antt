@@ -8,7 +8,7 @@ use Rattle.just_joining.specs.Files.{asts_in, keys_in}
 use Rattle.just_joining.proofs.Joining.{row_lent}
 use Rattle.just_making.specs.Labelled.{slot}
 use Rattle.just_checking.specs.Noted.{notes_from}
-use Rattle.just_modules.proofs.compiling.surroundings_at.Goals as goal
+use Rattle.just_compiling.proofs.compiling.surroundings_at.Goals as goal
 
 pub take_inner-requires-clause-inside : goal.take_inner-requires-clause-inside
 take_inner-requires-clause-inside g c =

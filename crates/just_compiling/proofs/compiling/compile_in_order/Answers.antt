@@ -4,9 +4,9 @@ use Rattle.std.proofs.lemmas.Result.{IfErr-weaker}
 use Rattle.just_graph.specs.Graph.{targets}
 use Rattle.just_errors.specs.Causes.{Reports}
 use Rattle.just_parts.specs.Layers.{given_of}
-use Rattle.just_modules.specs.Steps.{BreaksPlace, made_in}
-use Rattle.just_modules.proofs.Ordered.{breaks_next, compiled_more, compiled_none, inner_there, numbers_apart}
-use Rattle.just_modules.proofs.compiling.compile_in_order.Goals as goal
+use Rattle.just_compiling.specs.Steps.{BreaksPlace, made_in}
+use Rattle.just_compiling.proofs.Ordered.{breaks_next, compiled_more, compiled_none, inner_there, numbers_apart}
+use Rattle.just_compiling.proofs.compiling.compile_in_order.Goals as goal
 
 pub loop-place-init : goal.loop-place-init
 loop-place-init g c =

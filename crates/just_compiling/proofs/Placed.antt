@@ -17,10 +17,10 @@ use Rattle.just_joining.specs.declared.files.Files.{Files}
 use Rattle.just_joining.specs.declared.joined.Joined.{Joined}
 use Rattle.just_resolving.specs.Broken.{BreaksRecipes}
 use Rattle.just_checking.specs.Evaluated.{IsChecked}
-use Rattle.just_modules.specs.Evaluated.{IsEvaluatedTo}
-use Rattle.just_modules.specs.Steps.{BreaksPlace, KeepsPlace, path_at, path_in}
+use Rattle.just_compiling.specs.Evaluated.{IsEvaluatedTo}
+use Rattle.just_compiling.specs.Steps.{BreaksPlace, KeepsPlace, path_at, path_in}
 use Rattle.just_checking.specs.declared.checking.Checked.{Checked}
-use Rattle.just_modules.proofs.Grounds.{all_kept, recipes_broken}
+use Rattle.just_compiling.proofs.Grounds.{all_kept, recipes_broken}
 use Rattle.just_names.specs.Texts.{Text}
 use Rattle.just_notes.specs.Labels.{label_by}
 use Rattle.just_notes.specs.declared.labels.Label.{Label}

@@ -12,11 +12,11 @@ use Rattle.std.specs.List.{Contains}
 use Rattle.just_invoke.specs.declared.justfile.Justfile.{Justfile, out-Justfile}
 use Rattle.just_making.specs.Analysis.{HasDefault, IsOf}
 use Rattle.just_making.specs.Labelled.{by_name, label_in, notes_in}
-use Rattle.just_modules.specs.Evaluated.{IsEvaluatedTo}
+use Rattle.just_compiling.specs.Evaluated.{IsEvaluatedTo}
 use Rattle.just_notes.specs.Labels.{doc_by}
 use Rattle.just_notes.specs.Notes.{absent_by, features_by, notes_of, warnings_by}
 use Rattle.just_notes.specs.declared.notes.Notes.{Notes}
-use Rattle.just_modules.specs.Modules.{Module, Forest, Empty, Tree, path_of}
+use Rattle.just_compiling.specs.Modules.{Module, Forest, Empty, Tree, path_of}
 use Rattle.just_making.specs.Variables.{HasVariables}
 use Rattle.just_joining.specs.Contents.{Contents}
 use Rattle.just_joining.specs.Kept.{kept_recipes}

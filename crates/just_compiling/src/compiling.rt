@@ -13,8 +13,8 @@ ghost use Rattle.just_joining.specs.Definitions.{contents_in, recipes_in};
 ghost use Rattle.just_joining.specs.Resolved.{AreNew, HasPriors, unresolved_numbers};
 ghost use Rattle.just_joining.specs.OfPlaces.{recipes_of_place};
 ghost use Rattle.just_resolving.specs.Broken.{BreaksRecipes};
-ghost use Rattle.just_modules.specs.Parts.{AreSurroundings, IsAnalyzedFrom};
-ghost use Rattle.just_modules.specs.Steps.{BreaksInOrder, BreaksPlace, CanCompile, CanCompileAll, CompilesAt, HaveCompiledAll, made_in};
+ghost use Rattle.just_compiling.specs.Parts.{AreSurroundings, IsAnalyzedFrom};
+ghost use Rattle.just_compiling.specs.Steps.{BreaksInOrder, BreaksPlace, CanCompile, CanCompileAll, CompilesAt, HaveCompiledAll, made_in};
 
 use just_checking::{Checked, check_files, notes_at};
 use just_constants::Constants;

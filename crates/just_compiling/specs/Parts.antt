@@ -11,7 +11,7 @@ use Rattle.just_joining.specs.declared.files.Files.{Files}
 use Rattle.just_joining.specs.declared.joined.Joined.{Joined}
 use Rattle.just_making.specs.Analysis.{HasDefault, IsOf}
 use Rattle.just_making.specs.Labelled.{by_name, notes_in, slot, with_labels}
-use Rattle.just_modules.specs.Justfiles.{Made}
+use Rattle.just_compiling.specs.Justfiles.{Made}
 use Rattle.just_checking.specs.Noted.{notes_of_place}
 use Rattle.just_making.specs.Variables.{HasVariables}
 use Rattle.just_checking.specs.declared.checking.Checked.{Checked}

@@ -20,8 +20,8 @@ use Rattle.just_making.specs.Labelled.{by_name, with_labels}
 use Rattle.just_making.specs.Variables.{HasVariables}
 use Rattle.just_making.proofs.Makings.{is_of_same}
 use Rattle.just_resolving.specs.Broken.{BreaksRecipes}
-use Rattle.just_modules.proofs.Placed.{breaks_place, breaks_recipes, contents_are, evaluated_to, keeps_place, labels_many, variables_resolved}
-use Rattle.just_modules.proofs.compiling.compile_place.Goals as goal
+use Rattle.just_compiling.proofs.Placed.{breaks_place, breaks_recipes, contents_are, evaluated_to, keeps_place, labels_many, variables_resolved}
+use Rattle.just_compiling.proofs.compiling.compile_place.Goals as goal
 use Rattle.just_parts.specs.Layers.{given_of, layers_at}
 
 pub check_files-requires-clause-places : goal.check_files-requires-clause-places

@@ -4,7 +4,7 @@ use Rattle.just_joining.specs.Defaults.{IsDefaultAmong}
 use Rattle.just_joining.specs.Definitions.{contents_in, recipes_in}
 use Rattle.just_joining.specs.Kept.{kept_recipes}
 use Rattle.just_joining.specs.Named.{recipes_by}
-use Rattle.just_modules.proofs.compiling.analyze_checked.Goals as goal
+use Rattle.just_compiling.proofs.compiling.analyze_checked.Goals as goal
 
 pub returns-in_err-append-clause-named : goal.returns-in_err-append-clause-named
 returns-in_err-append-clause-named g c = search (rules, c.from_residual.ensures.1, c.from_residual.ensures.0)

@@ -1,0 +1,5 @@
+pub mod Evaluated
+pub mod Justfiles
+pub mod Modules
+pub mod Parts
+pub mod Steps
