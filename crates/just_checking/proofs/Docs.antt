@@ -6,7 +6,7 @@ use Rattle.std.proofs.lemmas.List.{append-nil}
 use Rattle.just_constants.specs.Documented.{doc_expressions}
 use Rattle.just_graph.proofs.Members.{contained, in_right, is_in}
 use Rattle.just_constants.specs.Constants.{CoversAll}
-use Rattle.just_assignments.specs.declared.variables.Variables.{Variables}
+use Rattle.just_variables.specs.declared.variables.Variables.{Variables}
 use Rattle.just_joining.specs.Constants.{constant_expressions, recipe_expressions, settings_expressions}
 use Rattle.just_joining.specs.Contents.{Contents}
 use Rattle.just_joining.specs.Named.{said_from}

@@ -12,7 +12,7 @@ use Rattle.just_parts.specs.Needs.{HaveNumbersApart}
 use Rattle.just_parts.specs.Syntax.{SyntaxAnswers}
 use Rattle.just_records.specs.declared.assignment.Assignment.{Assignment}
 use Rattle.just_table.specs.Entries.{find, put, put_all}
-use Rattle.just_assignments.specs.Variables.{known_with_numbers}
+use Rattle.just_variables.specs.Variables.{known_with_numbers}
 use Rattle.just_joining.specs.Analyzable.{assignment_numbers}
 use Rattle.just_joining.specs.Contents.{Contents}
 use Rattle.just_joining.specs.Kept.{claim_of_variable, kept_variables}

@@ -3,9 +3,9 @@ use Rattle.std.specs.Prelude.{◌≡◌, List}
 use Rattle.just_constants.specs.Constants.{CoversAll, evaluated_in}
 use Rattle.just_constants.specs.Documented.{AreDocumentedIn}
 use Rattle.just_evaluated.specs.Overrides.{overridden_among}
-use Rattle.just_assignments.specs.Variables.{AreVariablesOf}
+use Rattle.just_variables.specs.Variables.{AreVariablesOf}
 use Rattle.just_constants.specs.declared.constants.Constants.{Constants}
-use Rattle.just_assignments.specs.declared.variables.Variables.{Variables}
+use Rattle.just_variables.specs.declared.variables.Variables.{Variables}
 use Rattle.just_errors.specs.Causes.{Keeps}
 use Rattle.just_joining.specs.Constants.{Docs, IsEvaluated, constant_expressions}
 use Rattle.just_joining.specs.Contents.{Contents}

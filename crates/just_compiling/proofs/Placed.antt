@@ -3,7 +3,7 @@ use Rattle.std.proofs.Common.{◌≡◌, ◌∙◌, ℕ, suc, List, [], ◌∷�
 use Rattle.std.specs.Prelude.{slice_get}
 use Rattle.just_constants.specs.Constants.{evaluated_in}
 use Rattle.just_constants.specs.Documented.{AreDocumented}
-use Rattle.just_assignments.specs.Variables.{AreVariablesOf}
+use Rattle.just_variables.specs.Variables.{AreVariablesOf}
 use Rattle.just_errors.specs.Causes.{Cause, Keeps}
 use Rattle.just_graph.specs.Graph.{targets}
 use Rattle.just_invoke.specs.declared.justfile.Justfile.{Justfile, out-Justfile}

@@ -2,7 +2,7 @@
 
 ghost use Rattle.std.specs.Prelude.{◌≡◌, ◌<◌, ℕ, List, IfOk, IfErr, None, OnOk, Some, length, map};
 ghost use Rattle.std.specs.List.{All, Contains};
-ghost use Rattle.just_assignments.specs.Variables.{AreVariablesOf};
+ghost use Rattle.just_variables.specs.Variables.{AreVariablesOf};
 ghost use Rattle.just_graph.specs.Graph.{targets};
 ghost use Rattle.just_graph.specs.Steps.{IsOnce};
 ghost use Rattle.just_errors.specs.Causes.{Reports};

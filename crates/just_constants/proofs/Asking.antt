@@ -15,7 +15,7 @@ use Rattle.just_index.specs.Index.{texts_of_names}
 use Rattle.just_joining.specs.Constants.{AsksFor, IsNeeded, functions_asked, is_overridden, overriding}
 use Rattle.just_joining.specs.Contents.{Contents}
 use Rattle.just_joining.specs.Known.{functions_under, known_of, variables_under}
-use Rattle.just_numbering.specs.Numbered.{number_under, numbered_assignment, numbered_assignments, numbered_function, numbered_functions}
+use Rattle.just_variables.specs.Numbered.{number_under, numbered_assignment, numbered_assignments, numbered_function, numbered_functions}
 use Rattle.just_parts.specs.Bare.{bare_function, bare_function_parameter}
 use Rattle.just_parts.specs.Evaluator.{functions_by_name, needed_by, override_by, unnumbered, unnumbered_assignment, unnumbered_function, wanted_by}
 use Rattle.just_parts.specs.Known.{Known, defines, hides, known, none_hidden, range_of, sources}
@@ -32,8 +32,8 @@ use Rattle.just_references.proofs.Renumbering.{keeps_references, numbers_stay}
 use Rattle.just_table.specs.Entries.{find}
 use Rattle.just_parts.specs.Misnaming.{Misnames}
 use Rattle.just_known.proofs.Placed.{the_value}
-use Rattle.just_assignments.specs.Variables.{AreVariables, known_with_numbers}
-use Rattle.just_assignments.proofs.Judging.{bare_is, bare_of}
+use Rattle.just_variables.specs.Variables.{AreVariables, known_with_numbers}
+use Rattle.just_variables.proofs.Judging.{bare_is, bare_of}
 use Rattle.just_constants.proofs.Similar.{AreSimilar, changed_similar, defined_changed, misnames_same, needs_similar, order_of_similar, range_changed, read_in_similar, reads_on_similar, similar_changed, similar_then}
 use Rattle.just_constants.proofs.Tables.{changed_again, changed_same, find_changed, found_changed}
 

@@ -13,7 +13,7 @@ use Rattle.just_joining.specs.Constants.{AreConstants, AsksConstants, Constants,
 use Rattle.just_joining.specs.Contents.{Contents}
 use Rattle.just_joining.specs.Kept.{kept_variables}
 use Rattle.just_joining.specs.Known.{known_of, variables_under}
-use Rattle.just_numbering.specs.Numbered.{name_of_assignment, numbered_assignment}
+use Rattle.just_variables.specs.Numbered.{name_of_assignment, numbered_assignment}
 use Rattle.just_parts.specs.Evaluator.{Binds, Covers, FaultsAt, bare_set, functions_by_name, set_expressions, values_of, wanted_by}
 use Rattle.just_parts.specs.Known.{Known, known, none_hidden, sources}
 use Rattle.just_parts.specs.Layers.{Layers}
@@ -27,7 +27,7 @@ use Rattle.just_literals.specs.declared.settings.Settings.{Settings}
 use Rattle.just_table.specs.Entries.{IsSorted, find}
 use Rattle.just_parts.specs.Misnaming.{Misnames}
 use Rattle.just_evaluated.specs.Overrides.{last_of, overrides_found}
-use Rattle.just_assignments.specs.Variables.{AreVariables, known_with_numbers}
+use Rattle.just_variables.specs.Variables.{AreVariables, known_with_numbers}
 use Rattle.just_constants.proofs.Asking.{misnames_known, misnames_tables, tables_apart, tables_ask, tables_closed, tables_functions, tables_read}
 use Rattle.just_constants.proofs.Judged.{constants_kept, constants_told, names_told, settings_told}
 use Rattle.just_evaluated.proofs.Overriding.{last_overrides, overrides_changed}

@@ -20,8 +20,8 @@ use Rattle.just_expressions.specs.declared.expression.Expression.{Expression}
 use Rattle.just_references.specs.Numbers.{bare}
 use Rattle.just_parts.specs.Misnaming.{Misnames}
 use Rattle.just_constants.specs.Documented.{AreDocumented, DocFault, HasDoc, IsDocumented, doc_expressions, doc_of_value, known_by, misnamed, no_value, value_by}
-use Rattle.just_assignments.specs.Variables.{AreVariablesOf}
-use Rattle.just_assignments.specs.declared.variables.Variables.{Variables}
+use Rattle.just_variables.specs.Variables.{AreVariablesOf}
+use Rattle.just_variables.specs.declared.variables.Variables.{Variables}
 use Rattle.just_constants.proofs.Asking.{misnames_known, misnames_tables, tables_functions}
 use Rattle.just_constants.proofs.Judged.{docs_kept}
 

@@ -2,7 +2,7 @@
 use Rattle.std.specs.Prelude.{List, flat_map}
 use Rattle.std.specs.List.{All, Contains}
 use Rattle.just_constants.specs.declared.constants.Constants.{Constants}
-use Rattle.just_assignments.specs.declared.variables.Variables.{Variables}
+use Rattle.just_variables.specs.declared.variables.Variables.{Variables}
 use Rattle.just_errors.specs.Causes.{Reports}
 use Rattle.just_errors.specs.declared.error.Error.{Error}
 use Rattle.just_joining.specs.Constants.{Evaluated}

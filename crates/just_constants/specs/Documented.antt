@@ -10,7 +10,7 @@ use Rattle.just_parts.specs.Known.{Known, known, none_hidden, sources}
 use Rattle.just_parts.specs.Syntax.{SyntaxAnswers}
 use Rattle.just_references.specs.Numbers.{bare}
 use Rattle.just_parts.specs.Misnaming.{Misnames}
-use Rattle.just_assignments.specs.declared.variables.Variables.{Variables}
+use Rattle.just_variables.specs.declared.variables.Variables.{Variables}
 use Rattle.just_notes.specs.declared.labels.Label.{Label}
 use Rattle.just_joining.specs.Constants.{value_among}
 use Rattle.just_joining.specs.Contents.{Contents}

@@ -4,7 +4,7 @@ ghost use Rattle.std.specs.Prelude.{◌≡◌, ◌∷◌, [], IfOk, IfErr, OnOk,
 ghost use Rattle.std.specs.List.{Contains};
 ghost use Rattle.just_constants.specs.Constants.{CoversAll, CoversSets, NamesFaultIn, evaluated_in};
 ghost use Rattle.just_evaluated.specs.Overrides.{overridden_among};
-ghost use Rattle.just_assignments.specs.Variables.{AreVariablesOf, known_with_numbers};
+ghost use Rattle.just_variables.specs.Variables.{AreVariablesOf, known_with_numbers};
 ghost use Rattle.just_errors.specs.Causes.{Keeps, Reports};
 ghost use Rattle.just_joining.specs.Constants as rule;
 ghost use Rattle.just_joining.specs.Definitions.{contents_in, sets_in};
@@ -17,7 +17,6 @@ ghost use Rattle.just_expressions.specs.declared.expression.Expression.{Expressi
 ghost use Rattle.just_known.specs.Lent.{known_in};
 ghost use Rattle.just_parts.specs.Misnaming.{Misnames};
 
-use just_assignments::Variables;
 use just_data::{Text, copied};
 use just_evaluated::{by_number, constant_expressions, overrides_of, settings_expressions};
 use just_joining::definitions::{Definitions, set_at};
@@ -27,6 +26,7 @@ use just_parts::layers::{
     Config, Error, Evaluation, Expression, Number, Scope, Set, Setting, Settings, Syntax,
 };
 use just_paths::Modulepath;
+use just_variables::Variables;
 use std::alloc::{AllocError, Global};
 use std::collections::HashSet;
 

@@ -2,7 +2,7 @@
 use Rattle.just_invoke.specs.declared.justfile.Justfile.{Justfile, out-Justfile}
 use Rattle.just_joining.specs.Contents.{Contents}
 use Rattle.just_parts.specs.Syntax.{SyntaxAnswers}
-use Rattle.just_assignments.specs.Variables.{AreVariables}
+use Rattle.just_variables.specs.Variables.{AreVariables}
 
 -- a justfile has them
 abbrev pub HasVariables : SyntaxAnswers → Contents → Justfile → Type 0

@@ -9,13 +9,13 @@ ghost use Rattle.just_index.specs.Index.{AreDifferent};
 ghost use Rattle.just_joining.specs.Kept.{kept_recipes};
 ghost use Rattle.just_joining.specs.Recipes.{names_of};
 
-use just_assignments::Variables;
 use just_data::{Sequence, Shared, Text};
 use just_invoke::{Justfile, RecipeKey};
 use just_joining::definitions::{Definitions, recipe_at};
 use just_notes::Notes;
 use just_parts::layers::{Ast, Name, Number, Settings};
 use just_table::Table;
+use just_variables::Variables;
 use std::alloc::{AllocError, Global};
 
 // The keys of the recipes, under their names.

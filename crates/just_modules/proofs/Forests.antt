@@ -45,7 +45,7 @@ use Rattle.just_compiling.proofs.Placed.{many_labels}
 use Rattle.just_modules.proofs.ModulePlaces.{TreeAt, file_inside, join_at, module_of, tree_at}
 use Rattle.just_modules.proofs.Ready.{labels_are}
 use Rattle.just_parts.specs.Layers.{Given, Layers, layers_at}
-use Rattle.just_assignments.specs.Variables.{AreVariables}
+use Rattle.just_variables.specs.Variables.{AreVariables}
 use Rattle.just_making.specs.Variables.{HasVariables}
 use Rattle.just_notes.specs.Labels.{doc_by}
 use Rattle.just_expressions.specs.declared.expression.Expression.{Expression}

@@ -5,7 +5,7 @@ use Rattle.std.specs.Str.{bytes_eq}
 use Rattle.just_names.specs.Texts.{Text}
 use Rattle.just_names.specs.declared.number.Number.{Number}
 use Rattle.just_parts.specs.Needs.{has_number}
-use Rattle.just_numbering.specs.Numbered.{number_by}
+use Rattle.just_variables.specs.Numbered.{number_by}
 use Rattle.just_parts.specs.Syntax.{SyntaxAnswers}
 use Rattle.just_records.specs.declared.function_definition.FunctionParameter.{FunctionParameter}
 use Rattle.just_resolver.specs.declared.variable_resolver.VariableResolver.{VariableResolver}

@@ -5,7 +5,7 @@ ghost use Rattle.std.specs.HashSet.{contains};
 ghost use Rattle.std.specs.Str.{bytes_eq};
 ghost use Rattle.just_errors.specs.Causes.{Keeps, Reports};
 ghost use Rattle.just_parts.specs.Needs.{Gains, GainsAll, HasNone, IsSame, KeepsAll, same_number};
-ghost use Rattle.just_numbering.specs.Resolved.{ResolvesTo};
+ghost use Rattle.just_variables.specs.Resolved.{ResolvesTo};
 ghost use Rattle.just_references.specs.Numbers.{with_numbers};
 ghost use Rattle.just_resolver.specs.Resolver.{known_by, number_here, overridden};
 ghost use Rattle.just_parts.specs.Known.{hides, known};
@@ -14,12 +14,12 @@ ghost use Rattle.just_parts.specs.Reading.{Reads};
 
 use just_data::{BorrowedText, Text};
 use just_known::{Known, check_call, check_expression, hidden_names};
-use just_numbering::{parameter_numbers, resolve_assignments};
 use just_numbers::{Numbers, numbered};
 use just_parts::layers::{
     Assignment, Error, Expression, FunctionDefinition, FunctionParameter, Name, Number, Syntax,
 };
 use just_table::Table;
+use just_variables::{parameter_numbers, resolve_assignments};
 use std::alloc::{AllocError, Global};
 use std::collections::{HashMap, HashSet};
 

@@ -1,5 +1,13 @@
 pub mod Between
 pub mod Circles
+pub mod Copies
 pub mod Edges
+pub mod Judging
+pub mod Numbers
+pub mod Order
 pub mod Ordered
+pub mod Outcome
 pub mod Rows
+pub mod Steps
+pub mod Tabled
+pub mod Tables

@@ -1,5 +1,5 @@
 use Rattle.std.proofs.Common.{Some, rules, subst, sym}
-use Rattle.just_assignments.proofs.Resolving.{variables_had}
+use Rattle.just_variables.proofs.Tabled.{variables_had}
 use Rattle.just_joining.specs.Defaults.{IsDefaultAmong}
 use Rattle.just_joining.specs.Definitions.{contents_in, recipes_in}
 use Rattle.just_joining.specs.Kept.{kept_recipes}
