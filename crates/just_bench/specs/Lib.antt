@@ -1,3 +1,2 @@
 pub mod Bundle
-pub mod Promises
 pub mod StopWriter

@@ -2,7 +2,7 @@
 use Rattle.std.specs.Prelude.{◌≡◌, List}
 use Rattle.just_constants.specs.Constants.{CoversAll, evaluated_in}
 use Rattle.just_constants.specs.Documented.{AreDocumentedIn}
-use Rattle.just_evaluated.specs.Overrides.{overridden_among}
+use Rattle.just_constants.specs.Overrides.{overridden_among}
 use Rattle.just_variables.specs.Variables.{AreVariablesOf}
 use Rattle.just_constants.specs.declared.constants.Constants.{Constants}
 use Rattle.just_variables.specs.declared.variables.Variables.{Variables}

@@ -26,11 +26,11 @@ use Rattle.just_attributes.specs.declared.setting.Set.{Set}
 use Rattle.just_literals.specs.declared.settings.Settings.{Settings}
 use Rattle.just_table.specs.Entries.{IsSorted, find}
 use Rattle.just_parts.specs.Misnaming.{Misnames}
-use Rattle.just_evaluated.specs.Overrides.{last_of, overrides_found}
+use Rattle.just_constants.specs.Overrides.{last_of, overrides_found}
 use Rattle.just_variables.specs.Variables.{AreVariables, known_with_numbers}
 use Rattle.just_constants.proofs.Asking.{misnames_known, misnames_tables, tables_apart, tables_ask, tables_closed, tables_functions, tables_read}
 use Rattle.just_constants.proofs.Judged.{constants_kept, constants_told, names_told, settings_told}
-use Rattle.just_evaluated.proofs.Overriding.{last_overrides, overrides_changed}
+use Rattle.just_constants.proofs.Overriding.{last_overrides, overrides_changed}
 use Rattle.just_constants.proofs.Tables.{changed_sorted, made_sorted}
 
 module _ (layers : Layers) (m : Contents) (vs : List (Text × Assignment)) (fs : List (Text × FunctionDefinition)) (order : List Name) (is : AreVariables layers.syntax m vs fs order) where

@@ -3,5 +3,7 @@ pub mod Coming
 pub mod Documenting
 pub mod Judged
 pub mod Once
+pub mod Overriding
 pub mod Similar
 pub mod Tables
+pub mod Walking

@@ -3,7 +3,7 @@
 ghost use Rattle.std.specs.Prelude.{◌≡◌, ◌∷◌, [], IfOk, IfErr, OnOk, Some, map};
 ghost use Rattle.std.specs.List.{Contains};
 ghost use Rattle.just_constants.specs.Constants.{CoversAll, CoversSets, NamesFaultIn, evaluated_in};
-ghost use Rattle.just_evaluated.specs.Overrides.{overridden_among};
+ghost use Rattle.just_constants.specs.Overrides.{overridden_among};
 ghost use Rattle.just_variables.specs.Variables.{AreVariablesOf, known_with_numbers};
 ghost use Rattle.just_errors.specs.Causes.{Keeps, Reports};
 ghost use Rattle.just_joining.specs.Constants as rule;
@@ -17,8 +17,9 @@ ghost use Rattle.just_expressions.specs.declared.expression.Expression.{Expressi
 ghost use Rattle.just_known.specs.Lent.{known_in};
 ghost use Rattle.just_parts.specs.Misnaming.{Misnames};
 
+use crate::expressions::{constant_expressions, settings_expressions};
+use crate::overrides::{by_number, overrides_of};
 use just_data::{Text, copied};
-use just_evaluated::{by_number, constant_expressions, overrides_of, settings_expressions};
 use just_joining::definitions::{Definitions, set_at};
 use just_known::{Known, check_expression};
 use just_needs::needed_references;

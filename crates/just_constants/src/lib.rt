@@ -4,6 +4,8 @@
 
 mod constants;
 mod docs;
+mod expressions;
+mod overrides;
 
 pub use constants::{Constants, evaluate_constants};
 pub use docs::document;

@@ -5,7 +5,6 @@ ghost use Rattle.just_invoke.specs.Closed.{IsClosed};
 
 use just_analyzer::layers::{Config, Error};
 use just_analyzer::{Compilation, Compiler, Sources, is_clean};
-use just_bench::PlainEvaluation;
 use just_bench::bundle::read_sources;
 use just_lines::asked::{Asked, read_asked};
 use just_lines::faults::add_fault;
@@ -13,6 +12,7 @@ use just_readings::{answer_text, read_pairs};
 use just_syntax::PlainSyntax;
 use just_tellings::compiled::add_compiled;
 use just_tellings::variables::add_variable;
+use just_values::PlainEvaluation;
 use std::alloc::{AllocError, Global};
 
 // Compiles the file at a path.

@@ -1,6 +1,7 @@
 //! What the layers of the bench make of a text, which is read as the root, and of words, which are run over a module.
 #![tactic(auto)]
 
+pub mod laws;
 mod reading;
 mod run;
 

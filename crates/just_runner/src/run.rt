@@ -1,11 +1,12 @@
 //! The run of a compiled module over the layers of the bench.
 ghost use Rattle.just_invoke.specs.Closed.{IsClosed};
 
-use just_bench::{PlainEvaluation, Recorder, StopWriter};
+use just_bench::{Recorder, StopWriter};
 use just_data::Text;
 use just_invoke::{Justfile, Recipes, Report};
 use just_parts::layers::{Config, Error, Number};
 use just_syntax::PlainSyntax;
+use just_values::PlainEvaluation;
 use std::alloc::Global;
 use std::collections::HashMap;
 

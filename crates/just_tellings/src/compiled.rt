@@ -50,5 +50,13 @@ pub fn add_compiled<'src>(
     add_loaded(root, texts, text)?;
     add_modules(root, recipes, overrides, alloc, text)?;
     let words = asked.words(alloc)?;
-    add_words(root, recipes, overrides, alloc, asked, words.as_slice(), text)
+    add_words(
+        root,
+        recipes,
+        overrides,
+        alloc,
+        asked,
+        words.as_slice(),
+        text,
+    )
 }

@@ -1,11 +1,13 @@
-//! What expressions come to in the plain bench: values, which are lists of texts.
+//! What expressions of the small grammar come to: values, which are lists of texts, and their evaluation as a layer.
 #![tactic(auto)]
 
 mod constants;
 mod lookup;
+pub mod plain_evaluation;
 mod settings;
 mod values;
 
 pub use constants::constants_of;
+pub use plain_evaluation::PlainEvaluation;
 pub use settings::settings_of;
 pub use values::value_of;

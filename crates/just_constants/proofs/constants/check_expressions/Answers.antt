@@ -14,7 +14,7 @@ use Rattle.just_expressions.specs.declared.expression.Expression.{Expression}
 use Rattle.just_known.specs.Lent.{known_in}
 use Rattle.just_parts.specs.Misnaming.{Misnames}
 use Rattle.just_known.proofs.Checked.{nothing_hides}
-use Rattle.just_evaluated.proofs.Walking.{is_there}
+use Rattle.just_constants.proofs.Walking.{is_there}
 use Rattle.just_constants.proofs.constants.check_expressions.Goals as goal
 
 pub loop-place-preserved : goal.loop-place-preserved

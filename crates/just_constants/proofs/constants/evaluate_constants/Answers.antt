@@ -12,7 +12,7 @@ use Rattle.just_parts.specs.Layers.{given_of, layers_at}
 use Rattle.just_parts.specs.Needs.{same_number}
 use Rattle.just_parts.specs.Reading.{IsEvaluationOrder}
 use Rattle.just_constants.specs.Constants.{NamesFaultIn}
-use Rattle.just_evaluated.specs.Overrides.{last_of}
+use Rattle.just_constants.specs.Overrides.{last_of}
 use Rattle.just_constants.proofs.Asking.{tables_ordered}
 use Rattle.just_constants.proofs.Coming.{closed, covered, evaluated, kept, no_constants, no_settings, overrides_by_number, setting_told, settings_covered}
 use Rattle.just_constants.proofs.constants.evaluate_constants.Goals as goal

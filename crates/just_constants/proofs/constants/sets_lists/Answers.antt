@@ -4,7 +4,7 @@ use Rattle.just_joining.specs.Constants.{is_lists}
 use Rattle.just_joining.specs.Definitions.{sets_in}
 use Rattle.just_joining.proofs.RecipePlaces.{length-lent}
 use Rattle.just_attributes.specs.declared.setting.Set.{Set}
-use Rattle.just_evaluated.proofs.Walking.{any_here, any_more, any_none}
+use Rattle.just_constants.proofs.Walking.{any_here, any_more, any_none}
 use Rattle.just_constants.proofs.constants.sets_lists.Goals as goal
 
 pub loop-place-preserved : goal.loop-place-preserved

@@ -10,7 +10,7 @@ use Rattle.just_parts.specs.Evaluator.{values_of}
 use Rattle.just_expressions.specs.declared.expression.Expression.{Expression}
 use Rattle.just_constants.specs.Documented.{AreDocumented, DocFault, known_by, value_by}
 use Rattle.just_constants.proofs.Documenting.{IsSoundLabel, doc_there, documented_among, documented_more, label_told, label_valued, sound_docs}
-use Rattle.just_evaluated.proofs.Walking.{is_there}
+use Rattle.just_constants.proofs.Walking.{is_there}
 use Rattle.just_constants.proofs.docs.document.Goals as goal
 
 pub documented-requires : goal.documented-requires

@@ -1,2 +1,0 @@
-pub mod Overriding
-pub mod Walking
