@@ -14,9 +14,9 @@ use Rattle.just_recipe.specs.declared.recipe.Recipe.{Recipe}
 use Rattle.just_records.specs.declared.assignment.Assignment.{Assignment}
 use Rattle.just_notes.specs.Said.{said}
 use Rattle.just_joining.specs.Analyzable.{assignment_numbers}
-use Rattle.just_joining.specs.Named.{variable_by}
-use Rattle.just_joining.specs.Recipes.{recipes_of}
-use Rattle.just_joining.specs.Resolved.{HasPriors, unresolved_numbers}
+use Rattle.just_definitions.specs.Named.{variable_by}
+use Rattle.just_definitions.specs.Recipes.{recipes_of}
+use Rattle.just_definitions.specs.Resolved.{HasPriors, unresolved_numbers}
 
 from_if : (b : Bool) (q r : Recipe UnresolvedDependency) (rs : List (Recipe UnresolvedDependency)) → In r (if b then q ∷ rs else rs) → (r ≡ q) ⊎ In r rs
 from_if true q r rs h = h

@@ -7,9 +7,9 @@ use Rattle.just_constants.specs.Documented.{doc_expressions}
 use Rattle.just_graph.proofs.Members.{contained, in_right, is_in}
 use Rattle.just_constants.specs.Constants.{CoversAll}
 use Rattle.just_variables.specs.declared.variables.Variables.{Variables}
-use Rattle.just_joining.specs.Constants.{constant_expressions, recipe_expressions, settings_expressions}
-use Rattle.just_joining.specs.Contents.{Contents}
-use Rattle.just_joining.specs.Named.{said_from}
+use Rattle.just_definitions.specs.Constants.{constant_expressions, recipe_expressions, settings_expressions}
+use Rattle.just_definitions.specs.Contents.{Contents}
+use Rattle.just_definitions.specs.Named.{said_from}
 use Rattle.just_notes.specs.Labels.{doc_by, doc_of, label_by}
 use Rattle.just_notes.specs.Said.{said, said_in}
 use Rattle.just_notes.specs.declared.labels.Label.{Label}

@@ -1,10 +1,10 @@
 -- The groups of rules that are kept before those of bodies.
 use Rattle.std.proofs.Common.{arith}
 use Rattle.just_errors.specs.Causes.{Cause, Keeps}
-use Rattle.just_joining.specs.Constants.{Docs, Evaluated, IsEvaluated}
-use Rattle.just_joining.specs.Contents.{Contents}
-use Rattle.just_joining.specs.Groups.{Breaks, BreaksContents, KeepsBefore, OfAliases, OfBodies, OfConstants, OfDependencies, OfExpressions, OfHeaders, OfNames, in_docs}
-use Rattle.just_joining.specs.Rules.{under}
+use Rattle.just_definitions.specs.Constants.{Docs, Evaluated, IsEvaluated}
+use Rattle.just_definitions.specs.Contents.{Contents}
+use Rattle.just_definitions.specs.Groups.{Breaks, BreaksContents, KeepsBefore, OfAliases, OfBodies, OfConstants, OfDependencies, OfExpressions, OfHeaders, OfNames, in_docs}
+use Rattle.just_definitions.specs.Rules.{under}
 use Rattle.just_parts.specs.Layers.{Layers}
 
 module _ (layers : Layers) (m : Contents) where

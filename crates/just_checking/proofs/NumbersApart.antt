@@ -14,10 +14,10 @@ use Rattle.just_records.specs.declared.assignment.Assignment.{Assignment}
 use Rattle.just_table.specs.Entries.{find, put, put_all}
 use Rattle.just_variables.specs.Variables.{known_with_numbers}
 use Rattle.just_joining.specs.Analyzable.{assignment_numbers}
-use Rattle.just_joining.specs.Contents.{Contents}
-use Rattle.just_joining.specs.Kept.{claim_of_variable, kept_variables}
-use Rattle.just_joining.proofs.Keeping.{left_in}
-use Rattle.just_joining.proofs.Numbers.{from_once}
+use Rattle.just_definitions.specs.Contents.{Contents}
+use Rattle.just_definitions.specs.Kept.{claim_of_variable, kept_variables}
+use Rattle.just_definitions.proofs.Keeping.{left_in}
+use Rattle.just_definitions.proofs.Once.{from_once}
 use Rattle.just_table.proofs.Puts.{find_put}
 
 abbrev name_of : Assignment → Text

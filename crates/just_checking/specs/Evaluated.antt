@@ -7,9 +7,9 @@ use Rattle.just_variables.specs.Variables.{AreVariablesOf}
 use Rattle.just_constants.specs.declared.constants.Constants.{Constants}
 use Rattle.just_variables.specs.declared.variables.Variables.{Variables}
 use Rattle.just_errors.specs.Causes.{Keeps}
-use Rattle.just_joining.specs.Constants.{Docs, IsEvaluated, constant_expressions}
-use Rattle.just_joining.specs.Contents.{Contents}
-use Rattle.just_joining.specs.Definitions.{contents_in}
+use Rattle.just_definitions.specs.Constants.{Docs, IsEvaluated, constant_expressions}
+use Rattle.just_definitions.specs.Contents.{Contents}
+use Rattle.just_definitions.specs.Definitions.{contents_in}
 use Rattle.just_checking.specs.declared.checking.Checked.{Checked}
 use Rattle.just_names.specs.Texts.{Text}
 use Rattle.just_names.specs.declared.number.Number.{Number}

@@ -5,7 +5,7 @@ use Rattle.just_parts.specs.Items.{Ast, Item}
 use Rattle.just_notes.specs.Notes.{absent_by, features_by, notes_of, warnings_by}
 use Rattle.just_notes.specs.declared.notes.Notes.{Notes}
 use Rattle.just_joining.specs.Files.{asts_in}
-use Rattle.just_joining.specs.Named.{said_from}
+use Rattle.just_definitions.specs.Named.{said_from}
 use Rattle.just_joining.specs.declared.files.Files.{Files}
 use Rattle.just_joining.specs.declared.joined.Joined.{Joined}
 

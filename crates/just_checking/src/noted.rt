@@ -4,7 +4,7 @@ ghost use Rattle.std.specs.Prelude.{◌≡◌, ◌<◌, IfOk, length};
 ghost use Rattle.std.specs.List.{All};
 ghost use Rattle.just_notes.specs.Labels.{label_by};
 ghost use Rattle.just_joining.specs.Files.{asts_in};
-ghost use Rattle.just_joining.specs.Named.{said_from};
+ghost use Rattle.just_definitions.specs.Named.{said_from};
 ghost use Rattle.just_checking.specs.Noted.{notes_from};
 
 use just_joining::files::{Files, ast_at};

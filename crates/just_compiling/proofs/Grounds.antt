@@ -3,11 +3,11 @@ use Rattle.std.proofs.Common.{arith, subst}
 use Rattle.just_errors.specs.Causes.{Cause, Keeps}
 use Rattle.just_parts.specs.Layers.{Layers}
 use Rattle.just_constants.proofs.Once.{evaluated_once}
-use Rattle.just_joining.specs.Constants.{Docs, Evaluated, IsEvaluated}
-use Rattle.just_joining.specs.Contents.{Contents}
-use Rattle.just_joining.specs.Groups.{BodiesAndDocs, Breaks, BreaksContents, KeepsBefore, KeepsContents, OfAliases, OfBodies, OfConstants, OfDependencies, OfExpressions, OfHeaders, OfNames, in_docs, in_bodies as in_body}
-use Rattle.just_joining.specs.Kept.{kept_recipes}
-use Rattle.just_joining.specs.Rules.{Bodies, Dependencies, Under, under}
+use Rattle.just_definitions.specs.Constants.{Docs, Evaluated, IsEvaluated}
+use Rattle.just_definitions.specs.Contents.{Contents}
+use Rattle.just_definitions.specs.Groups.{BodiesAndDocs, Breaks, BreaksContents, KeepsBefore, KeepsContents, OfAliases, OfBodies, OfConstants, OfDependencies, OfExpressions, OfHeaders, OfNames, in_docs, in_bodies as in_body}
+use Rattle.just_definitions.specs.Kept.{kept_recipes}
+use Rattle.just_definitions.specs.Rules.{Bodies, Dependencies, Under, under}
 use Rattle.just_resolving.specs.Broken.{BreaksRecipes, in_bodies, in_defaults, in_dependencies}
 
 module _ (layers : Layers) (m : Contents) (earlier : KeepsBefore layers OfBodies m) where

@@ -17,9 +17,9 @@ use Rattle.just_recipe.specs.Recipes.{numbers}
 use Rattle.just_invoke.specs.declared.justfile.Justfile.{Justfile, roll-Justfile}
 use Rattle.just_making.specs.Labelled.{slot}
 use Rattle.just_compiling.specs.Justfiles.{Made}
-use Rattle.just_joining.specs.Kept.{kept_recipes}
-use Rattle.just_joining.proofs.Keeping.{kept_number}
-use Rattle.just_joining.specs.Resolved.{unresolved_numbers}
+use Rattle.just_definitions.specs.Kept.{kept_recipes}
+use Rattle.just_definitions.proofs.Keeping.{kept_number}
+use Rattle.just_definitions.specs.Resolved.{unresolved_numbers}
 use Rattle.just_joining.specs.OfPlaces.{recipes_of_place}
 use Rattle.just_compiling.specs.Steps.{BreaksInOrder, BreaksPlace, CanCompileAll, CompilesPlace, HaveCompiled, IsCompiledAt}
 use Rattle.just_joining.specs.declared.files.Files.{Files}

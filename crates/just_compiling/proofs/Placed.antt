@@ -7,11 +7,11 @@ use Rattle.just_variables.specs.Variables.{AreVariablesOf}
 use Rattle.just_errors.specs.Causes.{Cause, Keeps}
 use Rattle.just_graph.specs.Graph.{targets}
 use Rattle.just_invoke.specs.declared.justfile.Justfile.{Justfile, out-Justfile}
-use Rattle.just_joining.specs.Contents.{Contents}
-use Rattle.just_joining.specs.Definitions.{contents_in}
+use Rattle.just_definitions.specs.Contents.{Contents}
+use Rattle.just_definitions.specs.Definitions.{contents_in}
 use Rattle.just_joining.specs.Files.{asts_in}
-use Rattle.just_joining.specs.Groups.{BreaksContents, KeepsBefore, OfBodies}
-use Rattle.just_joining.specs.Named.{contents_from, said_from}
+use Rattle.just_definitions.specs.Groups.{BreaksContents, KeepsBefore, OfBodies}
+use Rattle.just_definitions.specs.Named.{contents_from, said_from}
 use Rattle.just_joining.specs.OfPlaces.{contents_of_place, labels_of_place}
 use Rattle.just_joining.specs.declared.files.Files.{Files}
 use Rattle.just_joining.specs.declared.joined.Joined.{Joined}

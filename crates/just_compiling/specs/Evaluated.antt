@@ -2,8 +2,8 @@
 use Rattle.std.specs.Prelude.{◌≡◌, List}
 use Rattle.just_checking.specs.Evaluated.{AreLabels, overridden_in}
 use Rattle.just_invoke.specs.declared.justfile.Justfile.{Justfile, out-Justfile}
-use Rattle.just_joining.specs.Constants.{Evaluated, IsEvaluated}
-use Rattle.just_joining.specs.Contents.{Contents}
+use Rattle.just_definitions.specs.Constants.{Evaluated, IsEvaluated}
+use Rattle.just_definitions.specs.Contents.{Contents}
 use Rattle.just_names.specs.Texts.{Text}
 use Rattle.just_names.specs.declared.number.Number.{Number}
 use Rattle.just_notes.specs.declared.labels.Label.{Label}

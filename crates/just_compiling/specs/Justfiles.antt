@@ -18,13 +18,13 @@ use Rattle.just_notes.specs.Notes.{absent_by, features_by, notes_of, warnings_by
 use Rattle.just_notes.specs.declared.notes.Notes.{Notes}
 use Rattle.just_compiling.specs.Modules.{Module, Forest, Empty, Tree, path_of}
 use Rattle.just_making.specs.Variables.{HasVariables}
-use Rattle.just_joining.specs.Contents.{Contents}
-use Rattle.just_joining.specs.Kept.{kept_recipes}
-use Rattle.just_joining.specs.Named.{function_by, lists_by, name_by, set_by, unexported_by, variable_by}
+use Rattle.just_definitions.specs.Contents.{Contents}
+use Rattle.just_definitions.specs.Kept.{kept_recipes}
+use Rattle.just_definitions.specs.Named.{function_by, lists_by, name_by, set_by, unexported_by, variable_by}
 use Rattle.just_notes.specs.Said.{said_in}
-use Rattle.just_joining.specs.Recipes.{recipes_of}
+use Rattle.just_definitions.specs.Recipes.{recipes_of}
 use Rattle.just_joining.specs.Reading.{Submodule, items_in}
-use Rattle.just_joining.specs.Resolved.{AreResolved}
+use Rattle.just_definitions.specs.Resolved.{AreResolved}
 
 -- the recipes that files say, file after file
 abbrev pub recipes_in : (Item → Bool) → (AstKey → Option Ast) → List AstKey → List (Recipe UnresolvedDependency)

@@ -8,9 +8,9 @@ use Rattle.just_paths.specs.declared.modulepath.Modulepath.{Modulepath}
 use Rattle.just_parts.specs.Items.{Ast, Item}
 use Rattle.just_literals.specs.declared.string_literal.StringLiteral.{StringLiteral}
 use Rattle.just_names.specs.declared.name.Name.{Name}
-use Rattle.just_joining.specs.Contents.{Contents}
-use Rattle.just_joining.specs.Named.{function_by, set_by, unexported_by, variable_by}
-use Rattle.just_joining.specs.Recipes.{recipes_said}
+use Rattle.just_definitions.specs.Contents.{Contents}
+use Rattle.just_definitions.specs.Named.{function_by, set_by, unexported_by, variable_by}
+use Rattle.just_definitions.specs.Recipes.{recipes_said}
 use Rattle.just_joining.specs.Reading.{Reading, Submodule, imports_of, submodules_of}
 use Rattle.just_notes.specs.Labels.{doc_by}
 use Rattle.just_notes.specs.declared.labels.Label.{Label}

@@ -3,10 +3,10 @@ use Rattle.std.specs.Prelude.{◌≡◌, ◌++◌, ℕ, Bool, List, map, slice_g
 use Rattle.just_errors.specs.Causes.{Keeps}
 use Rattle.just_graph.specs.Graph.{targets}
 use Rattle.just_invoke.specs.declared.justfile.Justfile.{Justfile, out-Justfile}
-use Rattle.just_joining.specs.Definitions.{contents_in, recipes_in}
+use Rattle.just_definitions.specs.Definitions.{contents_in, recipes_in}
 use Rattle.just_joining.specs.Files.{keys_in}
-use Rattle.just_joining.specs.Kept.{kept_recipes}
-use Rattle.just_joining.specs.Named.{AreAdded, recipes_by}
+use Rattle.just_definitions.specs.Kept.{kept_recipes}
+use Rattle.just_definitions.specs.Named.{AreAdded, recipes_by}
 use Rattle.just_joining.specs.declared.files.Files.{Files}
 use Rattle.just_joining.specs.declared.joined.Joined.{Joined}
 use Rattle.just_making.specs.Analysis.{HasDefault, IsOf}

@@ -24,10 +24,10 @@ use Rattle.just_compiling.specs.Justfiles.{Made}
 use Rattle.just_compiling.specs.declared.compiling.Gathered.{Gathered}
 use Rattle.just_checking.specs.Noted.{notes_of_place}
 use Rattle.just_making.specs.Variables.{HasVariables}
-use Rattle.just_joining.specs.Groups.{BreaksContents, KeepsContents}
-use Rattle.just_joining.specs.Kept.{kept_recipes}
-use Rattle.just_joining.specs.Named.{recipes_by, said_from, variable_by}
-use Rattle.just_joining.specs.Resolved.{AreResolved, HasPriors, unresolved_numbers}
+use Rattle.just_definitions.specs.Groups.{BreaksContents, KeepsContents}
+use Rattle.just_definitions.specs.Kept.{kept_recipes}
+use Rattle.just_definitions.specs.Named.{recipes_by, said_from, variable_by}
+use Rattle.just_definitions.specs.Resolved.{AreResolved, HasPriors, unresolved_numbers}
 use Rattle.just_joining.specs.OfPlaces.{contents_of_place, labels_of_place, names_of_place, recipes_of_place}
 use Rattle.just_joining.specs.declared.files.Files.{Files}
 use Rattle.just_joining.specs.declared.joined.Joined.{Joined}

@@ -12,9 +12,9 @@ use Rattle.just_names.specs.declared.name.Name.{Name}
 use Rattle.just_names.specs.declared.number.Number.{Number}
 use Rattle.just_errors.specs.Causes.{Cause}
 use Rattle.just_index.specs.Index.{texts_of_names}
-use Rattle.just_joining.specs.Constants.{AsksFor, IsNeeded, functions_asked, is_overridden, overriding}
-use Rattle.just_joining.specs.Contents.{Contents}
-use Rattle.just_joining.specs.Known.{functions_under, known_of, variables_under}
+use Rattle.just_definitions.specs.Constants.{AsksFor, IsNeeded, functions_asked, is_overridden, overriding}
+use Rattle.just_definitions.specs.Contents.{Contents}
+use Rattle.just_definitions.specs.Known.{functions_under, known_of, variables_under}
 use Rattle.just_variables.specs.Numbered.{number_under, numbered_assignment, numbered_assignments, numbered_function, numbered_functions}
 use Rattle.just_parts.specs.Bare.{bare_function, bare_function_parameter}
 use Rattle.just_parts.specs.Evaluator.{functions_by_name, needed_by, override_by, unnumbered, unnumbered_assignment, unnumbered_function, wanted_by}

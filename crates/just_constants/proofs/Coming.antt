@@ -9,10 +9,10 @@ use Rattle.just_names.specs.declared.number.Number.{Number}
 use Rattle.just_errors.specs.Causes.{Keeps, Reports}
 use Rattle.just_errors.specs.declared.error.Error.{Error}
 use Rattle.just_errors.proofs.Lifts.{reports_by}
-use Rattle.just_joining.specs.Constants.{AreConstants, AsksConstants, Constants, IsEvaluated, constant_expressions, recipe_expressions, settings_among, settings_expressions, sets_lists}
-use Rattle.just_joining.specs.Contents.{Contents}
-use Rattle.just_joining.specs.Kept.{kept_variables}
-use Rattle.just_joining.specs.Known.{known_of, variables_under}
+use Rattle.just_definitions.specs.Constants.{AreConstants, AsksConstants, Constants, IsEvaluated, constant_expressions, recipe_expressions, settings_among, settings_expressions, sets_lists}
+use Rattle.just_definitions.specs.Contents.{Contents}
+use Rattle.just_definitions.specs.Kept.{kept_variables}
+use Rattle.just_definitions.specs.Known.{known_of, variables_under}
 use Rattle.just_variables.specs.Numbered.{name_of_assignment, numbered_assignment}
 use Rattle.just_parts.specs.Evaluator.{Binds, Covers, FaultsAt, bare_set, functions_by_name, set_expressions, values_of, wanted_by}
 use Rattle.just_parts.specs.Known.{Known, known, none_hidden, sources}

@@ -8,8 +8,8 @@ use Rattle.just_errors.specs.Causes.{Broken, Cause, Keeps, Reports}
 use Rattle.just_errors.specs.declared.error.Error.{Error}
 use Rattle.just_errors.specs.declared.error.Error.TheVariants as error
 use Rattle.just_errors.proofs.Lifts.{reports_by}
-use Rattle.just_joining.specs.Constants.{Docs, doc_fault, in_doc, value_among}
-use Rattle.just_joining.specs.Contents.{Contents}
+use Rattle.just_definitions.specs.Constants.{Docs, doc_fault, in_doc, value_among}
+use Rattle.just_definitions.specs.Contents.{Contents}
 use Rattle.just_names.specs.Texts.{Text}
 use Rattle.just_needs.proofs.Looking.{is_the_one, not_in_none, the_one}
 use Rattle.just_notes.specs.declared.labels.Label.{Label}

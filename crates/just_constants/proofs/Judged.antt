@@ -6,9 +6,9 @@ use Rattle.just_errors.specs.Causes.{Broken, Keeps, Reports}
 use Rattle.just_errors.specs.declared.error.Error.{Error}
 use Rattle.just_errors.specs.declared.error.Error.TheVariants as error
 use Rattle.just_errors.proofs.Lifts.{reports_by}
-use Rattle.just_joining.specs.Constants.{AreConstants, AsksConstants, Constants, Docs, Evaluated, IsEvaluated, constant_expressions, constants_fault, doc_fault, in_doc, in_setting, settings_among, settings_expressions, settings_fault, sets_lists, value_among}
-use Rattle.just_joining.specs.Contents.{Contents}
-use Rattle.just_joining.specs.Known.{known_of}
+use Rattle.just_definitions.specs.Constants.{AreConstants, AsksConstants, Constants, Docs, Evaluated, IsEvaluated, constant_expressions, constants_fault, doc_fault, in_doc, in_setting, settings_among, settings_expressions, settings_fault, sets_lists, value_among}
+use Rattle.just_definitions.specs.Contents.{Contents}
+use Rattle.just_definitions.specs.Known.{known_of}
 use Rattle.just_parts.specs.Evaluator.{Evaluator, FaultsAt, Values, Wanted}
 use Rattle.just_parts.specs.Known.{none_hidden}
 use Rattle.just_parts.specs.Layers.{Layers}

@@ -2,8 +2,8 @@
 use Rattle.std.proofs.Common.{◌≡◌, ◌∙◌, Bool, true, false, List, Option, refl, sym, ap}
 use Rattle.std.proofs.lemmas.Option.{same_Some}
 use Rattle.just_names.specs.Texts.{Text}
-use Rattle.just_joining.specs.Constants.{AreConstants, AsksFor, Evaluated, IsEvaluated, settings_among}
-use Rattle.just_joining.specs.Contents.{Contents}
+use Rattle.just_definitions.specs.Constants.{AreConstants, AsksFor, Evaluated, IsEvaluated, settings_among}
+use Rattle.just_definitions.specs.Contents.{Contents}
 use Rattle.just_parts.specs.Evaluator.{Values, Wanted}
 use Rattle.just_parts.specs.Known.{Known}
 use Rattle.just_parts.specs.Layers.{Layers}

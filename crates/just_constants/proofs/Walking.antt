@@ -1,7 +1,7 @@
 -- A list that is made of what each element of another gives, element after element.
 use Rattle.std.proofs.Common.{◌≡◌, ◌∙◌, ℕ, suc, ◌+◌, ◌<◌, ◌≤◌, ◌||◌, Bool, true, false, List, [], ◌∷◌, ◌++◌, Some, add-one, ap, append_assoc, arith, drop, drop-cons, get_or, length, refl, sym}
 use Rattle.std.specs.Borrow.{Bor}
-use Rattle.just_joining.specs.Recipes.{lent}
+use Rattle.just_definitions.specs.Recipes.{lent}
 use Rattle.std.specs.List.{Contains, flat_map, list_any, slice_get}
 use Rattle.std.proofs.lemmas.List.{append-nil, drop_all, get_or-map, length-map, map-append}
 use Rattle.std.proofs.lemmas.Option.{get_or_from_slice_get, slice_get_read, slice_get_within}

@@ -5,7 +5,7 @@ use Rattle.just_constants.specs.declared.constants.Constants.{Constants}
 use Rattle.just_variables.specs.declared.variables.Variables.{Variables}
 use Rattle.just_errors.specs.Causes.{Reports}
 use Rattle.just_errors.specs.declared.error.Error.{Error}
-use Rattle.just_joining.specs.Constants.{Evaluated}
+use Rattle.just_definitions.specs.Constants.{Evaluated}
 use Rattle.just_parts.specs.Evaluator.{Covers, Values, set_expressions, values_of}
 use Rattle.just_parts.specs.Known.{Known, none_hidden, sources}
 use Rattle.just_expressions.specs.declared.expression.Expression.{Expression}

@@ -12,8 +12,8 @@ use Rattle.just_references.specs.Numbers.{bare}
 use Rattle.just_parts.specs.Misnaming.{Misnames}
 use Rattle.just_variables.specs.declared.variables.Variables.{Variables}
 use Rattle.just_notes.specs.declared.labels.Label.{Label}
-use Rattle.just_joining.specs.Constants.{value_among}
-use Rattle.just_joining.specs.Contents.{Contents}
+use Rattle.just_definitions.specs.Constants.{value_among}
+use Rattle.just_definitions.specs.Contents.{Contents}
 use Rattle.just_expressions.specs.declared.expression.Expression.{Expression}
 
 -- the doc that a value is: its texts with a blank between them, and none where it has none

@@ -5,8 +5,8 @@ use Rattle.just_names.specs.Texts.{Text}
 use Rattle.just_names.specs.declared.number.Number.{Number}
 use Rattle.just_parts.specs.Needs.{same_number}
 use Rattle.just_records.specs.declared.assignment.Assignment.{Assignment}
-use Rattle.just_joining.specs.Contents.{Contents}
-use Rattle.just_joining.specs.Known.{variables_under}
+use Rattle.just_definitions.specs.Contents.{Contents}
+use Rattle.just_definitions.specs.Known.{variables_under}
 
 -- the value that overrides a variable under its name, with its number
 abbrev pub override_found : (Text → Option Text) → Text × Assignment → List (Number × Text)

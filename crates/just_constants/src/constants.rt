@@ -6,9 +6,9 @@ ghost use Rattle.just_constants.specs.Constants.{CoversAll, CoversSets, NamesFau
 ghost use Rattle.just_constants.specs.Overrides.{overridden_among};
 ghost use Rattle.just_variables.specs.Variables.{AreVariablesOf, known_with_numbers};
 ghost use Rattle.just_errors.specs.Causes.{Keeps, Reports};
-ghost use Rattle.just_joining.specs.Constants as rule;
-ghost use Rattle.just_joining.specs.Definitions.{contents_in, sets_in};
-ghost use Rattle.just_joining.specs.Recipes.{lent};
+ghost use Rattle.just_definitions.specs.Constants as rule;
+ghost use Rattle.just_definitions.specs.Definitions.{contents_in, sets_in};
+ghost use Rattle.just_definitions.specs.Recipes.{lent};
 ghost use Rattle.just_parts.specs.Evaluator.{FaultsAt, bare_set, functions_by_name, values_of};
 ghost use Rattle.just_parts.specs.Known.{none_hidden};
 ghost use Rattle.just_parts.specs.Layers.{given_of, layers_at, override_at};
@@ -20,7 +20,7 @@ ghost use Rattle.just_parts.specs.Misnaming.{Misnames};
 use crate::expressions::{constant_expressions, settings_expressions};
 use crate::overrides::{by_number, overrides_of};
 use just_data::{Text, copied};
-use just_joining::definitions::{Definitions, set_at};
+use just_definitions::definitions::{Definitions, set_at};
 use just_known::{Known, check_expression};
 use just_needs::needed_references;
 use just_parts::layers::{

@@ -5,12 +5,12 @@ ghost use Rattle.just_constants.specs.Constants.{CoversAll};
 ghost use Rattle.just_constants.specs.Documented.{AreDocumentedIn, CoversDoc, DocFault, IsDocumented, KeepsDoc, doc_expressions, doc_of_value, known_by, value_by};
 ghost use Rattle.just_variables.specs.Variables.{AreVariablesOf};
 ghost use Rattle.just_errors.specs.Causes.{Keeps, Reports};
-ghost use Rattle.just_joining.specs.Constants.{Docs};
-ghost use Rattle.just_joining.specs.Definitions.{contents_in, docs_in};
+ghost use Rattle.just_definitions.specs.Constants.{Docs};
+ghost use Rattle.just_definitions.specs.Definitions.{contents_in, docs_in};
 ghost use Rattle.just_parts.specs.Evaluator.{values_of};
 
 use just_data::{Text, copied};
-use just_joining::definitions::Definitions;
+use just_definitions::definitions::Definitions;
 use just_known::{Known, check_expression};
 use just_notes::Label;
 use just_parts::layers::{Error, Evaluation, Expression, Scope, Syntax, joined};

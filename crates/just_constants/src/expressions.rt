@@ -1,12 +1,12 @@
 //! The expressions of a module that are evaluated while compiling.
 
 ghost use Rattle.std.specs.Prelude.{◌≡◌, ◌++◌, IfOk, OnOk, flat_map};
-ghost use Rattle.just_joining.specs.Constants.{attribute_expressions, constant_expressions, property_expressions, recipe_expressions, settings_expressions};
-ghost use Rattle.just_joining.specs.Definitions.{contents_in, recipes_in};
-ghost use Rattle.just_joining.specs.Recipes.{lent};
+ghost use Rattle.just_definitions.specs.Constants.{attribute_expressions, constant_expressions, property_expressions, recipe_expressions, settings_expressions};
+ghost use Rattle.just_definitions.specs.Definitions.{contents_in, recipes_in};
+ghost use Rattle.just_definitions.specs.Recipes.{lent};
 ghost use Rattle.just_parts.specs.Evaluator.{interpreter_expressions, setting_expressions};
 
-use just_joining::definitions::{Definitions, recipe_at, set_at};
+use just_definitions::definitions::{Definitions, recipe_at, set_at};
 use just_parts::UnresolvedRecipe;
 use just_parts::layers::{ArgumentProperty, Attribute, Expression, Interpreter, Setting};
 use std::alloc::{AllocError, Global};

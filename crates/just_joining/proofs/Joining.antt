@@ -143,12 +143,6 @@ no_circle R depth deeper ns c =
 pub row_lent : (rows : List (Vec ℕ Global)) (a : ℕ) (row : Vec ℕ Global) (lent : List ℕ) → a < length rows → row ≡ get_or rows a row → lent ≡ row.items → lent ≡ targets rows a
 row_lent rows a row lent h is same = same ∙ sym (row_read rows a row h is)
 
--- the element at a place
-pub some_at : {A : Type 0} (xs : List A) (i : ℕ) → i < length xs → (x : A) × (slice_get xs i ≡ Some x)
-some_at [] i h = absurd (omega arith)
-some_at (x ∷ xs) zero h = (x, refl)
-some_at (x ∷ xs) (suc i) h = some_at xs i (omega arith)
-
 -- the modules in modules have places
 pub joined_graph : (rows : Rows) (joined : Joined) → AreGraphs rows (length rows.imports.items) → AreJoined rows (length rows.imports.items) joined → IsGraph joined.modules.items
 joined_graph rows joined graphs aj a b e = elim (aj.each a) [

@@ -1,11 +1,4 @@
-pub mod Claims
-pub mod Defining
 pub mod FilePlaces
 pub mod Joining
-pub mod Keeping
-pub mod Leave
-pub mod Mapping
 pub mod Numbers
 pub mod Placing
-pub mod RecipePlaces
-pub mod Signatures

@@ -16,20 +16,12 @@ use Rattle.just_recipe.specs.declared.dependency.UnresolvedDependency.{Unresolve
 use Rattle.just_recipe.specs.declared.recipe.Recipe.{Recipe}
 use Rattle.just_joining.specs.Analyzable.{AreAnalyzable}
 use Rattle.just_joining.specs.Files.{ArePlaced, AreRows, asts_in}
-use Rattle.just_joining.specs.Named.{recipes_by, recipes_from}
-use Rattle.just_joining.specs.Recipes.{recipes_of}
-use Rattle.just_joining.specs.Resolved.{HasPriors, unresolved_numbers}
+use Rattle.just_definitions.specs.Named.{recipes_by, recipes_from}
+use Rattle.just_definitions.specs.Recipes.{recipes_of}
+use Rattle.just_definitions.specs.Resolved.{HasPriors, unresolved_numbers}
 use Rattle.just_joining.specs.declared.files.Files.{Files}
 use Rattle.just_joining.specs.declared.files.Rows.{Rows}
 use Rattle.just_joining.proofs.FilePlaces.{one_place, says}
-
--- a list without a number twice, by its front
-pub from_once : (xs : List ℕ) → IsOnce xs → Once xs
-from_once [] once = tt
-from_once (x ∷ xs) once = (
-  λ h. let c = contained x xs h in once 0 (suc c.0) (omega arith) (omega (arith, c.1)) (sym (get_or_default xs c.0 0 x c.1 ∙ c.2)),
-  from_once xs (λ i j l h e. once (suc i) (suc j) (omega (arith, l)) (omega (arith, h)) e),
-)
 
 -- levels have no number twice
 once_level : (next : ℕ → List ℕ) (start m : ℕ) → Once (level nat_eq next start m)

@@ -9,9 +9,9 @@ use Rattle.just_parts.specs.Items.{Ast, Item}
 use Rattle.just_notes.specs.Said.{said}
 use Rattle.just_records.specs.declared.assignment.Assignment.{Assignment}
 use Rattle.just_joining.specs.Files.{led}
-use Rattle.just_joining.specs.Named.{variable_by}
-use Rattle.just_joining.specs.Recipes.{recipes_of}
-use Rattle.just_joining.specs.Resolved.{HasPriors, unresolved_numbers}
+use Rattle.just_definitions.specs.Named.{variable_by}
+use Rattle.just_definitions.specs.Recipes.{recipes_of}
+use Rattle.just_definitions.specs.Resolved.{HasPriors, unresolved_numbers}
 
 -- a table of paths has the file of each key
 abbrev pub HavePaths : (AstKey → Option Ast) → (Text → Option Text) → Type 0

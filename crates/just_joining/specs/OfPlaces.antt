@@ -9,11 +9,11 @@ use Rattle.just_recipe.specs.declared.recipe.Recipe.{Recipe}
 use Rattle.just_names.specs.declared.name.Name.{Name}
 use Rattle.just_notes.specs.Labels.{label_by}
 use Rattle.just_notes.specs.declared.labels.Label.{Label}
-use Rattle.just_joining.specs.Contents.{Contents}
+use Rattle.just_definitions.specs.Contents.{Contents}
 use Rattle.just_index.specs.Index.{texts_of_names, AreDifferent}
 use Rattle.just_joining.specs.Files.{asts_in}
-use Rattle.just_joining.specs.Named.{contents_from, name_by, said_from, recipes_from}
-use Rattle.just_joining.specs.Rules.{Modules}
+use Rattle.just_definitions.specs.Named.{contents_from, name_by, said_from, recipes_from}
+use Rattle.just_definitions.specs.Rules.{Modules}
 use Rattle.just_joining.specs.declared.files.Files.{Files}
 use Rattle.just_joining.specs.declared.joined.Joined.{Joined}
 

@@ -12,7 +12,7 @@ use Rattle.just_paths.specs.declared.modulepath.Modulepath.{Modulepath}
 use Rattle.just_literals.specs.declared.list_use.ListUse.{ListUse}
 use Rattle.just_notes.specs.Labels.{label_said}
 use Rattle.just_notes.specs.declared.labels.Label.{Label}
-use Rattle.just_joining.specs.Resolved.{path_to}
+use Rattle.just_definitions.specs.Resolved.{path_to}
 
 abbrev pub Reading : Type 0
 Reading = AstKey → Option Ast

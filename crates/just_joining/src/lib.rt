@@ -1,9 +1,5 @@
-//! The files of modules, joined; what they say of a module, and which of several definitions of one name is kept. The
-//! rules of modules stand in `specs/`.
+//! The files of modules under places, joined.
 #![tactic(auto)]
 
-pub mod definitions;
 pub mod files;
 pub mod joined;
-pub mod kept;
-pub mod redefinition;

@@ -10,10 +10,10 @@ use Rattle.just_recipe.specs.declared.dependency.UnresolvedDependency.{Unresolve
 use Rattle.just_recipe.specs.declared.recipe.Recipe.{Recipe}
 use Rattle.just_invoke.specs.declared.justfile.RecipeKey.{RecipeKey}
 use Rattle.just_index.specs.Index.{AreDifferent}
-use Rattle.just_joining.specs.Recipes.{name_of, recipe_at, names_of}
-use Rattle.just_joining.specs.Resolved.{number_at}
+use Rattle.just_definitions.specs.Recipes.{name_of, recipe_at, names_of}
+use Rattle.just_definitions.specs.Resolved.{number_at}
 use Rattle.just_making.specs.Analysis.{HasKeysOf}
-use Rattle.just_joining.proofs.RecipePlaces.{one_place}
+use Rattle.just_definitions.proofs.RecipePlaces.{one_place}
 
 abbrev number_of : RecipeKey → ℕ
 number_of key = key.number.0

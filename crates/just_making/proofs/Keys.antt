@@ -11,8 +11,8 @@ use Rattle.just_recipe.specs.declared.dependency.UnresolvedDependency.{Unresolve
 use Rattle.just_recipe.specs.declared.recipe.Recipe.{Recipe}
 use Rattle.just_invoke.specs.declared.justfile.RecipeKey.{RecipeKey}
 use Rattle.just_making.specs.Analysis.{IsKeyOf, AreKeysOf}
-use Rattle.just_joining.specs.Recipes.{recipe_at}
-use Rattle.just_joining.proofs.RecipePlaces.{number_read}
+use Rattle.just_definitions.specs.Recipes.{recipe_at}
+use Rattle.just_definitions.proofs.RecipePlaces.{number_read}
 
 module _ (Q : RecipeKey → Type 0) where
   abbrev Each : List (List ℕ × RecipeKey) → Type 0

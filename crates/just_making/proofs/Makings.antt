@@ -6,8 +6,8 @@ use Rattle.just_parts.specs.Items.{Ast}
 use Rattle.just_invoke.specs.declared.justfile.Justfile.{Justfile, out-Justfile}
 use Rattle.just_invoke.specs.declared.justfile.RecipeKey.{RecipeKey}
 use Rattle.just_making.specs.Analysis.{AreKeysOf, HasKeysOf, IsOf}
-use Rattle.just_joining.specs.Contents.{Contents}
-use Rattle.just_joining.specs.Kept.{kept_recipes}
+use Rattle.just_definitions.specs.Contents.{Contents}
+use Rattle.just_definitions.specs.Kept.{kept_recipes}
 
 -- a justfile, by its parts
 pub is_of : (m : Contents) (rs : List (Recipe UnresolvedDependency)) (ast : Ast) (loaded : List (List ℕ)) (source : List ℕ) (j : Justfile)

@@ -1,6 +1,6 @@
 -- The variables and functions of a module, as its justfile has them.
 use Rattle.just_invoke.specs.declared.justfile.Justfile.{Justfile, out-Justfile}
-use Rattle.just_joining.specs.Contents.{Contents}
+use Rattle.just_definitions.specs.Contents.{Contents}
 use Rattle.just_parts.specs.Syntax.{SyntaxAnswers}
 use Rattle.just_variables.specs.Variables.{AreVariables}
 

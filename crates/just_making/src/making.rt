@@ -4,14 +4,14 @@ ghost use Rattle.std.specs.Prelude.{◌≡◌, IfOk, length};
 ghost use Rattle.just_invoke.specs.declared.justfile.Justfile.{out-Justfile};
 ghost use Rattle.just_making.specs.Analysis.{AreKeysOf, HasKeysOf, IsOf};
 ghost use Rattle.just_making.specs.Labelled.{notes_in};
-ghost use Rattle.just_joining.specs.Definitions.{contents_in, recipes_in};
+ghost use Rattle.just_definitions.specs.Definitions.{contents_in, recipes_in};
 ghost use Rattle.just_index.specs.Index.{AreDifferent};
-ghost use Rattle.just_joining.specs.Kept.{kept_recipes};
-ghost use Rattle.just_joining.specs.Recipes.{names_of};
+ghost use Rattle.just_definitions.specs.Kept.{kept_recipes};
+ghost use Rattle.just_definitions.specs.Recipes.{names_of};
 
 use just_data::{Sequence, Shared, Text};
+use just_definitions::definitions::{Definitions, recipe_at};
 use just_invoke::{Justfile, RecipeKey};
-use just_joining::definitions::{Definitions, recipe_at};
 use just_notes::Notes;
 use just_parts::layers::{Ast, Name, Number, Settings};
 use just_table::Table;

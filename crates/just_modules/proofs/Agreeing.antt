@@ -13,7 +13,7 @@ use Rattle.just_parts.specs.Items.{Ast, Item}
 use Rattle.just_parts.specs.Bare.{bare_item}
 use Rattle.just_joining.specs.Analyzable.{AreAnalyzable}
 use Rattle.just_joining.specs.Files.{all_led, led, led_by}
-use Rattle.just_joining.specs.Groups.{Breaks}
+use Rattle.just_definitions.specs.Groups.{Breaks}
 use Rattle.just_modules.specs.Groups.{KeepsModules, NamesModules, in_module}
 use Rattle.just_compiling.specs.Modules.{AreModules, Empty, Forest, HasModule, Heading, IsHeading, IsModule, Module, Tree, a_module, after_it, contents_of, first, heading_of, headings_in, in_it, no_module, of_module, of_root, path_of}
 use Rattle.just_joining.specs.Reading.{Reading, Submodule, declared, imported, imports_of, items_in, located_ast, reading_of, submodules_of}

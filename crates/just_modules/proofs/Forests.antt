@@ -13,7 +13,7 @@ use Rattle.just_parts.specs.Asts.{AstKey, same_ast_key}
 use Rattle.just_names.specs.Texts.{Text}
 use Rattle.just_parts.specs.Items.{Ast, Item}
 use Rattle.just_invoke.specs.declared.justfile.Justfile.{Justfile, out-Justfile, out-roll-Justfile}
-use Rattle.just_joining.specs.Defaults.{IsDefaultAmong}
+use Rattle.just_definitions.specs.Defaults.{IsDefaultAmong}
 use Rattle.just_making.specs.Analysis.{AreKeysOf, HasDefault, HasKeysOf, IsOf}
 use Rattle.just_joining.specs.Files.{ArePlaced, AreRows, asts_in}
 use Rattle.just_joining.specs.Joined.{IsJoined}
@@ -23,13 +23,13 @@ use Rattle.just_making.specs.Labelled.{label_in, labelled_as, with_labels}
 use Rattle.just_compiling.specs.Justfiles.{AreCompiled, Built, IsCompiled, Made, contents_in, none, notes_said, one, recipes_in}
 use Rattle.just_checking.specs.Noted.{notes_from}
 use Rattle.just_compiling.specs.Modules.{Empty, Forest, Heading, Module, Tree, headings_in}
-use Rattle.just_joining.specs.Contents.{Contents}
-use Rattle.just_joining.specs.Kept.{kept_recipes}
-use Rattle.just_joining.specs.Named.{contents_from, function_by, lists_by, name_by, said_from, recipes_by, recipes_from, set_by, unexported_by, variable_by}
+use Rattle.just_definitions.specs.Contents.{Contents}
+use Rattle.just_definitions.specs.Kept.{kept_recipes}
+use Rattle.just_definitions.specs.Named.{contents_from, function_by, lists_by, name_by, said_from, recipes_by, recipes_from, set_by, unexported_by, variable_by}
 use Rattle.just_notes.specs.Said.{said_in}
-use Rattle.just_joining.specs.Recipes.{recipes_of}
+use Rattle.just_definitions.specs.Recipes.{recipes_of}
 use Rattle.just_joining.specs.Reading.{Submodule, items_in}
-use Rattle.just_joining.specs.Resolved.{AreResolved}
+use Rattle.just_definitions.specs.Resolved.{AreResolved}
 use Rattle.just_joining.specs.OfPlaces.{contents_of_place, labels_of_place, recipes_of_place}
 use Rattle.just_compiling.specs.Steps.{IsCompiledAt, path_at, path_in}
 use Rattle.just_joining.specs.declared.files.Files.{Files}

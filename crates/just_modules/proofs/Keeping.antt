@@ -7,14 +7,14 @@ use Rattle.just_parts.specs.Asts.{AstKey, same_ast_key}
 use Rattle.just_errors.specs.Causes.{Cause}
 use Rattle.just_parts.specs.Items.{Ast}
 use Rattle.just_parts.specs.Layers.{Given, Layers, layers_at}
-use Rattle.just_joining.specs.Contents.{Contents}
+use Rattle.just_definitions.specs.Contents.{Contents}
 use Rattle.just_joining.specs.Files.{ArePlaced, AreRows}
-use Rattle.just_joining.specs.Groups.{BreaksContents, KeepsContents, OfHeaders}
+use Rattle.just_definitions.specs.Groups.{BreaksContents, KeepsContents, OfHeaders}
 use Rattle.just_modules.specs.Groups.{HasGround, KeepsGroups, KeepsModules, NamesModules, in_module}
 use Rattle.just_joining.specs.Joined.{IsJoined}
 use Rattle.just_compiling.specs.Modules.{Heading, IsHeading, Module, a_module, contents_of, no_module}
 use Rattle.just_joining.specs.Reading.{Reading, reading_of}
-use Rattle.just_joining.specs.Rules.{Modules, of_modules}
+use Rattle.just_definitions.specs.Rules.{Modules, of_modules}
 use Rattle.just_joining.specs.OfPlaces.{contents_of_place, names_of_place}
 use Rattle.just_joining.specs.declared.files.Files.{Files}
 use Rattle.just_joining.specs.declared.files.Rows.{Rows}

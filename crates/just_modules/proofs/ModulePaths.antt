@@ -21,7 +21,7 @@ use Rattle.just_index.specs.Index.{texts_of_names, AreDifferent, name_at}
 use Rattle.just_joining.specs.Files.{ArePlaced, AreRows}
 use Rattle.just_joining.specs.Joined.{IsJoined}
 use Rattle.just_joining.specs.Reading.{Reading, Submodule, declared, imported, imports_of, items_in, reading_of, submodules_of}
-use Rattle.just_joining.specs.Resolved.{path_to}
+use Rattle.just_definitions.specs.Resolved.{path_to}
 use Rattle.just_joining.specs.declared.files.Files.{Files}
 use Rattle.just_joining.specs.declared.files.Rows.{Rows}
 use Rattle.just_joining.specs.declared.joined.Joined.{Joined}

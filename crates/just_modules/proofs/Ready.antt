@@ -24,11 +24,11 @@ use Rattle.just_records.specs.declared.function_definition.FunctionDefinition.{F
 use Rattle.just_records.specs.declared.function_definition.FunctionParameter.{FunctionParameter}
 use Rattle.just_joining.specs.Files.{ArePlaced, AreRows, asts_in}
 use Rattle.just_joining.specs.Joined.{AreJoined, IsJoined}
-use Rattle.just_joining.specs.Named.{function_by, lists_by, lists_from, name_by, said_from, recipes_by, recipes_from, set_by, unexported_by, variable_by}
+use Rattle.just_definitions.specs.Named.{function_by, lists_by, lists_from, name_by, said_from, recipes_by, recipes_from, set_by, unexported_by, variable_by}
 use Rattle.just_notes.specs.Labels.{doc_by, label_by}
 use Rattle.just_notes.specs.declared.labels.Label.{Label}
 use Rattle.just_notes.specs.Said.{said, said_in}
-use Rattle.just_joining.specs.Recipes.{recipes_of, recipes_said}
+use Rattle.just_definitions.specs.Recipes.{recipes_of, recipes_said}
 use Rattle.just_joining.specs.Reading.{Reading, Submodule, declared, enabled_items, items_in, located_ast, reading_of, submodules_of}
 use Rattle.just_joining.specs.declared.files.Files.{Files}
 use Rattle.just_joining.specs.declared.files.Rows.{Rows}

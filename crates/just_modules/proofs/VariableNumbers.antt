@@ -11,11 +11,11 @@ use Rattle.just_parts.specs.Items.{Ast, Item}
 use Rattle.just_records.specs.declared.assignment.Assignment.{Assignment}
 use Rattle.just_joining.specs.Analyzable.{AreAnalyzable, assignment_numbers}
 use Rattle.just_joining.specs.Files.{ArePlaced, AreRows, asts_in}
-use Rattle.just_joining.specs.Named.{said_from, variable_by}
+use Rattle.just_definitions.specs.Named.{said_from, variable_by}
 use Rattle.just_joining.specs.declared.files.Files.{Files}
 use Rattle.just_joining.specs.declared.files.Rows.{Rows}
 use Rattle.just_joining.proofs.FilePlaces.{one_place, says}
-use Rattle.just_joining.proofs.Numbers.{from_once}
+use Rattle.just_definitions.proofs.Once.{from_once}
 use Rattle.just_notes.specs.Said.{said, said_in}
 
 module _ (enabled : Item → Bool) (entries : List (AstKey × Ast)) (d : AstKey) (files : Files) (placed : ArePlaced entries files) (rows : Rows) (are : AreRows enabled files rows)

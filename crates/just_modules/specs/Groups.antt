@@ -2,7 +2,7 @@
 use Rattle.std.specs.Prelude.{◌≢◌, [], ◌∷◌}
 use Rattle.just_errors.specs.Causes.{Cause}
 use Rattle.just_parts.specs.Layers.{Given, layers_at}
-use Rattle.just_joining.specs.Groups.{Breaks, Group, KeepsBefore, KeepsContents, rank}
+use Rattle.just_definitions.specs.Groups.{Breaks, Group, KeepsBefore, KeepsContents, rank}
 use Rattle.just_joining.specs.Reading.{Reading}
 use Rattle.just_compiling.specs.Modules.{Module, Heading, Forest, Empty, Tree, AreModules, HasModule, IsHeading, contents_of, path_of}
 

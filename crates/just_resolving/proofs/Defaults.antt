@@ -13,10 +13,10 @@ use Rattle.just_recipe.specs.declared.recipe.Recipe.{Recipe}
 use Rattle.just_recipe.specs.Recipes.{find_number, numbers}
 use Rattle.just_running.proofs.Places.{found-number}
 use Rattle.just_names.specs.declared.number.Number.{Number}
-use Rattle.just_joining.specs.Defaults.{IsBefore, IsBetter, IsDefault, IsDefaultPlace, IsMarked, IsMarkedPlace}
-use Rattle.just_joining.specs.Recipes.{name_of, line_of, recipe_at}
+use Rattle.just_definitions.specs.Defaults.{IsBefore, IsBetter, IsDefault, IsDefaultPlace, IsMarked, IsMarkedPlace}
+use Rattle.just_definitions.specs.Recipes.{name_of, line_of, recipe_at}
 use Rattle.just_resolving.proofs.Later.{cmp, greater_not_less}
-use Rattle.just_joining.specs.Resolved.{number_at}
+use Rattle.just_definitions.specs.Resolved.{number_at}
 
 equal_not_less : (o : Ordering) → o ≡ Equal → o ≢ Less
 equal_not_less Less e = cc

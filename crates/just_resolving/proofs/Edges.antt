@@ -11,9 +11,9 @@ use Rattle.just_graph.specs.Building.{EachRow, targets_past}
 use Rattle.just_recipe.specs.declared.dependency.UnresolvedDependency.{UnresolvedDependency}
 use Rattle.just_recipe.specs.declared.recipe.Recipe.{Recipe}
 use Rattle.just_index.specs.Index.{AreDifferent}
-use Rattle.just_joining.specs.Recipes.{name_of, dependency_paths, recipe_at, names_of, Depends}
-use Rattle.just_joining.specs.Rows.{IsTarget, IsRow}
-use Rattle.just_joining.proofs.RecipePlaces.{one_place}
+use Rattle.just_definitions.specs.Recipes.{name_of, dependency_paths, recipe_at, names_of, Depends}
+use Rattle.just_definitions.specs.Rows.{IsTarget, IsRow}
+use Rattle.just_definitions.proofs.RecipePlaces.{one_place}
 
 module _ (rs : List (Recipe UnresolvedDependency)) (different : AreDifferent (names_of rs)) where
   -- the target of a path that a recipe depends on

@@ -2,10 +2,10 @@
 use Rattle.just_errors.specs.Causes.{Keeps}
 use Rattle.just_parts.specs.Syntax.{SyntaxAnswers}
 use Rattle.just_literals.specs.declared.settings.Settings.{Settings}
-use Rattle.just_joining.specs.Contents.{Contents}
-use Rattle.just_joining.specs.Defaults.{Defaults}
-use Rattle.just_joining.specs.Kept.{kept_recipes}
-use Rattle.just_joining.specs.Rules.{Bodies, Dependencies}
+use Rattle.just_definitions.specs.Contents.{Contents}
+use Rattle.just_definitions.specs.Defaults.{Defaults}
+use Rattle.just_definitions.specs.Kept.{kept_recipes}
+use Rattle.just_definitions.specs.Rules.{Bodies, Dependencies}
 use Rattle.just_resolving.specs.Broken.{BreaksRecipes, in_bodies, in_defaults, in_dependencies}
 
 pub recipes_kept : (answers : SyntaxAnswers) (s : Settings) (m : Contents) → Keeps (Bodies answers s m) → Keeps (Dependencies s.lists (kept_recipes m.recipes)) → Keeps (Defaults (kept_recipes m.recipes)) → Keeps (BreaksRecipes answers s m)

@@ -11,8 +11,8 @@ use Rattle.just_errors.specs.declared.error.CompileErrorKind.TheVariants as kind
 use Rattle.just_names.specs.Token.{Place}
 use Rattle.just_recipe.specs.declared.dependency.UnresolvedDependency.{UnresolvedDependency}
 use Rattle.just_recipe.specs.declared.recipe.Recipe.{Recipe}
-use Rattle.just_joining.specs.Defaults.{Defaults, IsLater, IsMarkedPlace, NoneMarked, duplicate_default, is_marked}
-use Rattle.just_joining.specs.Recipes.{line_of, name_of, recipe_at, token_of}
+use Rattle.just_definitions.specs.Defaults.{Defaults, IsLater, IsMarkedPlace, NoneMarked, duplicate_default, is_marked}
+use Rattle.just_definitions.specs.Recipes.{line_of, name_of, recipe_at, token_of}
 
 abbrev pub cmp : List ℕ → List ℕ → Ordering
 cmp = slice_cmp nat_cmp

@@ -11,10 +11,10 @@ use Rattle.just_graph.specs.Steps.{Leads, by_step, by_steps, IsCircle}
 use Rattle.just_recipe.specs.declared.dependency.UnresolvedDependency.{UnresolvedDependency}
 use Rattle.just_recipe.specs.declared.recipe.Recipe.{Recipe}
 use Rattle.just_index.specs.Index.{AreDifferent}
-use Rattle.just_joining.specs.Recipes.{name_of, recipe_at, names_of, Depends, DependsOn}
-use Rattle.just_joining.specs.Rows.{IsTokenOn}
-use Rattle.just_joining.specs.Rules.{IsCircleOf, IsDependencyOn}
-use Rattle.just_joining.proofs.RecipePlaces.{one_place}
+use Rattle.just_definitions.specs.Recipes.{name_of, recipe_at, names_of, Depends, DependsOn}
+use Rattle.just_definitions.specs.Rows.{IsTokenOn}
+use Rattle.just_definitions.specs.Rules.{IsCircleOf, IsDependencyOn}
+use Rattle.just_definitions.proofs.RecipePlaces.{one_place}
 
 pub leads_more : {R : ℕ → ℕ → Type 0} {a b c : ℕ} → Leads R a b → R b c → Leads R a c
 leads_more (by_step r) s = by_steps r (by_step s)

@@ -10,12 +10,12 @@ use Rattle.just_names.specs.Name.{texts_of_path}
 use Rattle.just_recipe.specs.declared.dependency.UnresolvedDependency.{UnresolvedDependency}
 use Rattle.just_recipe.specs.declared.recipe.Recipe.{Recipe}
 use Rattle.just_index.specs.Index.{AreDifferent}
-use Rattle.just_joining.specs.Recipes.{name_of, least_of, recipe_at, names_of, Depends}
-use Rattle.just_joining.specs.Rows.{IsRow, IsOrderOf}
+use Rattle.just_definitions.specs.Recipes.{name_of, least_of, recipe_at, names_of, Depends}
+use Rattle.just_definitions.specs.Rows.{IsRow, IsOrderOf}
 use Rattle.just_errors.specs.Causes.{Cause}
-use Rattle.just_joining.specs.Rules.{Dependencies, unknown_dependency, circular, argument_count}
+use Rattle.just_definitions.specs.Rules.{Dependencies, unknown_dependency, circular, argument_count}
 use Rattle.just_resolving.proofs.Targets.{path_named}
-use Rattle.just_joining.proofs.RecipePlaces.{one_place}
+use Rattle.just_definitions.proofs.RecipePlaces.{one_place}
 use Rattle.just_resolving.proofs.Edges.{target_of, edges}
 use Rattle.just_resolving.proofs.RecipeCircles.{circle_leads}
 

@@ -10,8 +10,8 @@ use Rattle.just_paths.specs.declared.modulepath.Modulepath.{Modulepath}
 use Rattle.just_recipe.specs.declared.recipe.Recipe.{Recipe}
 use Rattle.just_names.specs.declared.number.Number.{Number}
 use Rattle.just_recipe.specs.Recipes.{numbers}
-use Rattle.just_joining.specs.Defaults.{IsDefaultOf}
-use Rattle.just_joining.specs.Resolved.{AreMadeOf, AreResolved, number_at, unresolved_numbers}
+use Rattle.just_definitions.specs.Defaults.{IsDefaultOf}
+use Rattle.just_definitions.specs.Resolved.{AreMadeOf, AreResolved, number_at, unresolved_numbers}
 
 -- recipes that are resolved have numbers of the source
 pub made_numbers : (rs : List (Recipe UnresolvedDependency)) (path : Modulepath) (order : List ℕ) (made : List (Recipe Dependency)) → AreMadeOf rs path order made → (n : ℕ) → In n (numbers made) → In n (unresolved_numbers rs)

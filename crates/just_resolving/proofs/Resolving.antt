@@ -14,10 +14,10 @@ use Rattle.just_paths.specs.declared.modulepath.Modulepath.{Modulepath}
 use Rattle.just_recipe.specs.declared.recipe.Recipe.{Recipe}
 use Rattle.just_recipe.specs.Recipes.{IsNew, IsResolved, needs, numbers}
 use Rattle.just_index.specs.Index.{AreDifferent}
-use Rattle.just_joining.specs.Recipes.{names_of, Depends}
-use Rattle.just_joining.specs.Rows.{IsRow, IsOrderOf}
-use Rattle.just_joining.proofs.RecipePlaces.{number_read}
-use Rattle.just_joining.specs.Resolved.{unresolved_numbers, number_at, HasPriors, linked, Resolves, IsMadeOf, AreMadeOf, Resolving, AreResolved}
+use Rattle.just_definitions.specs.Recipes.{names_of, Depends}
+use Rattle.just_definitions.specs.Rows.{IsRow, IsOrderOf}
+use Rattle.just_definitions.proofs.RecipePlaces.{number_read}
+use Rattle.just_definitions.specs.Resolved.{unresolved_numbers, number_at, HasPriors, linked, Resolves, IsMadeOf, AreMadeOf, Resolving, AreResolved}
 use Rattle.just_resolving.proofs.Edges.{row_steps}
 
 linked_suc : (rs : List (Recipe UnresolvedDependency)) (ds : List UnresolvedDependency) (ps : List ℕ) (k : ℕ) (d : UnresolvedDependency) → k < length ds → k < length ps

@@ -11,11 +11,11 @@ use Rattle.just_index.specs.Index.{name_at, IsLast, IsIndex, place_in}
 use Rattle.just_graph.proofs.Index.{got_in, map_get}
 use Rattle.just_graph.proofs.Members.{In, contained, is_in}
 use Rattle.std.proofs.lemmas.Option.{slice_get_read}
-use Rattle.just_joining.specs.Recipes.{name_of, named_paths, dependency_paths, least_of, most_of, recipe_at, names_of}
+use Rattle.just_definitions.specs.Recipes.{name_of, named_paths, dependency_paths, least_of, most_of, recipe_at, names_of}
 use Rattle.just_errors.specs.Causes.{Broken}
 use Rattle.just_names.specs.Token.{Place}
-use Rattle.just_joining.specs.Rules.{Dependencies, unknown_dependency, argument_count}
-use Rattle.just_joining.proofs.RecipePlaces.{name_at_place}
+use Rattle.just_definitions.specs.Rules.{Dependencies, unknown_dependency, argument_count}
+use Rattle.just_definitions.proofs.RecipePlaces.{name_at_place}
 
 last_some : (names : List (List ℕ)) (n j : ℕ) (name : List ℕ) (o : Option ℕ) → IsLast names n name o → o ≡ Some j → (j < n) × (name_at names j ≡ name)
 last_some names n j name None s e = cc

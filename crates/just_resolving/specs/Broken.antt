@@ -2,10 +2,10 @@
 use Rattle.just_errors.specs.Causes.{Cause, Keeps}
 use Rattle.just_literals.specs.declared.settings.Settings.{Settings}
 use Rattle.just_parts.specs.Syntax.{SyntaxAnswers}
-use Rattle.just_joining.specs.Contents.{Contents}
-use Rattle.just_joining.specs.Defaults.{Defaults}
-use Rattle.just_joining.specs.Kept.{kept_recipes}
-use Rattle.just_joining.specs.Rules.{Bodies, Dependencies}
+use Rattle.just_definitions.specs.Contents.{Contents}
+use Rattle.just_definitions.specs.Defaults.{Defaults}
+use Rattle.just_definitions.specs.Kept.{kept_recipes}
+use Rattle.just_definitions.specs.Rules.{Bodies, Dependencies}
 
 -- What is broken of recipes under settings: in their bodies, or where these are kept in their dependencies, or where these are kept too in which is the default.
 pub data BreaksRecipes (answers : SyntaxAnswers) (settings : Settings) (m : Contents) : Cause → Type 0 where

@@ -4,17 +4,17 @@ ghost use Rattle.std.specs.Prelude.{◌≡◌, ◌+◌, ◌<◌, false, IfOk, If
 ghost use Rattle.std.specs.Str.{bytes_eq};
 ghost use Rattle.std.specs.HashMap.{get};
 ghost use Rattle.just_errors.specs.Causes.{Keeps, Reports};
-ghost use Rattle.just_joining.specs.Contents.{defined, defined_in, function_texts, texts_of_defined};
-ghost use Rattle.just_joining.specs.Definitions.{contents_in, lists_in, recipes_in};
+ghost use Rattle.just_definitions.specs.Contents.{defined, defined_in, function_texts, texts_of_defined};
+ghost use Rattle.just_definitions.specs.Definitions.{contents_in, lists_in, recipes_in};
 ghost use Rattle.just_index.specs.Index.{IsIndex};
-ghost use Rattle.just_joining.specs.Recipes.{names_of};
-ghost use Rattle.just_joining.specs.Rules.{Bodies, Lists, Redefined, StandsFor};
+ghost use Rattle.just_definitions.specs.Recipes.{names_of};
+ghost use Rattle.just_definitions.specs.Rules.{Bodies, Lists, Redefined, StandsFor};
 
 use crate::shells::check_shells;
 use just_data::BorrowedText;
+use just_definitions::definitions::{Definitions, function_names, list_at, recipe_at};
+use just_definitions::redefinition::redefinition;
 use just_index::{index_last, repeated_below, texts_of};
-use just_joining::definitions::{Definitions, function_names, list_at, recipe_at};
-use just_joining::redefinition::redefinition;
 use just_parts::layers::error::Definition;
 use just_parts::layers::{CompileError, CompileErrorKind, Error, ListUse, Name, Settings, Syntax};
 use std::alloc::{AllocError, Global};

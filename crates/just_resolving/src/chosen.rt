@@ -3,12 +3,12 @@
 ghost use Rattle.std.specs.Prelude.{◌≡◌, ◌<◌, false, IsTrue, IfErr, IfOk, IfSome, OnOk, Some, length};
 ghost use Rattle.just_errors.specs.Causes.{Keeps, Reports};
 ghost use Rattle.just_recipe.specs.Recipes.{numbers};
-ghost use Rattle.just_joining.specs.Defaults.{Defaults, IsBefore, IsBetter, IsDefaultBy, IsDefaultOf, IsDefaultPlace};
-ghost use Rattle.just_joining.specs.Definitions.{recipes_in};
-ghost use Rattle.just_joining.specs.Named.{recipes_by};
+ghost use Rattle.just_definitions.specs.Defaults.{Defaults, IsBefore, IsBetter, IsDefaultBy, IsDefaultOf, IsDefaultPlace};
+ghost use Rattle.just_definitions.specs.Definitions.{recipes_in};
+ghost use Rattle.just_definitions.specs.Named.{recipes_by};
 
 use crate::marked::marked_place;
-use just_joining::definitions::{Definitions, recipe_at};
+use just_definitions::definitions::{Definitions, recipe_at};
 use just_parts::UnresolvedRecipe;
 use just_parts::layers::{Ast, Error, Number, Syntax};
 use just_running::Recipes;

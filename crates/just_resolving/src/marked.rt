@@ -2,12 +2,12 @@
 ghost use Rattle.std.specs.Prelude.{◌≡◌, ◌≢◌, ◌<◌, true, length, IsTrue, false, IfErr, IfOk, OnOk};
 ghost use Rattle.std.specs.List.{list_any};
 ghost use Rattle.just_errors.specs.Causes.{Broken, Keeps, Reports};
-ghost use Rattle.just_joining.specs.Defaults.{Defaults, IsLater, IsMarkedPlace, is_default, is_marked};
-ghost use Rattle.just_joining.specs.Definitions.{recipes_in};
-ghost use Rattle.just_joining.specs.Recipes.{recipe_at};
+ghost use Rattle.just_definitions.specs.Defaults.{Defaults, IsLater, IsMarkedPlace, is_default, is_marked};
+ghost use Rattle.just_definitions.specs.Definitions.{recipes_in};
+ghost use Rattle.just_definitions.specs.Recipes.{recipe_at};
 
 use just_data::BorrowedText;
-use just_joining::definitions::{Definitions, recipe_at};
+use just_definitions::definitions::{Definitions, recipe_at};
 use just_parts::UnresolvedRecipe;
 use just_parts::layers::{Attribute, CompileError, CompileErrorKind, Error, NamedAttribute};
 

@@ -2,11 +2,11 @@
 ghost use Rattle.std.specs.Prelude.{◌≡◌, IfErr, OnOk};
 ghost use Rattle.just_errors.specs.Causes.{Keeps, Reports};
 ghost use Rattle.just_parts.specs.Groups.{front, is_indented};
-ghost use Rattle.just_joining.specs.Definitions.{recipes_in};
-ghost use Rattle.just_joining.specs.Shells.{FirstLine, Lines, ScriptAttribute, ShellRecipe, Shells, ends_group, is_of_scripts};
+ghost use Rattle.just_definitions.specs.Definitions.{recipes_in};
+ghost use Rattle.just_definitions.specs.Shells.{FirstLine, Lines, ScriptAttribute, ShellRecipe, Shells, ends_group, is_of_scripts};
 
 use just_data::BorrowedText;
-use just_joining::definitions::{Definitions, recipe_at};
+use just_definitions::definitions::{Definitions, recipe_at};
 use just_names::Token;
 use just_parts::UnresolvedRecipe;
 use just_parts::layers::{

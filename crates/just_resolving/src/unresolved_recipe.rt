@@ -1,11 +1,11 @@
 ghost use Rattle.std.specs.Prelude.{◌≡◌, ◌<◌, IfOk, length};
 ghost use Rattle.std.specs.List.{All};
-ghost use Rattle.just_joining.specs.Definitions.{recipes_in};
-ghost use Rattle.just_joining.specs.Resolved.{linked, Resolves};
+ghost use Rattle.just_definitions.specs.Definitions.{recipes_in};
+ghost use Rattle.just_definitions.specs.Resolved.{linked, Resolves};
 ghost use Rattle.just_recipe.specs.declared.dependency.UnresolvedDependency.{UnresolvedDependency};
 
 use just_data::Sequence;
-use just_joining::definitions::{Definitions, recipe_at};
+use just_definitions::definitions::{Definitions, recipe_at};
 use just_parts::layers::UnresolvedDependency;
 use just_parts::{Dependency, Recipe, UnresolvedRecipe};
 use just_paths::Modulepath;

@@ -31,20 +31,20 @@ use Rattle.just_recipe.specs.declared.recipe.Recipe.{Recipe}
 use Rattle.just_names.specs.declared.name.Name.{Name}
 use Rattle.just_names.specs.declared.name.Namepath.{Namepath}
 use Rattle.just_errors.specs.declared.error.Definition.TheVariants as definition
-use Rattle.just_joining.specs.Contents.{Contents, Defined, Signature, all_defined, defined, defined_in, defined_recipe, function_names, module_of_name, signature, signatures, variable_names}
+use Rattle.just_definitions.specs.Contents.{Contents, Defined, Signature, all_defined, defined, defined_in, defined_recipe, function_names, module_of_name, signature, signatures, variable_names}
 use Rattle.just_index.specs.Index.{texts_of_names, Repeats}
-use Rattle.just_joining.specs.Constants.{AreConstants, AsksConstants, AsksFor, Constants, Docs, Evaluated, IsEvaluated, attribute_expressions, constant_expressions, constants_fault, doc_fault, functions_asked, in_doc, in_setting, recipe_expressions, settings_among, settings_expressions, settings_fault, sets_lists, value_among}
-use Rattle.just_joining.specs.Groups.{BodiesAndDocs, Breaks, Group, OfAliases, OfBodies, OfConstants, OfDependencies, OfExpressions, OfHeaders, OfNames, in_bodies, in_docs}
-use Rattle.just_joining.specs.Known.{functions_under, known_of, variables_under}
+use Rattle.just_definitions.specs.Constants.{AreConstants, AsksConstants, AsksFor, Constants, Docs, Evaluated, IsEvaluated, attribute_expressions, constant_expressions, constants_fault, doc_fault, functions_asked, in_doc, in_setting, recipe_expressions, settings_among, settings_expressions, settings_fault, sets_lists, value_among}
+use Rattle.just_definitions.specs.Groups.{BodiesAndDocs, Breaks, Group, OfAliases, OfBodies, OfConstants, OfDependencies, OfExpressions, OfHeaders, OfNames, in_bodies, in_docs}
+use Rattle.just_definitions.specs.Known.{functions_under, known_of, variables_under}
 use Rattle.just_parts.specs.Known.{Known, known, none_hidden}
 use Rattle.just_parts.specs.Misnaming.{Expressions, Misnames}
-use Rattle.just_joining.specs.Defaults.{Defaults, IsLater, duplicate_default, is_default, is_marked}
-use Rattle.just_joining.specs.Kept.{claim_of_recipe, gives_way, kept_recipes, left_of}
-use Rattle.just_joining.specs.Settings.{allows_variables}
-use Rattle.just_joining.specs.Shells.{Lines, ScriptAttribute, ShellRecipe, Shells, invalid_attribute, of_attributes, of_lines, of_recipe}
-use Rattle.just_joining.specs.declared.kept.Claim.{Claim}
-use Rattle.just_joining.specs.Recipes.{name_of, line_of, token_of, named_parameters, parameter_names, is_defaulted, is_needed, FollowsDefault, named_paths, dependency_paths, least_of, most_of, no_recipe, recipe_at, Depends, DependsOn}
-use Rattle.just_joining.specs.Rules.{Bodies, Dependencies, Functions, Headers, IsCircleOf, Lists, Modules, Names, Parameters, Redefined, Sets, Under, Unexports, Variables, argument_count, circular, duplicate_parameter, of_defined, of_functions, of_lists, of_modules, of_parameters, of_sets, of_shells, of_unexports, of_variables, required_after_default, under, unknown_dependency}
+use Rattle.just_definitions.specs.Defaults.{Defaults, IsLater, duplicate_default, is_default, is_marked}
+use Rattle.just_definitions.specs.Kept.{claim_of_recipe, gives_way, kept_recipes, left_of}
+use Rattle.just_definitions.specs.Settings.{allows_variables}
+use Rattle.just_definitions.specs.Shells.{Lines, ScriptAttribute, ShellRecipe, Shells, invalid_attribute, of_attributes, of_lines, of_recipe}
+use Rattle.just_definitions.specs.declared.kept.Claim.{Claim}
+use Rattle.just_definitions.specs.Recipes.{name_of, line_of, token_of, named_parameters, parameter_names, is_defaulted, is_needed, FollowsDefault, named_paths, dependency_paths, least_of, most_of, no_recipe, recipe_at, Depends, DependsOn}
+use Rattle.just_definitions.specs.Rules.{Bodies, Dependencies, Functions, Headers, IsCircleOf, Lists, Modules, Names, Parameters, Redefined, Sets, Under, Unexports, Variables, argument_count, circular, duplicate_parameter, of_defined, of_functions, of_lists, of_modules, of_parameters, of_sets, of_shells, of_unexports, of_variables, required_after_default, under, unknown_dependency}
 
 -- What the rules read of a recipe.
 pub record Outline : Type 0 where

@@ -11,7 +11,7 @@ use Rattle.just_records.specs.Parameter.{is_required, is_variadic, least_argumen
 use Rattle.just_recipe.specs.declared.dependency.UnresolvedDependency.{UnresolvedDependency}
 use Rattle.just_records.specs.declared.parameter.Parameter.{Parameter}
 use Rattle.just_recipe.specs.declared.recipe.Recipe.{Recipe}
-use Rattle.just_joining.specs.Recipes.{named_paths, dependency_paths, is_defaulted, is_needed}
+use Rattle.just_definitions.specs.Recipes.{named_paths, dependency_paths, is_defaulted, is_needed}
 use Rattle.just_rules.proofs.Alike.{outline_of}
 
 named_bare : (ps : List Parameter) → map (λ (p : Parameter). p.name) (map bare_parameter ps) ≡ map (λ (p : Parameter). p.name) ps

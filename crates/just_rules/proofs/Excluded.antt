@@ -17,8 +17,8 @@ use Rattle.just_attributes.specs.declared.setting.Set.{Set}
 use Rattle.just_errors.specs.Causes.{Broken, Keeps}
 use Rattle.just_errors.specs.declared.error.CompileErrorKind.TheVariants as kind
 use Rattle.just_index.specs.Index.{AreDifferent, IsLast, Repeats, name_at}
-use Rattle.just_joining.specs.Rules.{SetTwice, Sets, duplicate_set, incompatible_settings, set_twice}
-use Rattle.just_joining.specs.Settings.{Conflicts, are_incompatible, excludes, line_at, no_set, place_at, set_at, setting_at, setting_names, stands_in}
+use Rattle.just_definitions.specs.Rules.{SetTwice, Sets, duplicate_set, incompatible_settings, set_twice}
+use Rattle.just_definitions.specs.Settings.{Conflicts, are_incompatible, excludes, line_at, no_set, place_at, set_at, setting_at, setting_names, stands_in}
 use Rattle.just_index.proofs.Indexing.{texts_apart}
 
 pub setting_name : (sets : List Set) (i : ℕ) → i < length sets → name_at (setting_names sets) i ≡ setting_at sets i

@@ -3,7 +3,7 @@ use Rattle.std.proofs.Common.{◌≡◌, ℕ, ◌+◌, ◌<◌, ◌≤◌, ◌�
 use Rattle.std.proofs.lemmas.Bool.{cases_lt, false≢true}
 use Rattle.std.proofs.lemmas.List.{get_or-map, get_or_past, length-map}
 use Rattle.just_records.specs.declared.parameter.Parameter.{Parameter}
-use Rattle.just_joining.specs.Recipes.{FollowsDefault, NoneFollows, is_defaulted, is_needed}
+use Rattle.just_definitions.specs.Recipes.{FollowsDefault, NoneFollows, is_defaulted, is_needed}
 
 -- Whether one of the first n parameters has a default; and none of them that needs a word follows one.
 pub record Passed (ps : List Parameter) (n : ℕ) (passed : Bool) : Type 0 where

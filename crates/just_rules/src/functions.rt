@@ -3,15 +3,15 @@
 ghost use Rattle.std.specs.Prelude.{◌≡◌, ℕ, IfOk, IfErr, OnOk, Some, map, slice_get};
 ghost use Rattle.just_errors.specs.Causes.{Keeps, Reports};
 ghost use Rattle.just_records.specs.declared.function_definition.FunctionDefinition.{FunctionDefinition};
-ghost use Rattle.just_joining.specs.Contents.{function_names, signature, signatures};
+ghost use Rattle.just_definitions.specs.Contents.{function_names, signature, signatures};
 ghost use Rattle.just_index.specs.Index.{texts_of_names, AreDifferent};
-ghost use Rattle.just_joining.specs.Definitions.{functions_in};
-ghost use Rattle.just_joining.specs.Rules.{Functions, RepeatsParameter};
+ghost use Rattle.just_definitions.specs.Definitions.{functions_in};
+ghost use Rattle.just_definitions.specs.Rules.{Functions, RepeatsParameter};
 
 use just_data::BorrowedText;
+use just_definitions::definitions::{Definitions, function_at, function_names};
+use just_definitions::redefinition::told;
 use just_index::repeated_name;
-use just_joining::definitions::{Definitions, function_at, function_names};
-use just_joining::redefinition::told;
 use just_parts::layers::error::Definition;
 use just_parts::layers::{CompileError, CompileErrorKind, Error, FunctionDefinition, Name};
 use std::alloc::{AllocError, Global};

@@ -2,16 +2,16 @@ ghost use Rattle.std.specs.Prelude.{◌≡◌, ◌<◌, ℕ, length, IfOk, IfErr
 ghost use Rattle.just_names.specs.Name.{text_of_name};
 ghost use Rattle.just_records.specs.declared.parameter.Parameter.{Parameter};
 ghost use Rattle.just_index.specs.Index.{AreDifferent, texts_of_names};
-ghost use Rattle.just_joining.specs.Recipes.{FollowsDefault, NoneFollows, is_defaulted, is_needed, parameter_names, recipe_at};
-ghost use Rattle.just_joining.specs.Definitions.{contents_in, recipes_in};
+ghost use Rattle.just_definitions.specs.Recipes.{FollowsDefault, NoneFollows, is_defaulted, is_needed, parameter_names, recipe_at};
+ghost use Rattle.just_definitions.specs.Definitions.{contents_in, recipes_in};
 ghost use Rattle.just_errors.specs.Causes.{Keeps, Reports};
-ghost use Rattle.just_joining.specs.Rules.{Headers, Modules, Parameters, Unexports};
+ghost use Rattle.just_definitions.specs.Rules.{Headers, Modules, Parameters, Unexports};
 
 use crate::settings::check_sets;
 use just_data::BorrowedText;
+use just_definitions::definitions::{Definitions, recipe_at};
+use just_definitions::redefinition::redefinition;
 use just_index::{index_names, repeated_name};
-use just_joining::definitions::{Definitions, recipe_at};
-use just_joining::redefinition::redefinition;
 use just_parts::layers::error::Definition;
 use just_parts::layers::{CompileError, CompileErrorKind, Error, Name, Parameter, Syntax};
 use std::alloc::{AllocError, Global};

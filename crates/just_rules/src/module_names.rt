@@ -4,7 +4,7 @@ ghost use Rattle.std.specs.Prelude.{◌≡◌, ◌<◌, ◌++◌, ℕ, IfOk, IfE
 ghost use Rattle.std.specs.List.{All};
 ghost use Rattle.just_errors.specs.Causes.{Reports};
 ghost use Rattle.just_joining.specs.Files.{asts_in};
-ghost use Rattle.just_joining.specs.Named.{name_by, said_from};
+ghost use Rattle.just_definitions.specs.Named.{name_by, said_from};
 ghost use Rattle.just_notes.specs.Said.{said};
 ghost use Rattle.just_joining.specs.OfPlaces.{HaveFiles, HaveNames, RepeatsNames};
 

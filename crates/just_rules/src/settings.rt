@@ -4,13 +4,13 @@ ghost use Rattle.std.specs.Prelude.{◌≡◌, ◌<◌, ℕ, IfOk, IfErr, OnOk, 
 ghost use Rattle.std.specs.Str.{bytes_eq};
 ghost use Rattle.std.specs.HashMap.{get};
 ghost use Rattle.just_errors.specs.Causes.{Keeps, Reports};
-ghost use Rattle.just_joining.specs.Definitions.{sets_in};
+ghost use Rattle.just_definitions.specs.Definitions.{sets_in};
 ghost use Rattle.just_index.specs.Index.{AreDifferent, IsIndex};
-ghost use Rattle.just_joining.specs.Rules.{SetTwice, Sets};
-ghost use Rattle.just_joining.specs.Settings.{are_incompatible, excludes, setting_names, stands_in};
+ghost use Rattle.just_definitions.specs.Rules.{SetTwice, Sets};
+ghost use Rattle.just_definitions.specs.Settings.{are_incompatible, excludes, setting_names, stands_in};
 
 use just_data::{BorrowedText, Text};
-use just_joining::definitions::{Definitions, set_at};
+use just_definitions::definitions::{Definitions, set_at};
 use just_parts::layers::{CompileError, CompileErrorKind, Error, Keyword, Syntax};
 use std::alloc::Global;
 use std::collections::HashMap;

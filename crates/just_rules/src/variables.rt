@@ -2,16 +2,16 @@
 
 ghost use Rattle.std.specs.Prelude.{◌≡◌, false, IfOk, IfErr, OnOk};
 ghost use Rattle.just_errors.specs.Causes.{Keeps, Reports};
-ghost use Rattle.just_joining.specs.Contents.{variable_names};
+ghost use Rattle.just_definitions.specs.Contents.{variable_names};
 ghost use Rattle.just_index.specs.Index.{texts_of_names, AreApart, AreDifferent};
-ghost use Rattle.just_joining.specs.Definitions.{contents_in, sets_in, variables_in};
-ghost use Rattle.just_joining.specs.Rules.{AssignedTwice, Names, Unexported, VariablesOf};
-ghost use Rattle.just_joining.specs.Settings.{allows_variables, is_allowing};
+ghost use Rattle.just_definitions.specs.Definitions.{contents_in, sets_in, variables_in};
+ghost use Rattle.just_definitions.specs.Rules.{AssignedTwice, Names, Unexported, VariablesOf};
+ghost use Rattle.just_definitions.specs.Settings.{allows_variables, is_allowing};
 
 use crate::functions::check_functions;
 use just_data::BorrowedText;
+use just_definitions::definitions::{Definitions, set_at, variable_at};
 use just_index::{index_last, repeated_name, texts_of};
-use just_joining::definitions::{Definitions, set_at, variable_at};
 use just_parts::layers::{CompileError, CompileErrorKind, Error, Name, Set, Setting};
 use std::alloc::{AllocError, Global};
 

@@ -14,11 +14,11 @@ use Rattle.just_table.specs.Entries.{put_all}
 use Rattle.just_parts.specs.Known.{Known, known}
 use Rattle.just_parts.specs.Misnaming.{Expressions}
 use Rattle.just_known.proofs.Alike.{alike_changed, changed, changed_alike, expressions_alike, parameter_names, put_changed}
-use Rattle.just_joining.specs.Contents.{Contents}
-use Rattle.just_joining.specs.Known.{functions_under, known_of, variables_under}
+use Rattle.just_definitions.specs.Contents.{Contents}
+use Rattle.just_definitions.specs.Known.{functions_under, known_of, variables_under}
 use Rattle.just_variables.specs.Variables.{known_with_numbers}
-use Rattle.just_joining.specs.Kept.{claim_of_variable, gives_way, kept, kept_variables, left_of}
-use Rattle.just_joining.specs.declared.kept.Claim.{Claim}
+use Rattle.just_definitions.specs.Kept.{claim_of_variable, gives_way, kept, kept_variables, left_of}
+use Rattle.just_definitions.specs.declared.kept.Claim.{Claim}
 
 -- what is kept goes by claims
 module _ {A : Type 0} (claim : A → Claim) (f : A → A) (same : (x : A) → claim (f x) ≡ claim x) where

@@ -12,9 +12,9 @@ use Rattle.just_records.specs.declared.assignment.Assignment.{Assignment}
 use Rattle.just_records.specs.declared.function_definition.FunctionDefinition.{FunctionDefinition}
 use Rattle.just_table.specs.Entries.{IsKeyed, put, put_all}
 use Rattle.just_table.proofs.Shown.{put_keyed}
-use Rattle.just_joining.specs.Contents.{Contents}
-use Rattle.just_joining.specs.Known.{functions_under, variables_under}
-use Rattle.just_joining.specs.Kept.{kept_variables}
+use Rattle.just_definitions.specs.Contents.{Contents}
+use Rattle.just_definitions.specs.Known.{functions_under, variables_under}
+use Rattle.just_definitions.specs.Kept.{kept_variables}
 use Rattle.just_variables.specs.Numbered.{name_of_assignment, name_of_function}
 use Rattle.just_variables.specs.Resolved.{AreInOrder, ResolvesTo}
 use Rattle.just_parts.specs.Known.{Known, known}

@@ -1,7 +1,7 @@
 -- The variables and functions of a module, resolved.
 use Rattle.std.specs.Prelude.{◌≡◌, List}
-use Rattle.just_joining.specs.Contents.{Contents}
-use Rattle.just_joining.specs.Known.{functions_under, variables_under}
+use Rattle.just_definitions.specs.Contents.{Contents}
+use Rattle.just_definitions.specs.Known.{functions_under, variables_under}
 use Rattle.just_variables.specs.declared.variables.Variables.{Variables}
 use Rattle.just_names.specs.Texts.{Text}
 use Rattle.just_names.specs.declared.name.Name.{Name}

@@ -3,11 +3,11 @@ use Rattle.std.proofs.lemmas.Result.{IfErr-weaker}
 use Rattle.just_errors.specs.Causes.{Reports}
 use Rattle.just_errors.proofs.Lifts.{reports_by}
 use Rattle.just_parts.specs.Layers.{given_of, layers_at}
-use Rattle.just_joining.specs.Constants.{Constants}
-use Rattle.just_joining.specs.Definitions.{contents_in}
-use Rattle.just_joining.specs.Groups.{BreaksContents, OfConstants, OfExpressions, OfHeaders, OfNames}
-use Rattle.just_joining.specs.Known.{known_of}
-use Rattle.just_joining.specs.Rules.{Headers, Names}
+use Rattle.just_definitions.specs.Constants.{Constants}
+use Rattle.just_definitions.specs.Definitions.{contents_in}
+use Rattle.just_definitions.specs.Groups.{BreaksContents, OfConstants, OfExpressions, OfHeaders, OfNames}
+use Rattle.just_definitions.specs.Known.{known_of}
+use Rattle.just_definitions.specs.Rules.{Headers, Names}
 use Rattle.just_parts.specs.Misnaming.{Expressions}
 use Rattle.just_checking.proofs.Grounds.{before_bodies, before_constants, before_expressions, before_names}
 use Rattle.just_checking.proofs.NumbersApart.{numbers_apart}

@@ -1,8 +1,8 @@
 use Rattle.std.proofs.Common.{◌∙◌, ap, sym}
 use Rattle.just_constants.specs.Documented.{doc_expressions}
-use Rattle.just_joining.specs.Definitions.{contents_in}
+use Rattle.just_definitions.specs.Definitions.{contents_in}
 use Rattle.just_joining.specs.Files.{asts_in}
-use Rattle.just_joining.specs.Contents.{Contents}
+use Rattle.just_definitions.specs.Contents.{Contents}
 use Rattle.just_checking.proofs.Docs.{docs_covered, docs_said}
 use Rattle.just_checking.proofs.checking.documented_at.Goals as goal
 use Rattle.just_parts.specs.Evaluator.{values_of}

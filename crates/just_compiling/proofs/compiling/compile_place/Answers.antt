@@ -6,13 +6,13 @@ use Rattle.just_graph.specs.Steps.{IsOnce}
 use Rattle.just_errors.specs.Causes.{Reports}
 use Rattle.just_errors.proofs.Lifts.{reports_by}
 use Rattle.just_joining.specs.Analyzable.{assignment_numbers}
-use Rattle.just_joining.specs.Contents.{Contents}
-use Rattle.just_joining.specs.Definitions.{contents_in}
+use Rattle.just_definitions.specs.Contents.{Contents}
+use Rattle.just_definitions.specs.Definitions.{contents_in}
 use Rattle.just_joining.specs.Files.{asts_in}
-use Rattle.just_joining.specs.Groups.{BreaksContents}
-use Rattle.just_joining.specs.Kept.{kept_recipes}
-use Rattle.just_joining.specs.Named.{contents_from, name_by, recipes_by, said_from, variable_by}
-use Rattle.just_joining.specs.Resolved.{AreResolved, HasPriors, unresolved_numbers}
+use Rattle.just_definitions.specs.Groups.{BreaksContents}
+use Rattle.just_definitions.specs.Kept.{kept_recipes}
+use Rattle.just_definitions.specs.Named.{contents_from, name_by, recipes_by, said_from, variable_by}
+use Rattle.just_definitions.specs.Resolved.{AreResolved, HasPriors, unresolved_numbers}
 use Rattle.just_joining.proofs.Joining.{row_lent}
 use Rattle.just_index.specs.Index.{texts_of_names, AreDifferent}
 use Rattle.just_making.specs.Analysis.{HasDefault}

@@ -1,8 +1,8 @@
 use Rattle.std.proofs.Common.{◌≡◌, ◌∙◌, length, arith}
 use Rattle.std.proofs.lemmas.List.{take_all}
 use Rattle.std.proofs.lemmas.Grind.{common_steps}
-use Rattle.just_joining.specs.Definitions.{sets_in}
-use Rattle.just_joining.proofs.RecipePlaces.{length-lent}
+use Rattle.just_definitions.specs.Definitions.{sets_in}
+use Rattle.just_definitions.proofs.RecipePlaces.{length-lent}
 use Rattle.just_variables.proofs.Copies.{taken_more}
 use Rattle.just_constants.proofs.constants.copied_sets.Goals as goal
 

@@ -1,5 +1,5 @@
 use Rattle.std.proofs.Common.{◌≡◌, take}
-use Rattle.just_joining.specs.Definitions.{sets_in}
+use Rattle.just_definitions.specs.Definitions.{sets_in}
 use Rattle.just_constants.proofs.constants.copied_sets.Given as goal
 
 abbrev pub invariant-loop-place : goal.invariant-loop-place

@@ -3,8 +3,8 @@ use Rattle.std.specs.HashMap.{get}
 use Rattle.std.specs.HashSet.{contains}
 use Rattle.std.proofs.lemmas.Result.{IfErr-weaker}
 use Rattle.just_index.specs.Index.{texts_of_names}
-use Rattle.just_joining.specs.Definitions.{contents_in}
-use Rattle.just_joining.specs.Recipes.{lent}
+use Rattle.just_definitions.specs.Definitions.{contents_in}
+use Rattle.just_definitions.specs.Recipes.{lent}
 use Rattle.just_names.specs.declared.name.Name.{Name}
 use Rattle.just_parts.specs.Evaluator.{FaultsAt, bare_set, functions_by_name, values_of, wanted_by}
 use Rattle.just_parts.specs.Known.{known, sources}

@@ -1,8 +1,8 @@
 use Rattle.std.proofs.Common.{◌≡◌, arith, length}
 use Rattle.std.proofs.lemmas.Grind.{common_steps}
-use Rattle.just_joining.specs.Constants.{is_lists}
-use Rattle.just_joining.specs.Definitions.{sets_in}
-use Rattle.just_joining.proofs.RecipePlaces.{length-lent}
+use Rattle.just_definitions.specs.Constants.{is_lists}
+use Rattle.just_definitions.specs.Definitions.{sets_in}
+use Rattle.just_definitions.proofs.RecipePlaces.{length-lent}
 use Rattle.just_attributes.specs.declared.setting.Set.{Set}
 use Rattle.just_constants.proofs.Walking.{any_here, any_more, any_none}
 use Rattle.just_constants.proofs.constants.sets_lists.Goals as goal

@@ -1,6 +1,6 @@
 use Rattle.std.proofs.Common.{◌≡◌, drop}
-use Rattle.just_joining.specs.Constants.{sets_lists}
-use Rattle.just_joining.specs.Definitions.{sets_in}
+use Rattle.just_definitions.specs.Constants.{sets_lists}
+use Rattle.just_definitions.specs.Definitions.{sets_in}
 use Rattle.just_constants.proofs.constants.sets_lists.Given as goal
 
 abbrev pub invariant-loop-place : goal.invariant-loop-place

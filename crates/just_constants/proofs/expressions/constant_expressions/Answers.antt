@@ -1,8 +1,8 @@
 use Rattle.std.proofs.Common.{◌≡◌, arith, length}
 use Rattle.std.proofs.lemmas.Grind.{common_steps}
-use Rattle.just_joining.specs.Constants.{constant_expressions}
-use Rattle.just_joining.specs.Definitions.{contents_in, docs_in}
-use Rattle.just_joining.specs.Recipes.{lent}
+use Rattle.just_definitions.specs.Constants.{constant_expressions}
+use Rattle.just_definitions.specs.Definitions.{contents_in, docs_in}
+use Rattle.just_definitions.specs.Recipes.{lent}
 use Rattle.just_constants.proofs.Walking.{lent_at, lent_more, one_taken}
 use Rattle.just_constants.proofs.expressions.constant_expressions.Goals as goal
 

@@ -1,5 +1,5 @@
 use Rattle.std.proofs.Common.{◌≡◌, ◌++◌, drop}
-use Rattle.just_joining.specs.Recipes.{lent}
+use Rattle.just_definitions.specs.Recipes.{lent}
 use Rattle.just_parts.specs.Evaluator.{interpreter_expressions}
 use Rattle.just_constants.proofs.expressions.push_interpreter.Given as goal
 

@@ -1,7 +1,7 @@
 use Rattle.std.proofs.Common.{◌≡◌, ◌++◌, drop}
 use Rattle.std.specs.List.{flat_map}
-use Rattle.just_joining.specs.Constants.{attribute_expressions, recipe_expressions}
-use Rattle.just_joining.specs.Recipes.{lent}
+use Rattle.just_definitions.specs.Constants.{attribute_expressions, recipe_expressions}
+use Rattle.just_definitions.specs.Recipes.{lent}
 use Rattle.just_attributes.specs.declared.attribute.NamedAttribute.{NamedAttribute}
 use Rattle.just_expressions.specs.declared.expression.Expression.{Expression}
 use Rattle.just_constants.proofs.expressions.push_recipe.Given as goal

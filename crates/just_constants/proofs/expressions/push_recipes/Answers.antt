@@ -1,10 +1,10 @@
 use Rattle.std.proofs.Common.{◌≡◌, ◌++◌, arith, length, sym}
 use Rattle.std.specs.List.{flat_map}
 use Rattle.std.proofs.lemmas.Grind.{common_steps}
-use Rattle.just_joining.specs.Constants.{recipe_expressions}
-use Rattle.just_joining.specs.Definitions.{recipes_in}
-use Rattle.just_joining.specs.Recipes.{lent}
-use Rattle.just_joining.proofs.RecipePlaces.{length-lent}
+use Rattle.just_definitions.specs.Constants.{recipe_expressions}
+use Rattle.just_definitions.specs.Definitions.{recipes_in}
+use Rattle.just_definitions.specs.Recipes.{lent}
+use Rattle.just_definitions.proofs.RecipePlaces.{length-lent}
 use Rattle.just_constants.proofs.Walking.{all_given, one_given}
 use Rattle.just_constants.proofs.expressions.push_recipes.Goals as goal
 

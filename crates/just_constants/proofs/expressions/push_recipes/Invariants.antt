@@ -1,8 +1,8 @@
 use Rattle.std.proofs.Common.{◌≡◌, ◌++◌, drop}
 use Rattle.std.specs.List.{flat_map}
-use Rattle.just_joining.specs.Constants.{recipe_expressions}
-use Rattle.just_joining.specs.Definitions.{recipes_in}
-use Rattle.just_joining.specs.Recipes.{lent}
+use Rattle.just_definitions.specs.Constants.{recipe_expressions}
+use Rattle.just_definitions.specs.Definitions.{recipes_in}
+use Rattle.just_definitions.specs.Recipes.{lent}
 use Rattle.just_constants.proofs.expressions.push_recipes.Given as goal
 
 abbrev pub invariant-loop-place : goal.invariant-loop-place

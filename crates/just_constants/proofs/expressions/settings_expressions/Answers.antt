@@ -1,9 +1,9 @@
 use Rattle.std.proofs.Common.{◌≡◌, arith, length, sym}
 use Rattle.std.proofs.lemmas.Grind.{common_steps}
-use Rattle.just_joining.specs.Constants.{settings_expressions}
-use Rattle.just_joining.specs.Definitions.{contents_in, sets_in}
-use Rattle.just_joining.specs.Recipes.{lent}
-use Rattle.just_joining.proofs.RecipePlaces.{length-lent}
+use Rattle.just_definitions.specs.Constants.{settings_expressions}
+use Rattle.just_definitions.specs.Definitions.{contents_in, sets_in}
+use Rattle.just_definitions.specs.Recipes.{lent}
+use Rattle.just_definitions.proofs.RecipePlaces.{length-lent}
 use Rattle.just_parts.specs.Evaluator.{set_expressions}
 use Rattle.just_constants.proofs.Walking.{all_given, one_given}
 use Rattle.just_constants.proofs.expressions.settings_expressions.Goals as goal

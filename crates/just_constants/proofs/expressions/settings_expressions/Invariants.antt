@@ -1,8 +1,8 @@
 use Rattle.std.proofs.Common.{◌≡◌, ◌++◌, drop}
 use Rattle.std.specs.List.{flat_map}
-use Rattle.just_joining.specs.Constants.{settings_expressions}
-use Rattle.just_joining.specs.Definitions.{contents_in, sets_in}
-use Rattle.just_joining.specs.Recipes.{lent}
+use Rattle.just_definitions.specs.Constants.{settings_expressions}
+use Rattle.just_definitions.specs.Definitions.{contents_in, sets_in}
+use Rattle.just_definitions.specs.Recipes.{lent}
 use Rattle.just_parts.specs.Evaluator.{set_expressions}
 use Rattle.just_constants.proofs.expressions.settings_expressions.Given as goal
 

@@ -2,11 +2,11 @@ use Rattle.std.proofs.Common.{◌≡◌, List, length, rules, subst, sym}
 use Rattle.just_invoke.specs.declared.justfile.Justfile.TheViews.{the_lemmas}
 use Rattle.just_recipe.specs.declared.dependency.UnresolvedDependency.{UnresolvedDependency}
 use Rattle.just_recipe.specs.declared.recipe.Recipe.{Recipe}
-use Rattle.just_joining.specs.Definitions.{contents_in, recipes_in}
+use Rattle.just_definitions.specs.Definitions.{contents_in, recipes_in}
 use Rattle.just_index.specs.Index.{AreDifferent}
-use Rattle.just_joining.specs.Recipes.{names_of}
-use Rattle.just_joining.proofs.Keeping.{kept_different}
-use Rattle.just_joining.proofs.RecipePlaces.{length-lent}
+use Rattle.just_definitions.specs.Recipes.{names_of}
+use Rattle.just_definitions.proofs.Keeping.{kept_different}
+use Rattle.just_definitions.proofs.RecipePlaces.{length-lent}
 use Rattle.just_making.proofs.Makings.{is_of}
 use Rattle.just_making.proofs.making.make_justfile.Goals as goal
 

@@ -3,10 +3,10 @@ use Rattle.just_names.specs.Name.{text_of_name}
 use Rattle.just_names.specs.Token.{lexeme}
 use Rattle.just_recipe.specs.declared.dependency.UnresolvedDependency.{UnresolvedDependency}
 use Rattle.just_recipe.specs.declared.recipe.Recipe.{Recipe}
-use Rattle.just_joining.specs.Definitions.{recipes_in}
-use Rattle.just_joining.specs.Recipes.{name_of, recipe_at}
-use Rattle.just_joining.proofs.RecipePlaces.{length-lent}
-use Rattle.just_joining.proofs.RecipePlaces.{number_read}
+use Rattle.just_definitions.specs.Definitions.{recipes_in}
+use Rattle.just_definitions.specs.Recipes.{name_of, recipe_at}
+use Rattle.just_definitions.proofs.RecipePlaces.{length-lent}
+use Rattle.just_definitions.proofs.RecipePlaces.{number_read}
 use Rattle.just_making.proofs.Keys.{keys_more}
 use Rattle.just_making.proofs.Held.{keys_held_more}
 use Rattle.just_making.proofs.making.recipe_keys.Goals as goal

@@ -1,5 +1,5 @@
 use Rattle.just_making.specs.Analysis.{AreKeysOf, HasKeysOf}
-use Rattle.just_joining.specs.Definitions.{recipes_in}
+use Rattle.just_definitions.specs.Definitions.{recipes_in}
 use Rattle.just_making.proofs.making.recipe_keys.Given as goal
 
 abbrev pub invariant-loop-place : goal.invariant-loop-place

@@ -2,12 +2,12 @@ use Rattle.std.proofs.Common.{false, rules, subst, sym}
 use Rattle.std.proofs.lemmas.Result.{IfErr-weaker, on_ok_weaker}
 use Rattle.just_errors.specs.Causes.{Keeps, Reports}
 use Rattle.just_errors.proofs.Lifts.{reports_by}
-use Rattle.just_joining.specs.Contents.{defined_in, function_texts}
-use Rattle.just_joining.specs.Definitions.{contents_in, lists_in, recipes_in}
-use Rattle.just_joining.specs.Rules.{Bodies, Lists, Redefined, of_defined, of_lists, of_shells}
-use Rattle.just_joining.specs.Shells.{Shells}
-use Rattle.just_joining.proofs.Defining.{bodies_kept}
-use Rattle.just_joining.proofs.Leave.{lists_on}
+use Rattle.just_definitions.specs.Contents.{defined_in, function_texts}
+use Rattle.just_definitions.specs.Definitions.{contents_in, lists_in, recipes_in}
+use Rattle.just_definitions.specs.Rules.{Bodies, Lists, Redefined, of_defined, of_lists, of_shells}
+use Rattle.just_definitions.specs.Shells.{Shells}
+use Rattle.just_definitions.proofs.Defining.{bodies_kept}
+use Rattle.just_definitions.proofs.Leave.{lists_on}
 use Rattle.just_resolving.proofs.bodies.check_bodies.Goals.{then-not-settings+in_ok-check_uses, else-not-settings}
 use Rattle.just_resolving.proofs.bodies.check_bodies.Goals as goal
 

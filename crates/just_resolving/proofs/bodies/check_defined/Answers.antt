@@ -2,10 +2,10 @@ use Rattle.std.proofs.Common.{◌≡◌, ◌<◌, ◌∙◌, List, ap, length, s
 use Rattle.std.specs.Prelude.{if◌then◌else◌}
 use Rattle.std.proofs.lemmas.Grind.{common_steps}
 use Rattle.just_names.specs.Texts.{Text}
-use Rattle.just_joining.specs.Contents.{all_defined, defined, texts_of_defined}
-use Rattle.just_joining.specs.Definitions.{recipes_in}
+use Rattle.just_definitions.specs.Contents.{all_defined, defined, texts_of_defined}
+use Rattle.just_definitions.specs.Definitions.{recipes_in}
 use Rattle.just_index.specs.Index.{NoneRepeats, Repeats}
-use Rattle.just_joining.proofs.Defining.{bound_of, defined_kept, defined_twice}
+use Rattle.just_definitions.proofs.Defining.{bound_of, defined_kept, defined_twice}
 use Rattle.just_resolving.proofs.bodies.check_defined.Goals.{then-allowed, else-allowed}
 use Rattle.just_resolving.proofs.bodies.check_defined.Goals as goal
 

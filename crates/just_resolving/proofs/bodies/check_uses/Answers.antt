@@ -2,11 +2,11 @@ use Rattle.std.proofs.Common.{◌≡◌, ◌∙◌, List, length, refl, subst, s
 use Rattle.std.proofs.lemmas.Grind.{common_steps}
 use Rattle.std.proofs.lemmas.Option.{slice_get_within}
 use Rattle.just_names.specs.Texts.{Text}
-use Rattle.just_joining.specs.Contents.{function_texts}
-use Rattle.just_joining.specs.Definitions.{contents_in, lists_in}
-use Rattle.just_joining.specs.Rules.{StandsFor}
-use Rattle.just_joining.proofs.Leave.{needs_told, stands_more, uses_kept}
-use Rattle.just_joining.proofs.RecipePlaces.{length-lent}
+use Rattle.just_definitions.specs.Contents.{function_texts}
+use Rattle.just_definitions.specs.Definitions.{contents_in, lists_in}
+use Rattle.just_definitions.specs.Rules.{StandsFor}
+use Rattle.just_definitions.proofs.Leave.{needs_told, stands_more, uses_kept}
+use Rattle.just_definitions.proofs.RecipePlaces.{length-lent}
 use Rattle.just_resolving.proofs.bodies.check_uses.Goals as goal
 
 pub loop-place-preserved : goal.loop-place-preserved

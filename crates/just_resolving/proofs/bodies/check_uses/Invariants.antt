@@ -1,9 +1,9 @@
 use Rattle.std.proofs.Common.{◌≡◌, ℕ, ◌<◌, Some}
 use Rattle.std.specs.List.{slice_get}
 use Rattle.just_literals.specs.declared.list_use.ListUse.{ListUse}
-use Rattle.just_joining.specs.Contents.{function_texts}
-use Rattle.just_joining.specs.Definitions.{contents_in, lists_in}
-use Rattle.just_joining.specs.Rules.{StandsFor}
+use Rattle.just_definitions.specs.Contents.{function_texts}
+use Rattle.just_definitions.specs.Definitions.{contents_in, lists_in}
+use Rattle.just_definitions.specs.Rules.{StandsFor}
 use Rattle.just_resolving.proofs.bodies.check_uses.Given as goal
 
 abbrev pub invariant-loop-place : goal.invariant-loop-place

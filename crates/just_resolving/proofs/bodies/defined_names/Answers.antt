@@ -2,10 +2,10 @@ use Rattle.std.proofs.Common.{◌≡◌, ◌∙◌, ◌++◌, ap, length, sym, a
 use Rattle.std.proofs.lemmas.Grind.{common_steps}
 use Rattle.std.proofs.lemmas.List.{take_all}
 use Rattle.just_index.specs.Index.{texts_of_names}
-use Rattle.just_joining.specs.Definitions.{recipes_in}
-use Rattle.just_joining.specs.Recipes.{names_of}
-use Rattle.just_joining.proofs.Defining.{texts_all}
-use Rattle.just_joining.proofs.RecipePlaces.{length-lent}
+use Rattle.just_definitions.specs.Definitions.{recipes_in}
+use Rattle.just_definitions.specs.Recipes.{names_of}
+use Rattle.just_definitions.proofs.Defining.{texts_all}
+use Rattle.just_definitions.proofs.RecipePlaces.{length-lent}
 use Rattle.just_resolving.proofs.bodies.defined_names.Goals as goal
 
 pub returns : goal.returns

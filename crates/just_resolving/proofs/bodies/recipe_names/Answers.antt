@@ -1,9 +1,9 @@
 use Rattle.std.proofs.Common.{◌≡◌, ◌<◌, ◌∙◌, ap, length, arith}
 use Rattle.std.proofs.lemmas.List.{take_all}
 use Rattle.std.proofs.lemmas.Grind.{common_steps}
-use Rattle.just_joining.specs.Recipes.{names_of}
-use Rattle.just_joining.specs.Definitions.{recipes_in}
-use Rattle.just_joining.proofs.RecipePlaces.{length-lent, names_more}
+use Rattle.just_definitions.specs.Recipes.{names_of}
+use Rattle.just_definitions.specs.Definitions.{recipes_in}
+use Rattle.just_definitions.proofs.RecipePlaces.{length-lent, names_more}
 use Rattle.just_resolving.proofs.bodies.recipe_names.Goals as goal
 
 pub loop-place-preserved : goal.loop-place-preserved

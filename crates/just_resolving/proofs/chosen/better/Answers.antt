@@ -1,8 +1,8 @@
 use Rattle.std.proofs.Common.{refl, subst, sym, inl, inr}
-use Rattle.just_joining.specs.Definitions.{recipes_in}
+use Rattle.just_definitions.specs.Definitions.{recipes_in}
 use Rattle.just_resolving.proofs.Defaults.{itself, read_before}
-use Rattle.just_joining.specs.Defaults.{IsBetter}
-use Rattle.just_joining.specs.Recipes.{recipe_at}
+use Rattle.just_definitions.specs.Defaults.{IsBetter}
+use Rattle.just_definitions.specs.Recipes.{recipe_at}
 use Rattle.just_resolving.proofs.chosen.better.Goals as goal
 
 pub returns-then-comes_before : goal.returns-then-comes_before

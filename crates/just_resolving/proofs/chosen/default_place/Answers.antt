@@ -1,9 +1,9 @@
 use Rattle.std.proofs.Common.{◌≡◌, length, sym, subst, arith}
 use Rattle.std.specs.List.{Contains}
 use Rattle.just_recipe.specs.Recipes.{numbers}
-use Rattle.just_joining.specs.Definitions.{recipes_in}
-use Rattle.just_joining.proofs.RecipePlaces.{number_read}
-use Rattle.just_joining.specs.Defaults.{IsDefaultPlace}
+use Rattle.just_definitions.specs.Definitions.{recipes_in}
+use Rattle.just_definitions.proofs.RecipePlaces.{number_read}
+use Rattle.just_definitions.specs.Defaults.{IsDefaultPlace}
 use Rattle.just_resolving.proofs.Defaults.{is_not, is_resolved, passes_by, takes_better}
 use Rattle.just_resolving.proofs.chosen.default_place.Goals as goal
 

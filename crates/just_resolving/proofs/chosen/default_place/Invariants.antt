@@ -1,6 +1,6 @@
 use Rattle.just_recipe.specs.Recipes.{numbers}
-use Rattle.just_joining.specs.Definitions.{recipes_in}
-use Rattle.just_joining.specs.Defaults.{IsDefaultPlace}
+use Rattle.just_definitions.specs.Definitions.{recipes_in}
+use Rattle.just_definitions.specs.Defaults.{IsDefaultPlace}
 use Rattle.just_resolving.proofs.chosen.default_place.Given as goal
 
 abbrev pub invariant-loop-place : goal.invariant-loop-place

@@ -2,11 +2,11 @@ use Rattle.std.proofs.Common.{List, ◌++◌, None, length, ap, sym, subst, ◌�
 use Rattle.just_recipe.specs.declared.dependency.UnresolvedDependency.{UnresolvedDependency}
 use Rattle.just_recipe.specs.declared.recipe.Recipe.{Recipe}
 use Rattle.just_recipe.specs.Recipes.{numbers}
-use Rattle.just_joining.specs.Contents.{Contents}
-use Rattle.just_joining.specs.Definitions.{recipes_in}
-use Rattle.just_joining.specs.Recipes.{recipes_of}
-use Rattle.just_joining.proofs.RecipePlaces.{length-lent}
-use Rattle.just_joining.specs.Defaults.{IsDefaultPlace}
+use Rattle.just_definitions.specs.Contents.{Contents}
+use Rattle.just_definitions.specs.Definitions.{recipes_in}
+use Rattle.just_definitions.specs.Recipes.{recipes_of}
+use Rattle.just_definitions.proofs.RecipePlaces.{length-lent}
+use Rattle.just_definitions.specs.Defaults.{IsDefaultPlace}
 use Rattle.just_resolving.proofs.chosen.own_default.Goals as goal
 
 pub returns-in-None : goal.returns-in-None

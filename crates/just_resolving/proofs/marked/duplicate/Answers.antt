@@ -1,8 +1,8 @@
 use Rattle.std.proofs.Common.{◌≡◌, ◌≢◌, ◌<◌, ◌∙◌, length, ap, sym, arith}
-use Rattle.just_joining.specs.Definitions.{recipes_in}
-use Rattle.just_joining.specs.Recipes.{name_of}
+use Rattle.just_definitions.specs.Definitions.{recipes_in}
+use Rattle.just_definitions.specs.Recipes.{name_of}
 use Rattle.just_resolving.proofs.Later.{told_default}
-use Rattle.just_joining.proofs.RecipePlaces.{length-lent}
+use Rattle.just_definitions.proofs.RecipePlaces.{length-lent}
 use Rattle.just_resolving.proofs.marked.duplicate.Goals.{then-is_later, else-is_later}
 use Rattle.just_resolving.proofs.marked.duplicate.Goals as goal
 

@@ -1,5 +1,5 @@
-use Rattle.just_joining.specs.Defaults.{IsMarkedPlace}
-use Rattle.just_joining.specs.Definitions.{recipes_in}
+use Rattle.just_definitions.specs.Defaults.{IsMarkedPlace}
+use Rattle.just_definitions.specs.Definitions.{recipes_in}
 use Rattle.just_resolving.proofs.marked.marked_place.Given as goal
 
 abbrev pub invariant-loop-place : goal.invariant-loop-place

@@ -1,7 +1,7 @@
 use Rattle.std.proofs.Common.{rules}
 use Rattle.just_errors.specs.Causes.{Reports}
-use Rattle.just_joining.specs.Definitions.{recipes_in}
-use Rattle.just_joining.specs.Rules.{Dependencies}
+use Rattle.just_definitions.specs.Definitions.{recipes_in}
+use Rattle.just_definitions.specs.Rules.{Dependencies}
 use Rattle.just_resolving.proofs.recipe_resolver.order_recipes.Goals as goal
 
 pub returns-in_err-order-clause-named : goal.returns-in_err-order-clause-named

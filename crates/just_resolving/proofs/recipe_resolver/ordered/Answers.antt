@@ -4,14 +4,14 @@ use Rattle.std.proofs.lemmas.Grind.{common_steps}
 use Rattle.just_graph.specs.Graph.{HasEdge}
 use Rattle.just_graph.specs.Building.{EachRow}
 use Rattle.just_graph.specs.Steps.{IsOrder, IsCircle, circle_by}
-use Rattle.just_joining.specs.Recipes.{name_of, recipe_at, Depends}
-use Rattle.just_joining.specs.Definitions.{recipes_in}
-use Rattle.just_joining.specs.Rows.{IsRow}
+use Rattle.just_definitions.specs.Recipes.{name_of, recipe_at, Depends}
+use Rattle.just_definitions.specs.Definitions.{recipes_in}
+use Rattle.just_definitions.specs.Rows.{IsRow}
 use Rattle.just_names.specs.Token.{Place}
 use Rattle.just_errors.specs.Causes.{Broken}
 use Rattle.just_errors.specs.declared.error.CompileErrorKind.TheVariants as kind
-use Rattle.just_joining.specs.Rules.{Dependencies, circular}
-use Rattle.just_joining.proofs.RecipePlaces.{length-lent}
+use Rattle.just_definitions.specs.Rules.{Dependencies, circular}
+use Rattle.just_definitions.proofs.RecipePlaces.{length-lent}
 use Rattle.just_resolving.proofs.Edges.{edges, is_graph}
 use Rattle.just_resolving.proofs.RecipeCircles.{circle_below, circle_of, closing_dependency, closing_read, closing_row, last_read}
 use Rattle.just_resolving.proofs.Refuted.{is_order_of, dependencies_kept}

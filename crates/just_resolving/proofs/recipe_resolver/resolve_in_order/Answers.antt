@@ -3,12 +3,12 @@ use Rattle.std.proofs.lemmas.List.{length-map}
 use Rattle.just_names.specs.Name.{texts_of_path}
 use Rattle.just_recipe.specs.declared.dependency.UnresolvedDependency.{UnresolvedDependency}
 use Rattle.just_recipe.specs.declared.recipe.Recipe.{Recipe}
-use Rattle.just_joining.specs.Recipes.{dependency_paths}
-use Rattle.just_joining.specs.Definitions.{recipes_in}
-use Rattle.just_joining.specs.Rows.{IsRow}
-use Rattle.just_joining.specs.Resolved.{number_at}
-use Rattle.just_joining.proofs.RecipePlaces.{length-lent}
-use Rattle.just_joining.proofs.RecipePlaces.{number_read}
+use Rattle.just_definitions.specs.Recipes.{dependency_paths}
+use Rattle.just_definitions.specs.Definitions.{recipes_in}
+use Rattle.just_definitions.specs.Rows.{IsRow}
+use Rattle.just_definitions.specs.Resolved.{number_at}
+use Rattle.just_definitions.proofs.RecipePlaces.{length-lent}
+use Rattle.just_definitions.proofs.RecipePlaces.{number_read}
 use Rattle.just_resolving.proofs.Resolving.{is_new, are_there, resolving_more, is_resolved, needs_of, priors_at}
 use Rattle.just_resolving.proofs.recipe_resolver.resolve_in_order.Goals as goal
 

@@ -1,5 +1,5 @@
-use Rattle.just_joining.specs.Definitions.{recipes_in}
-use Rattle.just_joining.specs.Resolved.{Resolving}
+use Rattle.just_definitions.specs.Definitions.{recipes_in}
+use Rattle.just_definitions.specs.Resolved.{Resolving}
 use Rattle.just_resolving.proofs.recipe_resolver.resolve_in_order.Given as goal
 
 abbrev pub invariant-loop-n : goal.invariant-loop-n

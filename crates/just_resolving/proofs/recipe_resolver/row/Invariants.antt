@@ -1,6 +1,6 @@
-use Rattle.just_joining.specs.Recipes.{dependency_paths, recipe_at}
-use Rattle.just_joining.specs.Definitions.{recipes_in}
-use Rattle.just_joining.specs.Rows.{HasTargets}
+use Rattle.just_definitions.specs.Recipes.{dependency_paths, recipe_at}
+use Rattle.just_definitions.specs.Definitions.{recipes_in}
+use Rattle.just_definitions.specs.Rows.{HasTargets}
 use Rattle.just_resolving.proofs.recipe_resolver.row.Given as goal
 
 abbrev pub invariant-loop-at : goal.invariant-loop-at

@@ -5,9 +5,9 @@ use Rattle.std.specs.HashMap.{get}
 use Rattle.just_names.specs.Name.{texts_of_path}
 use Rattle.just_recipe.specs.declared.dependency.UnresolvedDependency.{UnresolvedDependency}
 use Rattle.just_recipe.specs.declared.recipe.Recipe.{Recipe}
-use Rattle.just_joining.specs.Recipes.{dependency_paths}
-use Rattle.just_joining.specs.Definitions.{recipes_in}
-use Rattle.just_joining.proofs.RecipePlaces.{length-lent}
+use Rattle.just_definitions.specs.Recipes.{dependency_paths}
+use Rattle.just_definitions.specs.Definitions.{recipes_in}
+use Rattle.just_definitions.proofs.RecipePlaces.{length-lent}
 use Rattle.just_resolving.proofs.Targets.{is_unknown, is_mismatch}
 use Rattle.just_resolving.proofs.recipe_resolver.target.Goals as goal
 

@@ -3,12 +3,12 @@ use Rattle.std.proofs.lemmas.Result.{IfErr-weaker}
 use Rattle.just_errors.specs.Causes.{Keeps, Reports}
 use Rattle.just_errors.proofs.Lifts.{reports_by}
 use Rattle.just_graph.proofs.Members.{contained, is_in}
-use Rattle.just_joining.specs.Defaults.{Defaults, IsMarked, NoneMarked}
-use Rattle.just_joining.specs.Definitions.{contents_in, recipes_in}
-use Rattle.just_joining.specs.Kept.{kept_recipes}
-use Rattle.just_joining.specs.Named.{recipes_by}
-use Rattle.just_joining.specs.Resolved.{unresolved_numbers}
-use Rattle.just_joining.proofs.Keeping.{kept_number}
+use Rattle.just_definitions.specs.Defaults.{Defaults, IsMarked, NoneMarked}
+use Rattle.just_definitions.specs.Definitions.{contents_in, recipes_in}
+use Rattle.just_definitions.specs.Kept.{kept_recipes}
+use Rattle.just_definitions.specs.Named.{recipes_by}
+use Rattle.just_definitions.specs.Resolved.{unresolved_numbers}
+use Rattle.just_definitions.proofs.Keeping.{kept_number}
 use Rattle.just_recipe.specs.declared.dependency.UnresolvedDependency.{UnresolvedDependency}
 use Rattle.just_recipe.specs.declared.recipe.Recipe.{Recipe}
 use Rattle.just_resolving.specs.Broken.{BreaksRecipes, in_defaults}

@@ -6,12 +6,12 @@ use Rattle.just_errors.specs.Causes.{Keeps, Reports}
 use Rattle.just_errors.proofs.Lifts.{reports_by}
 use Rattle.just_recipe.specs.declared.dependency.UnresolvedDependency.{UnresolvedDependency}
 use Rattle.just_recipe.specs.declared.recipe.Recipe.{Recipe}
-use Rattle.just_joining.specs.Definitions.{contents_in, recipes_in}
+use Rattle.just_definitions.specs.Definitions.{contents_in, recipes_in}
 use Rattle.just_index.specs.Index.{AreDifferent}
-use Rattle.just_joining.specs.Recipes.{names_of}
-use Rattle.just_joining.specs.Resolved.{AreResolved, HasPriors, Resolving, unresolved_numbers}
-use Rattle.just_joining.specs.Rules.{Bodies, Dependencies}
-use Rattle.just_joining.proofs.Keeping.{kept_all, kept_different, kept_once}
+use Rattle.just_definitions.specs.Recipes.{names_of}
+use Rattle.just_definitions.specs.Resolved.{AreResolved, HasPriors, Resolving, unresolved_numbers}
+use Rattle.just_definitions.specs.Rules.{Bodies, Dependencies}
+use Rattle.just_definitions.proofs.Keeping.{kept_all, kept_different, kept_once}
 use Rattle.just_resolving.proofs.Resolving.{all_resolved}
 use Rattle.just_resolving.specs.Broken.{BreaksRecipes, in_bodies, in_dependencies}
 use Rattle.just_resolving.proofs.resolution.resolve_recipes.Goals as goal

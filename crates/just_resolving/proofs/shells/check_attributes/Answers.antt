@@ -5,7 +5,7 @@ use Rattle.std.proofs.lemmas.Option.{slice_get_read, slice_get_within}
 use Rattle.just_graph.proofs.Index.{some_same}
 use Rattle.just_attributes.specs.declared.attribute.NamedAttribute.{NamedAttribute}
 use Rattle.just_expressions.specs.declared.expression.Expression.{Expression}
-use Rattle.just_joining.specs.Shells.{is_of_scripts}
+use Rattle.just_definitions.specs.Shells.{is_of_scripts}
 use Rattle.just_resolving.proofs.Grouping.{attribute_told, attributes_kept}
 use Rattle.just_resolving.proofs.shells.check_attributes.Goals as goal
 

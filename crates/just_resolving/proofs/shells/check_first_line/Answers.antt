@@ -1,7 +1,7 @@
 use Rattle.std.proofs.Common.{◌≡◌, ◌∙◌, ap, sym}
 use Rattle.just_parts.specs.Groups.{is_indented}
 use Rattle.just_literals.specs.declared.sigil.Sigil.TheVariants as sigil
-use Rattle.just_joining.specs.Shells.{extra_whitespace, guard_and_infallible}
+use Rattle.just_definitions.specs.Shells.{extra_whitespace, guard_and_infallible}
 use Rattle.just_resolving.proofs.Grouping.{stands, stands_there}
 use Rattle.just_resolving.proofs.shells.check_first_line.Goals.{else-contains-via-then-contains+else-contains-2, else-contains-via-else-contains}
 use Rattle.just_resolving.proofs.shells.check_first_line.Goals as goal

@@ -5,7 +5,7 @@ use Rattle.std.proofs.lemmas.Result.{IfErr-weaker}
 use Rattle.just_errors.specs.Causes.{Reports}
 use Rattle.just_errors.proofs.Lifts.{reports_by}
 use Rattle.just_parts.specs.Groups.{first}
-use Rattle.just_joining.specs.Shells.{FirstLine, Lines, of_line}
+use Rattle.just_definitions.specs.Shells.{FirstLine, Lines, of_line}
 use Rattle.just_resolving.proofs.Grouping.{begins_next, firsts_more, goes_on, lines_kept}
 use Rattle.just_resolving.proofs.shells.check_lines.Goals.{then-begins+in_ok-check_first_line, else-begins}
 use Rattle.just_resolving.proofs.shells.check_lines.Goals as goal

@@ -4,7 +4,7 @@ use Rattle.just_errors.specs.Causes.{Keeps, Reports}
 use Rattle.just_errors.proofs.Lifts.{reports_by}
 use Rattle.just_records.specs.declared.line.Line.{Line}
 use Rattle.just_recipe.specs.Script.{is_script}
-use Rattle.just_joining.specs.Shells.{Lines, ScriptAttribute, ShellRecipe, of_attributes, of_lines}
+use Rattle.just_definitions.specs.Shells.{Lines, ScriptAttribute, ShellRecipe, of_attributes, of_lines}
 use Rattle.just_resolving.proofs.Grouping.{script_kept, shell_kept}
 use Rattle.just_resolving.proofs.shells.check_shell.Goals as goal
 

@@ -6,11 +6,11 @@ use Rattle.just_errors.specs.Causes.{Keeps, Reports}
 use Rattle.just_errors.proofs.Lifts.{reports_by}
 use Rattle.just_recipe.specs.declared.dependency.UnresolvedDependency.{UnresolvedDependency}
 use Rattle.just_recipe.specs.declared.recipe.Recipe.{Recipe}
-use Rattle.just_joining.specs.Definitions.{recipes_in}
-use Rattle.just_joining.specs.Recipes.{recipe_at}
-use Rattle.just_joining.specs.Shells.{ShellRecipe, Shells, of_recipe}
+use Rattle.just_definitions.specs.Definitions.{recipes_in}
+use Rattle.just_definitions.specs.Recipes.{recipe_at}
+use Rattle.just_definitions.specs.Shells.{ShellRecipe, Shells, of_recipe}
 use Rattle.just_resolving.proofs.Grouping.{shells_kept}
-use Rattle.just_joining.proofs.RecipePlaces.{length-lent}
+use Rattle.just_definitions.proofs.RecipePlaces.{length-lent}
 use Rattle.just_resolving.proofs.shells.check_shells.Goals as goal
 
 pub loop-place-preserved : goal.loop-place-preserved

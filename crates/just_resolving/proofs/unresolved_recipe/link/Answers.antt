@@ -1,6 +1,6 @@
 use Rattle.std.proofs.Common.{◌∙◌, ap, sym, arith, slice_index}
 use Rattle.just_recipe.specs.declared.dependency.UnresolvedDependency.{UnresolvedDependency}
-use Rattle.just_joining.specs.Definitions.{recipes_in}
+use Rattle.just_definitions.specs.Definitions.{recipes_in}
 use Rattle.just_resolving.proofs.Resolving.{linked_more}
 use Rattle.just_resolving.proofs.unresolved_recipe.link.Goals as goal
 

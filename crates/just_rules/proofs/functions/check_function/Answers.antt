@@ -4,9 +4,9 @@ use Rattle.std.proofs.lemmas.List.{length-map}
 use Rattle.std.proofs.lemmas.Option.{slice_get_read}
 use Rattle.just_names.specs.Name.{text_of_name}
 use Rattle.just_names.specs.declared.name.Name.{Name}
-use Rattle.just_joining.specs.Contents.{signature}
+use Rattle.just_definitions.specs.Contents.{signature}
 use Rattle.just_index.specs.Index.{texts_of_names, Repeats}
-use Rattle.just_joining.proofs.Signatures.{parameter_repeated}
+use Rattle.just_definitions.proofs.Signatures.{parameter_repeated}
 use Rattle.just_rules.proofs.functions.check_function.Goals as goal
 
 pub returns-clause-named : goal.returns-clause-named

@@ -5,11 +5,11 @@ use Rattle.std.proofs.lemmas.Result.{IfErr-weaker}
 use Rattle.just_graph.proofs.Index.{map_get}
 use Rattle.just_errors.specs.Causes.{Reports}
 use Rattle.just_errors.proofs.Lifts.{reports_by}
-use Rattle.just_joining.specs.Contents.{signature}
-use Rattle.just_joining.specs.Definitions.{functions_in}
-use Rattle.just_joining.specs.Rules.{Functions, RepeatsParameter, of_function}
-use Rattle.just_joining.proofs.Signatures.{functions_kept}
-use Rattle.just_joining.proofs.RecipePlaces.{length-lent}
+use Rattle.just_definitions.specs.Contents.{signature}
+use Rattle.just_definitions.specs.Definitions.{functions_in}
+use Rattle.just_definitions.specs.Rules.{Functions, RepeatsParameter, of_function}
+use Rattle.just_definitions.proofs.Signatures.{functions_kept}
+use Rattle.just_definitions.proofs.RecipePlaces.{length-lent}
 use Rattle.just_rules.proofs.functions.check_functions.Goals as goal
 
 pub returns-in_err-check_function-clause-named : goal.returns-in_err-check_function-clause-named

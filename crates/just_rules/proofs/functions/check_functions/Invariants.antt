@@ -1,9 +1,9 @@
 use Rattle.std.proofs.Common.{◌≡◌, ℕ, ◌<◌, Some}
 use Rattle.std.specs.List.{slice_get}
 use Rattle.just_records.specs.declared.function_definition.FunctionDefinition.{FunctionDefinition}
-use Rattle.just_joining.specs.Contents.{signature}
+use Rattle.just_definitions.specs.Contents.{signature}
 use Rattle.just_index.specs.Index.{texts_of_names, AreDifferent}
-use Rattle.just_joining.specs.Definitions.{functions_in}
+use Rattle.just_definitions.specs.Definitions.{functions_in}
 use Rattle.just_rules.proofs.functions.check_functions.Given as goal
 
 abbrev pub invariant-loop-place : goal.invariant-loop-place

@@ -6,9 +6,9 @@ use Rattle.just_names.specs.Name.{text_of_name}
 use Rattle.just_records.specs.declared.parameter.Parameter.{Parameter}
 use Rattle.just_recipe.specs.declared.dependency.UnresolvedDependency.{UnresolvedDependency}
 use Rattle.just_recipe.specs.declared.recipe.Recipe.{Recipe}
-use Rattle.just_joining.specs.Recipes.{FollowsDefault, NoneFollows}
-use Rattle.just_joining.specs.Definitions.{recipes_in}
-use Rattle.just_joining.proofs.RecipePlaces.{has_needed, length-lent}
+use Rattle.just_definitions.specs.Recipes.{FollowsDefault, NoneFollows}
+use Rattle.just_definitions.specs.Definitions.{recipes_in}
+use Rattle.just_definitions.proofs.RecipePlaces.{has_needed, length-lent}
 use Rattle.just_rules.proofs.headers.check_defaults_at.Goals as goal
 
 pub returns-in-None-clause-kept : goal.returns-in-None-clause-kept

@@ -2,9 +2,9 @@ use Rattle.std.proofs.Common.{rules}
 use Rattle.std.proofs.lemmas.Result.{IfErr-weaker, on_ok_weaker}
 use Rattle.just_errors.specs.Causes.{Reports}
 use Rattle.just_errors.proofs.Lifts.{reports_by}
-use Rattle.just_joining.specs.Definitions.{contents_in, recipes_in, sets_in}
-use Rattle.just_joining.specs.Rules.{Headers, Parameters, Sets, Unexports, of_parameters, of_sets, of_unexports}
-use Rattle.just_joining.proofs.Defining.{headers_kept}
+use Rattle.just_definitions.specs.Definitions.{contents_in, recipes_in, sets_in}
+use Rattle.just_definitions.specs.Rules.{Headers, Parameters, Sets, Unexports, of_parameters, of_sets, of_unexports}
+use Rattle.just_definitions.proofs.Defining.{headers_kept}
 use Rattle.just_rules.proofs.headers.check_headers.Goals as goal
 
 pub returns-in_err-check_parameters-clause-named : goal.returns-in_err-check_parameters-clause-named

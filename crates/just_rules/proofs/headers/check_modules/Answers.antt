@@ -3,7 +3,7 @@ use Rattle.std.proofs.lemmas.List.{length-map}
 use Rattle.std.proofs.lemmas.Option.{slice_get_read}
 use Rattle.just_names.specs.Name.{text_of_name}
 use Rattle.just_index.specs.Index.{texts_of_names, Repeats}
-use Rattle.just_joining.proofs.Defining.{modules_redefined}
+use Rattle.just_definitions.proofs.Defining.{modules_redefined}
 use Rattle.just_rules.proofs.headers.check_modules.Goals as goal
 
 pub returns-in-Some-clause-named : goal.returns-in-Some-clause-named

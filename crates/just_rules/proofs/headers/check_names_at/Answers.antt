@@ -6,8 +6,8 @@ use Rattle.just_graph.proofs.Index.{map_get}
 use Rattle.just_names.specs.Name.{text_of_name}
 use Rattle.just_records.specs.declared.parameter.Parameter.{Parameter}
 use Rattle.just_index.specs.Index.{Repeats}
-use Rattle.just_joining.specs.Definitions.{recipes_in}
-use Rattle.just_joining.proofs.RecipePlaces.{length-lent, has_duplicate}
+use Rattle.just_definitions.specs.Definitions.{recipes_in}
+use Rattle.just_definitions.proofs.RecipePlaces.{length-lent, has_duplicate}
 use Rattle.just_rules.proofs.headers.check_names_at.Goals as goal
 
 pub returns-clause-named : goal.returns-clause-named

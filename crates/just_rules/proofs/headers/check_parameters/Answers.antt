@@ -1,9 +1,9 @@
 use Rattle.std.proofs.Common.{◌≡◌, ℕ, length, subst, arith, inl, inr}
 use Rattle.std.proofs.lemmas.Bool.{cases_lt}
-use Rattle.just_joining.specs.Definitions.{recipes_in}
+use Rattle.just_definitions.specs.Definitions.{recipes_in}
 use Rattle.just_index.specs.Index.{AreDifferent}
-use Rattle.just_joining.specs.Recipes.{NoneFollows, parameter_names, recipe_at}
-use Rattle.just_joining.proofs.RecipePlaces.{length-lent, parameters_kept}
+use Rattle.just_definitions.specs.Recipes.{NoneFollows, parameter_names, recipe_at}
+use Rattle.just_definitions.proofs.RecipePlaces.{length-lent, parameters_kept}
 use Rattle.just_rules.proofs.headers.check_parameters.Goals as goal
 
 pub loop-place-preserved : goal.loop-place-preserved

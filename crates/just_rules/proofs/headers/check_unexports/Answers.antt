@@ -5,7 +5,7 @@ use Rattle.std.proofs.lemmas.Option.{slice_get_read}
 use Rattle.just_names.specs.Name.{text_of_name}
 use Rattle.just_names.specs.declared.name.Name.{Name}
 use Rattle.just_index.specs.Index.{texts_of_names, Repeats}
-use Rattle.just_joining.proofs.Defining.{unexported_twice}
+use Rattle.just_definitions.proofs.Defining.{unexported_twice}
 use Rattle.just_rules.proofs.headers.check_unexports.Goals as goal
 
 pub returns-in-Some-clause-named : goal.returns-in-Some-clause-named

@@ -1,6 +1,6 @@
 use Rattle.std.proofs.Common.{◌≡◌, ◌+◌, ◌<◌, ◌∙◌, length, true, sym, subst, arith}
 use Rattle.std.proofs.lemmas.Bool.{false≢true}
-use Rattle.just_joining.specs.Recipes.{is_needed}
+use Rattle.just_definitions.specs.Recipes.{is_needed}
 use Rattle.just_rules.proofs.Following.{Passed, passed_all, passed_by, passed_on}
 use Rattle.just_rules.proofs.headers.needed_after_default.Goals as goal
 use Rattle.just_rules.proofs.headers.needed_after_default.Goals.{else-passed-via-then-passed+else-is_needed, else-passed-via-else-passed, then-is_defaulted, else-is_defaulted}

@@ -1,8 +1,8 @@
 use Rattle.std.proofs.Common.{◌≡◌, ◌∙◌, false, length, refl, subst, sym, arith}
 use Rattle.std.proofs.lemmas.Option.{slice_get_read}
 use Rattle.just_graph.proofs.Index.{some_same}
-use Rattle.just_joining.specs.Definitions.{sets_in}
-use Rattle.just_joining.specs.Settings.{excludes}
+use Rattle.just_definitions.specs.Definitions.{sets_in}
+use Rattle.just_definitions.specs.Settings.{excludes}
 use Rattle.just_rules.proofs.Excluded.{beside_all, beside_more, found_excluded, none_found}
 use Rattle.just_rules.proofs.settings.check_beside.Goals.{then-first-place+in_ok-check_pair-in-Some, else-first-place}
 use Rattle.just_rules.proofs.settings.check_beside.Goals as goal

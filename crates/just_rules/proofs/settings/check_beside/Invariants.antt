@@ -1,6 +1,6 @@
 use Rattle.std.proofs.Common.{◌≡◌, ◌<◌, ℕ, true, false, take}
-use Rattle.just_joining.specs.Definitions.{sets_in}
-use Rattle.just_joining.specs.Settings.{excludes, setting_at, stands_in}
+use Rattle.just_definitions.specs.Definitions.{sets_in}
+use Rattle.just_definitions.specs.Settings.{excludes, setting_at, stands_in}
 use Rattle.just_rules.proofs.settings.check_beside.Given as goal
 
 abbrev pub invariant-loop-keyword : goal.invariant-loop-keyword

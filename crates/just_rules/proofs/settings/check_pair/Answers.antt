@@ -1,7 +1,7 @@
 use Rattle.std.proofs.Common.{◌≡◌, ◌∙◌, true, sym}
 use Rattle.std.proofs.lemmas.Option.{slice_get_within}
-use Rattle.just_joining.specs.Definitions.{sets_in}
-use Rattle.just_joining.specs.Settings.{excludes}
+use Rattle.just_definitions.specs.Definitions.{sets_in}
+use Rattle.just_definitions.specs.Settings.{excludes}
 use Rattle.just_rules.proofs.Excluded.{excluded_is, incompatible_told}
 use Rattle.just_rules.proofs.settings.check_pair.Goals as goal
 

@@ -3,10 +3,10 @@ use Rattle.std.proofs.lemmas.Grind.{common_steps}
 use Rattle.std.proofs.lemmas.Result.{IfErr-weaker}
 use Rattle.just_errors.specs.Causes.{Reports}
 use Rattle.just_errors.proofs.Lifts.{reports_by}
-use Rattle.just_joining.specs.Definitions.{sets_in}
-use Rattle.just_joining.specs.Rules.{SetTwice, Sets, set_twice}
+use Rattle.just_definitions.specs.Definitions.{sets_in}
+use Rattle.just_definitions.specs.Rules.{SetTwice, Sets, set_twice}
 use Rattle.just_rules.proofs.Excluded.{sets_kept}
-use Rattle.just_joining.proofs.RecipePlaces.{length-lent}
+use Rattle.just_definitions.proofs.RecipePlaces.{length-lent}
 use Rattle.just_rules.proofs.settings.check_sets.Goals as goal
 
 pub returns-in_err-index-clause-named : goal.returns-in_err-index-clause-named

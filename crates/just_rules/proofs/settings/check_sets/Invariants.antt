@@ -1,6 +1,6 @@
 use Rattle.std.proofs.Common.{◌≡◌, ◌<◌, ℕ, false}
-use Rattle.just_joining.specs.Definitions.{sets_in}
-use Rattle.just_joining.specs.Settings.{are_incompatible}
+use Rattle.just_definitions.specs.Definitions.{sets_in}
+use Rattle.just_definitions.specs.Settings.{are_incompatible}
 use Rattle.just_rules.proofs.settings.check_sets.Given as goal
 
 abbrev pub invariant-loop-place : goal.invariant-loop-place

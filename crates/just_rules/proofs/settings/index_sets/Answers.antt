@@ -5,12 +5,12 @@ use Rattle.std.proofs.lemmas.Grind.{common_steps}
 use Rattle.std.proofs.lemmas.List.{length-map}
 use Rattle.just_names.specs.Name.{text_of_name}
 use Rattle.just_attributes.specs.declared.setting.Set.{Set}
-use Rattle.just_joining.specs.Definitions.{sets_in}
+use Rattle.just_definitions.specs.Definitions.{sets_in}
 use Rattle.just_index.specs.Index.{IsLast, name_at}
-use Rattle.just_joining.specs.Settings.{setting_names}
+use Rattle.just_definitions.specs.Settings.{setting_names}
 use Rattle.just_rules.proofs.Excluded.{name_there, set_twice_told}
 use Rattle.just_index.proofs.Indexing.{different_more, index_more, repeats, texts_apart}
-use Rattle.just_joining.proofs.RecipePlaces.{length-lent}
+use Rattle.just_definitions.proofs.RecipePlaces.{length-lent}
 use Rattle.just_rules.proofs.settings.index_sets.Goals as goal
 
 pub loop-place-preserved : goal.loop-place-preserved

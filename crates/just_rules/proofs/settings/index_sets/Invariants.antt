@@ -1,9 +1,9 @@
 use Rattle.std.proofs.Common.{◌≢◌, ℕ, ◌<◌, List}
 use Rattle.std.specs.Str.{bytes_eq}
 use Rattle.std.specs.HashMap.{get}
-use Rattle.just_joining.specs.Definitions.{sets_in}
+use Rattle.just_definitions.specs.Definitions.{sets_in}
 use Rattle.just_index.specs.Index.{name_at, IsLast}
-use Rattle.just_joining.specs.Settings.{setting_names}
+use Rattle.just_definitions.specs.Settings.{setting_names}
 use Rattle.just_rules.proofs.settings.index_sets.Given as goal
 
 abbrev pub invariant-loop-place : goal.invariant-loop-place

@@ -1,6 +1,6 @@
 use Rattle.std.proofs.Common.{◌∙◌, sym}
-use Rattle.just_joining.specs.Definitions.{sets_in}
-use Rattle.just_joining.proofs.Leave.{allows_here, allows_later}
+use Rattle.just_definitions.specs.Definitions.{sets_in}
+use Rattle.just_definitions.proofs.Leave.{allows_here, allows_later}
 use Rattle.just_rules.proofs.variables.allows_variables.Goals as goal
 
 pub returns-then-is_allowing : goal.returns-then-is_allowing

@@ -1,6 +1,6 @@
 use Rattle.std.proofs.Common.{◌≡◌, drop}
-use Rattle.just_joining.specs.Definitions.{sets_in}
-use Rattle.just_joining.specs.Settings.{allows_variables}
+use Rattle.just_definitions.specs.Definitions.{sets_in}
+use Rattle.just_definitions.specs.Settings.{allows_variables}
 use Rattle.just_rules.proofs.variables.allows_variables.Given as goal
 
 abbrev pub invariant-loop-place : goal.invariant-loop-place

@@ -2,11 +2,11 @@ use Rattle.std.proofs.Common.{rules}
 use Rattle.std.proofs.lemmas.Result.{IfErr-weaker, on_ok_weaker}
 use Rattle.just_errors.specs.Causes.{Reports}
 use Rattle.just_errors.proofs.Lifts.{reports_by}
-use Rattle.just_joining.specs.Contents.{signatures, variable_names}
-use Rattle.just_joining.specs.Definitions.{contents_in, functions_in, sets_in, variables_in}
-use Rattle.just_joining.specs.Rules.{Functions, Names, Variables, of_functions, of_variables}
-use Rattle.just_joining.specs.Settings.{allows_variables}
-use Rattle.just_joining.proofs.Defining.{names_kept}
+use Rattle.just_definitions.specs.Contents.{signatures, variable_names}
+use Rattle.just_definitions.specs.Definitions.{contents_in, functions_in, sets_in, variables_in}
+use Rattle.just_definitions.specs.Rules.{Functions, Names, Variables, of_functions, of_variables}
+use Rattle.just_definitions.specs.Settings.{allows_variables}
+use Rattle.just_definitions.proofs.Defining.{names_kept}
 use Rattle.just_rules.proofs.variables.check_names.Goals as goal
 
 pub returns-in_err-check_variables-clause-named : goal.returns-in_err-check_variables-clause-named

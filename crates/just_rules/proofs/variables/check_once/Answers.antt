@@ -4,7 +4,7 @@ use Rattle.std.proofs.lemmas.List.{length-map}
 use Rattle.std.proofs.lemmas.Option.{slice_get_read}
 use Rattle.just_names.specs.Name.{text_of_name}
 use Rattle.just_index.specs.Index.{texts_of_names, Repeats}
-use Rattle.just_joining.proofs.Defining.{assigned_again}
+use Rattle.just_definitions.proofs.Defining.{assigned_again}
 use Rattle.just_rules.proofs.variables.check_once.Goals as goal
 
 pub returns-in-Some-clause-named : goal.returns-in-Some-clause-named

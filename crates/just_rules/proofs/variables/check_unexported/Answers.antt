@@ -5,7 +5,7 @@ use Rattle.std.specs.HashMap.{get}
 use Rattle.std.proofs.lemmas.Option.{slice_get_read}
 use Rattle.just_names.specs.Texts.{Text}
 use Rattle.just_index.specs.Index.{texts_of_names, IsIndex}
-use Rattle.just_joining.proofs.Defining.{apart_more, assigned_too}
+use Rattle.just_definitions.proofs.Defining.{apart_more, assigned_too}
 use Rattle.just_rules.proofs.variables.check_unexported.Goals as goal
 
 pub loop-name-preserved : goal.loop-name-preserved

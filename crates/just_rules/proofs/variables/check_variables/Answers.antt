@@ -3,12 +3,12 @@ use Rattle.std.proofs.lemmas.Result.{IfErr-weaker, on_ok_weaker}
 use Rattle.just_errors.specs.Causes.{Reports}
 use Rattle.just_errors.proofs.Lifts.{reports_by}
 use Rattle.just_names.specs.declared.name.Name.{Name}
-use Rattle.just_joining.specs.Contents.{variable_names}
+use Rattle.just_definitions.specs.Contents.{variable_names}
 use Rattle.just_index.specs.Index.{texts_of_names, AreApart, AreDifferent}
-use Rattle.just_joining.specs.Definitions.{sets_in, variables_in}
-use Rattle.just_joining.specs.Rules.{AssignedTwice, Unexported, Variables, assigned_twice, unexported}
-use Rattle.just_joining.specs.Settings.{allows_variables}
-use Rattle.just_joining.proofs.Defining.{variables_kept}
+use Rattle.just_definitions.specs.Definitions.{sets_in, variables_in}
+use Rattle.just_definitions.specs.Rules.{AssignedTwice, Unexported, Variables, assigned_twice, unexported}
+use Rattle.just_definitions.specs.Settings.{allows_variables}
+use Rattle.just_definitions.proofs.Defining.{variables_kept}
 use Rattle.just_rules.proofs.variables.check_variables.Goals.{then-not-allows_variables+in_ok-check_once, else-not-allows_variables}
 use Rattle.just_rules.proofs.variables.check_variables.Goals as goal
 

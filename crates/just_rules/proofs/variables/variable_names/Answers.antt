@@ -1,9 +1,9 @@
 use Rattle.std.proofs.Common.{◌≡◌, length, arith}
 use Rattle.std.proofs.lemmas.Grind.{common_steps}
 use Rattle.just_records.specs.declared.assignment.Assignment.{Assignment}
-use Rattle.just_joining.specs.Definitions.{variables_in}
-use Rattle.just_joining.proofs.Mapping.{mapped_all, mapped_more}
-use Rattle.just_joining.proofs.RecipePlaces.{length-lent}
+use Rattle.just_definitions.specs.Definitions.{variables_in}
+use Rattle.just_definitions.proofs.Mapping.{mapped_all, mapped_more}
+use Rattle.just_definitions.proofs.RecipePlaces.{length-lent}
 use Rattle.just_rules.proofs.variables.variable_names.Goals as goal
 
 pub loop-place-preserved : goal.loop-place-preserved

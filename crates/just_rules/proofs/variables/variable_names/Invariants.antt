@@ -1,6 +1,6 @@
 use Rattle.std.proofs.Common.{◌≡◌, take}
-use Rattle.just_joining.specs.Contents.{variable_names}
-use Rattle.just_joining.specs.Definitions.{variables_in}
+use Rattle.just_definitions.specs.Contents.{variable_names}
+use Rattle.just_definitions.specs.Definitions.{variables_in}
 use Rattle.just_rules.proofs.variables.variable_names.Given as goal
 
 abbrev pub invariant-loop-place : goal.invariant-loop-place

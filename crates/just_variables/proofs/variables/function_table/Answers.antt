@@ -1,9 +1,9 @@
 use Rattle.std.proofs.Common.{◌≡◌, ◌∙◌, ap, length, arith}
 use Rattle.std.proofs.lemmas.List.{take_all}
 use Rattle.std.proofs.lemmas.Grind.{common_steps}
-use Rattle.just_joining.specs.Definitions.{functions_in}
-use Rattle.just_joining.proofs.RecipePlaces.{length-lent}
-use Rattle.just_joining.specs.Known.{functions_under}
+use Rattle.just_definitions.specs.Definitions.{functions_in}
+use Rattle.just_definitions.proofs.RecipePlaces.{length-lent}
+use Rattle.just_definitions.specs.Known.{functions_under}
 use Rattle.just_names.specs.Name.{text_of_name}
 use Rattle.just_records.specs.declared.function_definition.FunctionDefinition.{FunctionDefinition}
 use Rattle.just_variables.proofs.Copies.{one_put}

@@ -1,6 +1,6 @@
 use Rattle.std.proofs.Common.{◌≡◌, take}
-use Rattle.just_joining.specs.Definitions.{functions_in}
-use Rattle.just_joining.specs.Known.{functions_under}
+use Rattle.just_definitions.specs.Definitions.{functions_in}
+use Rattle.just_definitions.specs.Known.{functions_under}
 use Rattle.just_variables.proofs.variables.function_table.Given as goal
 
 abbrev pub invariant-loop-place : goal.invariant-loop-place

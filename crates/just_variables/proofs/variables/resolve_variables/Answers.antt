@@ -7,8 +7,8 @@ use Rattle.just_records.specs.declared.assignment.Assignment.{Assignment}
 use Rattle.just_table.specs.Entries.{put_all}
 use Rattle.just_parts.specs.Known.{Known, known}
 use Rattle.just_parts.specs.Misnaming.{Expressions}
-use Rattle.just_joining.specs.Definitions.{contents_in, variables_in}
-use Rattle.just_joining.specs.Known.{known_of, variables_under}
+use Rattle.just_definitions.specs.Definitions.{contents_in, variables_in}
+use Rattle.just_definitions.specs.Known.{known_of, variables_under}
 use Rattle.just_variables.specs.Variables.{AreVariables, known_with_numbers}
 use Rattle.just_variables.proofs.Judging.{breaks_known, keeps_known}
 use Rattle.just_variables.proofs.Tabled.{are_variables}

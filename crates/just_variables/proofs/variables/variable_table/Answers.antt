@@ -4,8 +4,8 @@ use Rattle.std.proofs.lemmas.Grind.{common_steps}
 use Rattle.just_names.specs.Name.{text_of_name}
 use Rattle.just_records.specs.declared.assignment.Assignment.{Assignment}
 use Rattle.just_table.specs.Entries.{put_all}
-use Rattle.just_joining.specs.Definitions.{variables_in}
-use Rattle.just_joining.proofs.RecipePlaces.{length-lent}
+use Rattle.just_definitions.specs.Definitions.{variables_in}
+use Rattle.just_definitions.proofs.RecipePlaces.{length-lent}
 use Rattle.just_variables.proofs.Copies.{one_put}
 use Rattle.just_variables.proofs.variables.variable_table.Goals as goal
 

@@ -1,0 +1,18 @@
+use Rattle.std.proofs.Common.{◌≡◌, ◌∙◌, ap, length, arith}
+use Rattle.std.proofs.lemmas.List.{take_all}
+use Rattle.std.proofs.lemmas.Grind.{common_steps}
+use Rattle.just_definitions.specs.Contents.{function_names, signatures}
+use Rattle.just_definitions.specs.Definitions.{functions_in}
+use Rattle.just_definitions.proofs.Signatures.{function_more}
+use Rattle.just_definitions.proofs.RecipePlaces.{length-lent}
+use Rattle.just_definitions.proofs.definitions.function_names.Goals as goal
+
+pub loop-place-preserved : goal.loop-place-preserved
+loop-place-preserved c =
+    function_more (functions_in c.args.definitions.now) c.loop-place.names.items c.push.new.self.items c.loop-place.place c.function_at.result.now c.copied.result c.loop-place.invariant c.function_at.ensures c.copied.ensures c.in_ok-push.ensures.items
+
+pub returns : goal.returns
+returns c =
+    let long : length (functions_in c.args.definitions.now) ≡ length c.args.definitions.now.functions.items = length-lent c.args.definitions.now.functions.items in
+    let count : c.len-place-end.result ≡ length c.args.definitions.now.functions.items = grind (arith, common_steps) in
+    c.loop-place.invariant ∙ ap (λ fs. function_names (signatures fs)) (take_all c.loop-place.place (functions_in c.args.definitions.now) (omega arith))

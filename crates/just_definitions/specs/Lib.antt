@@ -1,0 +1,14 @@
+pub mod Constants
+pub mod Contents
+pub mod Defaults
+pub mod Definitions
+pub mod Groups
+pub mod Kept
+pub mod Known
+pub mod Named
+pub mod Recipes
+pub mod Resolved
+pub mod Rows
+pub mod Rules
+pub mod Settings
+pub mod Shells
