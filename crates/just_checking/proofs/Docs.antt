@@ -3,9 +3,9 @@ use Rattle.std.proofs.Common.{◌≡◌, ◌∙◌, ◌++◌, ℕ, Bool, true, f
 use Rattle.std.specs.Prelude.{flat_map, if◌then◌else◌, option_to_list, slice_get}
 use Rattle.std.proofs.lemmas.Grind.{flat_map-append}
 use Rattle.std.proofs.lemmas.List.{append-nil}
-use Rattle.just_constants.specs.Documented.{doc_expressions}
+use Rattle.just_variables.specs.Documented.{doc_expressions}
 use Rattle.just_graph.proofs.Members.{contained, in_right, is_in}
-use Rattle.just_constants.specs.Constants.{CoversAll}
+use Rattle.just_variables.specs.Constants.{CoversAll}
 use Rattle.just_variables.specs.declared.variables.Variables.{Variables}
 use Rattle.just_definitions.specs.Constants.{constant_expressions, recipe_expressions, settings_expressions}
 use Rattle.just_definitions.specs.Contents.{Contents}

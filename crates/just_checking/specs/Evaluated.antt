@@ -1,10 +1,10 @@
 -- What is evaluated of a module that is checked.
 use Rattle.std.specs.Prelude.{◌≡◌, List}
-use Rattle.just_constants.specs.Constants.{CoversAll, evaluated_in}
-use Rattle.just_constants.specs.Documented.{AreDocumentedIn}
-use Rattle.just_constants.specs.Overrides.{overridden_among}
+use Rattle.just_variables.specs.Constants.{CoversAll, evaluated_in}
+use Rattle.just_variables.specs.Documented.{AreDocumentedIn}
+use Rattle.just_variables.specs.Overrides.{overridden_among}
 use Rattle.just_variables.specs.Variables.{AreVariablesOf}
-use Rattle.just_constants.specs.declared.constants.Constants.{Constants}
+use Rattle.just_variables.specs.declared.constants.Constants.{Constants}
 use Rattle.just_variables.specs.declared.variables.Variables.{Variables}
 use Rattle.just_errors.specs.Causes.{Keeps}
 use Rattle.just_definitions.specs.Constants.{Docs, IsEvaluated, constant_expressions}

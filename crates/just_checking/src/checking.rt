@@ -3,8 +3,8 @@
 ghost use Rattle.std.specs.Prelude.{◌≡◌, ◌<◌, IfErr, IfOk, length};
 ghost use Rattle.std.specs.List.{All};
 ghost use Rattle.just_graph.specs.Steps.{IsOnce};
-ghost use Rattle.just_constants.specs.Constants.{CoversAll};
-ghost use Rattle.just_constants.specs.Documented.{AreDocumentedIn};
+ghost use Rattle.just_variables.specs.Constants.{CoversAll};
+ghost use Rattle.just_variables.specs.Documented.{AreDocumentedIn};
 ghost use Rattle.just_variables.specs.Variables.{AreVariablesOf};
 ghost use Rattle.just_errors.specs.Causes.{Keeps, Reports};
 ghost use Rattle.just_index.specs.Index.{texts_of_names, AreDifferent};
@@ -20,7 +20,6 @@ ghost use Rattle.just_parts.specs.Evaluator.{values_of};
 ghost use Rattle.just_parts.specs.Layers.{given_of, layers_at};
 
 use crate::noted::labels_at;
-use just_constants::{Constants, document, evaluate_constants};
 use just_definitions::definitions::Definitions;
 use just_joining::files::{Files, ast_at};
 use just_notes::Label;
@@ -28,7 +27,7 @@ use just_parts::layers::{Config, Error, Evaluation, Syntax};
 use just_paths::Modulepath;
 use just_rules::headers::check_headers;
 use just_rules::variables::check_names;
-use just_variables::{Variables, resolve_variables};
+use just_variables::{Constants, Variables, document, evaluate_constants, resolve_variables};
 use std::alloc::{AllocError, Global};
 
 /// What is found of a module before its recipes are resolved.

@@ -2,7 +2,7 @@
 use Rattle.std.proofs.Common.{arith, subst}
 use Rattle.just_errors.specs.Causes.{Cause, Keeps}
 use Rattle.just_parts.specs.Layers.{Layers}
-use Rattle.just_constants.proofs.Once.{evaluated_once}
+use Rattle.just_variables.proofs.Once.{evaluated_once}
 use Rattle.just_definitions.specs.Constants.{Docs, Evaluated, IsEvaluated}
 use Rattle.just_definitions.specs.Contents.{Contents}
 use Rattle.just_definitions.specs.Groups.{BodiesAndDocs, Breaks, BreaksContents, KeepsBefore, KeepsContents, OfAliases, OfBodies, OfConstants, OfDependencies, OfExpressions, OfHeaders, OfNames, in_docs, in_bodies as in_body}

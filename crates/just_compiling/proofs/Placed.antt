@@ -1,8 +1,8 @@
 -- The module at a place, as it is checked.
 use Rattle.std.proofs.Common.{◌≡◌, ◌∙◌, ℕ, suc, List, [], ◌∷◌, length, Option, Some, sym, ap, subst}
 use Rattle.std.specs.Prelude.{slice_get}
-use Rattle.just_constants.specs.Constants.{evaluated_in}
-use Rattle.just_constants.specs.Documented.{AreDocumented}
+use Rattle.just_variables.specs.Constants.{evaluated_in}
+use Rattle.just_variables.specs.Documented.{AreDocumented}
 use Rattle.just_variables.specs.Variables.{AreVariablesOf}
 use Rattle.just_errors.specs.Causes.{Cause, Keeps}
 use Rattle.just_graph.specs.Graph.{targets}

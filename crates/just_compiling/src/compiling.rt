@@ -17,7 +17,6 @@ ghost use Rattle.just_compiling.specs.Parts.{AreSurroundings, IsAnalyzedFrom};
 ghost use Rattle.just_compiling.specs.Steps.{BreaksInOrder, BreaksPlace, CanCompile, CanCompileAll, CompilesAt, HaveCompiledAll, made_in};
 
 use just_checking::{Checked, check_files, notes_at};
-use just_constants::Constants;
 use just_data::{Sequence, Shared, Text};
 use just_invoke::{Justfile, Recipes};
 use just_joining::files::{Files, ast_at};
@@ -26,6 +25,7 @@ use just_making::{Surroundings, make_justfile, take_inner};
 use just_notes::Label;
 use just_parts::layers::{Ast, Config, Error, Evaluation, Number, Syntax};
 use just_resolving::resolve_module;
+use just_variables::Constants;
 use std::alloc::{AllocError, Global};
 
 /// What modules that are compiled add.

@@ -17,7 +17,7 @@ use Rattle.just_definitions.specs.Defaults.{IsDefaultAmong}
 use Rattle.just_making.specs.Analysis.{AreKeysOf, HasDefault, HasKeysOf, IsOf}
 use Rattle.just_joining.specs.Files.{ArePlaced, AreRows, asts_in}
 use Rattle.just_joining.specs.Joined.{IsJoined}
-use Rattle.just_constants.specs.Documented.{AreDocumented, HasDoc}
+use Rattle.just_variables.specs.Documented.{AreDocumented, HasDoc}
 use Rattle.just_compiling.specs.Evaluated.{IsEvaluatedTo}
 use Rattle.just_making.specs.Labelled.{label_in, labelled_as, with_labels}
 use Rattle.just_compiling.specs.Justfiles.{AreCompiled, Built, IsCompiled, Made, contents_in, none, notes_said, one, recipes_in}

@@ -3,7 +3,7 @@ use Rattle.std.specs.Prelude.{◌≡◌, ◌<◌, ◌++◌, ℕ, List, [], ◌�
 use Rattle.std.specs.HashMap.{HashMap, get}
 use Rattle.std.specs.List.{Contains}
 use Rattle.std.specs.Option.{option_or}
-use Rattle.just_constants.specs.Overrides.{last_of}
+use Rattle.just_variables.specs.Overrides.{last_of}
 use Rattle.just_compiling.specs.declared.compiling.Gathered.{Gathered}
 use Rattle.just_names.specs.declared.number.Number.{Number}
 use Rattle.just_parts.specs.Needs.{same_number}

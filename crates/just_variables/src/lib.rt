@@ -1,13 +1,19 @@
-//! The variables and functions of a module: the order in which variables are evaluated, the numbers of what names mean, and
-//! of several of one name the one that is kept, in tables.
+//! The variables of a module, and what is evaluated of them while compiling: the order in which they are evaluated, the numbers
+//! of what names mean, the constants and settings, and the docs of the modules that it declares.
 #![tactic(auto)]
 
+mod constants;
+mod docs;
+mod expressions;
 mod nodes;
 mod numbering;
 mod ordering;
+mod overrides;
 mod resolving;
 mod variables;
 
+pub use constants::{Constants, evaluate_constants};
+pub use docs::document;
 pub use numbering::parameter_numbers;
 pub use resolving::resolve_assignments;
 pub use variables::{Variables, resolve_variables};

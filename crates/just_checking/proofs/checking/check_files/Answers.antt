@@ -1,6 +1,6 @@
 use Rattle.std.proofs.Common.{rules, subst, sym}
 use Rattle.std.proofs.lemmas.Result.{IfErr-weaker}
-use Rattle.just_constants.specs.Constants.{evaluated_in}
+use Rattle.just_variables.specs.Constants.{evaluated_in}
 use Rattle.just_errors.specs.Causes.{Keeps, Reports}
 use Rattle.just_errors.proofs.Lifts.{reports_by}
 use Rattle.just_graph.specs.Steps.{IsOnce}

@@ -1,5 +1,5 @@
 use Rattle.std.proofs.Common.{◌∙◌, ap, sym}
-use Rattle.just_constants.specs.Documented.{doc_expressions}
+use Rattle.just_variables.specs.Documented.{doc_expressions}
 use Rattle.just_definitions.specs.Definitions.{contents_in}
 use Rattle.just_joining.specs.Files.{asts_in}
 use Rattle.just_definitions.specs.Contents.{Contents}

@@ -1,9 +1,0 @@
-pub mod Asking
-pub mod Coming
-pub mod Documenting
-pub mod Judged
-pub mod Once
-pub mod Overriding
-pub mod Similar
-pub mod Tables
-pub mod Walking
