@@ -3,7 +3,7 @@ ghost use Rattle.std.specs.Prelude.{◌≡◌, List, None};
 ghost use Rattle.std.specs.Option.{option_copied};
 ghost use Rattle.just_names.specs.Texts as path;
 ghost use Rattle.just_parts.specs.Evaluator.{FaultsAt, values_of};
-ghost use Rattle.just_values.specs.Lookup.{constant_values};
+ghost use Rattle.just_values.specs.Lookup.{IsToldAt, constant_values};
 ghost use Rattle.just_values.specs.Values.{bound};
 
 use just_data::{BorrowedText, Sequence, Text};
@@ -87,7 +87,8 @@ pub fn argument_of<'a, 'src>(
 
 /// What is told where there is no value, at a token.
 pub fn fault<'src>(alloc: Global, token: &Token<'src>, message: &str) -> Error<'src>
-    ensures { FaultsAt {A = List path.Text} None result }
+    ensures none { FaultsAt {A = List path.Text} None result }
+    ensures told { IsToldAt token.now message.now result }
 {
     match Text::from_str(alloc, message) {
         Ok(message) => Error::Compile(CompileError {
