@@ -21,6 +21,7 @@ use Rattle.just_definitions.specs.Recipes.{recipes_of}
 use Rattle.just_definitions.specs.Resolved.{HasPriors, unresolved_numbers}
 use Rattle.just_joining.specs.declared.files.Files.{Files}
 use Rattle.just_joining.specs.declared.files.Rows.{Rows}
+use Rattle.just_definitions.proofs.Once.{from_once}
 use Rattle.just_joining.proofs.FilePlaces.{one_place, says}
 
 -- levels have no number twice
