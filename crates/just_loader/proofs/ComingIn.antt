@@ -4,7 +4,7 @@ use Rattle.std.specs.List.{All, cons_option, slice_get}
 use Rattle.std.specs.Option.{option_and_then, option_map}
 use Rattle.std.specs.declared.vec.Vec.{Vec}
 use Rattle.std.specs.declared.alloc.Global.{Global}
-use Rattle.std.proofs.lemmas.List.{length_push, map-append}
+use Rattle.std.proofs.lemmas.List.{append-nil, length_push, map-append}
 use Rattle.std.proofs.lemmas.List.Elements.{All-contains, filter_map-append}
 use Rattle.std.proofs.lemmas.Option.{get_or_from_slice_get, slice_get_read, slice_get_within}
 use Rattle.just_graph.specs.Unfolding.{Node, AreFirst, Unfolds, nothing, tree, IsLeastDepth, HasStep, child, key, offsets_after, path_after, root_node, steps}
@@ -77,6 +77,25 @@ module_next scan before s number name path (Ok source) enters named is chain off
       folder = folder ∙ ap folder_of is ∙ sym (ap (λ o. folder_after before.working_directory o (file_at scan s.target)) enters);
     }
 module_next scan before s number name path (Err e) enters named is chain offsets namepath source_path folder = tt
+
+no_name : (s : FileStep) → s.name ≡ None → names_on (s ∷ []) ≡ []
+no_name s e = ap (λ o. cons_option o []) e
+
+-- what an import's step gives
+pub import_next : (scan : Scan) (before : Source) (s : Step) (path : List ℕ) (r : Result Source Error) → s.enters ≡ None → path ≡ file_at scan s.target
+    → IfOk r (λ source. source.file_path ≡ before.file_path ++ path ∷ []) → IfOk r (λ source. source.import_offsets ≡ before.import_offsets ++ s.offset ∷ []) → IfOk r (λ source. source.namepath ≡ before.namepath) → IfOk r (λ source. source.path ≡ path)
+    → IfOk r (λ source. source.working_directory ≡ before.working_directory) → IfOk r (ComesNext scan before s)
+import_next scan before s path (Ok source) enters is chain offsets namepath source_path folder =
+    let own : (text_step scan s).name ≡ None = ap (option_and_then (λ (number : ℕ). slice_get scan.names.items s.tag)) enters in
+    record {
+      chain = chain ∙ ap (λ p. before.file_path ++ p ∷ []) is;
+      offsets = offsets ∙ sym (ap (offsets_after before.import_offsets s.offset) enters);
+      components = ap components_of namepath ∙ sym (ap (components_after scan (components_of before.namepath)) enters);
+      names = ap names_in namepath ∙ sym (ap (λ ns. names_in before.namepath ++ ns) (no_name (text_step scan s) own) ∙ append-nil (names_in before.namepath));
+      path = source_path ∙ is;
+      folder = folder ∙ sym (ap (λ o. folder_after before.working_directory o (file_at scan s.target)) enters);
+    }
+import_next scan before s path (Err e) enters is chain offsets namepath source_path folder = tt
 
 -- a step at the end of a trail
 own_last : (own : List ℕ) (ss : List FileStep) (s : FileStep) → own_after own (ss ++ s ∷ []) ≡ entered (own_after own ss) s.enters s.to

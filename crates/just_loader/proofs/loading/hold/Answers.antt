@@ -29,3 +29,11 @@ loop-ast-preserved c =
     held_next c.args.scan.now c.args.nodes.now c.args.asts.items c.loop-ast.asts.items c.pop.new.self.items (get same_ast_key c.loop-ast.held) c.index-nodes-len.result c.in-Some.ast c.len.result
     c.requires c.loop-ast.invariant c.in-Some.ensures.items len c.index-nodes-len.is
     (get same_ast_key c.insert.new.self) (c.in_ok-clone.field-0, c.in_ok-path.path) c.index.result.now c.index.ensures c.in_ok-clone.ensures.cases (c.in_ok-path.ensures ∙ c.as_str.ensures) c.in_ok-insert.ensures.updates.0
+
+pub returns : goal.returns
+returns c =
+    let empty : length c.loop-ast.asts.items ≡ 0 = grind (arith, common_steps) in
+    record {
+      found = λ k u ast at to. c.loop-ast.invariant.found k u ast (omega (arith, empty)) at to;
+      only = c.loop-ast.invariant.only;
+    }
