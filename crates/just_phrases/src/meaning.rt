@@ -1,5 +1,7 @@
 //! What a line says.
 ghost use Rattle.std.specs.Prelude.{◌≡◌, ◌≤◌, length, IfOk, IfSome};
+ghost use Rattle.std.specs.List.{All};
+ghost use Rattle.just_lexer.specs.Lexemes.{HasQuotes};
 ghost use Rattle.just_lexer.specs.Lines.{IsLineOf};
 ghost use Rattle.just_phrases.specs.Meaning as spec;
 
@@ -230,6 +232,17 @@ fn lists_of<'src>(
     }
 }
 
+// What lexemes say, and where they need lists.
+fn said_by<'src>(alloc: Global, lexemes: Sequence<Lexeme<'src>>) -> Result<Said<'src>, AllocError>
+    requires { All HasQuotes lexemes }
+    ensures { IfOk result (λ said. said ≡ spec.said_by lexemes.entry) }
+{
+    let lists = lists_of(alloc, lexemes.as_slice())?;
+    let spelling = Spelling::new(alloc, lexemes)?;
+    let meaning = read_lexemes(&spelling)?;
+    Ok(Said { meaning, lists })
+}
+
 // What a line says that is not ignored and begins with no blank.
 #[tactic(auto, unfolding(crate::specs::Meaning::sharp))]
 fn read_sharp<'src>(
@@ -245,10 +258,7 @@ fn read_sharp<'src>(
     let Some(lexemes) = lex(alloc, path, text, line, 0, size)? else {
         return Ok(None);
     };
-    let lists = lists_of(alloc, lexemes.as_slice())?;
-    let spelling = Spelling::new(alloc, lexemes)?;
-    let meaning = read_lexemes(&spelling)?;
-    Ok(Some(Said { meaning, lists }))
+    Ok(Some(said_by(alloc, lexemes)?))
 }
 
 // A line that says this and needs no lists.
