@@ -1,4 +1,5 @@
-use Rattle.std.proofs.Common.{◌≡◌, List, length, rules, subst, sym}
+use Rattle.std.proofs.Common.{◌≡◌, List, ap, length, rules, subst, sym}
+use Rattle.just_invoke.specs.declared.justfile.Justfile.{Justfile, Justfile-F, out-roll-Justfile}
 use Rattle.just_invoke.specs.declared.justfile.Justfile.TheViews.{the_lemmas}
 use Rattle.just_recipe.specs.declared.dependency.UnresolvedDependency.{UnresolvedDependency}
 use Rattle.just_recipe.specs.declared.recipe.Recipe.{Recipe}
@@ -20,3 +21,21 @@ returns-clause-fields c =
     (length c.args.kept.now.recipes.items) c.in_ok-recipes.recipes c.requires.recipes many (search (rules, the_lemmas))
     c.in_ok-recipes.ensures.keys c.in_ok-recipes.ensures.held (search (rules, the_lemmas))
     (search (rules, the_lemmas)) (search (rules, the_lemmas)) (search (rules, the_lemmas)) (search (rules, the_lemmas))
+
+pub returns-clause-default : goal.returns-clause-default
+returns-clause-default c = ap (λ (j : Justfile-F Justfile). j.default) (out-roll-Justfile _)
+
+pub returns-clause-assignments : goal.returns-clause-assignments
+returns-clause-assignments c = ap (λ (j : Justfile-F Justfile). j.assignments) (out-roll-Justfile _)
+
+pub returns-clause-functions : goal.returns-clause-functions
+returns-clause-functions c = ap (λ (j : Justfile-F Justfile). j.functions) (out-roll-Justfile _)
+
+pub returns-clause-evaluation_order : goal.returns-clause-evaluation_order
+returns-clause-evaluation_order c = ap (λ (j : Justfile-F Justfile). j.evaluation_order) (out-roll-Justfile _)
+
+pub returns-clause-settings : goal.returns-clause-settings
+returns-clause-settings c = ap (λ (j : Justfile-F Justfile). j.settings) (out-roll-Justfile _)
+
+pub returns-clause-modules : goal.returns-clause-modules
+returns-clause-modules c = ap (λ (j : Justfile-F Justfile). j.modules) (out-roll-Justfile _)
