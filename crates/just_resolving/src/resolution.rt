@@ -1,6 +1,6 @@
 //! The recipes of a module, checked and resolved.
 
-ghost use Rattle.std.specs.Prelude.{◌≡◌, IfErr, IfOk, Some};
+ghost use Rattle.std.specs.Prelude.{◌≡◌, IfErr, IfOk, OnErr, Some};
 ghost use Rattle.std.specs.List.{All};
 ghost use Rattle.just_graph.specs.Steps.{IsOnce};
 ghost use Rattle.just_errors.specs.Causes.{Keeps, Reports};
@@ -49,7 +49,7 @@ fn resolve_recipes<'src, 'a, S: Syntax>(
 
 /// Checks the recipes of a module with these definitions, of which `ast` says its own file, under its settings, resolves
 /// those that are kept, and adds them to the others: those that are kept, and the number of the one that is run without
-/// words. An error names a rule that is broken; then the others may have them already.
+/// words. An error names a rule that is broken; the others are then as they were.
 pub fn resolve_module<'src, 'a, S: Syntax>(
     alloc: Global,
     definitions: &Definitions<'src, 'a>,
@@ -66,6 +66,7 @@ pub fn resolve_module<'src, 'a, S: Syntax>(
     ensures added { IfOk result (λ _. AreAdded (kept_recipes (recipes_in definitions.now)) ast.now.module_path recipes.old recipes.new) }
     ensures default { let own = recipes_by (S.answers syntax.now).enabled (Some ast.now) in
         IfOk result (λ made. IsDefaultAmong (kept_recipes (recipes_in definitions.now)) own made.1) }
+    ensures refused { OnErr result (recipes.new ≡ recipes.old) }
     ensures named { IfErr result (Reports (BreaksRecipes (S.answers syntax.now) settings.now (contents_in definitions.now))) }
 {
     let (kept, mut made) = resolve_recipes(alloc, definitions, syntax, settings, &ast.module_path)?;
