@@ -5,7 +5,7 @@ use Rattle.just_parts.specs.Asts.{same_ast_key, root_ast_key}
 use Rattle.just_errors.specs.Causes.{Keeps, Reports}
 use Rattle.just_names.specs.Texts.{Text}
 use Rattle.just_errors.specs.declared.error.Error.{Error}
-use Rattle.just_invoke.specs.Closed.{IsClosed, AreClosed}
+use Rattle.just_invoke.specs.Closed.{AreClosed, IsRooted}
 use Rattle.just_parts.specs.Evaluator.{Evaluator}
 use Rattle.just_parts.specs.Needs.{same_number}
 use Rattle.just_names.specs.declared.number.Number.{Number}
@@ -29,12 +29,12 @@ pub record IsCompilation (evaluator : Evaluator) (overrides : Overrides) (w : Wo
   pub analyzed : IsAnalyzed (given_in evaluator overrides w) (get same_ast_key c.asts) loaded (root_heading w) c.justfile c.recipes overridden
   pub overrides_are : (n : Number) → get same_number c.overrides n ≡ last_of overridden n
 
--- What a compilation answers: no rule is broken, so that none is named, the files are compiled, each recipe that is named is held after those that it depends on, and the root's file is held; or a rule that is broken.
+-- What a compilation answers: no rule is broken, so that none is named, the files are compiled, each recipe that is named is held, each that is held is that of a module that stands in the root, and the root's file is held; or a rule that is broken.
 pub record Compiles (evaluator : Evaluator) (overrides : Overrides) (w : World) (result : Result Compilation Error) : Type 0 where
   pub kept : IfOk result (λ _. KeepsAll evaluator overrides w)
   pub unnamed : IfOk result (λ _. Keeps (Names evaluator overrides w))
   pub compiled : IfOk result (IsCompilation evaluator overrides w)
-  pub closed : IfOk result (λ (c : Compilation). IsClosed c.justfile c.recipes)
+  pub rooted : IfOk result (λ (c : Compilation). IsRooted c.justfile c.recipes)
   pub all_closed : IfOk result (λ (c : Compilation). AreClosed c.recipes c.justfile)
   pub root : IfOk result (λ (c : Compilation). c.root ≡ w.root)
   pub root_ast : IfOk result (λ (c : Compilation). IsSome (get same_ast_key c.asts (root_ast_key c.root)))

@@ -83,7 +83,7 @@ module _ (root : Justfile) (ms : List Justfile) (m : Justfile) (left : Left root
 
 -- a module is taken from the end of the list
 module _ (root : Justfile) (all rest : List (Bor Justfile)) (m : Bor Justfile) (taken : all ≡ rest ++ m ∷ []) where
-  shown_taken : shown all ≡ shown rest ++ m.now ∷ []
+  pub shown_taken : shown all ≡ shown rest ++ m.now ∷ []
   shown_taken = ap shown taken ∙ map-append (λ m. m.now) rest (m ∷ [])
 
   pub taken_found : Left root (shown all) → (out-Justfile m.now).assignments ≢ [] → HasVariables root

@@ -4,5 +4,6 @@ pub mod HeadLemmas
 pub mod Leftovers
 pub mod Namings
 pub mod Outcomes
+pub mod Scoping
 pub mod SplitLemmas
 pub mod Unique

@@ -47,3 +47,17 @@ is_closed (all_closed closed below) = closed
 pub inner_closed : {recipes : List (Recipe Dependency)} {justfile : Justfile} → AreClosed recipes justfile →
     (inner : Justfile) → Contains (out-Justfile justfile).modules inner → AreClosed recipes inner
 inner_closed (all_closed closed below) = below
+
+-- A module stands in another one: it is that one, or stands in a module of it.
+pub data StandsIn : Justfile → Justfile → Type 0 where
+  itself : {root : Justfile} → StandsIn root root
+  inside : {root inner j : Justfile} → Contains (out-Justfile root).modules inner → StandsIn inner j → StandsIn root j
+
+-- the recipe is that of a module that stands in the root
+abbrev pub IsPlaced : Justfile → Recipe Dependency → Type 0
+IsPlaced root r = (j : Justfile) × StandsIn root j × (r.module_path ≡ Some (out-Justfile j).module_path)
+
+-- The root with the held recipes: it is closed, and each of them is that of a module that stands in it.
+pub record IsRooted (root : Justfile) (recipes : List (Recipe Dependency)) : Type 0 where
+  pub closed : IsClosed root recipes
+  pub placed : All (IsPlaced root) recipes

@@ -4,5 +4,6 @@ pub mod Going
 pub mod Head
 pub mod Module
 pub mod Outcome
+pub mod Scopes
 pub mod Split
 pub mod Variables

@@ -155,7 +155,7 @@ impl<'src> Justfile<'src> {
     ghost use Rattle.just_parts.specs.Host.{KeepsPromises};
     ghost use Rattle.just_parts.specs.Steps.{kept_by};
     ghost use Rattle.just_names.specs.Texts.{texts};
-    ghost use Rattle.just_invoke.specs.Closed.{IsClosed};
+    ghost use Rattle.just_invoke.specs.Closed.{IsRooted};
     ghost use Rattle.just_invoke.specs.Outcome.{IsExpected, IsOutcome};
 
     /// Runs what the words mean: each invocation in turn under one once table, where a recipe with equal arguments runs
@@ -180,7 +180,7 @@ impl<'src> Justfile<'src> {
         words: &[&str],
         overrides: &HashMap<Number, Text>,
     ) -> Result<Report, Error<'src>>
-        requires { IsClosed self.now recipes.now }
+        requires { IsRooted self.now recipes.now }
         // Promises are kept.
         ensures keeps { KeepsPromises (E.promised evaluation.old) (E.promised evaluation.new) }
         ensures keeps_host { KeepsPromises (H.promised host.old) (H.promised host.new) }
@@ -210,6 +210,15 @@ impl<'src> Justfile<'src> {
             }));
         }
         check_variables(alloc, self, invocations.as_slice())?;
-        run_invocations(alloc, recipes, evaluation, host, invocations.as_slice())
+        run_invocations(
+            alloc,
+            config,
+            self,
+            recipes,
+            evaluation,
+            host,
+            invocations.as_slice(),
+            overrides,
+        )
     }
 }

@@ -7,6 +7,7 @@ pub mod justfile;
 pub mod laws;
 mod naming;
 mod running;
+mod scopes;
 mod variables;
 
 pub use invocation::Invocation;

@@ -10,8 +10,8 @@ use just_data::BorrowedText;
 use just_parts::layers::{Error, RunError};
 use std::alloc::{AllocError, Global};
 
-// Adds the modules of a module to those that are left to look at.
-fn add_modules<'run, 'src>(
+/// Adds the modules of a module to those that are left to look at.
+pub(crate) fn add_modules<'run, 'src>(
     left: &mut Vec<&'run Justfile<'src>>,
     parent: &'run Justfile<'src>,
 ) -> Result<(), AllocError>

@@ -90,12 +90,12 @@ module _ (S : Reading) where
       (λ j. Tree (same j) (inner j) (rest j)) ∙ sym c.same
 
   -- the module of a heading in a forest
-  record Found (f : Forest) (h : Heading) : Type 0 where
-    m : Module
-    inside : Forest
-    has : HasModule f m inside
-    is : IsModule S h m
-    within : AreModules S (headings_in m) inside
+  pub record Found (f : Forest) (h : Heading) : Type 0 where
+    pub m : Module
+    pub inside : Forest
+    pub has : HasModule f m inside
+    pub is : IsModule S h m
+    pub within : AreModules S (headings_in m) inside
 
   find : {hs : List Heading} {f : Forest} → AreModules S hs f → (g : Heading) → In g hs → Found f g
   find no_module g i = absurd i
@@ -103,7 +103,7 @@ module _ (S : Reading) where
   find (a_module is a b) g (inr i) = let r = find b g i in record { m = r.m; inside = r.inside; has = after_it r.has; is = r.is; within = r.within }
 
   -- each heading that is reached has its module in the forest
-  find_reached : {root h : Heading} {f : Forest} → AreModules S (root ∷ []) f → IsHeading S root h → Found f h
+  pub find_reached : {root h : Heading} {f : Forest} → AreModules S (root ∷ []) f → IsHeading S root h → Found f h
   find_reached {root} are of_root = find are root (inl refl)
   find_reached are (of_module {h} {m} {s} r is c) =
       let up = find_reached are r in

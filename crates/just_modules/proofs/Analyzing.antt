@@ -18,6 +18,8 @@ use Rattle.just_names.specs.Name.{text_of_name}
 use Rattle.just_parts.specs.Items.{Ast}
 use Rattle.just_paths.specs.declared.modulepath.Modulepath.{Modulepath}
 use Rattle.just_recipe.specs.Recipes.{IsResolved}
+use Rattle.just_invoke.specs.Closed.{IsPlaced, StandsIn}
+use Rattle.just_invoke.specs.Module as naming
 use Rattle.just_invoke.specs.declared.justfile.Justfile.{Justfile, out-Justfile, out-roll-Justfile}
 use Rattle.just_joining.specs.Analyzable.{AreAnalyzable}
 use Rattle.just_modules.specs.Analyzed.{ComeAfter, IsAnalyzed}
@@ -29,20 +31,22 @@ use Rattle.just_making.specs.Labelled.{label_in, labelled_as, slot}
 use Rattle.just_compiling.specs.Justfiles.{AreCompiled, Built, Made, recipes_of_all}
 use Rattle.just_notes.specs.declared.labels.Label.{Label}
 use Rattle.just_compiling.specs.Modules.{AreModules, Empty, Forest, HasModule, Heading, IsHeading, Module, Tree, a_module, after_it, first, in_it, no_module}
-use Rattle.just_joining.specs.Reading.{Reading, reading_of}
+use Rattle.just_joining.specs.Reading.{Reading, Submodule, reading_of}
 use Rattle.just_joining.specs.OfPlaces.{RepeatsNames, labels_of_place, names_of_place}
 use Rattle.just_compiling.specs.Steps.{BreaksInOrder, CanCompileAll, HaveCompiled}
 use Rattle.just_joining.specs.declared.files.Files.{Files}
 use Rattle.just_joining.specs.declared.files.Rows.{Rows}
 use Rattle.just_joining.specs.declared.joined.Joined.{Joined}
+use Rattle.just_modules.proofs.Agreeing.{find_reached}
 use Rattle.just_modules.proofs.Closing.{forest_closed}
 use Rattle.just_modules.proofs.Compilable.{can_compile_all, listed, one_at, stands, subs_differ}
 use Rattle.just_joining.proofs.FilePlaces.{count, one_place}
-use Rattle.just_modules.proofs.Forests.{forest_at, tree_compiled}
+use Rattle.just_modules.proofs.Forests.{forest_at, is_compiled, tree_compiled}
 use Rattle.just_modules.proofs.Headed.{heading_at}
 use Rattle.just_modules.proofs.Keeping.{keeps_groups, keeps_listed, names_next, names_repeated}
-use Rattle.just_modules.proofs.ModulePaths.{below_root, deeper, ends_same, entered, not_root, one_path}
+use Rattle.just_modules.proofs.ModulePaths.{below_root, deeper, ends_same, entered, not_root, one_path, subs_at}
 use Rattle.just_modules.proofs.ModulePlaces.{IsListed, file_inside, module_of, nobody}
+use Rattle.just_modules.proofs.Placing.{declared_names, made_path, standing, submodule_names}
 use Rattle.just_modules.proofs.Ready.{edge_joined}
 use Rattle.just_parts.specs.Layers.{Given}
 
@@ -186,6 +190,37 @@ module _ (given : Given) (entries : List (AstKey × Ast)) (d : AstKey) (files : 
             let k = in_take order (length order) q.0 (omega arith) (contained q.0 (take (length order) order) q.1) in
             All-contains IsResolved (so.made (slice_index order k.0)).recipes r (so.each k.0 k.1).resolved.resolved (subst (λ p. Contains (so.made p).recipes r) (sym k.2) (contained r (so.made q.0).recipes q.2))
 
+        -- the modules that a module declares have different names
+        names_at : (k : ℕ) → k < length order → AreDifferent (map (λ (s : Submodule). naming.text_of_name s.label.name) (subs_at given.syntax.enabled entries d files placed rows are can.paths joined (slice_index order k)))
+        names_at k l =
+            let p = slice_index order k in
+            subst AreDifferent (sym (submodule_names _ (declared_names R (map key_at (targets joined.files.items p)))))
+            (subs_differ given.syntax.enabled entries d files placed rows are can joined aj root inside arr.root_joined arr.inner_joined order arr.ordered arr.reached different p (reached k l))
+
+        differ : (x : Module) (below' : Forest) → HasModule (Tree m0 inside0 Empty) x below' → AreDifferent (map (λ (s : Submodule). naming.text_of_name s.label.name) x.modules)
+        unfolding inside0
+        differ x below' first = names_at k0 l0
+        differ x below' (in_it i) =
+            let l = (forest_at given entries d files placed rows are can.paths joined order below joins arr.ordered.steps_first loaded so.made so.justfile so.each many k0 l0 top e0).known x below' i in
+            subst (λ (y : Module). AreDifferent (map (λ (s : Submodule). naming.text_of_name s.label.name) y.modules)) (sym l.is) (names_at l.at l.there)
+        differ x below' (after_it i) = absurd (nobody i refl)
+
+        -- each recipe is that of a module that stands in the root's
+        placed_in : All (IsPlaced (labelled_as top.label (so.justfile root))) added.recipes
+        placed_in = λ i x l.
+            let r = get_or added.recipes i x in
+            let q = from_flat (λ q. (so.made q).recipes) r (take (length order) order) (subst (In r) so.recipes (is_in r added.recipes (Contains-get_or added.recipes i x l))) in
+            let k = in_take order (length order) q.0 (omega arith) (contained q.0 (take (length order) order) q.1) in
+            let h = heading k.0 k.1 in
+            let found = find_reached R are_modules h.1 in
+            let s = standing given (λ k. lookup (same_ast_key k) entries) can.paths loaded built compiled differ found.has in
+            let c = is_compiled given entries d files placed rows are can.paths joined order below joins arr.ordered.steps_first loaded so.made so.justfile so.each many k.0 k.1 h.0 h.2 h.0.label in
+            let same : s.top ≡ labelled_as top.label (so.justfile root) = elim s.among [ inl e ↦ e | inr wrong ↦ absurd wrong ] in (
+              s.it,
+              subst (λ (t : Justfile). StandsIn t s.it) same s.stands,
+              made_path _ h.0.key.0 c.resolved.order _ c.resolved.made_of r (subst (λ p. In r (so.made p).recipes) (sym k.2) q.2) ∙ ap Some (sym (s.path ∙ ap (λ (g : Heading). g.key.0) found.is.heading)),
+            )
+
         -- what stands at a place of the list
         built_at : (i : ℕ) (b : Built) → slice_get built i ≡ Some b → (i < length order) × (b ≡ (key_at (slice_index order i), so.made (slice_index order i)))
         built_at i b e =
@@ -261,4 +296,5 @@ module _ (given : Given) (entries : List (AstKey × Ast)) (d : AstKey) (files : 
           label = labelled undocumented;
           compiled = compiled;
           closed = forest_closed given (λ k. lookup (same_ast_key k) entries) loaded built added.recipes all_recipes resolved compiled (labelled_as top.label (so.justfile root)) (inl refl);
+          placed = placed_in;
         }

@@ -8,6 +8,7 @@ pub mod Inserting
 pub mod Keeping
 pub mod ModulePaths
 pub mod ModulePlaces
+pub mod Placing
 pub mod Ready
 pub mod TableValues
 pub mod VariableNumbers

@@ -1,7 +1,7 @@
 -- What an analysis answers.
 use Rattle.std.specs.Prelude.{◌≡◌, ◌<◌, ◌++◌, ℕ, List, [], ◌∷◌, map, slice_get, Option, Some}
 use Rattle.std.specs.HashMap.{HashMap, get}
-use Rattle.std.specs.List.{Contains}
+use Rattle.std.specs.List.{All, Contains}
 use Rattle.std.specs.Option.{option_or}
 use Rattle.just_variables.specs.Overrides.{last_of}
 use Rattle.just_compiling.specs.declared.compiling.Gathered.{Gathered}
@@ -17,7 +17,7 @@ use Rattle.just_parts.specs.Layers.{Given}
 use Rattle.just_errors.specs.declared.error.Error.{Error}
 use Rattle.just_paths.specs.declared.modulepath.Modulepath.{Modulepath}
 use Rattle.just_recipe.specs.declared.recipe.Recipe.{Recipe}
-use Rattle.just_invoke.specs.Closed.{AreClosed}
+use Rattle.just_invoke.specs.Closed.{AreClosed, IsPlaced}
 use Rattle.just_invoke.specs.declared.justfile.Justfile.{Justfile}
 use Rattle.just_modules.specs.Groups.{KeepsModules, NamesModules}
 use Rattle.just_making.specs.Labelled.{label_in}
@@ -38,7 +38,7 @@ AreAsBefore old new = (n : Number) → get same_number new n ≡ get same_number
 abbrev pub ComeAfter : List Built → Type 0
 ComeAfter built = (i j : ℕ) (b inner : Built) (name : Text) → slice_get built i ≡ Some b → slice_get built j ≡ Some inner → inner.0.0.components ≡ b.0.0.components ++ name ∷ [] → j < i
 
--- The module of a heading and those in it: they keep all groups, their recipes stand one module after another, each module once and after those in it, and so do the values that override their variables, and their justfiles are a tree, which is closed.
+-- The module of a heading and those in it: they keep all groups, their recipes stand one module after another, each module once and after those in it, and so do the values that override their variables, and their justfiles are a tree, which is closed, and in which the module of each recipe stands.
 pub record IsAnalyzed (given : Given) (asts : AstKey → Option Ast) (loaded : List Text) (top : Heading) (justfile : Justfile) (recipes : List (Recipe Dependency)) (overridden : List (Number × Text)) : Type 0 where
   pub m : Module
   pub inside : Forest
@@ -53,6 +53,7 @@ pub record IsAnalyzed (given : Given) (asts : AstKey → Option Ast) (loaded : L
   pub label : label_in justfile ≡ top.label
   pub compiled : AreCompiled given asts loaded built (Tree m inside Empty) (justfile ∷ [])
   pub closed : AreClosed recipes justfile
+  pub placed : All (IsPlaced justfile) recipes
 
 -- the same of the module at a path, with its own file and a label
 abbrev pub AnalyzesAt : {H : Type 0} → Given → HashMap AstKey Ast H → List Text → Modulepath → Text → Label → Justfile × Gathered → Type 0

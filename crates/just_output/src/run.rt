@@ -1,5 +1,5 @@
 //! The run of a compiled module, and what is written of it.
-ghost use Rattle.just_invoke.specs.Closed.{IsClosed};
+ghost use Rattle.just_invoke.specs.Closed.{IsRooted};
 
 use crate::entries::write_entries;
 use crate::fault::Fault;
@@ -22,7 +22,7 @@ pub fn run_and_write<'src, W: Write>(
     words: &[&str],
     output: &mut W,
 ) -> Result<(), Fault<'src>>
-    requires { IsClosed root.now recipes.now }
+    requires { IsRooted root.now recipes.now }
 {
     let mut host = Recorder::new(alloc);
     let ran = run_words(alloc, root, recipes, overrides, config, &mut host, words);

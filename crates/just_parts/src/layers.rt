@@ -2,6 +2,7 @@
 
 pub mod ast;
 pub mod config;
+pub mod context;
 pub mod evaluation;
 pub mod host;
 pub mod output;
@@ -10,6 +11,7 @@ pub mod value;
 
 pub use ast::{Ast, Item};
 pub use config::Config;
+pub use context::Context;
 pub use evaluation::Evaluation;
 pub use host::{Entry, Groups, Host};
 pub use just_attributes::{

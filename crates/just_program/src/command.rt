@@ -1,7 +1,7 @@
 //! The program, over a reader and two writers.
 ghost use Rattle.std.specs.Prelude.{◌≡◌, ◌≢◌, ◌<◌, [], slice_get, IsNone, IfOk, IfSome};
 ghost use Rattle.just_paths.specs.Clean.{IsClean};
-ghost use Rattle.just_invoke.specs.Closed.{IsClosed};
+ghost use Rattle.just_invoke.specs.Closed.{IsRooted};
 
 use just_analyzer::layers::{Config, Error};
 use just_analyzer::{Compilation, Compiler, Sources, is_clean};
@@ -20,7 +20,7 @@ fn compile<'src>(
     root: &str,
 ) -> Result<Compilation<'src>, Error<'src>>
     requires { IsClean root.now }
-    ensures { IfOk result (λ c. IsClosed c.justfile c.recipes) }
+    ensures { IfOk result (λ c. IsRooted c.justfile c.recipes) }
 {
     Compiler::compile(
         alloc,

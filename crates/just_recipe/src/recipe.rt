@@ -116,6 +116,14 @@ impl<'src> Recipe<'src> {
         subsequents
     }
 
+    /// The path of its module.
+    pub fn module_path(&self) -> &Modulepath
+        requires { IsSome self.now.module_path }
+        ensures { self.now.module_path ≡ Some result.now }
+    {
+        self.module_path.as_ref().unwrap()
+    }
+
     /// Its path from the root.
     pub fn recipe_path(&self) -> &Modulepath
         requires { IsSome self.now.recipe_path }

@@ -1,5 +1,5 @@
 //! The run of a compiled module over the layers of the bench.
-ghost use Rattle.just_invoke.specs.Closed.{IsClosed};
+ghost use Rattle.just_invoke.specs.Closed.{IsRooted};
 
 use just_bench::{Recorder, StopWriter};
 use just_data::Text;
@@ -20,7 +20,7 @@ pub fn run_words<'src>(
     host: &mut Recorder,
     words: &[&str],
 ) -> Result<Report, Error<'src>>
-    requires { IsClosed root.now recipes.now }
+    requires { IsRooted root.now recipes.now }
 {
     let mut writer = StopWriter::new(alloc, 0)?;
     root.run(

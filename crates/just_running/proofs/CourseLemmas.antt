@@ -1,4 +1,5 @@
 -- Frames and counters, as the code changes them.
+use Rattle.std.specs.List.{All}
 use Rattle.std.proofs.Common.{◌≡◌, ◌≢◌, ℕ, zero, suc, ◌+◌, ◌^◌, ◌<◌, ◌≤◌, List, [], ◌∷◌, ◌++◌, length, get_or, set, refl, sym, ◌∙◌, ap, subst, arith, append_assoc}
 use Rattle.std.proofs.lemmas.List.{length_push}
 use Rattle.std.proofs.lemmas.List.Elements.{All-nil, All-cons, All-append, All-head, All-tail, All-weaker}
@@ -9,6 +10,7 @@ use Rattle.just_running.specs.declared.frame.Frame.TheVariants.{Call, Block, Bac
 use Rattle.just_running.specs.declared.frame.OpenTable.{OpenTable}
 use Rattle.just_running.specs.declared.pair.Pair.{Pair}
 use Rattle.just_running.specs.Frames.{walk_at, with_calls, under, left, calls_of, IsOpen, AreOpen, state_of, IsSound, IsLighter, IsOpened, left_of}
+use Rattle.just_running.specs.Homes.{IsCallable}
 use Rattle.just_running.specs.declared.task.Task.{Task}
 use Rattle.just_running.specs.Pairs.{AllBelow, put, table_of}
 use Rattle.just_running.specs.Walking.{Leaves, State, add_at, counted, opened, fresh_steps, ran}
@@ -39,23 +41,23 @@ pub first-calls : (one all : List Frame) (ts : List Task) → one ≡ [] → all
 first-calls one all ts none h = h ∙ ap (λ xs. xs ++ calls_of ts) none
 
 -- the frames that are open stay so while counters are added
-open-more : (recipes n m : ℕ) → n ≤ m → (x : Frame) → IsOpen recipes n x → IsOpen recipes m x
-open-more recipes n m l (Call t) h = h
-open-more recipes n m l (Block t) h = h
-open-more recipes n m l (Back outer) h = omega arith
+open-more : (P : Task → Type 0) (n m : ℕ) → n ≤ m → (x : Frame) → IsOpen P n x → IsOpen P m x
+open-more P n m l (Call t) h = h
+open-more P n m l (Block t) h = h
+open-more P n m l (Back outer) h = omega arith
 
-pub opens-more : (recipes n m : ℕ) → n ≤ m → (xs : List Frame) → AreOpen recipes n xs → AreOpen recipes m xs
-opens-more recipes n m l xs h = All-weaker (IsOpen recipes n) (IsOpen recipes m) (open-more recipes n m l) xs h
+pub opens-more : (P : Task → Type 0) (n m : ℕ) → n ≤ m → (xs : List Frame) → AreOpen P n xs → AreOpen P m xs
+opens-more P n m l xs h = All-weaker (IsOpen P n) (IsOpen P m) (open-more P n m l) xs h
 
 -- tasks below a place are open above other frames
-pub opens-calls : (recipes n : ℕ) (ts : List Task) → AllBelow recipes ts → AreOpen recipes n (calls_of ts)
-opens-calls recipes n [] b = All-nil (IsOpen recipes n)
-opens-calls recipes n (t ∷ ts) b = All-append (IsOpen recipes n) (calls_of ts) (Call t ∷ [])
-    (opens-calls recipes n ts (All-tail (λ (t : Task). t.pair.recipe < recipes) t ts b))
-    (All-cons (IsOpen recipes n) (Call t) [] (All-head (λ (t : Task). t.pair.recipe < recipes) t ts b) (All-nil (IsOpen recipes n)))
+pub opens-calls : (P : Task → Type 0) (n : ℕ) (ts : List Task) → All P ts → AreOpen P n (calls_of ts)
+opens-calls P n [] b = All-nil (IsOpen P n)
+opens-calls P n (t ∷ ts) b = All-append (IsOpen P n) (calls_of ts) (Call t ∷ [])
+    (opens-calls P n ts (All-tail P t ts b))
+    (All-cons (IsOpen P n) (Call t) [] (All-head P t ts b) (All-nil (IsOpen P n)))
 
-pub opens-over : (recipes n : ℕ) (xs : List Frame) (x : Frame) (ts : List Task) → AreOpen recipes n xs → IsOpen recipes n x → AllBelow recipes ts → AreOpen recipes n (xs ++ x ∷ calls_of ts)
-opens-over recipes n xs x ts h k b = All-append (IsOpen recipes n) xs (x ∷ calls_of ts) h (All-cons (IsOpen recipes n) x (calls_of ts) k (opens-calls recipes n ts b))
+pub opens-over : (P : Task → Type 0) (n : ℕ) (xs : List Frame) (x : Frame) (ts : List Task) → AreOpen P n xs → IsOpen P n x → All P ts → AreOpen P n (xs ++ x ∷ calls_of ts)
+opens-over P n xs x ts h k b = All-append (IsOpen P n) xs (x ∷ calls_of ts) h (All-cons (IsOpen P n) x (calls_of ts) k (opens-calls P n ts b))
 
 -- tasks are called under a table of their own
 left-opened : (leaves : Leaves) (xs : List Frame) (outer : OpenTable) (tasks : List Task) (calls : List ℕ) → tasks ≢ [] →
@@ -68,14 +70,14 @@ module _ (old new : Course) (tasks : List Task) (frames : new.frames.items ≡ o
   course-opened some leaves = ap (λ xs. left leaves xs (state_of new)) frames ∙ ap (left leaves (old.frames.items ++ Back old.current ∷ calls_of tasks)) state
       ∙ left-opened leaves old.frames.items old.current tasks old.calls.items some
 
-  sound-opened : (recipes : ℕ) → IsSound recipes old → AllBelow recipes tasks → IsSound recipes new
-  sound-opened recipes sound below =
+  sound-opened : (P : Task → Type 0) → IsSound P old → All P tasks → IsSound P new
+  sound-opened P sound below =
       let calls : new.calls.items ≡ old.calls.items ++ 0 ∷ [] = ap (λ s. s.calls) state in
       let more : length new.calls.items ≡ length old.calls.items + 1 = ap length calls ∙ length_push old.calls.items 0 in
       let number : new.current.number ≡ length old.calls.items = ap (λ s. s.number) state in
       record {
-        frames = subst (AreOpen recipes (length new.calls.items)) (sym frames)
-            (opens-over recipes (length new.calls.items) old.frames.items (Back old.current) tasks (opens-more recipes (length old.calls.items) (length new.calls.items) (omega arith) old.frames.items sound.frames) (omega (arith, sound.number)) below);
+        frames = subst (AreOpen P (length new.calls.items)) (sym frames)
+            (opens-over P (length new.calls.items) old.frames.items (Back old.current) tasks (opens-more P (length old.calls.items) (length new.calls.items) (omega arith) old.frames.items sound.frames) (omega (arith, sound.number)) below);
         number = omega arith;
       }
 
@@ -83,7 +85,7 @@ module _ (old new : Course) (tasks : List Task) (frames : new.frames.items ≡ o
 pub is-opened : (old new : Course) (tasks : List Task) → new.frames.items ≡ old.frames.items ++ Back old.current ∷ calls_of tasks → state_of new ≡ opened old.calls.items → tasks ≢ [] → length tasks < 2 ^ 64 → IsOpened old tasks new
 is-opened old new tasks frames state some few = record {
   left = course-opened old new tasks frames state some;
-  sound = sound-opened old new tasks frames state;
+  sound = λ modules recipes callables sound. sound-opened old new tasks frames state (IsCallable modules recipes) sound callables;
   lighter = λ t below. subst (λ fs. IsLighter fs old.frames.items (Block t)) (sym frames) (block-lighter (2 ^ 64) old.frames.items t old.current tasks below few);
 }
 
@@ -91,7 +93,7 @@ pub not-opened : (old : Course) (tasks : List Task) → length tasks ≡ 0 → I
 not-opened old (t ∷ ts) none = absurd (omega arith)
 not-opened old [] none = record {
   left = λ leaves. refl;
-  sound = λ recipes sound below. sound;
+  sound = λ modules recipes callables sound. sound;
   lighter = λ t below. taken-lighter (2 ^ 64) old.frames.items (Block t);
 }
 
@@ -101,12 +103,12 @@ length-add (n ∷ ns) zero a = refl
 length-add (n ∷ ns) (suc i) a = ap suc (length-add ns i a)
 
 -- a call that is counted leaves the run sound
-pub counted-sound : (recipes : ℕ) (old new : Course) → state_of new ≡ counted (state_of old) → new.frames.items ≡ old.frames.items → IsSound recipes old → IsSound recipes new
-counted-sound recipes old new state frames sound =
+pub counted-sound : (P : Task → Type 0) (old new : Course) → state_of new ≡ counted (state_of old) → new.frames.items ≡ old.frames.items → IsSound P old → IsSound P new
+counted-sound P old new state frames sound =
     let long : length new.calls.items ≡ length old.calls.items = ap (λ s. length s.calls) state ∙ length-add old.calls.items old.current.number 1 in
     let number : new.current.number ≡ old.current.number = ap (λ s. s.number) state in
     record {
-      frames = subst (AreOpen recipes (length new.calls.items)) (sym frames) (opens-more recipes (length old.calls.items) (length new.calls.items) (omega arith) old.frames.items sound.frames);
+      frames = subst (AreOpen P (length new.calls.items)) (sym frames) (opens-more P (length old.calls.items) (length new.calls.items) (omega arith) old.frames.items sound.frames);
       number = omega (arith, sound.number);
     }
 
@@ -114,14 +116,14 @@ pub below-more : (n m : ℕ) (ts : List Task) → n ≤ m → AllBelow n ts → 
 below-more n m ts l h = All-weaker (λ (t : Task). t.pair.recipe < n) (λ (t : Task). t.pair.recipe < m) (λ t k. omega arith) ts h
 
 -- and so does a task whose priors are called
-pub called-sound : (recipes : ℕ) (old new : Course) (t : Task) (ps : List Task) → state_of new ≡ counted (state_of old) → new.frames.items ≡ old.frames.items ++ Block t ∷ calls_of ps →
-    t.pair.recipe < recipes → AllBelow t.pair.recipe ps → IsSound recipes old → IsSound recipes new
-called-sound recipes old new t ps state frames place below sound =
+pub called-sound : (P : Task → Type 0) (old new : Course) (t : Task) (ps : List Task) → state_of new ≡ counted (state_of old) → new.frames.items ≡ old.frames.items ++ Block t ∷ calls_of ps →
+    P t → All P ps → IsSound P old → IsSound P new
+called-sound P old new t ps state frames callable callables sound =
     let long : length new.calls.items ≡ length old.calls.items = ap (λ s. length s.calls) state ∙ length-add old.calls.items old.current.number 1 in
     let number : new.current.number ≡ old.current.number = ap (λ s. s.number) state in
     record {
-      frames = subst (AreOpen recipes (length new.calls.items)) (sym frames) (opens-over recipes (length new.calls.items) old.frames.items (Block t) ps
-          (opens-more recipes (length old.calls.items) (length new.calls.items) (omega arith) old.frames.items sound.frames) place (below-more t.pair.recipe recipes ps (omega arith) below));
+      frames = subst (AreOpen P (length new.calls.items)) (sym frames) (opens-over P (length new.calls.items) old.frames.items (Block t) ps
+          (opens-more P (length old.calls.items) (length new.calls.items) (omega arith) old.frames.items sound.frames) callable callables);
       number = omega (arith, sound.number);
     }
 
@@ -133,8 +135,8 @@ block-last leaves old t table ts u is h =
     h ∙ ap (λ now. and_then (fresh_steps (walk_at leaves) ts old.calls.items) (λ calls. left leaves old.frames.items (record { number = old.current.number; table = now; calls = calls }))) is
 
 -- the first calls of a run
-pub begun-sound : (recipes : ℕ) (course : Course) (tasks : List Task) → course.frames.items ≡ calls_of tasks → state_of course ≡ opened [] → AllBelow recipes tasks → IsSound recipes course
-begun-sound recipes course tasks frames state below = record {
-  frames = subst (AreOpen recipes (length course.calls.items)) (sym frames) (opens-calls recipes (length course.calls.items) tasks below);
+pub begun-sound : (P : Task → Type 0) (course : Course) (tasks : List Task) → course.frames.items ≡ calls_of tasks → state_of course ≡ opened [] → All P tasks → IsSound P course
+begun-sound P course tasks frames state callables = record {
+  frames = subst (AreOpen P (length course.calls.items)) (sym frames) (opens-calls P (length course.calls.items) tasks callables);
   number = let n : course.current.number ≡ 0 = ap (λ s. s.number) state in let k : length course.calls.items ≡ 1 = ap (λ s. length s.calls) state in omega arith;
 }

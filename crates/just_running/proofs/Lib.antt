@@ -2,6 +2,7 @@ pub mod Accounted
 pub mod CourseLemmas
 pub mod FrameLemmas
 pub mod Goings
+pub mod Homes
 pub mod Joined
 pub mod Keeps
 pub mod Keyed

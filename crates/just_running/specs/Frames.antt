@@ -15,6 +15,7 @@ use Rattle.just_running.specs.declared.frame.Frame.{Frame}
 use Rattle.just_running.specs.declared.frame.Frame.TheVariants.{Call, Block, Back}
 use Rattle.just_running.specs.declared.frame.OpenTable.{OpenTable}
 use Rattle.just_running.specs.declared.task.Task.{Task}
+use Rattle.just_running.specs.Homes.{IsCallable, Modules}
 use Rattle.just_running.specs.Pairs.{AllBelow, table_of}
 use Rattle.just_running.specs.Leaves.{leaves_of}
 use Rattle.just_running.specs.Walking.{Leaves, State, fresh_steps, ran_steps, walk_steps}
@@ -50,14 +51,14 @@ abbrev pub calls_of : List Task → List Frame
 calls_of [] = []
 calls_of (t ∷ ts) = calls_of ts ++ Call t ∷ []
 
--- its recipe, or its counter, is there
-abbrev pub IsOpen : ℕ → ℕ → Frame → Type 0
-IsOpen recipes counters (Call t) = t.pair.recipe < recipes
-IsOpen recipes counters (Block t) = t.pair.recipe < recipes
-IsOpen recipes counters (Back outer) = outer.number < counters
+-- its task can be called (by what P says), or its counter is there
+abbrev pub IsOpen : (Task → Type 0) → ℕ → Frame → Type 0
+IsOpen P counters (Call t) = P t
+IsOpen P counters (Block t) = P t
+IsOpen P counters (Back outer) = outer.number < counters
 
-abbrev pub AreOpen : ℕ → ℕ → List Frame → Type 0
-AreOpen recipes counters frames = All (IsOpen recipes counters) frames
+abbrev pub AreOpen : (Task → Type 0) → ℕ → List Frame → Type 0
+AreOpen P counters frames = All (IsOpen P counters) frames
 
 -- How much is left at most, where a task leads to fewer than `most` others: it falls with each frame that is taken.
 abbrev pub cost : ℕ → ℕ → ℕ
@@ -77,9 +78,9 @@ weight most (x ∷ xs) = frame_weight most x + weight most xs
 abbrev pub state_of : Course → State
 state_of course = under course.current course.calls.items
 
--- each frame, and the table under which is called, has its counter
-pub record IsSound (recipes : ℕ) (course : Course) : Type 0 where
-  pub frames : AreOpen recipes (length course.calls.items) course.frames.items
+-- each task that is left can be called, and each table has its counter
+pub record IsSound (P : Task → Type 0) (course : Course) : Type 0 where
+  pub frames : AreOpen P (length course.calls.items) course.frames.items
   pub number : course.current.number < length course.calls.items
 
 -- what is left of it; and with one more frame
@@ -125,7 +126,8 @@ IsLighter new old frame = weight (2 ^ 64) new < weight (2 ^ 64) (old ++ frame �
 pub record IsOpened (old : Course) (tasks : List Task) (new : Course) : Type 0 where
   pub left : (leaves : Leaves) → left_of leaves new ≡
       and_then (fresh_steps (walk_at leaves) tasks old.calls.items) (λ calls. left leaves old.frames.items (with_calls (state_of old) calls))
-  pub sound : (recipes : ℕ) → IsSound recipes old → AllBelow recipes tasks → IsSound recipes new
+  pub sound : (modules : Modules) (recipes : List (Recipe Dependency)) → All (IsCallable modules recipes) tasks →
+      IsSound (IsCallable modules recipes) old → IsSound (IsCallable modules recipes) new
   pub lighter : (task : Task) → AllBelow task.pair.recipe tasks → IsLighter new.frames.items old.frames.items (Block task)
 
 -- the elements of a vector that came out

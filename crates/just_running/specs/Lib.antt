@@ -2,6 +2,7 @@ pub mod Account
 pub mod Expansion
 pub mod Firsts
 pub mod Frames
+pub mod Homes
 pub mod Leaves
 pub mod Lower
 pub mod Pairs

@@ -4,6 +4,7 @@ ghost use Rattle.std.specs.List.{All};
 ghost use Rattle.just_parts.specs.Host.{KeepsPromises};
 ghost use Rattle.just_parts.specs.Steps.{kept_by};
 ghost use Rattle.just_running.specs.Frames.{Blocks, Calls, Finishes, IsLighter, IsOpen, IsSound, Leads, items_of};
+ghost use Rattle.just_running.specs.Homes.{AreHome, IsBoundAt, IsCallable};
 ghost use Rattle.just_running.specs.Leaves.{AsksAlone, Executes, ask_steps, follow_steps};
 ghost use Rattle.just_running.specs.Pairs.{AllBelow};
 ghost use Rattle.just_recipe.specs.Recipes.{IsOrdered, IsResolved};
@@ -13,6 +14,7 @@ use crate::course::{Course, count_call, push_calls};
 use crate::frame::Frame;
 use crate::naming::name_all;
 use crate::recipes::Recipes;
+use crate::scopes::{ModuleScope, Scopes, module_of};
 use crate::task::Task;
 use just_parts::layers::{Evaluation, Halt, Host};
 use std::alloc::Global;
@@ -28,10 +30,12 @@ pub struct Report {
 fn ask<'src, E: Evaluation>(
     alloc: Global,
     recipes: &Recipes<'src>,
+    _module: &ModuleScope<'_, 'src>,
     _evaluation: &mut E,
     task: &Task,
 ) -> Result<Vec<Task>, Halt<'src>>
     requires place { task.now.pair.recipe < length recipes.now }
+    requires bound { IsBoundAt _module.now recipes.now task.now.pair.recipe }
     requires resolved { All IsResolved recipes.now }
     ensures keeps { KeepsPromises (E.promised _evaluation.old) (E.promised _evaluation.new) }
     ensures took { let took = AsksAlone (E.promised _evaluation.old) (ask_steps recipes.now task.now) in
@@ -44,10 +48,12 @@ fn ask<'src, E: Evaluation>(
 fn follow<'src, E: Evaluation>(
     alloc: Global,
     recipes: &Recipes<'src>,
+    _module: &ModuleScope<'_, 'src>,
     _evaluation: &mut E,
     task: &Task,
 ) -> Result<Vec<Task>, Halt<'src>>
     requires place { task.now.pair.recipe < length recipes.now }
+    requires bound { IsBoundAt _module.now recipes.now task.now.pair.recipe }
     requires resolved { All IsResolved recipes.now }
     ensures keeps { KeepsPromises (E.promised _evaluation.old) (E.promised _evaluation.new) }
     ensures took { let took = AsksAlone (E.promised _evaluation.old) (follow_steps recipes.now task.now) in
@@ -59,11 +65,13 @@ fn follow<'src, E: Evaluation>(
 // The beginning of a task; it has no body yet.
 fn execute<'src, E: Evaluation, H: Host>(
     recipes: &Recipes<'src>,
+    _module: &ModuleScope<'_, 'src>,
     _evaluation: &mut E,
     host: &mut H,
     task: &Task,
 ) -> Result<(), Halt<'src>>
     requires place { task.now.pair.recipe < length recipes.now }
+    requires bound { IsBoundAt _module.now recipes.now task.now.pair.recipe }
     requires resolved { All IsResolved recipes.now }
     ensures keeps { KeepsPromises (E.promised _evaluation.old) (E.promised _evaluation.new) }
     ensures keeps_host { KeepsPromises (H.promised host.old) (H.promised host.new) }
@@ -80,25 +88,27 @@ fn execute<'src, E: Evaluation, H: Host>(
 fn call_task<'src, E: Evaluation>(
     alloc: Global,
     recipes: &Recipes<'src>,
+    scopes: &Scopes<'_, 'src>,
     evaluation: &mut E,
     run: &mut Course,
     task: Task,
 ) -> Result<(), Halt<'src>>
     requires ordered { IsOrdered recipes.now }
     requires resolved { All IsResolved recipes.now }
-    requires place { task.pair.recipe < length recipes.now }
-    requires sound { IsSound (length recipes.now) run.old }
+    requires callable { IsCallable scopes.now recipes.now task }
+    requires sound { IsSound (IsCallable scopes.now recipes.now) run.old }
     ensures keeps { KeepsPromises (E.promised evaluation.old) (E.promised evaluation.new) }
     ensures goes { let goes = Calls (E.promised evaluation.old) recipes.now task run.old (E.inquiries evaluation.old) in
         goes run.new (E.inquiries evaluation.new) result }
-    ensures sound { OnOk result (IsSound (length recipes.now) run.new) }
+    ensures sound { OnOk result (IsSound (IsCallable scopes.now recipes.now) run.new) }
     ensures lighter { OnOk result (IsLighter run.new.frames.items run.old.frames.items (Frame.Call task)) }
 {
     count_call(&mut run.calls, run.current.number)?;
     if run.current.table.contains(&task.pair) {
         return Ok(());
     }
-    let priors = ask(alloc, recipes, evaluation, &task)?;
+    let module = module_of(scopes, recipes.at(task.pair.recipe));
+    let priors = ask(alloc, recipes, module, evaluation, &task)?;
     run.frames.push(Frame::Block(task))?;
     push_calls(&mut run.frames, priors)?;
     Ok(())
@@ -108,6 +118,7 @@ fn call_task<'src, E: Evaluation>(
 fn run_block<'src, E: Evaluation, H: Host>(
     alloc: Global,
     recipes: &Recipes<'src>,
+    scopes: &Scopes<'_, 'src>,
     evaluation: &mut E,
     host: &mut H,
     run: &mut Course,
@@ -115,18 +126,19 @@ fn run_block<'src, E: Evaluation, H: Host>(
 ) -> Result<(), Halt<'src>>
     requires ordered { IsOrdered recipes.now }
     requires resolved { All IsResolved recipes.now }
-    requires place { task.pair.recipe < length recipes.now }
-    requires sound { IsSound (length recipes.now) run.old }
+    requires callable { IsCallable scopes.now recipes.now task }
+    requires sound { IsSound (IsCallable scopes.now recipes.now) run.old }
     ensures keeps { KeepsPromises (E.promised evaluation.old) (E.promised evaluation.new) }
     ensures keeps_host { KeepsPromises (H.promised host.old) (H.promised host.new) }
     ensures goes { let first = kept_by (H.entries host.old) (E.inquiries evaluation.old) in
         let last = kept_by (H.entries host.new) (E.inquiries evaluation.new) in
         Blocks (E.promised evaluation.old) (H.promised host.old) recipes.now task run.old first run.new last result }
-    ensures sound { OnOk result (IsSound (length recipes.now) run.new) }
+    ensures sound { OnOk result (IsSound (IsCallable scopes.now recipes.now) run.new) }
     ensures lighter { OnOk result (IsLighter run.new.frames.items run.old.frames.items (Frame.Block task)) }
 {
-    execute(recipes, evaluation, host, &task)?;
-    let subsequents = follow(alloc, recipes, evaluation, &task)?;
+    let module = module_of(scopes, recipes.at(task.pair.recipe));
+    execute(recipes, module, evaluation, host, &task)?;
+    let subsequents = follow(alloc, recipes, module, evaluation, &task)?;
     run.current.table.insert(task.pair)?;
     run.open(alloc, subsequents)?;
     Ok(())
@@ -136,6 +148,7 @@ fn run_block<'src, E: Evaluation, H: Host>(
 fn take<'src, E: Evaluation, H: Host>(
     alloc: Global,
     recipes: &Recipes<'src>,
+    scopes: &Scopes<'_, 'src>,
     evaluation: &mut E,
     host: &mut H,
     run: &mut Course,
@@ -143,19 +156,19 @@ fn take<'src, E: Evaluation, H: Host>(
 ) -> Result<(), Halt<'src>>
     requires ordered { IsOrdered recipes.now }
     requires resolved { All IsResolved recipes.now }
-    requires there { IsOpen (length recipes.now) (length run.old.calls.items) frame }
-    requires sound { IsSound (length recipes.now) run.old }
+    requires there { IsOpen (IsCallable scopes.now recipes.now) (length run.old.calls.items) frame }
+    requires sound { IsSound (IsCallable scopes.now recipes.now) run.old }
     ensures keeps { KeepsPromises (E.promised evaluation.old) (E.promised evaluation.new) }
     ensures keeps_host { KeepsPromises (H.promised host.old) (H.promised host.new) }
     ensures goes { let first = kept_by (H.entries host.old) (E.inquiries evaluation.old) in
         let last = kept_by (H.entries host.new) (E.inquiries evaluation.new) in
         Leads (E.promised evaluation.old) (H.promised host.old) recipes.now frame run.old first run.new last result }
-    ensures sound { OnOk result (IsSound (length recipes.now) run.new) }
+    ensures sound { OnOk result (IsSound (IsCallable scopes.now recipes.now) run.new) }
     ensures lighter { OnOk result (IsLighter run.new.frames.items run.old.frames.items frame) }
 {
     match frame {
-        Frame::Call(task) => call_task(alloc, recipes, evaluation, run, task),
-        Frame::Block(task) => run_block(alloc, recipes, evaluation, host, run, task),
+        Frame::Call(task) => call_task(alloc, recipes, scopes, evaluation, run, task),
+        Frame::Block(task) => run_block(alloc, recipes, scopes, evaluation, host, run, task),
         Frame::Back(outer) => {
             run.current = outer;
             Ok(())
@@ -167,13 +180,14 @@ fn take<'src, E: Evaluation, H: Host>(
 fn finish<'src, E: Evaluation, H: Host>(
     alloc: Global,
     recipes: &Recipes<'src>,
+    scopes: &Scopes<'_, 'src>,
     evaluation: &mut E,
     host: &mut H,
     run: &mut Course,
 ) -> Result<(), Halt<'src>>
     requires ordered { IsOrdered recipes.now }
     requires resolved { All IsResolved recipes.now }
-    requires sound { IsSound (length recipes.now) run.old }
+    requires sound { IsSound (IsCallable scopes.now recipes.now) run.old }
     ensures keeps { KeepsPromises (E.promised evaluation.old) (E.promised evaluation.new) }
     ensures keeps_host { KeepsPromises (H.promised host.old) (H.promised host.new) }
     ensures took { let first = kept_by (H.entries host.old) (E.inquiries evaluation.old) in
@@ -181,7 +195,7 @@ fn finish<'src, E: Evaluation, H: Host>(
         Finishes (E.promised evaluation.old) (H.promised host.old) recipes.now run.old first run.new last result }
 {
     while let Some(frame) = run.frames.pop() {
-        take(alloc, recipes, evaluation, host, run, frame)?;
+        take(alloc, recipes, scopes, evaluation, host, run, frame)?;
     }
     Ok(())
 }
@@ -190,6 +204,7 @@ fn finish<'src, E: Evaluation, H: Host>(
 fn start<'src, E: Evaluation, H: Host>(
     alloc: Global,
     recipes: &Recipes<'src>,
+    scopes: &Scopes<'_, 'src>,
     evaluation: &mut E,
     host: &mut H,
     tasks: Vec<Task>,
@@ -197,6 +212,7 @@ fn start<'src, E: Evaluation, H: Host>(
     requires ordered { IsOrdered recipes.now }
     requires resolved { All IsResolved recipes.now }
     requires below { AllBelow (length recipes.now) tasks.items }
+    requires home { AreHome scopes.now recipes.now tasks.items }
     ensures keeps { KeepsPromises (E.promised evaluation.old) (E.promised evaluation.new) }
     ensures keeps_host { KeepsPromises (H.promised host.old) (H.promised host.new) }
     ensures took { let first = kept_by (H.entries host.old) (E.inquiries evaluation.old) in
@@ -210,7 +226,7 @@ fn start<'src, E: Evaluation, H: Host>(
     }
     let mut course = Course::new(alloc)?;
     push_calls(&mut course.frames, tasks)?;
-    finish(alloc, recipes, evaluation, host, &mut course)?;
+    finish(alloc, recipes, scopes, evaluation, host, &mut course)?;
     Ok(Report {
         calls: course.calls,
     })
@@ -220,16 +236,19 @@ fn start<'src, E: Evaluation, H: Host>(
 /// of their own. The run ends at the first step that fails. It takes no stack for a chain of recipes.
 ///
 /// Each recipe has its path and at least as many dependencies as priors, and each task is that of a recipe that is there:
-/// compiling promises the one, and `InvocationParser` the other.
+/// compiling promises the one, and `InvocationParser` the other. The module of each recipe that the tasks lead to is in
+/// `scopes`, where all that the recipe reads has its value.
 pub fn run_tasks<'src, E: Evaluation, H: Host>(
     alloc: Global,
     recipes: &Recipes<'src>,
+    scopes: &Scopes<'_, 'src>,
     evaluation: &mut E,
     host: &mut H,
     tops: Vec<Task>,
 ) -> Result<Report, Halt<'src>>
     requires resolved { All IsResolved recipes.now }
     requires below { AllBelow (length recipes.now) tops.items }
+    requires home { AreHome scopes.now recipes.now tops.items }
     ensures keeps { KeepsPromises (E.promised evaluation.old) (E.promised evaluation.new) }
     ensures keeps_host { KeepsPromises (H.promised host.old) (H.promised host.new) }
     ensures account { let first = kept_by (H.entries host.old) (E.inquiries evaluation.old) in
@@ -240,5 +259,5 @@ pub fn run_tasks<'src, E: Evaluation, H: Host>(
         IsAsExpected (E.promised evaluation.old) (H.promised host.old) recipes.now tops.items first last result }
 {
     recipes.are_ordered();
-    start(alloc, recipes, evaluation, host, tops)
+    start(alloc, recipes, scopes, evaluation, host, tops)
 }

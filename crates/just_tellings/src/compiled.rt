@@ -1,5 +1,5 @@
 //! The lines that tell what a compilation has, what words mean in it, and what a run of them did.
-ghost use Rattle.just_invoke.specs.Closed.{IsClosed};
+ghost use Rattle.just_invoke.specs.Closed.{IsRooted};
 
 use crate::runs::{add_run, add_split};
 use just_data::Text;
@@ -20,7 +20,7 @@ fn add_words<'src>(
     words: &[&str],
     text: &mut String,
 ) -> Result<(), AllocError>
-    requires { IsClosed root.now recipes.now }
+    requires { IsRooted root.now recipes.now }
 {
     add_split(root, recipes, alloc, words, text)?;
     add_run(
@@ -45,7 +45,7 @@ pub fn add_compiled<'src>(
     asked: &Asked,
     text: &mut String,
 ) -> Result<(), AllocError>
-    requires { IsClosed root.now recipes.now }
+    requires { IsRooted root.now recipes.now }
 {
     add_loaded(root, texts, text)?;
     add_modules(root, recipes, overrides, alloc, text)?;

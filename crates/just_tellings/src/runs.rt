@@ -1,5 +1,5 @@
 //! The lines that tell what words mean, and what a run of them did.
-ghost use Rattle.just_invoke.specs.Closed.{IsClosed};
+ghost use Rattle.just_invoke.specs.Closed.{IsRooted};
 
 use just_bench::Recorder;
 use just_data::Text;
@@ -41,7 +41,7 @@ pub fn add_split<'src>(
     words: &[&str],
     text: &mut String,
 ) -> Result<(), AllocError>
-    requires { IsClosed root.now recipes.now }
+    requires { IsRooted root.now recipes.now }
 {
     match InvocationParser::parse_invocations(alloc, root, recipes, &PlainEvaluation, words) {
         Ok(invocations) => add_invocations(text, invocations.as_slice()),
@@ -90,7 +90,7 @@ pub fn add_run<'src>(
     memory_at: Option<usize>,
     text: &mut String,
 ) -> Result<(), AllocError>
-    requires { IsClosed root.now recipes.now }
+    requires { IsRooted root.now recipes.now }
 {
     let mut host = match memory_at {
         Some(call) => Recorder::memory_at(alloc, call),

@@ -1,4 +1,4 @@
 use Rattle.just_examples.proofs.answers.compile.Goals as goal
 
 pub returns : goal.returns
-returns c = c.compile.ensures.closed
+returns c = c.compile.ensures.rooted

@@ -4,13 +4,18 @@ use Rattle.just_parts.specs.Steps.{Kept, Question, both, kept_by}
 use Rattle.just_running.specs.declared.frame.Frame.{Frame}
 use Rattle.just_running.specs.declared.frame.Frame.TheVariants.{Call, Block}
 use Rattle.just_running.specs.Frames.{state_of, weight}
+use Rattle.just_running.specs.Homes.{IsCallable}
 use Rattle.just_running.specs.Leaves.{leaves_of}
 use Rattle.just_running.specs.declared.task.Task.{Task}
 use Rattle.just_running.proofs.CourseLemmas.{called-sound, counted-sound, pushed-calls}
 use Rattle.just_running.proofs.Goings.{goes-err, over-took, known-took, unasked-took, asked-took, halted-took}
+use Rattle.just_running.proofs.Homes.{asked-callable, home-of}
 use Rattle.just_running.proofs.Leaves.{asked-below, leaves-lower}
 use Rattle.just_running.proofs.WeightLemmas.{call-lighter, taken-lighter}
 use Rattle.just_running.proofs.running.call_task.Goals as goal
+
+pub module_of-module-requires : goal.module_of-module-requires
+module_of-module-requires g c = home-of c.args.scopes.now c.args.recipes.now c.args.task c.requires.callable c.at.result.now c.at.ensures
 
 pub returns-in_err-count_call-clause-goes : goal.returns-in_err-count_call-clause-goes
 returns-in_err-count_call-clause-goes g c = λ h entries.
@@ -75,9 +80,9 @@ pub returns-clause-sound : goal.returns-clause-sound
 returns-clause-sound g c =
     let rs = c.args.recipes.now in
     let ps : List Task = c.in_ok-priors.priors.items in
-    let below = asked-below rs c.requires.ordered (g.E.Evaluation.promised c.args.evaluation.now) c.args.task _ _ ps c.in_ok-priors.ensures.took in
+    let opens = asked-callable c.args.scopes.now rs c.args.task c.requires.callable c.requires.ordered (g.E.Evaluation.promised c.args.evaluation.now) _ _ ps c.in_ok-priors.ensures.took in
     let pushed : c.push.new.self.items ≡ c.args.run.now.frames.items ++ Block c.args.task ∷ [] = search rules in
-    called-sound (length rs) c.args.run.now _ c.args.task ps (search rules) (pushed-calls _ _ (Block c.args.task) ps c.push_calls.new.frames.items pushed c.in_ok-push_calls.ensures) c.requires.place below c.requires.sound
+    called-sound (IsCallable c.args.scopes.now rs) c.args.run.now _ c.args.task ps (search rules) (pushed-calls _ _ (Block c.args.task) ps c.push_calls.new.frames.items pushed c.in_ok-push_calls.ensures) c.requires.callable opens c.requires.sound
 
 pub returns-clause-lighter : goal.returns-clause-lighter
 returns-clause-lighter g c =

@@ -1,14 +1,18 @@
-use Rattle.std.proofs.Common.{List, length, Option, arith, rules}
+use Rattle.std.proofs.Common.{List, Option, rules}
 use Rattle.just_parts.specs.Host.{Answer}
 use Rattle.just_parts.specs.Steps.{Kept, Question, both, kept_by}
 use Rattle.just_parts.proofs.StepLemmas.{keeps-both}
 use Rattle.just_running.specs.Frames.{left_of, state_of}
 use Rattle.just_running.specs.Leaves.{leaves_of}
 use Rattle.just_running.specs.declared.task.Task.{Task}
-use Rattle.just_running.proofs.CourseLemmas.{below-more, block-last}
+use Rattle.just_running.proofs.CourseLemmas.{block-last}
 use Rattle.just_running.proofs.Goings.{goes-err, failed-took, unfollowed-took, stopped-took, followed-took}
+use Rattle.just_running.proofs.Homes.{followed-callable, home-of}
 use Rattle.just_running.proofs.Leaves.{followed-below, leaves-lower}
 use Rattle.just_running.proofs.running.run_block.Goals as goal
+
+pub module_of-module-requires : goal.module_of-module-requires
+module_of-module-requires g c = home-of c.args.scopes.now c.args.recipes.now c.args.task c.requires.callable c.at.result.now c.at.ensures
 
 pub returns-in_err-execute-clause-goes : goal.returns-in_err-execute-clause-goes
 returns-in_err-execute-clause-goes g c =
@@ -62,8 +66,8 @@ pub returns-clause-sound : goal.returns-clause-sound
 returns-clause-sound g c =
     let rs = c.args.recipes.now in
     let ts : List Task = c.in_ok-subsequents.subsequents.items in
-    let below = followed-below rs c.requires.ordered (g.E.Evaluation.promised c.execute.new._evaluation) c.args.task _ _ ts c.in_ok-subsequents.ensures.took in
-    c.in_ok-open.ensures.sound (length rs) (record { frames = c.requires.sound.frames; number = c.requires.sound.number }) (below-more c.args.task.pair.recipe (length rs) ts (omega (arith, c.requires.place)) below)
+    let opens = followed-callable c.args.scopes.now rs c.args.task c.requires.callable c.requires.ordered (g.E.Evaluation.promised c.execute.new._evaluation) _ _ ts c.in_ok-subsequents.ensures.took in
+    c.in_ok-open.ensures.sound c.args.scopes.now rs opens (record { frames = c.requires.sound.frames; number = c.requires.sound.number })
 
 pub returns-clause-lighter : goal.returns-clause-lighter
 returns-clause-lighter g c =

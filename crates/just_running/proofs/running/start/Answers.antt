@@ -3,10 +3,12 @@ use Rattle.just_parts.specs.Host.{Answer}
 use Rattle.just_parts.specs.Steps.{Question, both}
 use Rattle.just_parts.proofs.StepLemmas.{took-out}
 use Rattle.just_running.specs.Frames.{state_of}
+use Rattle.just_running.specs.Homes.{IsCallable}
 use Rattle.just_running.specs.Leaves.{leaves_of}
 use Rattle.just_running.specs.Walking.{fresh_steps, walk_steps}
 use Rattle.just_running.proofs.CourseLemmas.{begun-sound, first-calls}
 use Rattle.just_running.proofs.Goings.{ended-calls, whole-stop, whole-took}
+use Rattle.just_running.proofs.Homes.{each-callable}
 use Rattle.just_running.proofs.Leaves.{leaves-lower}
 use Rattle.just_running.proofs.running.start.Goals as goal
 
@@ -24,8 +26,8 @@ returns-in_err-push_calls-clause-took g c =
 
 pub finish-requires-clause-sound : goal.finish-requires-clause-sound
 finish-requires-clause-sound g c =
-    begun-sound (length c.args.recipes.now) (record { frames = c.push_calls.new.frames; current = c.in_ok-course.course.current; calls = c.in_ok-course.course.calls }) c.args.tasks.items
-    (first-calls _ _ c.args.tasks.items c.in_ok-course.ensures.frames c.in_ok-push_calls.ensures) c.in_ok-course.ensures.state c.requires.below
+    begun-sound (IsCallable c.args.scopes.now c.args.recipes.now) (record { frames = c.push_calls.new.frames; current = c.in_ok-course.course.current; calls = c.in_ok-course.course.calls }) c.args.tasks.items
+    (first-calls _ _ c.args.tasks.items c.in_ok-course.ensures.frames c.in_ok-push_calls.ensures) c.in_ok-course.ensures.state (each-callable c.args.scopes.now c.args.recipes.now c.args.tasks.items c.requires.below c.requires.home)
 
 pub returns-in_err-finish-clause-took : goal.returns-in_err-finish-clause-took
 returns-in_err-finish-clause-took g c =

@@ -1,0 +1,56 @@
+//! The modules of a run.
+ghost use Rattle.std.specs.Prelude.{◌≡◌, IfOk};
+ghost use Rattle.just_invoke.specs.declared.justfile.Justfile.{out-Justfile};
+ghost use Rattle.just_invoke.specs.Scopes.{HasScopes};
+
+use crate::justfile::Justfile;
+use crate::variables::add_modules;
+use just_data::{Sequence, Text};
+use just_parts::layers::{Config, Context, Number, Scope};
+use just_running::{ModuleScope, Scopes};
+use std::alloc::{AllocError, Global};
+use std::collections::{BTreeMap, HashMap};
+
+// A module without values.
+fn bare_scope<'run, 'src>(
+    alloc: Global,
+    config: &'run Config,
+    module: &'run Justfile<'src>,
+    overrides: &'run HashMap<Number, Text>,
+) -> ModuleScope<'run, 'src> {
+    ModuleScope {
+        context: Context {
+            config,
+            module_path: &module.module_path,
+            working_directory: &module.working_directory,
+            assignments: &module.assignments,
+            functions: &module.functions,
+            overrides,
+            settings: &module.settings,
+            unexports: &module.unexports,
+        },
+        scope: Scope {
+            bindings: Sequence::new(alloc),
+        },
+    }
+}
+
+/// The modules that stand in the root, each without values: no variable is read yet.
+pub(crate) fn bare_scopes<'run, 'src>(
+    alloc: Global,
+    config: &'run Config,
+    root: &'run Justfile<'src>,
+    overrides: &'run HashMap<Number, Text>,
+) -> Result<Scopes<'run, 'src>, AllocError>
+    ensures { IfOk result (HasScopes root.now) }
+{
+    let mut scopes = BTreeMap::new(alloc);
+    let mut left = Vec::new(alloc);
+    left.push(root)?;
+    while let Some(module) = left.pop() {
+        let path = module.module_path.clone()?;
+        scopes.insert(path, bare_scope(alloc, config, module, overrides))?;
+        add_modules(&mut left, module)?;
+    }
+    Ok(scopes)
+}
