@@ -36,7 +36,7 @@ none_left root modules left j in_root = elim (left j in_root) [
 ]
 
 still-some : {A : Type 0} (b : Bool) (x : A) (o : Option A) → IsSome o → IsSome (cond b (Some x) o)
-still-some true x o h = tt
+still-some true x o h = refl
 still-some false x o h = h
 
 module _ (root : Justfile) (old new : Modules) (rest : List Justfile) (m : Justfile) (scope : ModuleScope) (put : tree.UpdatesBy path_order.ghosts.cmp (path_order.ghosts.cmp (out-Justfile m).module_path) old new (Some scope)) where
@@ -44,7 +44,7 @@ module _ (root : Justfile) (old new : Modules) (rest : List Justfile) (m : Justf
   stays j some = subst IsSome (sym (put.0 (out-Justfile j).module_path)) (still-some _ scope (scope_at old j) some)
 
   in-taken : (j : Justfile) → StandsIn m j → IsSome (scope_at new j) ⊎ ((n : Justfile) × Contains (rest ++ (out-Justfile m).modules) n × StandsIn n j)
-  in-taken j itself = inl (subst IsSome (sym put.1) tt)
+  in-taken j itself = inl (subst IsSome (sym put.1) refl)
   in-taken j (inside {inner = n} c below) = inr (n, Contains-append_right rest (out-Justfile m).modules n c, below)
 
   left-cases : (n j : Justfile) → Contains rest n ⊎ Contains (m ∷ []) n → StandsIn n j → IsSome (scope_at new j) ⊎ ((n : Justfile) × Contains (rest ++ (out-Justfile m).modules) n × StandsIn n j)
