@@ -1,6 +1,5 @@
-use Rattle.std.proofs.Common.{◌≡◌, ◌∙◌, ap, length, arith}
+use Rattle.std.proofs.Common.{◌≡◌, ◌≤◌, ◌∙◌, ap, length, subst, sym}
 use Rattle.std.proofs.lemmas.List.{take_all}
-use Rattle.std.proofs.lemmas.Grind.{common_steps}
 use Rattle.just_definitions.specs.Contents.{function_names, signatures}
 use Rattle.just_definitions.specs.Definitions.{functions_in}
 use Rattle.just_definitions.proofs.Signatures.{function_more}
@@ -14,5 +13,5 @@ loop-place-preserved c =
 pub returns : goal.returns
 returns c =
     let long : length (functions_in c.args.definitions.now) ≡ length c.args.definitions.now.functions.items = length-lent c.args.definitions.now.functions.items in
-    let count : c.len-place-end.result ≡ length c.args.definitions.now.functions.items = grind (arith, common_steps) in
-    c.loop-place.invariant ∙ ap (λ fs. function_names (signatures fs)) (take_all c.loop-place.place (functions_in c.args.definitions.now) (omega arith))
+    let count : c.len-place-end.result ≡ length c.args.definitions.now.functions.items = c.len-place-end.ensures ∙ c.args.definitions.now.functions.ok.0 in
+    c.loop-place.invariant ∙ ap (λ fs. function_names (signatures fs)) (take_all c.loop-place.place (functions_in c.args.definitions.now) (subst (λ n. n ≤ c.loop-place.place) (count ∙ sym long) c.loop-place-test.false))

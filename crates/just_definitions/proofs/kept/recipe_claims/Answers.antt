@@ -1,5 +1,4 @@
-use Rattle.std.proofs.Common.{◌≡◌, ◌∙◌, length, arith}
-use Rattle.std.proofs.lemmas.Grind.{common_steps}
+use Rattle.std.proofs.Common.{◌≡◌, ◌≤◌, ◌∙◌, length, subst, sym}
 use Rattle.just_definitions.specs.Definitions.{recipes_in}
 use Rattle.just_definitions.specs.Kept.{claim_of_recipe}
 use Rattle.just_definitions.specs.declared.kept.Claim.{Claim}
@@ -16,6 +15,7 @@ loop-place-preserved c =
 
 pub returns : goal.returns
 returns c =
-    let long : length (recipes_in c.args.definitions.now) ≡ length c.args.definitions.now.recipes.items = length-lent c.args.definitions.now.recipes.items in
-    let count : c.len-place-end.result ≡ length c.args.definitions.now.recipes.items = grind (arith, common_steps) in
-    mapped_all claim_of_recipe (recipes_in c.args.definitions.now) c.loop-place.claims.items c.loop-place.place (omega arith) c.loop-place.invariant
+    let count : c.len-place-end.result ≡ length (recipes_in c.args.definitions.now) =
+        c.len-place-end.ensures ∙ c.args.definitions.now.recipes.ok.0 ∙ sym (length-lent c.args.definitions.now.recipes.items) in
+    mapped_all claim_of_recipe (recipes_in c.args.definitions.now) c.loop-place.claims.items c.loop-place.place
+    (subst (λ n. n ≤ c.loop-place.place) count c.loop-place-test.false) c.loop-place.invariant
