@@ -8,6 +8,7 @@ use Rattle.std.proofs.lemmas.Bool.{cases_Bool}
 use Rattle.std.proofs.lemmas.List.{get_or_default}
 use Rattle.std.proofs.lemmas.Slice.Eq.{bytes_eq-Decides}
 use Rattle.just_graph.proofs.Index.{some_same}
+use Rattle.just_items.specs.declared.item.Item.TheVariants as item
 use Rattle.just_graph.proofs.Members.{In, contained, from_flat, in_map, is_in}
 use Rattle.just_table.specs.Entries.{find, put}
 use Rattle.just_table.proofs.Puts.{find_put}
@@ -87,14 +88,17 @@ labels_of_modules [] = refl
 labels_of_modules (s ∷ subs) = ap (λ ns. naming.text_of_name s.label.name ∷ ns) (labels_of_modules subs)
 
 -- what declares a module says its name
-declared_name : (path : Modulepath) (item : Item) (s : Submodule) → In s (declared path item) → s.label.name ≡ Some s.name
-declared_name path item s i = search i
+declared_name : (path : Modulepath) (i : Item) (s : Submodule) → In s (declared path i) → s.label.name ≡ Some s.name
+declared_name path (item.Module name relative None attributes doc optional) s h = absurd h
+declared_name path (item.Module name relative (Some file) attributes doc optional) s (inl e) = ap (λ (x : Submodule). x.label.name) e ∙ sym (ap (λ (x : Submodule). Some x.name) e)
+declared_name path (item.Module name relative (Some file) attributes doc optional) s (inr h) = absurd h
+declared_name path _ s h = absurd h
 
 pub declared_names : (R : Reading) (files : List AstKey) (s : Submodule) → In s (flat_map (submodules_of R) files) → s.label.name ≡ Some s.name
 declared_names R files s i =
     let k = from_flat (submodules_of R) s files i in
-    let item = from_flat (declared k.0.0) s (items_in (R k.0)) k.2 in
-    declared_name k.0.0 item.0 s item.2
+    let x = from_flat (declared k.0.0) s (items_in (R k.0)) k.2 in
+    declared_name k.0.0 x.0 s x.2
 
 pub submodule_names : (subs : List Submodule) → ((s : Submodule) → In s subs → s.label.name ≡ Some s.name) → map (λ (s : Submodule). naming.text_of_name s.label.name) subs ≡ texts_of_names (map (λ (s : Submodule). s.name) subs)
 submodule_names [] named = refl
@@ -110,7 +114,7 @@ made_path rs path (place ∷ order) (x ∷ made) are r (inr i) = made_path rs pa
 
 module _ (given : Given) (asts : AstKey → Option Ast) (paths : (k : AstKey) (a : Ast) → asts k ≡ Some a → a.module_path ≡ k.0) (loaded : List Text) (built : List Built) where
   -- the justfile of a module of a forest stands in one of those that the forest is compiled to
-  record Standing (js : List Justfile) (m : Module) : Type 0 where
+  pub record Standing (js : List Justfile) (m : Module) : Type 0 where
     pub top : Justfile
     pub among : In top js
     pub it : Justfile
