@@ -61,13 +61,15 @@ fn surroundings_at<'a, 'src, S: Syntax>(
         OnOk result ((q : ℕ) → (Contains inner q → ⊥) → slot slots.new.items q ≡ slot slots.old.items q) }
     ensures room { OnOk result (length slots.new.items ≡ length slots.old.items) }
 {
-    let modules = take_inner(alloc, slots, joined.modules[place].as_slice(), labels)?;
+    let source = Text::from_str(alloc, files.keys[place].1.as_str())?;
+    let loaded = loaded.clone()?;
     let notes = notes_at(alloc, files, syntax, joined.files[place].as_slice())?;
+    let modules = take_inner(alloc, slots, joined.modules[place].as_slice(), labels)?;
     Ok(Surroundings {
-        loaded: loaded.clone()?,
+        loaded,
         modules,
         notes,
-        source: Text::from_str(alloc, files.keys[place].1.as_str())?,
+        source,
     })
 }
 
