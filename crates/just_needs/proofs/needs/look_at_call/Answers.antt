@@ -1,6 +1,7 @@
 use Rattle.std.proofs.Common.{◌≡◌, ◌∙◌, true, false, cond, refl, ap}
 use Rattle.std.specs.HashSet.{contains}
 use Rattle.std.specs.Str.{bytes_eq}
+use Rattle.std.proofs.lemmas.Result.{IfOk-from_err}
 use Rattle.just_names.specs.Name.{text_of_name}
 use Rattle.just_needs.proofs.LookingAt.{asked, call_found, call_settled, call_unknown, found_none, found_some}
 use Rattle.just_needs.proofs.Sets.{or_left, or_right}
@@ -45,3 +46,9 @@ returns g c =
     (record { numbers = c.args.search.now.numbers; functions = c.insert.new.self; stack = c.push.new.self }) refl
     (λ x. c.in_ok-insert.ensures.updates.0 x ∙ ap (λ k. cond (bytes_eq k x) true (functions x)) key)
     _ c.in_ok-push.ensures.items (ap (λ ps. scoped (hides ps) c.in-Some.function.now.body) c.as_slice.ensures)
+
+pub returns-in_err-insert : goal.returns-in_err-insert
+returns-in_err-insert g c = IfOk-from_err c.from_residual.result _ c.from_residual.ensures.0
+
+pub returns-in_err-push : goal.returns-in_err-push
+returns-in_err-push g c = IfOk-from_err c.from_residual-in_err-push.result _ c.from_residual-in_err-push.ensures.0

@@ -1,10 +1,9 @@
-use Rattle.std.proofs.Common.{◌≡◌, List, [], ◌∷◌, ◌++◌, None, get_or, map, length, take, ◌∙◌, ap, refl, sym, arith}
+use Rattle.std.proofs.Common.{◌≡◌, ◌<◌, ◌≤◌, List, [], ◌∷◌, ◌++◌, None, get_or, map, take, ◌∙◌, ap, refl, subst, sym}
 use Rattle.std.specs.Borrow.{Bor}
 use Rattle.std.specs.HashSet.{contains}
 use Rattle.std.specs.List.{list_any}
 use Rattle.std.specs.Str.{bytes_eq}
 use Rattle.std.proofs.lemmas.List.{map-append, take_all, take_more}
-use Rattle.just_names.specs.declared.number.Number.{Number}
 use Rattle.just_needs.specs.Search.{scoped_of}
 use Rattle.just_needs.proofs.LookingAt.{pushed}
 use Rattle.just_needs.proofs.Starts.{found_by, scoped_all}
@@ -25,7 +24,7 @@ loop-place-preserved g c =
     ∙ ap (λ (ss : List Scoped). ss ++ one item ∷ []) c.loop-place.invariant
     ∙ ap (λ (e : Bor Expression). map one (take i es) ++ one e ∷ []) c.index.ensures
     ∙ sym (map-append one (take i es) (get_or es i item ∷ []))
-    ∙ ap (map one) (sym (take_more es i item (omega arith)))
+    ∙ ap (map one) (sym (take_more es i item (subst (λ n. i < n) (c.len-place-end.ensures ∙ c.args.expressions.now.ok.0) c.loop-place-test.true)))
 
 pub returns : goal.returns
 returns g c =
@@ -33,7 +32,7 @@ returns g c =
     let es = c.args.expressions.now.items in
     let one : Bor Expression → Scoped = λ e. scoped none_hidden e.now in
     let all : map scoped_of c.loop-place.stack.items ≡ map (scoped none_hidden) (map (λ e. e.now) es) =
-    c.loop-place.invariant ∙ ap (map one) (take_all c.loop-place.place es (omega arith)) ∙ scoped_all es in
+    c.loop-place.invariant ∙ ap (map one) (take_all c.loop-place.place es (subst (λ n. n ≤ c.loop-place.place) (c.len-place-end.ensures ∙ c.args.expressions.now.ok.0) c.loop-place-test.false)) ∙ scoped_all es in
     record {
       needed = found_by m (has_number c.args.overrides.now) (contains same_number c.new-references.result) (contains bytes_eq c.new-visited.result) c.in_ok-found.found (map scoped_of c.loop-place.stack.items) (map (λ e. e.now) es)
           all c.in_ok-found.ensures.found c.in_ok-found.ensures.over
