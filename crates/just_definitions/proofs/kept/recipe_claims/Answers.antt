@@ -16,6 +16,6 @@ loop-place-preserved c =
 pub returns : goal.returns
 returns c =
     let count : c.len-place-end.result ≡ length (recipes_in c.args.definitions.now) =
-        c.len-place-end.ensures ∙ c.args.definitions.now.recipes.ok.0 ∙ sym (length-lent c.args.definitions.now.recipes.items) in
+    c.len-place-end.ensures ∙ c.args.definitions.now.recipes.ok.0 ∙ sym (length-lent c.args.definitions.now.recipes.items) in
     mapped_all claim_of_recipe (recipes_in c.args.definitions.now) c.loop-place.claims.items c.loop-place.place
     (subst (λ n. n ≤ c.loop-place.place) count c.loop-place-test.false) c.loop-place.invariant

@@ -16,6 +16,6 @@ loop-place-preserved c =
 pub returns : goal.returns
 returns c =
     let count : c.len-place-end.result ≡ length (variables_in c.args.definitions.now) =
-        c.len-place-end.ensures ∙ c.args.definitions.now.variables.ok.0 ∙ sym (length-lent c.args.definitions.now.variables.items) in
+    c.len-place-end.ensures ∙ c.args.definitions.now.variables.ok.0 ∙ sym (length-lent c.args.definitions.now.variables.items) in
     mapped_all claim_of_variable (variables_in c.args.definitions.now) c.loop-place.claims.items c.loop-place.place
     (subst (λ n. n ≤ c.loop-place.place) count c.loop-place-test.false) c.loop-place.invariant

@@ -11,6 +11,9 @@ returns c =
     ] in
     let copy : c.in_ok-doc.doc ≡ c.args.doc.now = search rules in
     λ i. record {
-      name = Some (c.copied.ensures i); doc = copy i; doc_expression = doc i;
-      groups = c.in_ok-groups.ensures i; private = c.is_private.ensures i;
+      name = Some (c.copied.ensures i);
+      doc = copy i;
+      doc_expression = doc i;
+      groups = c.in_ok-groups.ensures i;
+      private = c.is_private.ensures i;
     }

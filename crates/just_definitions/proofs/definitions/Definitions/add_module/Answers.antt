@@ -19,11 +19,17 @@ returns-in_ok-push-2 c =
     let old = c.args.self.now in
     let pushed : c.push.new.self.items ≡ old.modules.items ++ c.copied.result ∷ [] = c.in_ok-push.ensures.items in
     let docs : lent c.push-in-Some.new.self.items ≡ docs_in old ++ option_to_list (doc_of c.args.attributes.now) =
-        ap lent c.in_ok-push-2.ensures.items ∙ map-append (λ r. r.now) old.docs.items (c.in-Some.expression ∷ [])
-        ∙ ap (λ d. docs_in old ++ option_to_list d) c.in-Some.ensures in
+    ap lent c.in_ok-push-2.ensures.items ∙ map-append (λ r. r.now) old.docs.items (c.in-Some.expression ∷ [])
+    ∙ ap (λ d. docs_in old ++ option_to_list d) c.in-Some.ensures in
     λ i. record {
-      recipes = recipes_in old; functions = functions_in old; variables = variables_in old; modules = (pushed ∙ ap (λ (n : Name). old.modules.items ++ n ∷ []) c.copied.ensures) i;
-      docs = docs i; unexports = old.unexports.items; sets = sets_in old; lists = lists_in old;
+      recipes = recipes_in old;
+      functions = functions_in old;
+      variables = variables_in old;
+      modules = (pushed ∙ ap (λ (n : Name). old.modules.items ++ n ∷ []) c.copied.ensures) i;
+      docs = docs i;
+      unexports = old.unexports.items;
+      sets = sets_in old;
+      lists = lists_in old;
     }
 
 pub returns-in_default : goal.returns-in_default
@@ -31,8 +37,14 @@ returns-in_default c =
     let old = c.args.self.now in
     let pushed : c.push.new.self.items ≡ old.modules.items ++ c.copied.result ∷ [] = c.in_ok-push.ensures.items in
     let docs : docs_in old ≡ docs_in old ++ option_to_list (doc_of c.args.attributes.now) =
-        sym (append-nil (docs_in old)) ∙ ap (λ d. docs_in old ++ option_to_list d) c.in_default.ensures in
+    sym (append-nil (docs_in old)) ∙ ap (λ d. docs_in old ++ option_to_list d) c.in_default.ensures in
     λ i. record {
-      recipes = recipes_in old; functions = functions_in old; variables = variables_in old; modules = (pushed ∙ ap (λ (n : Name). old.modules.items ++ n ∷ []) c.copied.ensures) i;
-      docs = docs i; unexports = old.unexports.items; sets = sets_in old; lists = lists_in old;
+      recipes = recipes_in old;
+      functions = functions_in old;
+      variables = variables_in old;
+      modules = (pushed ∙ ap (λ (n : Name). old.modules.items ++ n ∷ []) c.copied.ensures) i;
+      docs = docs i;
+      unexports = old.unexports.items;
+      sets = sets_in old;
+      lists = lists_in old;
     }
