@@ -15,8 +15,8 @@ use Rattle.just_loader.specs.Keys.{NamesInFiles}
 use Rattle.just_loader.specs.Loaded.{IsLoaded}
 use Rattle.just_loader.specs.Reached.{World}
 use Rattle.just_loader.proofs.HeldKeys.{root_held}
-use Rattle.just_modules.specs.Analyzed.{IsAnalyzed}
-use Rattle.just_modules.proofs.Agreeing.{agreeing_kept, agreeing_unnamed}
+use Rattle.just_analyzer.specs.Analyzed.{IsAnalyzed}
+use Rattle.just_analyzer.proofs.Agreeing.{agreeing_kept, agreeing_unnamed}
 use Rattle.just_analyzer.specs.Compiled.{Compilation, Compiles}
 use Rattle.just_analyzer.specs.Readings.{Overrides, given_in, root_heading}
 use Rattle.just_analyzer.specs.Rules.{KeepsAll, Names, in_files, in_modules}

@@ -12,8 +12,8 @@ use Rattle.just_items.specs.declared.item.Item.TheVariants as item
 use Rattle.just_recipe.specs.declared.dependency.UnresolvedDependency.{UnresolvedDependency}
 use Rattle.just_recipe.specs.declared.recipe.Recipe.{Recipe}
 use Rattle.just_records.specs.declared.assignment.Assignment.{Assignment}
-use Rattle.just_notes.specs.Said.{said}
-use Rattle.just_joining.specs.Analyzable.{assignment_numbers}
+use Rattle.just_definitions.specs.Said.{said}
+use Rattle.just_rules.specs.Analyzable.{assignment_numbers}
 use Rattle.just_definitions.specs.Named.{variable_by}
 use Rattle.just_definitions.specs.Recipes.{recipes_of}
 use Rattle.just_definitions.specs.Resolved.{HasPriors, unresolved_numbers}

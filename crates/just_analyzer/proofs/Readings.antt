@@ -24,14 +24,14 @@ use Rattle.just_loader.specs.Keys.{IsLeastFileDepth, ast_key, items_at, key_of_a
 use Rattle.just_loader.specs.Loaded.{IsLoaded, with_path}
 use Rattle.just_loader.specs.Reached.{World}
 use Rattle.just_loader.proofs.HeldKeys.{closed, held_key, held_path, key_held, path_led, said}
-use Rattle.just_joining.specs.Analyzable.{AreAnalyzable, assignment_numbers}
+use Rattle.just_rules.specs.Analyzable.{AreAnalyzable, assignment_numbers}
 use Rattle.just_definitions.specs.Named.{variable_by}
-use Rattle.just_notes.specs.Said.{said as said_of}
-use Rattle.just_joining.specs.Files.{led}
+use Rattle.just_definitions.specs.Said.{said as said_of}
+use Rattle.just_rules.specs.Files.{led}
 use Rattle.just_definitions.specs.Recipes.{recipes_of}
-use Rattle.just_joining.specs.Reading.{Reading, ast_of_both, enabled_items, located_ast, reading_of}
+use Rattle.just_rules.specs.Reading.{Reading, ast_of_both, enabled_items, located_ast, reading_of}
 use Rattle.just_definitions.specs.Resolved.{unresolved_numbers}
-use Rattle.just_modules.proofs.Agreeing.{Holds}
+use Rattle.just_analyzer.proofs.Agreeing.{Holds}
 use Rattle.just_analyzer.specs.Readings.{IsReadingOf, items_read, lists_at, lists_in}
 use Rattle.just_analyzer.proofs.Numbers.{once_recipes, once_variables, recipe_number_in, recipe_priors, variable_number_in}
 

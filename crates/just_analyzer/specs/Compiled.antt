@@ -12,7 +12,7 @@ use Rattle.just_names.specs.declared.number.Number.{Number}
 use Rattle.just_variables.specs.Overrides.{last_of}
 use Rattle.just_loader.specs.Loaded.{IsLoaded}
 use Rattle.just_loader.specs.Reached.{World}
-use Rattle.just_modules.specs.Analyzed.{IsAnalyzed}
+use Rattle.just_analyzer.specs.Analyzed.{IsAnalyzed}
 use Rattle.just_analyzer.specs.Readings.{Overrides, given_in, root_heading}
 use Rattle.just_analyzer.specs.Rules.{KeepsAll, Names}
 use Rattle.just_parts.specs.Items.{Ast}

@@ -1,3 +1,10 @@
+pub mod Analyzed
 pub mod Compiled
+pub mod Evaluated
+pub mod Groups
+pub mod Justfiles
+pub mod Modules
+pub mod Parts
 pub mod Readings
 pub mod Rules
+pub mod Steps

@@ -5,10 +5,10 @@ ghost use Rattle.just_loader.specs.Reached.{world_of};
 ghost use Rattle.just_parts.specs.Layers.{override_at};
 ghost use Rattle.just_analyzer.specs.Compiled.{Compiles};
 
+use crate::analyzer::Analyzer;
 use just_compilation::{Compilation, relative_paths};
 use just_data::{Shared, Text};
 use just_loader::{Loaded, Sources, load};
-use just_modules::Analyzer;
 use just_parts::layers::{Config, Error, Evaluation, Name, Syntax};
 use just_paths::Modulepath;
 use std::alloc::Global;

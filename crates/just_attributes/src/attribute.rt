@@ -4,7 +4,7 @@ use just_literals::{Interpreter, Pattern, Signal, StringLiteral};
 use just_names::Name;
 
 /// A property of an `arg` attribute, as `help='..'`.
-#[derive(Clone, Debug, PartialEq, Eq, Drop)]
+#[derive(Clone, PartialEq, Eq, Drop)]
 pub struct ArgumentProperty<'src, E> {
     /// The name of the property.
     pub key: Name<'src>,
@@ -19,7 +19,7 @@ impl<'src, E: Exact> Exact for ArgumentProperty<'src, E> {
 }
 
 /// What an `arg` attribute says of a parameter. Help and pattern are there once the recipe is resolved.
-#[derive(Clone, Debug, PartialEq, Eq, Drop)]
+#[derive(Clone, PartialEq, Eq, Drop)]
 pub struct ArgumentAttribute<'src, E> {
     /// The name of the parameter.
     pub name: StringLiteral<'src>,
@@ -40,7 +40,7 @@ impl<'src, E: Exact> Exact for ArgumentAttribute<'src, E> {
 }
 
 /// What a `cache` attribute says of a script.
-#[derive(Clone, Debug, PartialEq, Eq, Drop)]
+#[derive(Clone, PartialEq, Eq, Drop)]
 pub struct CacheAttribute<E> {
     /// What else its result depends on.
     pub extra: Option<E>,
@@ -57,7 +57,7 @@ impl<E: Exact> Exact for CacheAttribute<E> {
 }
 
 /// A variable of a recipe's environment, and its value.
-#[derive(Clone, Debug, PartialEq, Eq, Drop)]
+#[derive(Clone, PartialEq, Eq, Drop)]
 pub struct EnvironmentAttribute<E> {
     /// What the variable's name is evaluated from.
     pub name: E,
@@ -72,7 +72,7 @@ impl<E: Exact> Exact for EnvironmentAttribute<E> {
 }
 
 /// What an attribute says of a recipe or of a module.
-#[derive(Clone, Debug, PartialEq, Eq, Drop)]
+#[derive(Clone, PartialEq, Eq, Drop)]
 pub enum Attribute<'src, E> {
     /// Of a parameter.
     Arg(ArgumentAttribute<'src, E>),
@@ -143,7 +143,7 @@ impl<'src, E: Exact> Exact for Attribute<'src, E> {
 }
 
 /// An attribute, and the name by which the text has it.
-#[derive(Clone, Debug, PartialEq, Eq, Drop)]
+#[derive(Clone, PartialEq, Eq, Drop)]
 pub struct NamedAttribute<'src, E> {
     /// Its name.
     pub name: Name<'src>,

@@ -4,7 +4,7 @@ use just_literals::Interpreter;
 use just_names::Name;
 
 /// A setting, and the value that a text gives it.
-#[derive(Clone, Debug, PartialEq, Eq, Drop)]
+#[derive(Clone, Drop)]
 pub enum Setting<'src> {
     AllowDuplicateRecipes(bool),
     AllowDuplicateVariables(bool),
@@ -29,7 +29,7 @@ impl<'src> Exact for Setting<'src> {
 }
 
 /// A line that sets a setting.
-#[derive(Clone, Debug, PartialEq, Eq, Drop)]
+#[derive(Clone, Drop)]
 pub struct Set<'src> {
     /// The name of the setting, as the text has it.
     pub name: Name<'src>,

@@ -1,2 +1,3 @@
 pub mod Bundle
+pub mod Promises
 pub mod StopWriter

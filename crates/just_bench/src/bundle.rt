@@ -17,7 +17,7 @@ const MARK: &str = "--- ";
 const NEXT_MARK: &str = "\n--- ";
 
 /// Why an input is no bundle of files.
-#[derive(Clone, Copy, Debug, PartialEq, Eq, Error)]
+#[derive(Clone, Copy, Debug, Error)]
 pub enum BundleError {
     /// Reading it faulted.
     #[error("The input could not be read")]

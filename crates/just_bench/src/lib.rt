@@ -1,9 +1,24 @@
-//! A recorder, a writer and bundles of files, for trying the analyzer without a host of one's own.
+//! What tries the analyzer without a host of one's own: a recorder, a writer, bundles of files, a text that is read as the
+//! root, words that are run over a module, and what the program writes of a run and of a fault.
 #![tactic(auto)]
 
 pub mod bundle;
+mod entries;
+mod fault;
+pub mod laws;
+mod one_line;
+mod reading;
 pub mod recorder;
+mod run;
 pub mod stop_writer;
+mod told;
+mod words;
 
+pub use entries::write_entries;
+pub use fault::Fault;
+pub use reading::{parse, root_source};
 pub use recorder::Recorder;
+pub use run::run_and_write;
 pub use stop_writer::StopWriter;
+pub use told::{tell, tell_usage};
+pub use words::run_words;

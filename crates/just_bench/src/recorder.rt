@@ -11,7 +11,7 @@ use std::marker::Model;
 
 /// A host that keeps what it was asked, and answers every call that it is done, but for one where it is made so.
 /// Contracts see the list of entries.
-#[derive(Debug, Drop)]
+#[derive(Drop)]
 pub struct Recorder {
     entries: Sequence<Entry>,
     // How many calls are answered before one is refused; none where none is.

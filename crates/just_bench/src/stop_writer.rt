@@ -7,7 +7,7 @@ use std::alloc::{AllocError, Global};
 use std::marker::Model;
 
 /// An output that takes as many bytes as it reserved when it was made, and then faults. It takes no more memory.
-#[derive(Debug, Drop)]
+#[derive(Drop)]
 pub struct StopWriter {
     bytes: Vec<u8>,
     limit: usize,

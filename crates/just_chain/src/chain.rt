@@ -8,14 +8,13 @@ use std::marker::Model;
 use std::rc::Rc;
 
 /// A list that shares what it begins with: a longer chain refers to the shorter one, and copies none of it.
-#[derive(Debug)]
 #[cycle(chain)]
 pub struct Chain<T> {
     link: Option<Rc<Link<T>>>,
 }
 
 // The last element, and the chain before it.
-#[derive(Debug, Drop)]
+#[derive(Drop)]
 #[cycle(chain)]
 struct Link<T> {
     front: Chain<T>,
@@ -59,7 +58,7 @@ impl<T> Chain<T> {
 
 /// The elements of a chain, from the last to the first. Contracts see it as the list of those that are left, in that
 /// order.
-#[derive(Debug, Drop)]
+#[derive(Drop)]
 pub struct ChainIter<'chain, T> {
     rest: &'chain Chain<T>,
 }
@@ -135,24 +134,6 @@ impl<T: Drop> Drop for Chain<T> {
             self = front;
         }
     }
-}
-
-impl<T: PartialEq> PartialEq for Chain<T> {
-    ghost eq = { pointwise T.eq };
-
-    ghost laws = { lists_per T.laws };
-
-    fn eq(&self, other: &Chain<T>) -> bool {
-        match (&self.link, &other.link) {
-            (Some(link), Some(others)) => link.last == others.last && link.front == others.front,
-            (None, None) => true,
-            _ => false,
-        }
-    }
-}
-
-impl<T: Eq> Eq for Chain<T> {
-    ghost laws = { lists_equiv T.Eq.laws };
 }
 
 impl<T: Drop> Clone for Chain<T> {

@@ -8,12 +8,12 @@ use Rattle.just_literals.specs.declared.list_use.ListUse.{ListUse}
 use Rattle.just_names.specs.Texts.{Text}
 use Rattle.just_literals.specs.declared.unstable_feature.UnstableFeature.{UnstableFeature}
 use Rattle.just_table.specs.Entries.{put, put_all}
-use Rattle.just_notes.specs.Labels.{doc_by, label_by}
-use Rattle.just_notes.specs.Notes.{absent_by, features_by, noted, warnings_by}
+use Rattle.just_definitions.specs.Labels.{doc_by, label_by}
+use Rattle.just_definitions.specs.Notes.{absent_by, features_by, noted, warnings_by}
 use Rattle.just_definitions.specs.Contents.{Contents, with_lists}
 use Rattle.just_definitions.specs.Named.{contents_from, function_by, lists_by, name_by, recipes_by, said_from, set_by, unexported_by, variable_by}
 use Rattle.just_checking.specs.Noted.{notes_from}
-use Rattle.just_notes.specs.Said.{said, said_in}
+use Rattle.just_definitions.specs.Said.{said, said_in}
 use Rattle.just_definitions.specs.Recipes.{recipes_of}
 
 put_append : {A : Type 0} (key : A → Text) (held : List (Text × A)) (xs ys : List A) → put_all key held (xs ++ ys) ≡ put_all key (put_all key held xs) ys

@@ -10,9 +10,9 @@ use Rattle.just_variables.specs.declared.variables.Variables.{Variables}
 use Rattle.just_definitions.specs.Constants.{constant_expressions, recipe_expressions, settings_expressions}
 use Rattle.just_definitions.specs.Contents.{Contents}
 use Rattle.just_definitions.specs.Named.{said_from}
-use Rattle.just_notes.specs.Labels.{doc_by, doc_of, label_by}
-use Rattle.just_notes.specs.Said.{said, said_in}
-use Rattle.just_notes.specs.declared.labels.Label.{Label}
+use Rattle.just_definitions.specs.Labels.{doc_by, doc_of, label_by}
+use Rattle.just_definitions.specs.Said.{said, said_in}
+use Rattle.just_definitions.specs.declared.labels.Label.{Label}
 use Rattle.just_parts.specs.Bare.{bare_item}
 use Rattle.just_parts.specs.Evaluator.{Values}
 use Rattle.just_parts.specs.Items.{Ast, Item}

@@ -13,7 +13,7 @@ use Rattle.just_parts.specs.Syntax.{SyntaxAnswers}
 use Rattle.just_records.specs.declared.assignment.Assignment.{Assignment}
 use Rattle.just_table.specs.Entries.{find, put, put_all}
 use Rattle.just_variables.specs.Variables.{known_with_numbers}
-use Rattle.just_joining.specs.Analyzable.{assignment_numbers}
+use Rattle.just_rules.specs.Analyzable.{assignment_numbers}
 use Rattle.just_definitions.specs.Contents.{Contents}
 use Rattle.just_definitions.specs.Kept.{claim_of_variable, kept_variables}
 use Rattle.just_definitions.proofs.Keeping.{left_in}

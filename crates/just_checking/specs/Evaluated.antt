@@ -13,7 +13,7 @@ use Rattle.just_definitions.specs.Definitions.{contents_in}
 use Rattle.just_checking.specs.declared.checking.Checked.{Checked}
 use Rattle.just_names.specs.Texts.{Text}
 use Rattle.just_names.specs.declared.number.Number.{Number}
-use Rattle.just_notes.specs.declared.labels.Label.{Label}
+use Rattle.just_definitions.specs.declared.labels.Label.{Label}
 use Rattle.just_parts.specs.Evaluator.{Values, values_of}
 use Rattle.just_parts.specs.Layers.{Layers}
 

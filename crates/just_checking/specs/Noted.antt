@@ -2,12 +2,12 @@
 use Rattle.std.specs.Prelude.{ℕ, Bool, List, flat_map, slice_get}
 use Rattle.just_graph.specs.Graph.{targets}
 use Rattle.just_parts.specs.Items.{Ast, Item}
-use Rattle.just_notes.specs.Notes.{absent_by, features_by, notes_of, warnings_by}
-use Rattle.just_notes.specs.declared.notes.Notes.{Notes}
-use Rattle.just_joining.specs.Files.{asts_in}
+use Rattle.just_definitions.specs.Notes.{absent_by, features_by, notes_of, warnings_by}
+use Rattle.just_definitions.specs.declared.notes.Notes.{Notes}
+use Rattle.just_rules.specs.Files.{asts_in}
 use Rattle.just_definitions.specs.Named.{said_from}
-use Rattle.just_joining.specs.declared.files.Files.{Files}
-use Rattle.just_joining.specs.declared.joined.Joined.{Joined}
+use Rattle.just_rules.specs.declared.files.Files.{Files}
+use Rattle.just_rules.specs.declared.joined.Joined.{Joined}
 
 -- what is noted of them, file after file
 abbrev pub notes_from : (Item → Bool) → List Ast → List ℕ → Notes

@@ -2,14 +2,14 @@
 
 ghost use Rattle.std.specs.Prelude.{◌≡◌, ◌<◌, IfOk, length};
 ghost use Rattle.std.specs.List.{All};
-ghost use Rattle.just_notes.specs.Labels.{label_by};
-ghost use Rattle.just_joining.specs.Files.{asts_in};
+ghost use Rattle.just_definitions.specs.Labels.{label_by};
+ghost use Rattle.just_rules.specs.Files.{asts_in};
 ghost use Rattle.just_definitions.specs.Named.{said_from};
 ghost use Rattle.just_checking.specs.Noted.{notes_from};
 
-use just_joining::files::{Files, ast_at};
-use just_notes::{Label, Notes, push_labels};
+use just_definitions::{Label, Notes, push_labels};
 use just_parts::layers::Syntax;
+use just_rules::files::{Files, ast_at};
 use std::alloc::{AllocError, Global};
 
 /// The labels of the modules that the files at places declare, file after file.

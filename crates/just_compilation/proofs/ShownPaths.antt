@@ -12,7 +12,7 @@ use Rattle.just_parts.specs.Asts.{AstKey, same_ast_key}
 use Rattle.just_parts.specs.Items.{Ast}
 use Rattle.just_parts.proofs.AstKeys.{key_same}
 use Rattle.just_loader.specs.ModuleFile.{relative}
-use Rattle.just_joining.proofs.FilePlaces.{holds_at}
+use Rattle.just_rules.proofs.FilePlaces.{holds_at}
 use Rattle.just_rules.proofs.Holding.{some_value}
 
 module _ (folder : Text) where

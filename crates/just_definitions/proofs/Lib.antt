@@ -6,3 +6,4 @@ pub mod Mapping
 pub mod Once
 pub mod RecipePlaces
 pub mod Signatures
+pub mod Walks

@@ -5,10 +5,13 @@ pub mod Definitions
 pub mod Groups
 pub mod Kept
 pub mod Known
+pub mod Labels
 pub mod Named
+pub mod Notes
 pub mod Recipes
 pub mod Resolved
 pub mod Rows
 pub mod Rules
+pub mod Said
 pub mod Settings
 pub mod Shells

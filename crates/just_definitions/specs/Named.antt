@@ -11,8 +11,8 @@ use Rattle.just_literals.specs.declared.list_use.ListUse.{ListUse}
 use Rattle.just_attributes.specs.declared.setting.Set.{Set}
 use Rattle.just_paths.specs.declared.modulepath.Modulepath.{Modulepath}
 use Rattle.just_recipe.specs.declared.recipe.Recipe.{Recipe}
-use Rattle.just_notes.specs.Labels.{doc_by}
-use Rattle.just_notes.specs.Said.{said_in}
+use Rattle.just_definitions.specs.Labels.{doc_by}
+use Rattle.just_definitions.specs.Said.{said_in}
 use Rattle.just_definitions.specs.Recipes.{recipes_of}
 use Rattle.just_definitions.specs.Resolved.{AreResolved}
 use Rattle.just_definitions.specs.Contents.{Contents}

@@ -3,7 +3,8 @@ ghost use Rattle.just_definitions.specs.Contents.{function_names, signatures};
 ghost use Rattle.just_definitions.specs.Recipes.{recipes_of, recipe_at};
 ghost use Rattle.just_definitions.specs.Definitions.{functions_in, lists_in, recipes_in, sets_in, variables_in};
 
-use just_notes::{doc_of, is_enabled};
+use crate::enabled::is_enabled;
+use crate::labels::doc_of;
 use just_parts::UnresolvedRecipe;
 use just_parts::layers::{
     Assignment, Expression, FunctionDefinition, Item, ListUse, Name, NamedAttribute, Set, Syntax,
@@ -36,8 +37,8 @@ impl<'a, 'src> Definitions<'src, 'a> {
     ghost use Rattle.just_definitions.specs.Contents.{no_contents, with_lists, with_module};
     ghost use Rattle.just_definitions.specs.Definitions.{contents_in, docs_in, functions_in, lists_in, recipes_in, sets_in, variables_in};
     ghost use Rattle.just_definitions.specs.Named.{function_by, name_by, set_by, unexported_by, variable_by};
-    ghost use Rattle.just_notes.specs.Labels.{doc_by, doc_of};
-    ghost use Rattle.just_notes.specs.Said.{said};
+    ghost use Rattle.just_definitions.specs.Labels.{doc_by, doc_of};
+    ghost use Rattle.just_definitions.specs.Said.{said};
 
     /// Nothing.
     pub fn new(alloc: Global) -> Definitions<'src, 'a>

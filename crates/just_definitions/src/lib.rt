@@ -1,7 +1,14 @@
-//! What the files of a module say of it, and which of several definitions of one name is kept. The rules of modules stand in
-//! `specs/`.
+//! What the files of a module say of it, and which of several definitions of one name is kept; and what no rule reads of it:
+//! labels, modules without a file, features, and warnings. The rules of modules stand in `specs/`.
 #![tactic(auto)]
 
 pub mod definitions;
+mod enabled;
 pub mod kept;
+mod labels;
+mod notes;
 pub mod redefinition;
+
+pub use enabled::is_enabled;
+pub use labels::{Label, doc_of, push_labels};
+pub use notes::Notes;

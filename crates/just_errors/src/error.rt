@@ -474,7 +474,7 @@ impl<'src> fmt::Display for CompileError<'src> {
 impl<'src> std::error::Error for CompileError<'src> {}
 
 /// Why words are no invocations. Paths are spaced where words were, and joined by `::` where a path was given.
-#[derive(Debug, PartialEq, Eq, Drop, Error)]
+#[derive(Debug, Drop, Error)]
 pub enum InvocationError<'src> {
     /// Words name a recipe that is not there.
     #[error("Justfile does not contain recipe `{recipe}`")]
@@ -537,7 +537,7 @@ impl<'src> InvocationError<'src> {
 }
 
 /// Why a run ended early.
-#[derive(Debug, PartialEq, Eq, Drop)]
+#[derive(Debug, Drop)]
 pub enum RunError<'src> {
     /// There are several invocations where one alone is allowed.
     ExcessInvocations { invocations: usize },
@@ -579,7 +579,7 @@ impl<'src> fmt::Display for RunError<'src> {
 impl<'src> std::error::Error for RunError<'src> {}
 
 /// Why a text is not taken into a source map.
-#[derive(Clone, Copy, Debug, PartialEq, Eq, Error)]
+#[derive(Clone, Copy, Debug, Error)]
 pub enum SourceError {
     /// The path is not clean.
     #[error("The path is not clean")]

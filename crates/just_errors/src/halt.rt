@@ -3,7 +3,7 @@ use crate::error::{Error, RunError};
 use std::alloc::{AllocError, AllocFailed};
 
 /// Why a run ended before its end.
-#[derive(Debug, PartialEq, Eq, Drop)]
+#[derive(Drop)]
 pub enum Halt<'src> {
     /// Memory was refused.
     Memory,

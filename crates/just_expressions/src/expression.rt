@@ -5,7 +5,7 @@ use just_names::{Name, Number};
 use std::alloc::AllocError;
 
 /// How two values are compared.
-#[derive(Clone, Copy, Debug, PartialEq, Eq)]
+#[derive(Clone, Copy, PartialEq, Eq)]
 pub enum ConditionalOperator {
     /// Whether they are equal.
     Equality,
@@ -19,7 +19,7 @@ pub enum ConditionalOperator {
 
 /// What a value is evaluated from. A clone shares its parts.
 #[cycle(expression)]
-#[derive(Debug, PartialEq, Eq, Drop)]
+#[derive(PartialEq, Eq, Drop)]
 pub struct Expression<'src> {
     /// Its form, with its parts.
     pub shape: Shared<Shape<'src>>,
@@ -29,7 +29,7 @@ pub struct Expression<'src> {
 
 /// The form of an expression. Its parts stand in the order of the text.
 #[cycle(expression)]
-#[derive(Debug, PartialEq, Eq, Drop)]
+#[derive(PartialEq, Eq, Drop)]
 pub enum Shape<'src> {
     /// `lhs && rhs`.
     And {

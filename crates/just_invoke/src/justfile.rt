@@ -3,8 +3,7 @@ use crate::invocation_parser::InvocationParser;
 use crate::running::run_invocations;
 use crate::variables::check_variables;
 use just_data::{BorrowedText, Exact, Sequence, Shared, Text};
-use just_known::Known;
-use just_needs::assignment_references;
+use just_needs::{Known, assignment_references};
 use just_parts::layers::{
     Assignment, Config, Error, Evaluation, FunctionDefinition, Host, Name, Number, Output,
     RunError, Settings, StringLiteral, Syntax, UnstableFeature, Warning,
@@ -16,7 +15,7 @@ use std::alloc::{AllocError, Global};
 use std::collections::{HashMap, HashSet};
 
 /// The name and the number of a recipe.
-#[derive(Clone, Debug, PartialEq, Eq, Drop)]
+#[derive(Clone, Drop)]
 pub struct RecipeKey<'src> {
     /// The name that the recipe is found by.
     pub name: Name<'src>,

@@ -7,7 +7,7 @@ use just_paths::Modulepath;
 use std::alloc::AllocError;
 
 /// What a source text says: its items in order, the path of its module and the folder that the module works in.
-#[derive(Debug, Drop)]
+#[derive(Drop)]
 pub struct Ast<'src, I> {
     /// The items, in the order of the text.
     pub items: Sequence<I>,

@@ -6,7 +6,7 @@ use just_names::{Name, Token};
 use just_records::{Assignment, FunctionDefinition};
 
 /// A definition of a source text, whose recipes are `R`. A grammar leaves the absolute path of a file out.
-#[derive(Clone, Debug, PartialEq, Eq, Drop)]
+#[derive(Clone, Drop)]
 pub enum Item<'src, R> {
     /// A variable.
     Assignment(Assignment<'src>),

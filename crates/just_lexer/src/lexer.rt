@@ -11,7 +11,7 @@ use just_names::{Token, continues_identifier, starts_identifier};
 use std::alloc::{AllocError, Global};
 
 /// What a lexeme is.
-#[derive(Clone, Copy, Debug, PartialEq, Eq)]
+#[derive(Clone, Copy, PartialEq, Eq)]
 pub enum Kind {
     /// An identifier.
     Name,
@@ -46,7 +46,7 @@ pub enum Kind {
 }
 
 /// The smallest part of a line that means something.
-#[derive(Debug, PartialEq, Eq, Drop)]
+#[derive(Drop)]
 pub struct Lexeme<'src> {
     /// What it is.
     pub kind: Kind,

@@ -9,7 +9,7 @@ use just_names::Token;
 use std::alloc::{AllocError, Global};
 
 /// A line without its end, and where it stands in its text. Its number counts from 0, its offset counts bytes.
-#[derive(Debug, PartialEq, Eq, Drop)]
+#[derive(Drop)]
 pub struct TextLine<'src> {
     /// How many lines stand before it.
     pub number: usize,

@@ -6,7 +6,7 @@ use just_paths::Modulepath;
 use std::alloc::{AllocError, Global};
 
 // What a part of the line is to be.
-#[derive(Clone, Copy, Debug, PartialEq, Eq)]
+#[derive(Clone, Copy, PartialEq, Eq)]
 enum Part {
     OptionOrWord,
     Home,

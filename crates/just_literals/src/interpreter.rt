@@ -4,7 +4,7 @@ use just_data::{Exact, Sequence};
 use std::alloc::AllocError;
 
 /// A program that runs lines or scripts, and its arguments.
-#[derive(Debug, PartialEq, Eq, Drop)]
+#[derive(PartialEq, Eq, Drop)]
 pub struct Interpreter<T> {
     /// The program.
     pub command: T,

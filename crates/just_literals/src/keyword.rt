@@ -1,7 +1,7 @@
 use just_data::{Exact, Text};
 
 /// A word that the grammar gives a meaning, as the name of a setting.
-#[derive(Clone, Debug, PartialEq, Eq, Drop)]
+#[derive(Clone, PartialEq, Eq, Drop)]
 pub struct Keyword {
     /// The word.
     pub lexeme: Text,

@@ -2,7 +2,7 @@ use just_data::Exact;
 use just_names::{ListFeature, Token};
 
 /// A place of a text that needs lists.
-#[derive(Clone, Debug, PartialEq, Eq, Drop)]
+#[derive(Clone, PartialEq, Eq, Drop)]
 pub struct ListUse<'src> {
     /// What needs them.
     pub feature: ListFeature,

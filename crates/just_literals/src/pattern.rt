@@ -1,7 +1,7 @@
 use just_data::{Exact, Text};
 
 /// What each word of a parameter matches, whole: a regular expression.
-#[derive(Clone, Debug, PartialEq, Eq, Drop)]
+#[derive(Clone, PartialEq, Eq, Drop)]
 pub struct Pattern {
     /// The regular expression.
     pub text: Text,

@@ -2,7 +2,7 @@ use just_data::{Exact, Sequence, Text};
 use just_names::{Name, Number};
 
 /// A name and its value.
-#[derive(Clone, Debug, PartialEq, Eq, Drop)]
+#[derive(Clone, PartialEq, Eq, Drop)]
 pub struct Binding<'src> {
     /// The name.
     pub name: Name<'src>,
@@ -23,7 +23,7 @@ impl<'src> Exact for Binding<'src> {
 }
 
 /// The values of names.
-#[derive(Clone, Debug, PartialEq, Eq, Drop)]
+#[derive(Clone, PartialEq, Eq, Drop)]
 pub struct Scope<'src> {
     /// The names and their values.
     pub bindings: Sequence<Binding<'src>>,

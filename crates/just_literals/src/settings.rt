@@ -2,7 +2,7 @@ use crate::interpreter::Interpreter;
 use just_data::{Exact, Text};
 
 /// The settings of a module, as evaluated. By default none is on.
-#[derive(Clone, Debug, Default, PartialEq, Eq, Drop)]
+#[derive(Clone, Default, PartialEq, Eq, Drop)]
 pub struct Settings {
     /// Several recipes of a module may have one name.
     pub allow_duplicate_recipes: bool,

@@ -1,7 +1,7 @@
 use just_data::Exact;
 
 /// What stands before a line of a body and says how it runs.
-#[derive(Clone, Copy, Debug, PartialEq, Eq)]
+#[derive(Clone, Copy, PartialEq, Eq)]
 pub enum Sigil {
     /// Its failure ends the recipe, and is none of the recipe.
     Guard,

@@ -1,7 +1,7 @@
 use just_data::Exact;
 
 /// What ends a program from outside.
-#[derive(Clone, Copy, Debug, PartialEq, Eq)]
+#[derive(Clone, Copy, PartialEq, Eq)]
 pub enum Signal {
     Hangup,
     Interrupt,

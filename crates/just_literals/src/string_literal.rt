@@ -2,7 +2,7 @@ use just_data::{Exact, Text};
 use just_names::Token;
 
 /// A quoted text of a source text: what stands between the quotes, and the whole with its quotes.
-#[derive(Clone, Debug, PartialEq, Eq, Drop)]
+#[derive(Clone, PartialEq, Eq, Drop)]
 pub struct StringLiteral<'src> {
     /// What stands between the quotes.
     pub cooked: Text,

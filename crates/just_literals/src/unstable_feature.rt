@@ -2,7 +2,7 @@ use just_data::{BorrowedText, Exact};
 use just_table::Keyed;
 
 /// A feature of the grammar that is not stable.
-#[derive(Clone, Debug, PartialEq, Eq, Drop)]
+#[derive(Clone, PartialEq, Eq, Drop)]
 pub struct UnstableFeature<'src> {
     /// What it is called.
     pub name: BorrowedText<'src>,

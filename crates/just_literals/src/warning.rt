@@ -1,7 +1,7 @@
 use just_data::{Exact, Text};
 
 /// What a front is told of a text that is no fault.
-#[derive(Clone, Debug, PartialEq, Eq, Drop)]
+#[derive(Clone, PartialEq, Eq, Drop)]
 pub struct Warning {
     /// What is told.
     pub message: Text,

@@ -8,7 +8,7 @@ use Rattle.just_graph.proofs.Members.{contained, in_left, in_right, is_in}
 use Rattle.just_graph.proofs.Index.{get_map, map_get, some_same}
 use Rattle.just_table.specs.Entries.{put}
 use Rattle.just_names.specs.Texts.{Text}
-use Rattle.just_notes.specs.declared.labels.Label.{Label}
+use Rattle.just_definitions.specs.declared.labels.Label.{Label}
 use Rattle.just_invoke.specs.Module.{module_name}
 use Rattle.just_invoke.specs.declared.justfile.Justfile.{Justfile}
 use Rattle.just_making.specs.Labelled.{held_by_name, labelled_as, slot, with_labels}

@@ -4,8 +4,8 @@ use Rattle.std.specs.Map.{values_of}
 use Rattle.just_invoke.specs.Module.{module_name}
 use Rattle.just_invoke.specs.declared.justfile.Justfile.{Justfile, out-Justfile, roll-Justfile}
 use Rattle.just_names.specs.Texts.{Text}
-use Rattle.just_notes.specs.declared.labels.Label.{Label}
-use Rattle.just_notes.specs.declared.notes.Notes.{Notes}
+use Rattle.just_definitions.specs.declared.labels.Label.{Label}
+use Rattle.just_definitions.specs.declared.notes.Notes.{Notes}
 use Rattle.just_table.specs.Entries.{put}
 
 -- what a justfile has of what is noted

@@ -8,8 +8,8 @@ ghost use Rattle.just_invoke.specs.declared.justfile.Justfile.{Justfile};
 ghost use Rattle.just_making.specs.Labelled.{AreTaken, labelled_as, slot};
 
 use just_data::{Sequence, copied};
+use just_definitions::Label;
 use just_invoke::Justfile;
-use just_notes::Label;
 use just_table::Table;
 use std::alloc::{AllocError, Global};
 

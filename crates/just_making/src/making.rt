@@ -10,9 +10,9 @@ ghost use Rattle.just_definitions.specs.Kept.{kept_recipes};
 ghost use Rattle.just_definitions.specs.Recipes.{names_of};
 
 use just_data::{Sequence, Shared, Text};
+use just_definitions::Notes;
 use just_definitions::definitions::{Definitions, recipe_at};
 use just_invoke::{Justfile, RecipeKey};
-use just_notes::Notes;
 use just_parts::layers::{Ast, Name, Number, Settings};
 use just_table::Table;
 use just_variables::Variables;

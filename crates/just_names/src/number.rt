@@ -5,7 +5,7 @@ use just_data::Exact;
 use std::marker::Model;
 
 /// What a definition of a compilation is told apart by.
-#[derive(Clone, Copy, Debug, PartialEq, Eq, PartialOrd, Ord, Hash)]
+#[derive(Clone, Copy, PartialEq, Eq, PartialOrd, Ord, Hash)]
 pub struct Number(pub u64);
 
 impl Exact for Number {
@@ -13,11 +13,11 @@ impl Exact for Number {
 }
 
 /// There is no number left.
-#[derive(Clone, Copy, Debug, PartialEq, Eq)]
+#[derive(Clone, Copy, PartialEq, Eq)]
 pub struct Exhausted;
 
 /// Gives each number once, in rising order. Contracts see how many it has given.
-#[derive(Debug, Drop)]
+#[derive(Drop)]
 pub struct Numerator {
     // The number that is given next, until all are given.
     next: Option<u64>,

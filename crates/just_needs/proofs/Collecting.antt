@@ -9,7 +9,7 @@ use Rattle.just_needs.specs.declared.needs.Search.{Search}
 use Rattle.just_needs.proofs.Searching.{search_gains, search_gains_all}
 use Rattle.just_needs.proofs.Sets.{or_left}
 use Rattle.just_parts.specs.Known.{Known}
-use Rattle.just_known.specs.Scopes.{Scoped}
+use Rattle.just_needs.specs.Scopes.{Scoped}
 
 -- a set that has its keys in another order gains others
 pub gained : {K : Type 0} (more old between new : K → Bool) → IsSame old between → GainsThose more between new → (k : K) → new k ≡ (old k || more k)

@@ -11,7 +11,7 @@ use Rattle.just_records.specs.declared.assignment.Assignment.{Assignment}
 use Rattle.just_records.specs.declared.function_definition.FunctionDefinition.{FunctionDefinition}
 use Rattle.just_table.specs.Entries.{find}
 use Rattle.just_parts.specs.Known.{Known}
-use Rattle.just_known.proofs.Placed.{entry_found}
+use Rattle.just_needs.proofs.Placed.{entry_found}
 
 one_less : (old new : Bool) → (old ≡ true → new ≡ true) → cond (not new) 1 0 ≤ cond (not old) 1 0
 one_less true true h = omega arith

@@ -1,7 +1,13 @@
+pub mod Alike
+pub mod Checked
 pub mod Collecting
 pub mod Fewer
 pub mod Looking
 pub mod LookingAt
+pub mod Nodes
+pub mod Placed
+pub mod Remade
 pub mod Searching
 pub mod Sets
 pub mod Starts
+pub mod Taken

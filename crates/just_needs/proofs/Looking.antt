@@ -18,7 +18,7 @@ use Rattle.just_references.specs.Body.{Calls, Mention, Names, mention_of}
 use Rattle.just_references.specs.declared.references.Reference.{Reference}
 use Rattle.just_table.specs.Entries.{find}
 use Rattle.just_parts.specs.Known.{Known}
-use Rattle.just_known.specs.Scopes.{Scoped, body_scoped, value_scoped}
+use Rattle.just_needs.specs.Scopes.{Scoped, body_scoped, value_scoped}
 
 pub the_one : {A : Type 0} (x y : A) → Contains (x ∷ []) y → x ≡ y
 the_one x y (zero, h, e) = e

@@ -30,7 +30,7 @@ use Rattle.just_references.specs.declared.references.Reference.TheVariants as re
 use Rattle.just_table.specs.Entries.{find}
 use Rattle.just_parts.specs.Known.{Known}
 use Rattle.just_parts.specs.Reading.{mentions}
-use Rattle.just_known.specs.Scopes.{Scoped, body_scoped, value_scoped}
+use Rattle.just_needs.specs.Scopes.{Scoped, body_scoped, value_scoped}
 
 -- what a set or a map answers at a key
 pub asked : (set : Text → Bool) (key name : Text) (answer b : Bool) → answer ≡ set key → key ≡ name → answer ≡ b → set name ≡ b

@@ -17,7 +17,7 @@ use Rattle.just_records.specs.declared.function_definition.FunctionDefinition.{F
 use Rattle.just_table.specs.Entries.{find}
 use Rattle.just_parts.specs.Known.{Known, none_hidden}
 use Rattle.just_parts.specs.Reading.{Reads, at_once, mentions, through}
-use Rattle.just_known.specs.Scopes.{Scoped, body_scoped, value_scoped}
+use Rattle.just_needs.specs.Scopes.{Scoped, body_scoped, value_scoped}
 
 pub not_overridden : (overridden : Number → Bool) (m : Known) (name : Text) (a : Assignment) → find name m.assignments ≡ Some a → overridden a.number ≡ false → overridden_by overridden m name ≡ false
 not_overridden overridden m name a is on = ap (λ o. option_map_or (λ (x : Assignment). overridden x.number) o false) is ∙ on

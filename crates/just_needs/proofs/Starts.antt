@@ -15,7 +15,7 @@ use Rattle.just_needs.specs.declared.needs.Search.{Search}
 use Rattle.just_needs.proofs.Looking.{is_the_one, not_in_none, the_one}
 use Rattle.just_needs.proofs.Searching.{search_gains, search_gains_all}
 use Rattle.just_expressions.specs.declared.expression.Expression.{Expression}
-use Rattle.just_known.specs.Scopes.{Scoped, scoped}
+use Rattle.just_needs.specs.Scopes.{Scoped, scoped}
 
 module _ {A B : Type 0} (f : A → B) where
   pub has_image : (xs : List A) (x : A) → Contains xs x → Contains (map f xs) (f x)

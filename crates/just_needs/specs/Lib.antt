@@ -1,1 +1,5 @@
+pub mod Lent
+pub mod Nodes
+pub mod Numbers
+pub mod Scopes
 pub mod Search

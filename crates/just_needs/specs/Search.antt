@@ -17,7 +17,7 @@ use Rattle.just_references.specs.declared.references.Reference.{Reference}
 use Rattle.just_table.specs.Entries.{find}
 use Rattle.just_parts.specs.Known.{Known, hides, none_hidden}
 use Rattle.just_parts.specs.Reading.{Reads, mentions}
-use Rattle.just_known.specs.Scopes.{Scoped, body_scoped, scoped, value_scoped}
+use Rattle.just_needs.specs.Scopes.{Scoped, body_scoped, scoped, value_scoped}
 
 -- Which numbers and which functions are found, and the expressions that are looked into next.
 pub record Found : Type 0 where

@@ -1,6 +1,11 @@
-//! What variables an expression needs.
+//! What names in the expressions of a module stand for, whether they stand for something, the numbers of what they mean, and
+//! what variables an expression needs.
 #![tactic(auto)]
 
+mod checking;
 mod needs;
+pub mod numbers;
 
+pub use checking::{Known, check_call, check_expression, check_names, hidden_names};
 pub use needs::{assignment_references, collect_references, needed_references};
+pub use numbers::{Numbers, numbered};

@@ -9,11 +9,11 @@ ghost use Rattle.just_needs.specs.Search.{Looks, LooksAtCall, LooksAtName, Searc
 ghost use Rattle.just_references.specs.Body.{mention_of};
 ghost use Rattle.just_table.specs.Entries.{find};
 ghost use Rattle.just_parts.specs.Known.{hides};
-ghost use Rattle.just_known.specs.Lent.{known_in};
+ghost use Rattle.just_needs.specs.Lent.{known_in};
 ghost use Rattle.just_parts.specs.Reading.{Reads, mentions};
 
+use crate::checking::{Known, hidden_names};
 use just_data::{BorrowedText, Text};
-use just_known::{Known, hidden_names};
 use just_parts::layers::{Expression, FunctionParameter, Name, Number, Syntax};
 use just_references::{Reference, References};
 use std::alloc::{AllocError, Global};

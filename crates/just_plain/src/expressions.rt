@@ -40,7 +40,7 @@ pub struct Level<'src> {
 }
 
 /// What may stand next.
-#[derive(Clone, Copy, Debug, PartialEq, Eq)]
+#[derive(Clone, Copy, PartialEq, Eq)]
 pub enum Ready {
     /// An operand must stand there.
     Wants,

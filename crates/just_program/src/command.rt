@@ -6,7 +6,7 @@ ghost use Rattle.just_invoke.specs.Closed.{IsRooted};
 use just_analyzer::layers::{Config, Error};
 use just_analyzer::{Compilation, Compiler, Sources, is_clean};
 use just_bench::bundle::{read_sources, read_text};
-use just_output::{Fault, run_and_write, tell, tell_usage};
+use just_bench::{Fault, run_and_write, tell, tell_usage};
 use just_syntax::PlainSyntax;
 use just_values::PlainEvaluation;
 use std::alloc::Global;

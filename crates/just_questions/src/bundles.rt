@@ -1,9 +1,9 @@
 //! Files of a bundle, the search among them, and a table.
 use just_bench::bundle::read_sources;
+use just_bench::parse;
 use just_data::{BorrowedText, Text};
 use just_loader::{Sources, find_module_file};
 use just_parts::layers::{Ast, Error, Item, LoadError, Name};
-use just_runner::parse;
 use just_syntax::PlainSyntax;
 use just_table::{Keyed, Table};
 use std::alloc::{AllocError, Global};

@@ -3,7 +3,7 @@ use just_data::Exact;
 use just_names::{Namepath, Number};
 
 /// What a resolved recipe depends on: a recipe, and the path by which it is named.
-#[derive(Clone, Debug, PartialEq, Eq, Drop)]
+#[derive(Clone, Drop)]
 pub struct Dependency<'src> {
     /// The names by which the recipe is named, as the source text has them.
     pub path: Namepath<'src>,
@@ -18,7 +18,7 @@ impl<'src> Exact for Dependency<'src> {
 }
 
 /// What a recipe of a source text depends on.
-#[derive(Clone, Debug, PartialEq, Eq, Drop)]
+#[derive(Clone, PartialEq, Eq, Drop)]
 pub struct UnresolvedDependency<'src> {
     /// The names by which the recipe is named.
     pub recipe: Namepath<'src>,

@@ -17,7 +17,7 @@ use std::alloc::{AllocError, Global};
 
 /// A recipe. Its first `priors` dependencies run before it, the others after it. The last three fields are there once
 /// it is resolved.
-#[derive(Debug, PartialEq, Eq, Drop)]
+#[derive(Drop)]
 pub struct Recipe<'src, D = Dependency<'src>> {
     /// What stands in brackets before it, in order.
     pub attributes: Sequence<NamedAttribute<'src>>,

@@ -4,7 +4,7 @@ use just_names::{Name, Number};
 use just_table::Keyed;
 
 /// A variable and its value.
-#[derive(Clone, Debug, PartialEq, Eq, Drop)]
+#[derive(Clone, PartialEq, Eq, Drop)]
 pub struct Assignment<'src> {
     /// The name of the variable.
     pub name: Name<'src>,

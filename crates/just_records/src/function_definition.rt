@@ -4,7 +4,7 @@ use just_names::{Name, Number};
 use just_table::Keyed;
 
 /// A parameter of a function.
-#[derive(Clone, Debug, PartialEq, Eq, Drop)]
+#[derive(Clone, PartialEq, Eq, Drop)]
 pub struct FunctionParameter<'src> {
     /// Its name.
     pub name: Name<'src>,
@@ -19,7 +19,7 @@ impl<'src> Exact for FunctionParameter<'src> {
 }
 
 /// A function of a source text.
-#[derive(Clone, Debug, PartialEq, Eq, Drop)]
+#[derive(Clone, PartialEq, Eq, Drop)]
 pub struct FunctionDefinition<'src> {
     /// Its name.
     pub name: Name<'src>,

@@ -3,7 +3,7 @@ use just_expressions::Expression;
 use just_names::Token;
 
 /// A part of a body line.
-#[derive(Clone, Debug, PartialEq, Eq, Drop)]
+#[derive(Clone, PartialEq, Eq, Drop)]
 pub enum Fragment<'src> {
     /// Text as it stands.
     Text { token: Token<'src> },
@@ -18,7 +18,7 @@ impl<'src> Exact for Fragment<'src> {
 }
 
 /// A line of a recipe's body.
-#[derive(Clone, Debug, PartialEq, Eq, Drop)]
+#[derive(Clone, PartialEq, Eq, Drop)]
 pub struct Line<'src> {
     /// The line of the text, which counts from 0.
     pub number: usize,

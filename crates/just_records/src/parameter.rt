@@ -11,7 +11,7 @@ use just_names::{Name, Number};
 use std::alloc::AllocError;
 
 /// How many words a parameter takes.
-#[derive(Clone, Copy, Debug, PartialEq, Eq)]
+#[derive(Clone, Copy, PartialEq, Eq)]
 pub enum ParameterKind {
     /// One.
     Singular,
@@ -31,7 +31,7 @@ impl ParameterKind {
 }
 
 /// A parameter of a recipe.
-#[derive(Debug, PartialEq, Eq, Drop)]
+#[derive(PartialEq, Eq, Drop)]
 pub struct Parameter<'src> {
     /// Its name.
     pub name: Name<'src>,

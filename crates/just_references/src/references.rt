@@ -14,7 +14,7 @@ use std::alloc::{AllocError, Global};
 use std::marker::Model;
 
 /// A call or a variable, as an expression writes it.
-#[derive(Debug, PartialEq, Eq, Drop)]
+#[derive(Drop)]
 pub enum Reference<'src> {
     /// A call of a function, which is given so many arguments.
     Call { name: Name<'src>, arguments: usize },

@@ -10,7 +10,7 @@ use Rattle.just_parts.specs.Syntax.{SyntaxAnswers}
 use Rattle.just_records.specs.declared.function_definition.FunctionParameter.{FunctionParameter}
 use Rattle.just_resolver.specs.declared.variable_resolver.VariableResolver.{VariableResolver}
 use Rattle.just_parts.specs.Known.{Known}
-use Rattle.just_known.specs.Lent.{known_in}
+use Rattle.just_needs.specs.Lent.{known_in}
 
 -- what names stand for
 abbrev pub known_by : {A : Type 0} → SyntaxAnswers → VariableResolver A → Known

@@ -13,8 +13,7 @@ ghost use Rattle.just_parts.specs.Misnaming.{Expressions, Misnames, MisnamesCall
 ghost use Rattle.just_parts.specs.Reading.{Reads};
 
 use just_data::{BorrowedText, Text};
-use just_known::{Known, check_call, check_expression, hidden_names};
-use just_numbers::{Numbers, numbered};
+use just_needs::{Known, Numbers, check_call, check_expression, hidden_names, numbered};
 use just_parts::layers::{
     Assignment, Error, Expression, FunctionDefinition, FunctionParameter, Name, Number, Syntax,
 };

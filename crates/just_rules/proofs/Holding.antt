@@ -11,9 +11,9 @@ use Rattle.just_parts.specs.Asts.{AstKey, same_ast_key}
 use Rattle.just_parts.specs.Bare.{bare_item}
 use Rattle.just_parts.specs.Items.{Ast, Item}
 use Rattle.just_parts.proofs.AstKeys.{key_same, keys_equivalent}
-use Rattle.just_joining.specs.Analyzable.{AreAnalyzable}
-use Rattle.just_joining.specs.Files.{ArePlaced, HoldsAll, all_led, asts_in, led, led_by, led_from, led_in}
-use Rattle.just_joining.specs.declared.files.Files.{Files}
+use Rattle.just_rules.specs.Analyzable.{AreAnalyzable}
+use Rattle.just_rules.specs.Files.{ArePlaced, HoldsAll, all_led, asts_in, led, led_by, led_from, led_in}
+use Rattle.just_rules.specs.declared.files.Files.{Files}
 
 all_by : (P : AstKey → Type 0) (xs : List AstKey) → ((x : AstKey) → In x xs → P x) → AllByRecursion P xs
 all_by P [] f = tt

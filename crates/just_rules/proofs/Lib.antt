@@ -1,5 +1,9 @@
 pub mod Alike
 pub mod BareOutlines
 pub mod Excluded
+pub mod FilePlaces
 pub mod Following
 pub mod Holding
+pub mod Joining
+pub mod Numbers
+pub mod Placing

@@ -1,8 +1,10 @@
-//! The checks of a module's headers and names.
+//! The files of modules under places, joined, and the checks of a module's headers and names.
 #![tactic(auto)]
 
+pub mod files;
 pub mod functions;
 pub mod headers;
+pub mod joined;
 pub mod module_names;
 mod settings;
 pub mod variables;

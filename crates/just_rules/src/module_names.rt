@@ -3,15 +3,15 @@
 ghost use Rattle.std.specs.Prelude.{◌≡◌, ◌<◌, ◌++◌, ℕ, IfOk, IfErr, OnOk, length};
 ghost use Rattle.std.specs.List.{All};
 ghost use Rattle.just_errors.specs.Causes.{Reports};
-ghost use Rattle.just_joining.specs.Files.{asts_in};
+ghost use Rattle.just_rules.specs.Files.{asts_in};
 ghost use Rattle.just_definitions.specs.Named.{name_by, said_from};
-ghost use Rattle.just_notes.specs.Said.{said};
-ghost use Rattle.just_joining.specs.OfPlaces.{HaveFiles, HaveNames, RepeatsNames};
+ghost use Rattle.just_definitions.specs.Said.{said};
+ghost use Rattle.just_rules.specs.OfPlaces.{HaveFiles, HaveNames, RepeatsNames};
 
+use crate::files::{Files, ast_at};
 use crate::headers::check_modules;
-use just_joining::files::{Files, ast_at};
-use just_joining::joined::Joined;
-use just_notes::is_enabled;
+use crate::joined::Joined;
+use just_definitions::is_enabled;
 use just_parts::layers::{Error, Item, Name, Syntax};
 use std::alloc::{AllocError, Global};
 

@@ -20,7 +20,7 @@ use just_parts::layers::{Evaluation, Halt, Host};
 use std::alloc::Global;
 
 /// How often a recipe was called under each once table, in the order of opening.
-#[derive(Debug, Drop)]
+#[derive(Drop)]
 pub struct Report {
     /// One count for each once table: a call counts also where the recipe ran already.
     pub calls: Vec<u64>,

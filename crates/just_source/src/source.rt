@@ -13,7 +13,7 @@ use std::alloc::{AllocError, Global};
 /// A file of a compilation, and how it came in: `file_depth` imports and modules lead to it from the root, by the files
 /// `file_path`, itself the last. It is imported at `import_offsets`, and it belongs to the module `namepath`, none for
 /// the root's.
-#[derive(Clone, Debug, PartialEq, Eq, Drop)]
+#[derive(Clone, Drop)]
 pub struct Source<'src> {
     /// How many imports and modules lead to it from the root.
     pub file_depth: u64,

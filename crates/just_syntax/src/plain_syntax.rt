@@ -28,7 +28,7 @@ use std::alloc::{AllocError, Global};
 /// recipe's body; an empty line, and one that begins with `#`, is ignored. `docs/plain.md` has the table of lines. Where a
 /// text does not follow the grammar, the token of the fault is the whole of a line: the first that does not follow it, or
 /// that of the first attribute before an item that the attributes do not fit.
-#[derive(Clone, Copy, Debug)]
+#[derive(Clone, Copy)]
 pub struct PlainSyntax<'a> {
     pairs: &'a [(Keyword, Keyword)],
 }

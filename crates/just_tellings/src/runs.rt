@@ -1,13 +1,12 @@
 //! The lines that tell what words mean, and what a run of them did.
 ghost use Rattle.just_invoke.specs.Closed.{IsRooted};
 
-use just_bench::Recorder;
+use just_bench::{Recorder, run_words};
 use just_data::Text;
 use just_invoke::{Invocation, InvocationParser, Justfile, Recipes};
 use just_lines::faults::add_fault;
 use just_lines::lists::{add_group, add_list, before};
 use just_parts::layers::{Config, Entry, Groups, Number};
-use just_runner::run_words;
 use just_values::PlainEvaluation;
 use std::alloc::{AllocError, Global};
 use std::collections::HashMap;

@@ -1,7 +1,6 @@
 pub mod Passing
 pub mod Filtered
 pub mod Inside
-pub mod Needing
 pub mod Finishes
 pub mod Frames
 pub mod Closing

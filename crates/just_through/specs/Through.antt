@@ -1,8 +1,6 @@
 -- What solid numbers read: the solid numbers that steps lead to, also through numbers that pass. Of any relation, where
 -- `R a b` is a step from a to b, and of marks that tell the solid numbers.
 use Rattle.std.specs.Prelude.{◌≡◌, ◌↔◌, ℕ, Bool, true, false, List, [], get_or}
-use Rattle.std.proofs.Common.{sym, ◌∙◌}
-use Rattle.std.proofs.lemmas.Bool.{false≢true}
 use Rattle.std.specs.List.{Contains}
 use Rattle.just_graph.specs.Steps.{Leads, leads_by, IsOnce, ListsStepsFirst, Reached, from_start, from_member}
 
@@ -30,13 +28,6 @@ pub record IsOrderThrough (R : ℕ → ℕ → Type 0) (solid : List Bool) (root
   -- so no listed number reads itself, by way of others or at once
   pub no_circle : (a : ℕ) → Contains order a → Leads (Reads R solid) a a → ⊥
 
--- The least set that has the solid numbers of `start`, the solid numbers that its other numbers lead to through numbers
--- that pass, and whatever a member reads that is not stopped.
-pub data Needed (R : ℕ → ℕ → Type 0) (solid : List Bool) (start : List ℕ) (stops : List Bool) : ℕ → Type 0 where
-  from_solid : {a : ℕ} → Contains start a → IsSolid solid a → Needed R solid start stops a
-  from_passing : {a b : ℕ} → Contains start a → get_or solid a false ≡ false → Passes R solid a b → IsSolid solid b → Needed R solid start stops b
-  from_reader : {a b : ℕ} → Needed R solid start stops a → get_or stops a false ≡ false → Reads R solid a b → Needed R solid start stops b
-
 -- What holds by one relation holds by another that has its steps.
 pub passes_by : {R S : ℕ → ℕ → Type 0} → ((a b : ℕ) → R a b → S a b) → {solid : List Bool} {a b : ℕ} → Passes R solid a b → Passes S solid a b
 passes_by f (at_once r) = at_once (f _ _ r)
@@ -49,11 +40,6 @@ pub reached_by : {R S : ℕ → ℕ → Type 0} → ((a b : ℕ) → R a b → S
 reached_by f (from_start c) = from_start c
 reached_by f (from_member r on e) = from_member (reached_by f r) on (f _ _ e)
 
-pub needed_by : {R S : ℕ → ℕ → Type 0} → ((a b : ℕ) → R a b → S a b) → {solid : List Bool} {start : List ℕ} {stops : List Bool} {a : ℕ} → Needed R solid start stops a → Needed S solid start stops a
-needed_by f (from_solid c h) = from_solid c h
-needed_by f (from_passing c p w h) = from_passing c p (passes_by f w) h
-needed_by f (from_reader n on r) = from_reader (needed_by f n) on (reads_by f _ _ r)
-
 -- An order by one relation is one by another that has the same steps.
 pub order_through_by : {R S : ℕ → ℕ → Type 0} → ((a b : ℕ) → R a b → S a b) → ((a b : ℕ) → S a b → R a b) → (solid : List Bool) (roots order : List ℕ) → IsOrderThrough R solid roots order → IsOrderThrough S solid roots order
 order_through_by {R} {S} f g solid roots order o = record {
@@ -65,14 +51,3 @@ order_through_by {R} {S} f g solid roots order o = record {
   reads_first = λ k b h r. o.reads_first k b h (reads_by g _ _ r);
   no_circle = λ a c l. o.no_circle a c (leads_by (reads_by g) l);
 }
-
--- Where the whole start is solid, what is needed is the least set that has it and whatever a member reads that is not
--- stopped.
-pub least_from_needed : {R : ℕ → ℕ → Type 0} {solid : List Bool} {start : List ℕ} {stops : List Bool} → ((a : ℕ) → Contains start a → IsSolid solid a) → {a : ℕ} → Needed R solid start stops a → Reached (Reads R solid) start stops a
-least_from_needed all (from_solid c h) = from_start c
-least_from_needed all (from_passing c p w h) = absurd (false≢true (sym p ∙ all _ c))
-least_from_needed all (from_reader n on r) = from_member (least_from_needed all n) on r
-
-pub needed_from_least : {R : ℕ → ℕ → Type 0} {solid : List Bool} {start : List ℕ} {stops : List Bool} → ((a : ℕ) → Contains start a → IsSolid solid a) → {a : ℕ} → Reached (Reads R solid) start stops a → Needed R solid start stops a
-needed_from_least all (from_start c) = from_solid c (all _ c)
-needed_from_least all (from_member r on e) = from_reader (needed_from_least all r) on e

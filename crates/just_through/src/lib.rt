@@ -10,4 +10,4 @@ mod finishing;
 mod rows;
 mod through;
 
-pub use through::{need, order_through};
+pub use through::order_through;

@@ -1,14 +1,13 @@
-//! The order of the solid nodes by what they read, and the solid nodes that a start needs.
+//! The order of the solid nodes by what they read.
 
-ghost use Rattle.std.specs.Prelude.{◌≡◌, ◌<◌, ◌↔◌, ℕ, true, false, filter, get_or, length, IfErr, IfOk};
-ghost use Rattle.std.specs.List.{All, Contains};
+ghost use Rattle.std.specs.Prelude.{◌≡◌, ◌<◌, false, filter, get_or, length, IfErr, IfOk};
+ghost use Rattle.std.specs.List.{All};
 ghost use Rattle.just_graph.specs.Graph.{HasEdge, IsGraph};
-ghost use Rattle.just_graph.specs.Steps.{IsCircle, IsOnce};
-ghost use Rattle.just_through.specs.Through.{IsOrderThrough, IsSolid, Needed, Reads};
+ghost use Rattle.just_graph.specs.Steps.{IsCircle};
+ghost use Rattle.just_through.specs.Through.{IsOrderThrough, Reads};
 
 use crate::circles::{circle_from_first, solid_circle};
 use crate::finishing::finish;
-use just_graph::reach;
 use std::alloc::{AllocError, Global};
 
 // The nodes that are solid, in their order.
@@ -47,29 +46,4 @@ pub fn order_through(
     }
     let order = solid_ones(alloc, solid, finished.as_slice())?;
     Ok(Ok(order))
-}
-
-/// Lists the solid nodes that `start` needs, each once: its own solid nodes, those that its other nodes lead to through
-/// nodes that pass, and whatever a listed node reads, unless `stops` marks that node.
-///
-/// It takes time in the number of nodes and edges, and no recursion. The error is want of memory.
-pub fn need(
-    alloc: Global,
-    edges: &[Vec<usize>],
-    solid: &[bool],
-    start: &[usize],
-    stops: &[bool],
-) -> Result<Vec<usize>, AllocError>
-    requires graph { IsGraph edges.now }
-    requires solid { length solid.now ≡ length edges.now }
-    requires start { All (λ a. a < length edges.now) start.now }
-    requires stops { length stops.now ≡ length edges.now }
-    // Only solid nodes are stopped.
-    requires stops_solid { (a : ℕ) → get_or stops.now a false ≡ true → IsSolid solid.now a }
-    ensures once { IfOk result (λ needed. IsOnce needed.items) }
-    ensures needed { IfOk result (λ needed. (a : ℕ) → Contains needed.items a ↔ Needed (HasEdge edges.now) solid.now start.now stops.now a) }
-{
-    let found = reach(alloc, edges, start, stops)?;
-    let needed = solid_ones(alloc, solid, found.as_slice())?;
-    Ok(needed)
 }

@@ -15,7 +15,7 @@ use Rattle.just_literals.specs.declared.scope.Binding.{Binding}
 use Rattle.just_table.specs.Entries.{IsKeyed, IsSorted, find}
 use Rattle.just_values.specs.Lookup.{constant_name, table_values}
 use Rattle.just_values.specs.declared.lookup.Constant.{Constant}
-use Rattle.just_known.proofs.Placed.{different, entry_at}
+use Rattle.just_needs.proofs.Placed.{different, entry_at}
 
 abbrev pub bindings_of : List (Text × Constant) → List Binding
 bindings_of es = map (λ (c : Constant). c.binding) (values_of es)

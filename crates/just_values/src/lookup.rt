@@ -14,7 +14,7 @@ use just_table::{Keyed, Table};
 use std::alloc::Global;
 
 /// A constant, which is found by its name.
-#[derive(Debug, Drop)]
+#[derive(Drop)]
 pub struct Constant<'src> {
     /// What it is bound to.
     pub binding: Binding<'src>,

@@ -13,7 +13,7 @@ use std::collections::{HashMap, HashSet};
 
 /// Evaluates expressions as `docs/plain.md` says: values are lists of texts, whether or not the settings say so. It promises
 /// that each question of a run is done.
-#[derive(Clone, Copy, Debug, Default, PartialEq, Eq)]
+#[derive(Clone, Copy, Default)]
 pub struct PlainEvaluation;
 
 impl Evaluation for PlainEvaluation {

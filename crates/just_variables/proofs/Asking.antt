@@ -31,7 +31,7 @@ use Rattle.just_references.specs.References.{references}
 use Rattle.just_references.proofs.Renumbering.{keeps_references, numbers_stay}
 use Rattle.just_table.specs.Entries.{find}
 use Rattle.just_parts.specs.Misnaming.{Misnames}
-use Rattle.just_known.proofs.Placed.{the_value}
+use Rattle.just_needs.proofs.Placed.{the_value}
 use Rattle.just_variables.specs.Variables.{AreVariables, known_with_numbers}
 use Rattle.just_variables.proofs.Judging.{bare_is, bare_of}
 use Rattle.just_variables.proofs.Similar.{AreSimilar, changed_similar, defined_changed, misnames_same, needs_similar, order_of_similar, range_changed, read_in_similar, reads_on_similar, similar_changed, similar_then}

@@ -19,10 +19,10 @@ use Rattle.just_through.specs.Through as graph
 use Rattle.just_table.specs.Entries.{find}
 use Rattle.just_parts.specs.Known.{Known}
 use Rattle.just_parts.specs.Reading.{Reads, ReadsOn, at_once, through}
-use Rattle.just_known.specs.Scopes.{Scoped, body_scoped, scoped, value_scoped}
+use Rattle.just_needs.specs.Scopes.{Scoped, body_scoped, scoped, value_scoped}
 use Rattle.just_variables.specs.Steps.{AreRowsOf, functions_of, nodes_of, rows_of, solid_of, variables_of}
 use Rattle.just_variables.proofs.Edges.{ToFunction, ToVariable, has_function, has_variable, node_at, node_of_function, node_of_variable, nodes_long, passing_function, row_of, solid_inside, solid_variable, targets_are}
-use Rattle.just_known.proofs.Placed.{at_place, entry_at, entry_found, found_at, found_there, key_at, the_value}
+use Rattle.just_needs.proofs.Placed.{at_place, entry_at, entry_found, found_at, found_there, key_at, the_value}
 
 -- what is read is a variable
 pub reads_variable : {m : Known} {hidden : Text → Bool} {e : Expression} {name : Text} → Reads m hidden e name → IsSome (find name m.assignments)

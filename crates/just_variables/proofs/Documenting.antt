@@ -12,7 +12,7 @@ use Rattle.just_definitions.specs.Constants.{Docs, doc_fault, in_doc, value_amon
 use Rattle.just_definitions.specs.Contents.{Contents}
 use Rattle.just_names.specs.Texts.{Text}
 use Rattle.just_needs.proofs.Looking.{is_the_one, not_in_none, the_one}
-use Rattle.just_notes.specs.declared.labels.Label.{Label}
+use Rattle.just_definitions.specs.declared.labels.Label.{Label}
 use Rattle.just_parts.specs.Evaluator.{Evaluator, FaultsAt, Values}
 use Rattle.just_parts.specs.Known.{Known, none_hidden}
 use Rattle.just_parts.specs.Syntax.{SyntaxAnswers}

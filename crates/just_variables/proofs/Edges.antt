@@ -18,9 +18,9 @@ use Rattle.just_records.specs.declared.function_definition.FunctionDefinition.{F
 use Rattle.just_references.specs.Body.{Calls, Mention, Names}
 use Rattle.just_parts.specs.Known.{Known}
 use Rattle.just_parts.specs.Reading.{mentions}
-use Rattle.just_known.specs.Scopes.{Scoped, body_scoped, value_scoped}
+use Rattle.just_needs.specs.Scopes.{Scoped, body_scoped, value_scoped}
 use Rattle.just_variables.specs.Steps.{AreRowsOf, nodes_of, rows_of, solid_of, target_of, targets_of}
-use Rattle.just_known.proofs.Placed.{at_left, at_place, at_right}
+use Rattle.just_needs.proofs.Placed.{at_left, at_place, at_right}
 
 -- it mentions a variable that is found at the place
 pub record ToVariable (variable : Text → Option ℕ) (s : Scoped) (b : ℕ) : Type 0 where

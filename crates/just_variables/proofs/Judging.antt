@@ -13,7 +13,7 @@ use Rattle.just_records.specs.declared.function_definition.FunctionParameter.{Fu
 use Rattle.just_table.specs.Entries.{put_all}
 use Rattle.just_parts.specs.Known.{Known, known}
 use Rattle.just_parts.specs.Misnaming.{Expressions}
-use Rattle.just_known.proofs.Alike.{alike_changed, changed, changed_alike, expressions_alike, parameter_names, put_changed}
+use Rattle.just_needs.proofs.Alike.{alike_changed, changed, changed_alike, expressions_alike, parameter_names, put_changed}
 use Rattle.just_definitions.specs.Contents.{Contents}
 use Rattle.just_definitions.specs.Known.{functions_under, known_of, variables_under}
 use Rattle.just_variables.specs.Variables.{known_with_numbers}

@@ -10,7 +10,7 @@ use Rattle.just_index.specs.Index.{AreDifferent}
 use Rattle.just_names.specs.Texts.{Text}
 use Rattle.just_names.specs.declared.number.Number.{Number}
 use Rattle.just_table.specs.Entries.{IsKeyed, IsSorted, find}
-use Rattle.just_known.proofs.Placed.{different, entry_found, key_at}
+use Rattle.just_needs.proofs.Placed.{different, entry_found, key_at}
 
 or_none : {A : Type 0} (o : Option A) → option_or o None ≡ o
 or_none None = refl

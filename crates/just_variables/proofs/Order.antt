@@ -16,7 +16,7 @@ use Rattle.just_variables.specs.Resolved.{AreInOrder}
 use Rattle.just_parts.specs.Known.{Known}
 use Rattle.just_parts.specs.Reading.{IsEvaluationOrder}
 use Rattle.just_variables.specs.Steps.{names_of}
-use Rattle.just_known.proofs.Placed.{different, entry_at}
+use Rattle.just_needs.proofs.Placed.{different, entry_at}
 
 -- the texts of the names at places
 texts_at : (names order : List Name) (places : List ℕ) → map Some order ≡ map (slice_get names) places → texts_of_names order ≡ map (name_at (texts_of_names names)) places

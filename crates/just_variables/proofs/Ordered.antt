@@ -21,7 +21,7 @@ use Rattle.just_variables.specs.Steps.{AreRowsOf, IsOrderAt, functions_of, rows_
 use Rattle.just_variables.proofs.Between.{place_of, reads_variable, to_reads, variable_at}
 use Rattle.just_variables.proofs.Circles.{circle_leads}
 use Rattle.just_variables.proofs.Edges.{solid_inside, solid_variable}
-use Rattle.just_known.proofs.Placed.{one_place}
+use Rattle.just_needs.proofs.Placed.{one_place}
 
 -- a name that places have stands at one of them
 named_at : (name : ℕ → Text) (ns : List ℕ) (x : Text) → Contains (map name ns) x → (k : ℕ) × (k < length ns) × (name (slice_index ns k) ≡ x)

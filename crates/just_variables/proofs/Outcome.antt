@@ -16,7 +16,7 @@ use Rattle.just_variables.proofs.Tables.{put_map}
 use Rattle.just_parts.specs.Known.{Known}
 use Rattle.just_parts.specs.Reading.{IsEvaluationOrder}
 use Rattle.just_variables.specs.Steps.{names_of}
-use Rattle.just_known.proofs.Alike.{changed}
+use Rattle.just_needs.proofs.Alike.{changed}
 
 module _ (m : Known) (sorted : IsSorted m.assignments) (sorted_functions : IsSorted m.functions) (numbers : Text → Option Number) (are : AreBindings m.assignments numbers) where
   -- the tables of the values and bodies with numbers, and the names in an evaluation order, are what it comes to

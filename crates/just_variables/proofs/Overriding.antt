@@ -13,8 +13,8 @@ use Rattle.just_parts.specs.Known.{Known}
 use Rattle.just_parts.specs.Needs.{HaveNumbersApart, same_number}
 use Rattle.just_records.specs.declared.assignment.Assignment.{Assignment}
 use Rattle.just_table.specs.Entries.{IsSorted, find}
-use Rattle.just_known.proofs.Alike.{changed}
-use Rattle.just_known.proofs.Placed.{different, entry_at, entry_found}
+use Rattle.just_needs.proofs.Alike.{changed}
+use Rattle.just_needs.proofs.Placed.{different, entry_at, entry_found}
 use Rattle.just_variables.specs.Overrides.{last_of, overrides_found}
 
 or_none : (o : Option Text) → option_or o None ≡ o

@@ -18,8 +18,8 @@ use Rattle.just_references.specs.References.{references}
 use Rattle.just_references.specs.declared.references.Reference.{Reference}
 use Rattle.just_table.specs.Entries.{find}
 use Rattle.just_parts.specs.Misnaming.{Misnames, MisnamesAt, argument_count, undefined_function, undefined_variable}
-use Rattle.just_known.proofs.Alike.{changed}
-use Rattle.just_known.proofs.Placed.{the_value}
+use Rattle.just_needs.proofs.Alike.{changed}
+use Rattle.just_needs.proofs.Placed.{the_value}
 use Rattle.just_variables.proofs.Substituted.{find_changed, found_changed}
 
 -- Whatever the first tables have under a name, the second have too, with the same calls and variables, and functions with parameters of the same names.

@@ -12,7 +12,7 @@ use Rattle.std.specs.declared.cmp.Ordering.TheVariants.{Equal, Greater, Less}
 use Rattle.std.proofs.lemmas.Option.{same_Some}
 use Rattle.just_names.specs.Texts.{Text}
 use Rattle.just_table.specs.Entries.{IsSorted, find, put, put_all}
-use Rattle.just_known.proofs.Alike.{changed}
+use Rattle.just_needs.proofs.Alike.{changed}
 
 module _ {V : Type 0} where
   -- a key below those of all entries

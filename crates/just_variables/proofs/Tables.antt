@@ -10,7 +10,7 @@ use Rattle.std.proofs.lemmas.List.{append-nil}
 use Rattle.std.proofs.lemmas.List.Elements.{All-head, All-tail}
 use Rattle.just_names.specs.Texts.{Text}
 use Rattle.just_table.specs.Entries.{IsKeyed, IsSorted, put, put_all}
-use Rattle.just_known.proofs.Alike.{changed, put_changed}
+use Rattle.just_needs.proofs.Alike.{changed, put_changed}
 
 module _ {V : Type 0} where
   -- a key above those of all entries

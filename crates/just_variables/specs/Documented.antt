@@ -11,7 +11,7 @@ use Rattle.just_parts.specs.Syntax.{SyntaxAnswers}
 use Rattle.just_references.specs.Numbers.{bare}
 use Rattle.just_parts.specs.Misnaming.{Misnames}
 use Rattle.just_variables.specs.declared.variables.Variables.{Variables}
-use Rattle.just_notes.specs.declared.labels.Label.{Label}
+use Rattle.just_definitions.specs.declared.labels.Label.{Label}
 use Rattle.just_definitions.specs.Constants.{value_among}
 use Rattle.just_definitions.specs.Contents.{Contents}
 use Rattle.just_expressions.specs.declared.expression.Expression.{Expression}

@@ -8,7 +8,7 @@ use Rattle.std.specs.declared.vec.Vec.{Vec}
 use Rattle.just_index.specs.Index.{IsIndex, name_at}
 use Rattle.just_names.specs.Texts.{Text}
 use Rattle.just_references.specs.Body.{Calls, Mention, Names}
-use Rattle.just_known.specs.Scopes.{Scoped, body_scoped, value_scoped}
+use Rattle.just_needs.specs.Scopes.{Scoped, body_scoped, value_scoped}
 use Rattle.just_parts.specs.Known.{Known}
 use Rattle.just_parts.specs.Misnaming.{IsCircleOf}
 use Rattle.just_parts.specs.Reading.{IsEvaluationOrder, mentions}

@@ -14,7 +14,7 @@ ghost use Rattle.just_parts.specs.Known.{none_hidden};
 ghost use Rattle.just_parts.specs.Layers.{given_of, layers_at, override_at};
 ghost use Rattle.just_parts.specs.Needs.{HaveNumbersApart};
 ghost use Rattle.just_expressions.specs.declared.expression.Expression.{Expression};
-ghost use Rattle.just_known.specs.Lent.{known_in};
+ghost use Rattle.just_needs.specs.Lent.{known_in};
 ghost use Rattle.just_parts.specs.Misnaming.{Misnames};
 
 use crate::expressions::{constant_expressions, settings_expressions};
@@ -22,8 +22,7 @@ use crate::overrides::{by_number, overrides_of};
 use crate::variables::Variables;
 use just_data::{Text, copied};
 use just_definitions::definitions::{Definitions, set_at};
-use just_known::{Known, check_expression};
-use just_needs::needed_references;
+use just_needs::{Known, check_expression, needed_references};
 use just_parts::layers::{
     Config, Error, Evaluation, Expression, Number, Scope, Set, Setting, Settings, Syntax,
 };

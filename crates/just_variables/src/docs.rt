@@ -11,9 +11,9 @@ ghost use Rattle.just_parts.specs.Evaluator.{values_of};
 
 use crate::variables::Variables;
 use just_data::{Text, copied};
+use just_definitions::Label;
 use just_definitions::definitions::Definitions;
-use just_known::{Known, check_expression};
-use just_notes::Label;
+use just_needs::{Known, check_expression};
 use just_parts::layers::{Error, Evaluation, Expression, Scope, Syntax, joined};
 use std::alloc::{AllocError, Global};
 use std::collections::HashSet;

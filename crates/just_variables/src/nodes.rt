@@ -8,14 +8,14 @@ ghost use Rattle.std.specs.Str.{bytes_eq};
 ghost use Rattle.just_index.specs.Index.{IsIndex};
 ghost use Rattle.just_references.specs.Body.{mention_of};
 ghost use Rattle.just_table.specs.Entries.{IsSorted};
-ghost use Rattle.just_known.specs.Lent.{known_in};
+ghost use Rattle.just_needs.specs.Lent.{known_in};
 ghost use Rattle.just_variables.specs.Places.{Fit, target_in, targets_in};
-ghost use Rattle.just_known.specs.Scopes.{body_scoped, scoped, value_scoped};
+ghost use Rattle.just_needs.specs.Scopes.{body_scoped, scoped, value_scoped};
 ghost use Rattle.just_variables.specs.Steps.{AreRowsOf, rows_of, solid_of};
 
 use just_data::BorrowedText;
 use just_index::index_last;
-use just_known::{Known, hidden_names};
+use just_needs::{Known, hidden_names};
 use just_parts::layers::{Assignment, Expression, FunctionDefinition, Syntax};
 use just_references::{Reference, References};
 use just_table::Table;

@@ -3,11 +3,11 @@
 ghost use Rattle.std.specs.Prelude.{◌≡◌, ℕ, List, IfOk};
 ghost use Rattle.std.specs.HashMap.{get};
 ghost use Rattle.std.specs.Str.{bytes_eq};
-ghost use Rattle.just_numbers.specs.Numbers.{number_in};
+ghost use Rattle.just_needs.specs.Numbers.{number_in};
 ghost use Rattle.just_variables.specs.Numbered.{AreBindings, function_by, number_by, parameter_number, with_value_numbers};
 
 use just_data::BorrowedText;
-use just_numbers::{Numbers, numbered};
+use just_needs::{Numbers, numbered};
 use just_parts::layers::{Assignment, FunctionDefinition, FunctionParameter, Number, Syntax};
 use just_table::Table;
 use std::alloc::{AllocError, Global};

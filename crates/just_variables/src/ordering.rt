@@ -5,7 +5,7 @@ ghost use Rattle.std.specs.List.{All};
 ghost use Rattle.just_errors.specs.Causes.{Keeps, Reports};
 ghost use Rattle.just_index.specs.Index.{name_at};
 ghost use Rattle.just_table.specs.Entries.{IsSorted};
-ghost use Rattle.just_known.specs.Lent.{known_in};
+ghost use Rattle.just_needs.specs.Lent.{known_in};
 ghost use Rattle.just_parts.specs.Misnaming.{Expressions, HaveFunctionNames, HaveNames};
 ghost use Rattle.just_parts.specs.Reading.{IsEvaluationOrder};
 ghost use Rattle.just_variables.specs.Steps.{AreRowsOf, IsCircleAt, IsOrderAt, names_of, rows_of, solid_of};
@@ -13,7 +13,7 @@ ghost use Rattle.just_variables.specs.Steps.{AreRowsOf, IsCircleAt, IsOrderAt, n
 use crate::nodes::{Nodes, keys_in, nodes_of};
 use just_data::{BorrowedText, Sequence};
 use just_graph::all_nodes;
-use just_known::{Known, check_names};
+use just_needs::{Known, check_names};
 use just_parts::layers::{CompileError, CompileErrorKind, Error, Syntax};
 use just_through::order_through;
 use std::alloc::{AllocError, Global};

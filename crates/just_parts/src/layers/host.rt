@@ -11,7 +11,7 @@ use std::alloc::AllocError;
 pub type Groups = Sequence<Sequence<Text>>;
 
 /// A call of a host, as it is recorded.
-#[derive(Clone, Debug, PartialEq, Eq, Drop)]
+#[derive(Clone, PartialEq, Eq, Drop)]
 pub enum Entry {
     /// A recipe begins.
     Begin { path: Modulepath, groups: Groups },

@@ -5,17 +5,17 @@ use Rattle.just_errors.specs.Causes.{Keeps, Reports}
 use Rattle.just_errors.proofs.Lifts.{reports_by}
 use Rattle.just_graph.specs.Steps.{IsOnce}
 use Rattle.just_index.specs.Index.{texts_of_names, AreDifferent}
-use Rattle.just_joining.specs.Analyzable.{assignment_numbers}
+use Rattle.just_rules.specs.Analyzable.{assignment_numbers}
 use Rattle.just_definitions.specs.Constants.{Docs}
 use Rattle.just_definitions.specs.Contents.{Contents}
 use Rattle.just_definitions.specs.Definitions.{contents_in}
-use Rattle.just_joining.specs.Files.{asts_in}
+use Rattle.just_rules.specs.Files.{asts_in}
 use Rattle.just_definitions.specs.Groups.{BreaksContents, KeepsBefore, OfBodies}
 use Rattle.just_definitions.specs.Named.{said_from}
 use Rattle.just_checking.specs.Evaluated.{AreLabels, HasConstants}
 use Rattle.just_checking.proofs.Grounds.{docs_broken}
 use Rattle.just_checking.proofs.checking.check_files.Goals as goal
-use Rattle.just_notes.specs.Labels.{label_by}
+use Rattle.just_definitions.specs.Labels.{label_by}
 use Rattle.just_parts.specs.Evaluator.{values_of}
 use Rattle.just_parts.specs.Layers.{given_of, layers_at}
 

@@ -1,6 +1,6 @@
 use Rattle.std.proofs.Common.{◌∙◌, refl}
 use Rattle.just_definitions.specs.Definitions.{contents_in}
-use Rattle.just_joining.specs.Files.{asts_in}
+use Rattle.just_rules.specs.Files.{asts_in}
 use Rattle.just_checking.proofs.Adding.{contents_more}
 use Rattle.just_checking.proofs.checking.definitions_at.Goals as goal
 

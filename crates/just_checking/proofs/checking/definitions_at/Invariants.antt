@@ -1,6 +1,6 @@
 use Rattle.std.proofs.Common.{◌≡◌, take}
 use Rattle.just_definitions.specs.Definitions.{contents_in}
-use Rattle.just_joining.specs.Files.{asts_in}
+use Rattle.just_rules.specs.Files.{asts_in}
 use Rattle.just_definitions.specs.Named.{contents_from}
 use Rattle.just_checking.proofs.checking.definitions_at.Given as goal
 

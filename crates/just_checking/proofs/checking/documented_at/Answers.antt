@@ -1,7 +1,7 @@
 use Rattle.std.proofs.Common.{◌∙◌, ap, sym}
 use Rattle.just_variables.specs.Documented.{doc_expressions}
 use Rattle.just_definitions.specs.Definitions.{contents_in}
-use Rattle.just_joining.specs.Files.{asts_in}
+use Rattle.just_rules.specs.Files.{asts_in}
 use Rattle.just_definitions.specs.Contents.{Contents}
 use Rattle.just_checking.proofs.Docs.{docs_covered, docs_said}
 use Rattle.just_checking.proofs.checking.documented_at.Goals as goal

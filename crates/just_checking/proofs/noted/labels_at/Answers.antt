@@ -1,7 +1,7 @@
 use Rattle.std.proofs.Common.{◌∙◌, ◌++◌, refl}
-use Rattle.just_joining.specs.Files.{asts_in}
-use Rattle.just_notes.specs.Labels.{label_by}
-use Rattle.just_notes.specs.Said.{said}
+use Rattle.just_rules.specs.Files.{asts_in}
+use Rattle.just_definitions.specs.Labels.{label_by}
+use Rattle.just_definitions.specs.Said.{said}
 use Rattle.just_checking.proofs.Adding.{labels_more}
 use Rattle.just_checking.proofs.noted.labels_at.Goals as goal
 

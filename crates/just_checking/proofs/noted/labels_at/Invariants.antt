@@ -1,7 +1,7 @@
 use Rattle.std.proofs.Common.{◌≡◌, take}
-use Rattle.just_joining.specs.Files.{asts_in}
+use Rattle.just_rules.specs.Files.{asts_in}
 use Rattle.just_definitions.specs.Named.{said_from}
-use Rattle.just_notes.specs.Labels.{label_by}
+use Rattle.just_definitions.specs.Labels.{label_by}
 use Rattle.just_checking.proofs.noted.labels_at.Given as goal
 
 abbrev pub invariant-loop-place : goal.invariant-loop-place

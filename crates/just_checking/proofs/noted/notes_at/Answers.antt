@@ -1,7 +1,7 @@
 use Rattle.std.proofs.Common.{◌∙◌, ap, refl}
-use Rattle.just_joining.specs.Files.{asts_in}
-use Rattle.just_notes.specs.Notes.{noted}
-use Rattle.just_notes.specs.declared.notes.Notes.{Notes}
+use Rattle.just_rules.specs.Files.{asts_in}
+use Rattle.just_definitions.specs.Notes.{noted}
+use Rattle.just_definitions.specs.declared.notes.Notes.{Notes}
 use Rattle.just_checking.proofs.Adding.{notes_more}
 use Rattle.just_checking.proofs.noted.notes_at.Goals as goal
 

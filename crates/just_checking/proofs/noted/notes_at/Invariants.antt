@@ -1,5 +1,5 @@
 use Rattle.std.proofs.Common.{◌≡◌, take}
-use Rattle.just_joining.specs.Files.{asts_in}
+use Rattle.just_rules.specs.Files.{asts_in}
 use Rattle.just_checking.specs.Noted.{notes_from}
 use Rattle.just_checking.proofs.noted.notes_at.Given as goal
 

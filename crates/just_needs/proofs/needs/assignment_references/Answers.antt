@@ -9,7 +9,7 @@ use Rattle.just_needs.proofs.Searching.{CollectsValue, needs_of_name, value_coll
 use Rattle.just_needs.proofs.needs.assignment_references.Goals as goal
 use Rattle.just_needs.proofs.needs.assignment_references.Goals.{then-not-contains_key+in_ok-collect_references, else-not-contains_key}
 use Rattle.just_parts.specs.Known.{hides}
-use Rattle.just_known.specs.Lent.{known_in}
+use Rattle.just_needs.specs.Lent.{known_in}
 use Rattle.just_parts.specs.Reading.{Reads}
 
 pub returns-clause-needed : goal.returns-clause-needed

@@ -8,8 +8,8 @@ use Rattle.just_needs.specs.declared.needs.Waiting.{Waiting}
 use Rattle.just_needs.proofs.Collecting.{collected, collected_all, keeps_gained}
 use Rattle.just_needs.proofs.Starts.{gains_all_one, gains_one, searches_from}
 use Rattle.just_needs.proofs.needs.collect_references.Goals as goal
-use Rattle.just_known.specs.Lent.{known_in}
-use Rattle.just_known.specs.Scopes.{scoped}
+use Rattle.just_needs.specs.Lent.{known_in}
+use Rattle.just_needs.specs.Scopes.{scoped}
 
 pub returns-clause-gains : goal.returns-clause-gains
 returns-clause-gains g c =

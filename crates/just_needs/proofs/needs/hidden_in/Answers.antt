@@ -4,7 +4,7 @@ use Rattle.std.specs.HashSet.{contains}
 use Rattle.std.specs.Str.{bytes_eq}
 use Rattle.just_records.specs.declared.function_definition.FunctionParameter.{FunctionParameter}
 use Rattle.just_parts.specs.Needs.{IsSame}
-use Rattle.just_known.proofs.Checked.{nothing_hides}
+use Rattle.just_needs.proofs.Checked.{nothing_hides}
 use Rattle.just_needs.specs.Search.{hidden_by}
 use Rattle.just_needs.proofs.needs.hidden_in.Goals as goal
 

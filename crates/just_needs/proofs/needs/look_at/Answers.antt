@@ -6,7 +6,7 @@ use Rattle.just_parts.specs.Needs.{has_number, same_number}
 use Rattle.just_needs.specs.Search.{found_in}
 use Rattle.just_needs.proofs.LookingAt.{asked, reference_called, reference_hidden, reference_named}
 use Rattle.just_needs.proofs.needs.look_at.Goals as goal
-use Rattle.just_known.specs.Lent.{known_in}
+use Rattle.just_needs.specs.Lent.{known_in}
 
 pub returns-in-Call : goal.returns-in-Call
 returns-in-Call g c =

@@ -7,8 +7,8 @@ use Rattle.just_needs.proofs.LookingAt.{asked, call_found, call_settled, call_un
 use Rattle.just_needs.proofs.Sets.{or_left, or_right}
 use Rattle.just_needs.proofs.needs.look_at_call.Goals as goal
 use Rattle.just_parts.specs.Known.{hides}
-use Rattle.just_known.specs.Lent.{known_in}
-use Rattle.just_known.specs.Scopes.{scoped}
+use Rattle.just_needs.specs.Lent.{known_in}
+use Rattle.just_needs.specs.Scopes.{scoped}
 
 pub returns-in_default : goal.returns-in_default
 returns-in_default g c =

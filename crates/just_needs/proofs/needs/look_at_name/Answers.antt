@@ -5,7 +5,7 @@ use Rattle.just_parts.specs.Needs.{has_number, same_number}
 use Rattle.just_needs.proofs.LookingAt.{found_none, found_some, name_overridden, name_settled, name_unknown, name_waits}
 use Rattle.just_needs.proofs.Sets.{or_left, or_right}
 use Rattle.just_needs.proofs.needs.look_at_name.Goals as goal
-use Rattle.just_known.specs.Lent.{known_in}
+use Rattle.just_needs.specs.Lent.{known_in}
 
 pub returns-in_default : goal.returns-in_default
 returns-in_default g c =

@@ -6,7 +6,7 @@ use Rattle.just_needs.specs.Search.{found_in, hidden_by}
 use Rattle.just_needs.proofs.Looking.{looked_all, looked_more, looked_none}
 use Rattle.just_needs.proofs.needs.look_into.Goals as goal
 use Rattle.just_references.specs.Body.{mention_of}
-use Rattle.just_known.specs.Lent.{known_in}
+use Rattle.just_needs.specs.Lent.{known_in}
 use Rattle.just_parts.specs.Reading.{mentions}
 use Rattle.std.specs.Prelude.{map}
 

@@ -2,7 +2,7 @@ use Rattle.std.specs.HashSet.{contains}
 use Rattle.std.specs.Str.{bytes_eq}
 use Rattle.just_parts.specs.Needs.{has_number, same_number}
 use Rattle.just_needs.specs.Search.{LooksSoFar, found_in}
-use Rattle.just_known.specs.Lent.{known_in}
+use Rattle.just_needs.specs.Lent.{known_in}
 use Rattle.just_parts.specs.Reading.{mentions}
 use Rattle.just_needs.proofs.needs.look_into.Given as goal
 

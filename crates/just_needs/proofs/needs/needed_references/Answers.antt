@@ -11,8 +11,8 @@ use Rattle.just_needs.proofs.needs.needed_references.Goals as goal
 use Rattle.just_parts.specs.Known.{none_hidden}
 use Rattle.just_parts.specs.Needs.{has_number, same_number}
 use Rattle.just_expressions.specs.declared.expression.Expression.{Expression}
-use Rattle.just_known.specs.Lent.{known_in}
-use Rattle.just_known.specs.Scopes.{Scoped, scoped}
+use Rattle.just_needs.specs.Lent.{known_in}
+use Rattle.just_needs.specs.Scopes.{Scoped, scoped}
 
 pub loop-place-preserved : goal.loop-place-preserved
 loop-place-preserved g c =

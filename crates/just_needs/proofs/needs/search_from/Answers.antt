@@ -4,7 +4,7 @@ use Rattle.std.specs.Str.{bytes_eq}
 use Rattle.just_parts.specs.Needs.{has_number, same_number}
 use Rattle.just_needs.proofs.LookingAt.{searches_first, searches_less, searches_next, searches_still}
 use Rattle.just_needs.proofs.needs.search_from.Goals as goal
-use Rattle.just_known.specs.Lent.{known_in}
+use Rattle.just_needs.specs.Lent.{known_in}
 
 pub loop-next-init : goal.loop-next-init
 loop-next-init g c =

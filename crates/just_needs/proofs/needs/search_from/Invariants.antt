@@ -3,7 +3,7 @@ use Rattle.std.specs.HashSet.{contains}
 use Rattle.std.specs.Str.{bytes_eq}
 use Rattle.just_parts.specs.Needs.{has_number, same_number}
 use Rattle.just_needs.specs.Search.{Searches, found_in, scoped_of, unfound}
-use Rattle.just_known.specs.Lent.{known_in}
+use Rattle.just_needs.specs.Lent.{known_in}
 use Rattle.just_needs.proofs.needs.search_from.Given as goal
 
 abbrev pub invariant-loop-next : goal.invariant-loop-next

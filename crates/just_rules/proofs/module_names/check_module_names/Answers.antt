@@ -7,11 +7,11 @@ use Rattle.just_names.specs.Name.{text_of_name}
 use Rattle.just_names.specs.declared.name.Name.{Name}
 use Rattle.just_errors.proofs.Lifts.{reports_by}
 use Rattle.just_index.specs.Index.{texts_of_names, AreDifferent}
-use Rattle.just_joining.specs.Files.{asts_in}
+use Rattle.just_rules.specs.Files.{asts_in}
 use Rattle.just_definitions.specs.Named.{name_by, said_from}
 use Rattle.just_definitions.specs.Rules.{Modules}
-use Rattle.just_joining.specs.OfPlaces.{RepeatsNames, names_of_place}
-use Rattle.just_joining.proofs.Joining.{row_lent}
+use Rattle.just_rules.specs.OfPlaces.{RepeatsNames, names_of_place}
+use Rattle.just_rules.proofs.Joining.{row_lent}
 use Rattle.just_rules.proofs.module_names.check_module_names.Goals as goal
 
 pub module_names-requires : goal.module_names-requires

@@ -1,6 +1,6 @@
 use Rattle.std.proofs.Common.{ℕ, ◌<◌, slice_index}
 use Rattle.just_index.specs.Index.{texts_of_names, AreDifferent}
-use Rattle.just_joining.specs.OfPlaces.{names_of_place}
+use Rattle.just_rules.specs.OfPlaces.{names_of_place}
 use Rattle.just_rules.proofs.module_names.check_module_names.Given as goal
 
 abbrev pub invariant-loop-place : goal.invariant-loop-place

@@ -1,5 +1,5 @@
 use Rattle.std.proofs.Common.{◌≡◌, take}
-use Rattle.just_joining.specs.Files.{asts_in}
+use Rattle.just_rules.specs.Files.{asts_in}
 use Rattle.just_definitions.specs.Named.{name_by, said_from}
 use Rattle.just_rules.proofs.module_names.module_names.Given as goal
 

@@ -1,6 +1,6 @@
 use Rattle.std.proofs.Common.{◌≡◌, ◌++◌, drop}
 use Rattle.just_definitions.specs.Named.{name_by}
-use Rattle.just_notes.specs.Said.{said}
+use Rattle.just_definitions.specs.Said.{said}
 use Rattle.just_rules.proofs.module_names.push_names.Given as goal
 
 abbrev pub invariant-loop-item : goal.invariant-loop-item

@@ -11,9 +11,9 @@ use Rattle.just_names.specs.Texts.{Text}
 use Rattle.just_needs.proofs.Starts.{has_image, is_image}
 use Rattle.just_parts.specs.Known.{none_hidden}
 use Rattle.just_expressions.specs.declared.expression.Expression.{Expression}
-use Rattle.just_known.specs.Lent.{known_in}
+use Rattle.just_needs.specs.Lent.{known_in}
 use Rattle.just_parts.specs.Misnaming.{Misnames}
-use Rattle.just_known.proofs.Checked.{nothing_hides}
+use Rattle.just_needs.proofs.Checked.{nothing_hides}
 use Rattle.just_variables.proofs.Walking.{is_there}
 use Rattle.just_variables.proofs.constants.check_expressions.Goals as goal
 

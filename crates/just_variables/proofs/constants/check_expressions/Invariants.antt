@@ -4,7 +4,7 @@ use Rattle.std.specs.List.{All}
 use Rattle.just_errors.specs.Causes.{Keeps}
 use Rattle.just_parts.specs.Known.{none_hidden}
 use Rattle.just_expressions.specs.declared.expression.Expression.{Expression}
-use Rattle.just_known.specs.Lent.{known_in}
+use Rattle.just_needs.specs.Lent.{known_in}
 use Rattle.just_parts.specs.Misnaming.{Misnames}
 use Rattle.just_variables.proofs.constants.check_expressions.Given as goal
 

@@ -5,7 +5,7 @@ use Rattle.std.proofs.lemmas.List.Elements.{All-contains, All-more}
 use Rattle.std.proofs.lemmas.Result.{IfErr-weaker}
 use Rattle.just_errors.specs.Causes.{Reports}
 use Rattle.just_definitions.specs.Definitions.{contents_in}
-use Rattle.just_notes.specs.declared.labels.Label.{Label}
+use Rattle.just_definitions.specs.declared.labels.Label.{Label}
 use Rattle.just_parts.specs.Evaluator.{values_of}
 use Rattle.just_expressions.specs.declared.expression.Expression.{Expression}
 use Rattle.just_variables.specs.Documented.{AreDocumented, DocFault, known_by, value_by}

@@ -3,9 +3,9 @@ use Rattle.std.specs.HashSet.{contains}
 use Rattle.std.specs.Str.{bytes_eq}
 use Rattle.std.proofs.lemmas.Result.{IfErr-weaker}
 use Rattle.just_errors.specs.Causes.{Reports}
-use Rattle.just_notes.specs.declared.labels.Label.{Label}
+use Rattle.just_definitions.specs.declared.labels.Label.{Label}
 use Rattle.just_parts.specs.Evaluator.{FaultsAt, values_of}
-use Rattle.just_known.proofs.Checked.{nothing_hides}
+use Rattle.just_needs.proofs.Checked.{nothing_hides}
 use Rattle.just_parts.specs.Misnaming.{Misnames}
 use Rattle.just_variables.specs.Documented.{doc_of_value, known_by, value_by}
 use Rattle.just_variables.proofs.Documenting.{doc_had, misnamed_told, names_kept, no_value_told}

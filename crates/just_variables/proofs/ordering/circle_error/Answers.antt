@@ -2,7 +2,7 @@ use Rattle.std.proofs.Common.{◌∙◌, sym, ap, map, get_or, slice_index}
 use Rattle.std.specs.Option.{option_copied}
 use Rattle.just_index.specs.Index.{name_at}
 use Rattle.just_table.specs.Entries.{find}
-use Rattle.just_known.specs.Lent.{known_in}
+use Rattle.just_needs.specs.Lent.{known_in}
 use Rattle.just_variables.proofs.Circles.{circle_told}
 use Rattle.just_variables.proofs.ordering.circle_error.Goals as goal
 

@@ -3,12 +3,12 @@ use Rattle.std.specs.List.{All, Contains}
 use Rattle.just_graph.specs.Graph.{HasEdge, IsGraph}
 use Rattle.just_graph.specs.Steps.{IsCircle}
 use Rattle.just_through.specs.Through.{IsOrderThrough, Reads}
-use Rattle.just_known.specs.Lent.{known_in}
+use Rattle.just_needs.specs.Lent.{known_in}
 use Rattle.just_variables.proofs.Between.{is_graph}
 use Rattle.just_variables.proofs.Circles.{circle_at, circle_in}
 use Rattle.just_variables.proofs.Edges.{variables_within}
 use Rattle.just_variables.proofs.Ordered.{expressions_kept, order_at, order_in, roots_all, roots_inside}
-use Rattle.just_known.proofs.Placed.{different}
+use Rattle.just_needs.proofs.Placed.{different}
 use Rattle.just_variables.proofs.ordering.ordered.Goals as goal
 
 pub order_through-requires-clause-graph : goal.order_through-requires-clause-graph

@@ -9,10 +9,10 @@ use Rattle.just_parts.specs.Layers.{override_at}
 use Rattle.just_loader.specs.Keys.{NamesInFiles}
 use Rattle.just_loader.specs.Reached.{World, world_of}
 use Rattle.just_loader.proofs.HeldKeys.{root_held}
-use Rattle.just_modules.specs.Analyzed.{IsAnalyzed}
-use Rattle.just_modules.specs.Groups.{NamesModules}
-use Rattle.just_compiling.specs.Modules.{heading, label}
-use Rattle.just_joining.specs.Reading.{reading_of}
+use Rattle.just_analyzer.specs.Analyzed.{IsAnalyzed}
+use Rattle.just_analyzer.specs.Groups.{NamesModules}
+use Rattle.just_analyzer.specs.Modules.{heading, label}
+use Rattle.just_rules.specs.Reading.{reading_of}
 use Rattle.just_analyzer.specs.Readings.{given_in, root_heading}
 use Rattle.just_analyzer.specs.Rules.{Names, in_files, in_modules}
 use Rattle.just_analyzer.proofs.Compilations.{all_kept, none_named, put_in_none, refused}

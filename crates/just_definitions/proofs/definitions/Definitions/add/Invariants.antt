@@ -1,8 +1,8 @@
 use Rattle.std.proofs.Common.{◌≡◌, ◌++◌, drop}
 use Rattle.just_definitions.specs.Definitions.{docs_in, functions_in, lists_in, recipes_in, sets_in, variables_in}
 use Rattle.just_definitions.specs.Named.{function_by, name_by, set_by, unexported_by, variable_by}
-use Rattle.just_notes.specs.Labels.{doc_by}
-use Rattle.just_notes.specs.Said.{said}
+use Rattle.just_definitions.specs.Labels.{doc_by}
+use Rattle.just_definitions.specs.Said.{said}
 use Rattle.just_definitions.specs.Recipes.{recipes_of}
 use Rattle.just_definitions.proofs.definitions.Definitions.add.Given as goal
 

@@ -3,7 +3,7 @@ use Rattle.std.specs.Option.{option_to_list}
 use Rattle.std.proofs.lemmas.List.{append-nil, map-append}
 use Rattle.std.proofs.lemmas.Result.{IfOk-from_err}
 use Rattle.just_names.specs.declared.name.Name.{Name}
-use Rattle.just_notes.specs.Labels.{doc_of}
+use Rattle.just_definitions.specs.Labels.{doc_of}
 use Rattle.just_definitions.specs.Definitions.{docs_in, functions_in, lists_in, recipes_in, sets_in, variables_in}
 use Rattle.just_definitions.specs.Recipes.{lent}
 use Rattle.just_definitions.proofs.definitions.Definitions.add_module.Goals as goal

@@ -1,0 +1,27 @@
+use Rattle.std.proofs.Common.{Some, rules, subst, sym}
+use Rattle.just_variables.proofs.Tabled.{variables_had}
+use Rattle.just_definitions.specs.Defaults.{IsDefaultAmong}
+use Rattle.just_definitions.specs.Definitions.{contents_in, recipes_in}
+use Rattle.just_definitions.specs.Kept.{kept_recipes}
+use Rattle.just_definitions.specs.Named.{recipes_by}
+use Rattle.just_analyzer.proofs.compiling.analyze_checked.Goals as goal
+
+pub returns-in_err-append-clause-named : goal.returns-in_err-append-clause-named
+returns-in_err-append-clause-named g c = search (rules, c.from_residual.ensures.1, c.from_residual.ensures.0)
+
+pub returns-clause-analyzed : goal.returns-clause-analyzed
+returns-clause-analyzed g c =
+    let checked = c.args.checked in
+    let answers = g.S.Syntax.answers c.args.syntax.now in
+    let is = c.in_ok-justfile.ensures in
+    record {
+      kept = c.in_ok-kept.ensures.kept;
+      added = c.in_ok-kept.ensures.added;
+      overridden = search rules;
+      fields = is.fields;
+      default = subst (IsDefaultAmong (kept_recipes (recipes_in checked.definitions)) (recipes_by answers.enabled (Some c.args.ast.now))) (sym is.default) c.in_ok-kept.ensures.default;
+      settings = is.settings;
+      variables = variables_had answers (contents_in checked.definitions) checked.variables.assignments checked.variables.functions checked.variables.evaluation_order c.requires.variables _ _ _ is.assignments is.functions is.evaluation_order;
+      modules = is.modules;
+      notes = is.notes;
+    }

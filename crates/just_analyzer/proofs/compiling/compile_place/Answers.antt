@@ -1,0 +1,116 @@
+use Rattle.std.proofs.Common.{rules, ◌<◌, ◌∙◌, ℕ, List, Some, None, length, sym, ap, subst, arith}
+use Rattle.std.specs.List.{All, Contains}
+use Rattle.std.proofs.lemmas.List.{get_or-set_other, get_or-set_same, length-set}
+use Rattle.std.proofs.lemmas.Result.{IfErr-weaker}
+use Rattle.just_graph.specs.Steps.{IsOnce}
+use Rattle.just_errors.specs.Causes.{Reports}
+use Rattle.just_errors.proofs.Lifts.{reports_by}
+use Rattle.just_rules.specs.Analyzable.{assignment_numbers}
+use Rattle.just_definitions.specs.Contents.{Contents}
+use Rattle.just_definitions.specs.Definitions.{contents_in}
+use Rattle.just_rules.specs.Files.{asts_in}
+use Rattle.just_definitions.specs.Groups.{BreaksContents}
+use Rattle.just_definitions.specs.Kept.{kept_recipes}
+use Rattle.just_definitions.specs.Named.{contents_from, name_by, recipes_by, said_from, variable_by}
+use Rattle.just_definitions.specs.Resolved.{AreResolved, HasPriors, unresolved_numbers}
+use Rattle.just_rules.proofs.Joining.{row_lent}
+use Rattle.just_index.specs.Index.{texts_of_names, AreDifferent}
+use Rattle.just_making.specs.Analysis.{HasDefault}
+use Rattle.just_making.specs.Labelled.{by_name, with_labels}
+use Rattle.just_making.specs.Variables.{HasVariables}
+use Rattle.just_making.proofs.Makings.{is_of_same}
+use Rattle.just_resolving.specs.Broken.{BreaksRecipes}
+use Rattle.just_analyzer.proofs.Placed.{breaks_place, breaks_recipes, contents_are, evaluated_to, keeps_place, labels_many, variables_resolved}
+use Rattle.just_analyzer.proofs.compiling.compile_place.Goals as goal
+use Rattle.just_parts.specs.Layers.{given_of, layers_at}
+
+pub check_files-requires-clause-places : goal.check_files-requires-clause-places
+check_files-requires-clause-places g c =
+    let row = row_lent c.args.joined.now.files.items c.args.place c.index.result.now c.as_slice-row.result.now (omega (arith, c.requires.ready.there, c.requires.files)) c.index.ensures c.as_slice-row.ensures.value in
+    subst (λ (xs : List ℕ). All (λ q. q < length c.args.files.now.asts.items) xs) (sym row) c.requires.ready.files_there
+
+pub check_files-requires-clause-modules : goal.check_files-requires-clause-modules
+check_files-requires-clause-modules g c =
+    let row = row_lent c.args.joined.now.files.items c.args.place c.index.result.now c.as_slice-row.result.now (omega (arith, c.requires.ready.there, c.requires.files)) c.index.ensures c.as_slice-row.ensures.value in
+    subst (λ (xs : List ℕ). AreDifferent (texts_of_names (said_from name_by (g.S.Syntax.answers c.args.syntax.now).enabled (asts_in c.args.files.now) xs))) (sym row) c.requires.ready.different
+
+pub check_files-requires-clause-numbers : goal.check_files-requires-clause-numbers
+check_files-requires-clause-numbers g c =
+    let row = row_lent c.args.joined.now.files.items c.args.place c.index.result.now c.as_slice-row.result.now (omega (arith, c.requires.ready.there, c.requires.files)) c.index.ensures c.as_slice-row.ensures.value in
+    subst (λ (xs : List ℕ). IsOnce (assignment_numbers (said_from variable_by (g.S.Syntax.answers c.args.syntax.now).enabled (asts_in c.args.files.now) xs))) (sym row) c.requires.ready.variables
+
+pub returns-in_err-checked-clause-named : goal.returns-in_err-checked-clause-named
+returns-in_err-checked-clause-named g c =
+    let row = row_lent c.args.joined.now.files.items c.args.place c.index.result.now c.as_slice-row.result.now (omega (arith, c.requires.ready.there, c.requires.files)) c.index.ensures c.as_slice-row.ensures.value in
+    let here = contents_from (g.S.Syntax.answers c.args.syntax.now).enabled (asts_in c.args.files.now) c.as_slice-row.result.now in
+    let layers = layers_at (given_of (g.S.Syntax.answers c.args.syntax.now) (g.E.Evaluation.answers c.args.evaluation.now) c.args.config.now.overrides) c.ast_at-ast.result.now.module_path in
+    IfErr-weaker c.from_residual.result (Reports (BreaksContents layers here)) _
+    (reports_by _ _ (breaks_place (given_of (g.S.Syntax.answers c.args.syntax.now) (g.E.Evaluation.answers c.args.evaluation.now) c.args.config.now.overrides) c.args.files.now c.args.joined.now c.args.place c.as_slice-row.result.now row c.ast_at-ast.result.now c.ast_at-ast.ensures)) (search rules)
+
+pub surroundings_at-requires-clause-labels : goal.surroundings_at-requires-clause-labels
+surroundings_at-requires-clause-labels g c =
+    let row = row_lent c.args.joined.now.files.items c.args.place c.index.result.now c.as_slice-row.result.now (omega (arith, c.requires.ready.there, c.requires.files)) c.index.ensures c.as_slice-row.ensures.value in
+    ap length c.as_slice.ensures.value ∙ labels_many (given_of (g.S.Syntax.answers c.args.syntax.now) (g.E.Evaluation.answers c.args.evaluation.now) c.args.config.now.overrides) c.args.files.now c.args.joined.now c.args.place c.as_slice-row.result.now row c.ast_at-ast.result.now c.ast_at-ast.ensures c.in_ok-checked.checked c.in_ok-checked.ensures.checked c.in_ok-checked.ensures.kept ∙ c.requires.ready.labels
+
+pub analyze_checked-requires-clause-once : goal.analyze_checked-requires-clause-once
+analyze_checked-requires-clause-once g c =
+    let row = row_lent c.args.joined.now.files.items c.args.place c.index.result.now c.as_slice-row.result.now (omega (arith, c.requires.ready.there, c.requires.files)) c.index.ensures c.as_slice-row.ensures.value in
+    subst (λ (m : Contents). IsOnce (unresolved_numbers m.recipes)) (sym (contents_are (given_of (g.S.Syntax.answers c.args.syntax.now) (g.E.Evaluation.answers c.args.evaluation.now) c.args.config.now.overrides) c.args.files.now c.args.joined.now c.args.place c.as_slice-row.result.now row c.ast_at-ast.result.now c.ast_at-ast.ensures c.in_ok-checked.checked c.in_ok-checked.ensures.checked c.in_ok-checked.ensures.kept)) c.requires.ready.numbers
+
+pub analyze_checked-requires-clause-priors : goal.analyze_checked-requires-clause-priors
+analyze_checked-requires-clause-priors g c =
+    let row = row_lent c.args.joined.now.files.items c.args.place c.index.result.now c.as_slice-row.result.now (omega (arith, c.requires.ready.there, c.requires.files)) c.index.ensures c.as_slice-row.ensures.value in
+    subst (λ (m : Contents). All HasPriors m.recipes) (sym (contents_are (given_of (g.S.Syntax.answers c.args.syntax.now) (g.E.Evaluation.answers c.args.evaluation.now) c.args.config.now.overrides) c.args.files.now c.args.joined.now c.args.place c.as_slice-row.result.now row c.ast_at-ast.result.now c.ast_at-ast.ensures c.in_ok-checked.checked c.in_ok-checked.ensures.checked c.in_ok-checked.ensures.kept)) c.requires.ready.priors
+
+pub analyze_checked-requires-clause-apart : goal.analyze_checked-requires-clause-apart
+analyze_checked-requires-clause-apart g c =
+    let row = row_lent c.args.joined.now.files.items c.args.place c.index.result.now c.as_slice-row.result.now (omega (arith, c.requires.ready.there, c.requires.files)) c.index.ensures c.as_slice-row.ensures.value in
+    λ n a b. c.requires.apart n a (subst (λ (m : Contents). Contains (unresolved_numbers m.recipes) n) (contents_are (given_of (g.S.Syntax.answers c.args.syntax.now) (g.E.Evaluation.answers c.args.evaluation.now) c.args.config.now.overrides) c.args.files.now c.args.joined.now c.args.place c.as_slice-row.result.now row c.ast_at-ast.result.now c.ast_at-ast.ensures c.in_ok-checked.checked c.in_ok-checked.ensures.checked c.in_ok-checked.ensures.kept) b)
+
+pub analyze_checked-requires-clause-variables : goal.analyze_checked-requires-clause-variables
+analyze_checked-requires-clause-variables g c =
+    let row = row_lent c.args.joined.now.files.items c.args.place c.index.result.now c.as_slice-row.result.now (omega (arith, c.requires.ready.there, c.requires.files)) c.index.ensures c.as_slice-row.ensures.value in
+    variables_resolved (given_of (g.S.Syntax.answers c.args.syntax.now) (g.E.Evaluation.answers c.args.evaluation.now) c.args.config.now.overrides) c.args.files.now c.args.joined.now c.args.place c.as_slice-row.result.now row c.ast_at-ast.result.now c.ast_at-ast.ensures c.in_ok-checked.checked c.in_ok-checked.ensures.checked c.in_ok-checked.ensures.kept
+
+pub returns-in_err-justfile-clause-named : goal.returns-in_err-justfile-clause-named
+returns-in_err-justfile-clause-named g c =
+    let row = row_lent c.args.joined.now.files.items c.args.place c.index.result.now c.as_slice-row.result.now (omega (arith, c.requires.ready.there, c.requires.files)) c.index.ensures c.as_slice-row.ensures.value in
+    IfErr-weaker c.from_residual-in_err-justfile.result (Reports (BreaksRecipes (g.S.Syntax.answers c.args.syntax.now) c.in_ok-checked.checked.constants.settings (contents_in c.in_ok-checked.checked.definitions))) _
+    (reports_by _ _ (breaks_recipes (given_of (g.S.Syntax.answers c.args.syntax.now) (g.E.Evaluation.answers c.args.evaluation.now) c.args.config.now.overrides) c.args.files.now c.args.joined.now c.args.place c.as_slice-row.result.now row c.ast_at-ast.result.now c.ast_at-ast.ensures c.in_ok-checked.checked c.in_ok-checked.ensures.checked c.in_ok-checked.ensures.kept)) (search rules)
+
+pub returns-clause-compiled : goal.returns-clause-compiled
+returns-clause-compiled g c =
+    let row = row_lent c.args.joined.now.files.items c.args.place c.index.result.now c.as_slice-row.result.now (omega (arith, c.requires.ready.there, c.requires.files)) c.index.ensures c.as_slice-row.ensures.value in
+    let enabled = (g.S.Syntax.answers c.args.syntax.now).enabled in
+    let own = c.ast_at-ast.result.now in
+    let checked = c.in_ok-checked.checked in
+    let around = c.in_ok-surroundings.surroundings in
+    let there = c.in_ok-surroundings.ensures.made in
+    let justfile = c.in_ok-justfile.justfile in
+    let analyzed = c.in_ok-justfile.ensures.analyzed in
+    let room : c.args.place < length c.surroundings_at.new.slots.items = omega (arith, c.in_ok-surroundings.ensures.room, c.requires.room, c.requires.ready.there) in
+    let m = contents_are (given_of (g.S.Syntax.answers c.args.syntax.now) (g.E.Evaluation.answers c.args.evaluation.now) c.args.config.now.overrides) c.args.files.now c.args.joined.now c.args.place c.as_slice-row.result.now row c.ast_at-ast.result.now c.ast_at-ast.ensures c.in_ok-checked.checked c.in_ok-checked.ensures.checked c.in_ok-checked.ensures.kept in
+    record {
+      made = record { recipes = analyzed.added.made; overridden = checked.constants.overridden.items };
+      justfile = justfile;
+      recipes = analyzed.added.appended;
+      overridden = analyzed.overridden;
+      compiled = λ inner e. record {
+        own = own;
+        own_said = c.ast_at-ast.ensures;
+        key = there.key;
+        key_is = there.key_is;
+        kept = keeps_place (given_of (g.S.Syntax.answers c.args.syntax.now) (g.E.Evaluation.answers c.args.evaluation.now) c.args.config.now.overrides) c.args.files.now c.args.joined.now c.args.place c.as_slice-row.result.now row c.ast_at-ast.result.now c.ast_at-ast.ensures c.in_ok-checked.checked c.in_ok-checked.ensures.checked c.in_ok-checked.ensures.kept analyzed.kept;
+        labels = checked.labels.items;
+        evaluated = evaluated_to (given_of (g.S.Syntax.answers c.args.syntax.now) (g.E.Evaluation.answers c.args.evaluation.now) c.args.config.now.overrides) c.args.files.now c.args.joined.now c.args.place c.as_slice-row.result.now row c.ast_at-ast.result.now c.ast_at-ast.ensures c.in_ok-checked.checked c.in_ok-checked.ensures.checked c.in_ok-checked.ensures.kept justfile analyzed.settings;
+        variables = subst (λ n. HasVariables (g.S.Syntax.answers c.args.syntax.now) n justfile) m analyzed.variables;
+        resolved = subst (λ (n : Contents). AreResolved (kept_recipes n.recipes) own.module_path analyzed.added.made) m analyzed.added.resolved;
+        default = subst (λ n. HasDefault n (recipes_by enabled (Some own)) justfile) m analyzed.default;
+        fields = is_of_same (contents_in checked.definitions) _ own around.loaded c.args.loaded.now around.source there.key.1 justfile m there.loaded_are there.source_is analyzed.fields;
+        notes = analyzed.notes ∙ there.notes_are;
+        modules = analyzed.modules ∙ there.modules_are inner e ∙ ap (λ labels. by_name (with_labels inner labels)) c.as_slice.ensures.value;
+      };
+      here = get_or-set_same c.surroundings_at.new.slots.items c.args.place (Some justfile) None room;
+      others = λ q ne out. get_or-set_other c.surroundings_at.new.slots.items c.args.place q (Some justfile) None ne ∙ c.in_ok-surroundings.ensures.others q out;
+      room = length-set c.surroundings_at.new.slots.items c.args.place (Some justfile) ∙ c.in_ok-surroundings.ensures.room;
+    }

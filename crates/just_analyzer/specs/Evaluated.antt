@@ -1,0 +1,18 @@
+-- What is evaluated of a module that is compiled.
+use Rattle.std.specs.Prelude.{◌≡◌, List}
+use Rattle.just_checking.specs.Evaluated.{AreLabels, overridden_in}
+use Rattle.just_invoke.specs.declared.justfile.Justfile.{Justfile, out-Justfile}
+use Rattle.just_definitions.specs.Constants.{Evaluated, IsEvaluated}
+use Rattle.just_definitions.specs.Contents.{Contents}
+use Rattle.just_names.specs.Texts.{Text}
+use Rattle.just_names.specs.declared.number.Number.{Number}
+use Rattle.just_definitions.specs.declared.labels.Label.{Label}
+use Rattle.just_parts.specs.Layers.{Layers}
+
+-- What is evaluated of a module that is compiled: its constants and its settings, which its justfile has, the labels of the modules in it, and the values that override its variables.
+pub record IsEvaluatedTo (layers : Layers) (m : Contents) (said labels : List Label) (overridden : List (Number × Text)) (j : Justfile) : Type 0 where
+  pub it : Evaluated
+  pub evaluated : IsEvaluated layers m it
+  pub settings : it.settings ≡ (out-Justfile j).settings
+  pub documented : AreLabels layers m it.constants said labels
+  pub overrides_are : overridden ≡ overridden_in layers m

@@ -1,0 +1,45 @@
+-- The steps by which one module is compiled.
+use Rattle.std.specs.Prelude.{◌≡◌, ◌++◌, ℕ, Bool, List, map, slice_get, Option, Some}
+use Rattle.just_errors.specs.Causes.{Keeps}
+use Rattle.just_graph.specs.Graph.{targets}
+use Rattle.just_invoke.specs.declared.justfile.Justfile.{Justfile, out-Justfile}
+use Rattle.just_definitions.specs.Definitions.{contents_in, recipes_in}
+use Rattle.just_rules.specs.Files.{keys_in}
+use Rattle.just_definitions.specs.Kept.{kept_recipes}
+use Rattle.just_definitions.specs.Named.{AreAdded, recipes_by}
+use Rattle.just_rules.specs.declared.files.Files.{Files}
+use Rattle.just_rules.specs.declared.joined.Joined.{Joined}
+use Rattle.just_making.specs.Analysis.{HasDefault, IsOf}
+use Rattle.just_making.specs.Labelled.{by_name, notes_in, slot, with_labels}
+use Rattle.just_analyzer.specs.Justfiles.{Made}
+use Rattle.just_checking.specs.Noted.{notes_of_place}
+use Rattle.just_making.specs.Variables.{HasVariables}
+use Rattle.just_checking.specs.declared.checking.Checked.{Checked}
+use Rattle.just_making.specs.declared.making.Surroundings.{Surroundings}
+use Rattle.just_names.specs.Texts.{Text}
+use Rattle.just_definitions.specs.declared.labels.Label.{Label}
+use Rattle.just_parts.specs.Asts.{AstKey}
+use Rattle.just_parts.specs.Items.{Ast, Item}
+use Rattle.just_parts.specs.Syntax.{SyntaxAnswers}
+use Rattle.just_resolving.specs.Broken.{BreaksRecipes}
+
+-- What the module at a place has besides its recipes: the list of loaded files, its own file, what is noted of its files, and the modules in it, which were held, under labels.
+pub record AreSurroundings (enabled : Item → Bool) (files : Files) (joined : Joined) (loaded : List Text) (p : ℕ) (labels : List Label) (held : List (Option Justfile)) (it : Surroundings) : Type 0 where
+  pub loaded_are : it.loaded ≡ loaded
+  pub key : AstKey
+  pub key_is : slice_get (keys_in files) p ≡ Some key
+  pub source_is : it.source ≡ key.1
+  pub notes_are : it.notes ≡ notes_of_place enabled files joined p
+  pub modules_are : (inner : List Justfile) → map Some inner ≡ map (slot held) (targets joined.modules.items p) → it.modules ≡ by_name (with_labels inner labels)
+
+-- What a module is analyzed to that is checked, and what it adds.
+pub record IsAnalyzedFrom (answers : SyntaxAnswers) (own : Ast) (it : Checked) (around : Surroundings) (before after : Made) (j : Justfile) : Type 0 where
+  pub kept : Keeps (BreaksRecipes answers it.constants.settings (contents_in it.definitions))
+  pub added : AreAdded (kept_recipes (recipes_in it.definitions)) own.module_path before.recipes after.recipes
+  pub overridden : after.overridden ≡ before.overridden ++ it.constants.overridden.items
+  pub fields : IsOf (contents_in it.definitions) own around.loaded around.source j
+  pub default : HasDefault (contents_in it.definitions) (recipes_by answers.enabled (Some own)) j
+  pub settings : (out-Justfile j).settings ≡ it.constants.settings
+  pub variables : HasVariables answers (contents_in it.definitions) j
+  pub modules : (out-Justfile j).modules ≡ around.modules
+  pub notes : notes_in j ≡ around.notes

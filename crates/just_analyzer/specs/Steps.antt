@@ -1,0 +1,131 @@
+-- Modules that are compiled one after another, by the places of their own files.
+use Rattle.std.specs.Prelude.{◌≡◌, ◌<◌, ◌++◌, ℕ, Bool, List, [], map, flat_map, length, slice_get, slice_index, take, Option, None, Some, false}
+use Rattle.std.specs.List.{All, Contains}
+use Rattle.std.specs.declared.alloc.Global.{Global}
+use Rattle.std.specs.declared.vec.Vec.{Vec}
+use Rattle.just_graph.specs.Graph.{HasEdge, targets}
+use Rattle.just_graph.specs.Steps.{IsOnce, ListsStepsFirst}
+use Rattle.just_parts.specs.Asts.{AstKey}
+use Rattle.just_errors.specs.Causes.{Cause}
+use Rattle.just_names.specs.Texts.{Text}
+use Rattle.just_paths.specs.declared.modulepath.Modulepath.{Modulepath}
+use Rattle.just_definitions.specs.declared.labels.Label.{Label}
+use Rattle.just_records.specs.declared.assignment.Assignment.{Assignment}
+use Rattle.just_parts.specs.Layers.{Given, layers_at}
+use Rattle.just_parts.specs.Items.{Ast, Item}
+use Rattle.just_invoke.specs.declared.justfile.Justfile.{Justfile, out-Justfile}
+use Rattle.just_making.specs.Analysis.{HasDefault, IsOf}
+use Rattle.just_analyzer.specs.Evaluated.{IsEvaluatedTo}
+use Rattle.just_index.specs.Index.{texts_of_names, AreDifferent}
+use Rattle.just_rules.specs.Analyzable.{assignment_numbers}
+use Rattle.just_rules.specs.Files.{asts_in, keys_in}
+use Rattle.just_making.specs.Labelled.{by_name, notes_in, slot, with_labels}
+use Rattle.just_analyzer.specs.Justfiles.{Made}
+use Rattle.just_analyzer.specs.declared.compiling.Gathered.{Gathered}
+use Rattle.just_checking.specs.Noted.{notes_of_place}
+use Rattle.just_making.specs.Variables.{HasVariables}
+use Rattle.just_definitions.specs.Groups.{BreaksContents, KeepsContents}
+use Rattle.just_definitions.specs.Kept.{kept_recipes}
+use Rattle.just_definitions.specs.Named.{recipes_by, said_from, variable_by}
+use Rattle.just_definitions.specs.Resolved.{AreResolved, HasPriors, unresolved_numbers}
+use Rattle.just_rules.specs.OfPlaces.{contents_of_place, labels_of_place, names_of_place, recipes_of_place}
+use Rattle.just_rules.specs.declared.files.Files.{Files}
+use Rattle.just_rules.specs.declared.joined.Joined.{Joined}
+
+-- the path of the module of a file
+abbrev pub path_in : Option Ast → Modulepath
+path_in None = record { components = []; spaced = false }
+path_in (Some ast) = ast.module_path
+
+-- that of the file at a place
+abbrev pub path_at : Files → ℕ → Modulepath
+path_at files p = path_in (slice_get (asts_in files) p)
+
+-- all groups of the module at a place are kept, or a rule of one is broken
+abbrev pub KeepsPlace : Given → Files → Joined → ℕ → Type 0
+KeepsPlace given files joined p = KeepsContents (layers_at given (path_at files p)) (contents_of_place given.syntax.enabled files joined p)
+
+abbrev pub BreaksPlace : Given → Files → Joined → ℕ → Cause → Type 0
+BreaksPlace given files joined p = BreaksContents (layers_at given (path_at files p)) (contents_of_place given.syntax.enabled files joined p)
+
+-- the variables that the module at a place has
+abbrev pub variables_of_place : (Item → Bool) → Files → Joined → ℕ → List Assignment
+variables_of_place enabled files joined p = said_from variable_by enabled (asts_in files) (targets joined.files.items p)
+
+-- The module at a place can be compiled: its files have places, the numbers of its recipes are different, and so are those of its variables, and the modules in it stand at different places, with a label for each and a name that no other one has.
+pub record CanCompile (enabled : Item → Bool) (files : Files) (joined : Joined) (p : ℕ) : Type 0 where
+  pub there : p < length files.asts.items
+  pub files_there : All (λ q. q < length files.asts.items) (targets joined.files.items p)
+  pub modules_there : All (λ q. q < length files.asts.items) (targets joined.modules.items p)
+  pub numbers : IsOnce (unresolved_numbers (recipes_of_place enabled files joined p))
+  pub variables : IsOnce (assignment_numbers (variables_of_place enabled files joined p))
+  pub priors : All HasPriors (recipes_of_place enabled files joined p)
+  pub apart : IsOnce (targets joined.modules.items p)
+  pub labels : length (labels_of_place enabled files joined p) ≡ length (targets joined.modules.items p)
+  pub different : AreDifferent (texts_of_names (names_of_place enabled files joined p))
+
+-- What the module at a place is compiled to, from the justfiles of the modules in it; it has no label yet.
+pub record IsCompiledAt (given : Given) (files : Files) (joined : Joined) (loaded : List Text) (p : ℕ) (inner : List Justfile) (made : Made) (j : Justfile) : Type 0 where
+  pub own : Ast
+  pub own_said : slice_get (asts_in files) p ≡ Some own
+  pub key : AstKey
+  pub key_is : slice_get (keys_in files) p ≡ Some key
+  pub kept : KeepsPlace given files joined p
+  pub resolved : AreResolved (kept_recipes (recipes_of_place given.syntax.enabled files joined p)) own.module_path made.recipes
+  pub labels : List Label
+  pub evaluated : IsEvaluatedTo (layers_at given (path_at files p)) (contents_of_place given.syntax.enabled files joined p) (labels_of_place given.syntax.enabled files joined p) labels made.overridden j
+  pub variables : HasVariables given.syntax (contents_of_place given.syntax.enabled files joined p) j
+  pub default : HasDefault (contents_of_place given.syntax.enabled files joined p) (recipes_by given.syntax.enabled (Some own)) j
+  pub fields : IsOf (contents_of_place given.syntax.enabled files joined p) own loaded key.1 j
+  pub notes : notes_in j ≡ notes_of_place given.syntax.enabled files joined p
+  pub modules : (out-Justfile j).modules ≡ by_name (with_labels inner labels)
+
+-- what modules have added
+abbrev pub made_in : Gathered → Made
+made_in it = record { recipes = it.recipes; overridden = it.overridden.items }
+
+-- One more module is compiled, from those that are held at the places of the modules in it.
+pub record CompilesPlace (given : Given) (files : Files) (joined : Joined) (loaded : List Text) (p : ℕ) (old new : List (Option Justfile)) (before after : Made) : Type 0 where
+  pub made : Made
+  pub justfile : Justfile
+  pub recipes : after.recipes ≡ before.recipes ++ made.recipes
+  pub overridden : after.overridden ≡ before.overridden ++ made.overridden
+  pub compiled : (inner : List Justfile) → map Some inner ≡ map (slot old) (targets joined.modules.items p) → IsCompiledAt given files joined loaded p inner made justfile
+  pub here : slot new p ≡ Some justfile
+  pub others : (q : ℕ) → (q ≡ p → ⊥) → (Contains (targets joined.modules.items p) q → ⊥) → slot new q ≡ slot old q
+  pub room : length new ≡ length old
+
+abbrev pub CompilesAt : Given → Files → Joined → List Text → ℕ → Vec (Option Justfile) Global → Vec (Option Justfile) Global → Gathered → Gathered → Type 0
+CompilesAt given files joined loaded p old new before after = CompilesPlace given files joined loaded p old.items new.items (made_in before) (made_in after)
+
+-- Modules that can be compiled in this order: each place once, after those of the modules in it, each of which stands in one module, and no number of a recipe in two modules.
+pub record CanCompileAll (enabled : Item → Bool) (files : Files) (joined : Joined) (order : List ℕ) : Type 0 where
+  pub keys : length files.keys.items ≡ length files.asts.items
+  pub files_room : length joined.files.items ≡ length files.asts.items
+  pub modules_room : length joined.modules.items ≡ length files.asts.items
+  pub each : (k : ℕ) → k < length order → CanCompile enabled files joined (slice_index order k)
+  pub once : IsOnce order
+  pub inner_first : ListsStepsFirst (HasEdge joined.modules.items) order
+  pub one_outer : (i k q : ℕ) → i < length order → k < length order → HasEdge joined.modules.items (slice_index order i) q → HasEdge joined.modules.items (slice_index order k) q → i ≡ k
+  pub apart : (i k m : ℕ) → i < k → k < length order → Contains (unresolved_numbers (recipes_of_place enabled files joined (slice_index order i))) m
+      → Contains (unresolved_numbers (recipes_of_place enabled files joined (slice_index order k))) m → ⊥
+
+-- The first n modules of an order are compiled: what each adds, one module after another, and its justfile, which is held until a module takes it.
+pub record HaveCompiled (given : Given) (files : Files) (joined : Joined) (loaded : List Text) (order : List ℕ) (n : ℕ) (slots : List (Option Justfile)) (all : Made) : Type 0 where
+  pub made : ℕ → Made
+  pub justfile : ℕ → Justfile
+  pub recipes : all.recipes ≡ flat_map (λ q. (made q).recipes) (take n order)
+  pub overridden : all.overridden ≡ flat_map (λ q. (made q).overridden) (take n order)
+  pub each : (k : ℕ) → k < n → IsCompiledAt given files joined loaded (slice_index order k) (map justfile (targets joined.modules.items (slice_index order k))) (made (slice_index order k)) (justfile (slice_index order k))
+  pub held : (k : ℕ) → k < n → ((i : ℕ) → i < n → HasEdge joined.modules.items (slice_index order i) (slice_index order k) → ⊥) → slot slots (slice_index order k) ≡ Some (justfile (slice_index order k))
+  pub room : length slots ≡ length files.asts.items
+
+abbrev pub HaveCompiledAll : Given → Files → Joined → List Text → List ℕ → Vec (Option Justfile) Global × Gathered → Type 0
+HaveCompiledAll given files joined loaded order result = HaveCompiled given files joined loaded order (length order) result.0.items (made_in result.1)
+
+-- A rule is broken in the module at a place of an order, and none is in those before it.
+pub record BreaksInOrder (given : Given) (files : Files) (joined : Joined) (order : List ℕ) (c : Cause) : Type 0 where
+  pub at : ℕ
+  pub there : at < length order
+  pub before : (k : ℕ) → k < at → KeepsPlace given files joined (slice_index order k)
+  pub broken : BreaksPlace given files joined (slice_index order at) c

@@ -1,0 +1,165 @@
+//! The analysis of a module, and of the modules in it.
+
+ghost use Rattle.std.specs.Prelude.{◌≡◌, ◌≤◌, IfErr, IfOk, IsSome, None, length};
+ghost use Rattle.std.specs.HashMap.{get, spare};
+ghost use Rattle.just_parts.specs.Asts.{same_ast_key};
+ghost use Rattle.just_rules.specs.Analyzable.{AreAnalyzable};
+ghost use Rattle.just_analyzer.specs.Analyzed.{AnalyzesAt, AreInserted, NamesAnalyzed};
+ghost use Rattle.just_parts.specs.Layers.{given_of};
+
+use crate::compiling::{Gathered, compile_in_order};
+use just_data::{Sequence, Shared, Text};
+use just_definitions::Label;
+use just_invoke::{Justfile, Recipes};
+use just_making::{labelled, take_at};
+use just_parts::layers::{Ast, Config, Error, Evaluation, Name, Number, StringLiteral, Syntax};
+use just_paths::Modulepath;
+use just_rules::files::{file_rows, place_files, place_of};
+use just_rules::joined::arrange;
+use just_rules::module_names::check_module_names;
+use std::alloc::{AllocError, Global};
+use std::collections::HashMap;
+
+// Copies of quoted texts.
+fn literals<'src>(
+    alloc: Global,
+    texts: &[StringLiteral<'src>],
+) -> Result<Sequence<StringLiteral<'src>>, AllocError>
+    ensures { IfOk result (λ copies. copies ≡ texts.now) }
+{
+    let mut copies = Sequence::new(alloc);
+    for text in texts {
+        copies.push(text.clone()?)?;
+    }
+    Ok(copies)
+}
+
+// The justfile of the module of a key, under a label, and what it and the modules in it add.
+fn analyze_modules<'src, S: Syntax, E: Evaluation>(
+    alloc: Global,
+    asts: &HashMap<(Modulepath, Text), Ast<'src>>,
+    config: &Config,
+    syntax: &S,
+    evaluation: &E,
+    loaded: &Shared<Sequence<Text>>,
+    module_path: &Modulepath,
+    root: &str,
+    label: Label<'src>,
+) -> Result<(Justfile<'src>, Gathered<'src>), Error<'src>>
+    requires held { IsSome (get same_ast_key asts.now (module_path.now, root.now)) }
+    requires asts { AreAnalyzable (S.answers syntax.now).enabled (get same_ast_key asts.now) }
+    requires label { label.doc_expression ≡ None }
+    ensures analyzed { let given = given_of (S.answers syntax.now) (E.answers evaluation.now) config.now.overrides in
+        IfOk result (AnalyzesAt given asts.now loaded.now module_path.now root.now label.entry) }
+    ensures named { let given = given_of (S.answers syntax.now) (E.answers evaluation.now) config.now.overrides in
+        IfErr result (NamesAnalyzed given asts.now module_path.now root.now label.entry) }
+{
+    let files = place_files(alloc, asts)?;
+    let rows = file_rows(alloc, &files, syntax)?;
+    let place = place_of(alloc, &files, module_path, root)?;
+    let (joined, order) = arrange(alloc, &rows, place)?;
+    check_module_names(alloc, &files, syntax, &joined, order.as_slice())?;
+    let (mut slots, gathered) = compile_in_order(
+        alloc,
+        &files,
+        syntax,
+        evaluation,
+        config,
+        &joined,
+        loaded,
+        order.as_slice(),
+    )?;
+    let justfile = take_at(&mut slots, place);
+    Ok((labelled(justfile, label), gathered))
+}
+
+// Puts values in, each under its number, for which there is room; of several with one number the last.
+fn insert_all(pairs: Vec<(Number, Text)>, overrides: &mut HashMap<Number, Text>)
+    requires { length pairs.items ≤ spare overrides.old }
+    ensures { AreInserted pairs.items overrides.old overrides.new }
+{
+    for (number, value) in pairs {
+        let Ok(_) = overrides.insert(number, value) else {
+            unreachable!()
+        };
+    }
+}
+
+/// Analyzes modules.
+pub struct Analyzer;
+
+impl Analyzer {
+    ghost use Rattle.std.specs.Prelude.{◌≡◌, IfErr, IfOk, IsSome, OnErr};
+    ghost use Rattle.std.specs.HashMap.{get};
+    ghost use Rattle.std.specs.Str.{bytes_eq};
+    ghost use Rattle.just_parts.specs.Asts.{same_ast_key};
+    ghost use Rattle.just_rules.specs.Analyzable.{AreAnalyzable, HavePaths};
+    ghost use Rattle.just_analyzer.specs.Analyzed.{AreAsBefore, Analyzes, NamesAnalyzed};
+    ghost use Rattle.just_analyzer.specs.Modules.{label};
+    ghost use Rattle.just_parts.specs.Layers.{given_of};
+
+    /// The justfile of the module at `module_path`, whose own file is `root`, with the label that it is given (`name`,
+    /// `doc`, `groups`, `private`), and the recipes of it and of the modules in it, those of a module after those of the
+    /// modules in it. An error names a rule that one of them breaks.
+    ///
+    /// The evaluation is asked for the constants of each module, as `config` overrides its variables, for its settings
+    /// among them, and for the docs of the modules that it declares. The values that override variables are put into
+    /// `overrides`, each under the number of its variable; after an error `overrides` is as it was.
+    ///
+    /// `paths` leads from the clean path of each file to the one that is shown, and is not asked anything yet.
+    pub fn analyze<'src, S: Syntax, E: Evaluation>(
+        alloc: Global,
+        asts: &HashMap<(Modulepath, Text), Ast<'src>>,
+        config: &Config,
+        doc: Option<Text>,
+        groups: &[StringLiteral<'src>],
+        loaded: &Shared<Sequence<Text>>,
+        module_path: &Modulepath,
+        name: Option<Name<'src>>,
+        overrides: &mut HashMap<Number, Text>,
+        paths: &HashMap<Text, Text>,
+        private: bool,
+        root: &str,
+        syntax: &S,
+        evaluation: &E,
+    ) -> Result<(Justfile<'src>, Recipes<'src>), Error<'src>>
+        requires held { IsSome (get same_ast_key asts.now (module_path.now, root.now)) }
+        requires asts { AreAnalyzable (S.answers syntax.now).enabled (get same_ast_key asts.now) }
+        requires paths { HavePaths (get same_ast_key asts.now) (get bytes_eq paths.now) }
+        ensures made { let given = given_of (S.answers syntax.now) (E.answers evaluation.now) config.now.overrides in
+            let top = label name.entry doc groups.now private in
+            IfOk result (λ made. Analyzes given asts.now loaded.now module_path.now root.now top overrides.old overrides.new made) }
+        ensures named { let given = given_of (S.answers syntax.now) (E.answers evaluation.now) config.now.overrides in
+            let top = label name.entry doc groups.now private in
+            IfErr result (NamesAnalyzed given asts.now module_path.now root.now top) }
+        ensures refused { OnErr result (AreAsBefore overrides.old overrides.new) }
+    {
+        let groups = literals(alloc, groups)?;
+        let label = Label {
+            name,
+            doc,
+            doc_expression: None,
+            groups,
+            private,
+        };
+        let analyzed = analyze_modules(
+            alloc,
+            asts,
+            config,
+            syntax,
+            evaluation,
+            loaded,
+            module_path,
+            root,
+            label,
+        )?;
+        let (justfile, gathered) = analyzed;
+        let Gathered {
+            recipes,
+            overridden,
+        } = gathered;
+        overrides.reserve(overridden.len())?;
+        insert_all(overridden, overrides);
+        Ok((justfile, recipes))
+    }
+}

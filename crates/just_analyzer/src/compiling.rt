@@ -1,0 +1,225 @@
+//! Compiles modules one after another, those in a module before it.
+
+ghost use Rattle.std.specs.Prelude.{◌≡◌, ◌<◌, ℕ, List, IfOk, IfErr, None, OnOk, Some, length, map};
+ghost use Rattle.std.specs.List.{All, Contains};
+ghost use Rattle.just_variables.specs.Variables.{AreVariablesOf};
+ghost use Rattle.just_graph.specs.Graph.{targets};
+ghost use Rattle.just_graph.specs.Steps.{IsOnce};
+ghost use Rattle.just_errors.specs.Causes.{Reports};
+ghost use Rattle.just_invoke.specs.declared.justfile.Justfile.{Justfile};
+ghost use Rattle.just_making.specs.Labelled.{slot};
+ghost use Rattle.just_parts.specs.Layers.{given_of};
+ghost use Rattle.just_definitions.specs.Definitions.{contents_in, recipes_in};
+ghost use Rattle.just_definitions.specs.Resolved.{AreNew, HasPriors, unresolved_numbers};
+ghost use Rattle.just_rules.specs.OfPlaces.{recipes_of_place};
+ghost use Rattle.just_resolving.specs.Broken.{BreaksRecipes};
+ghost use Rattle.just_analyzer.specs.Parts.{AreSurroundings, IsAnalyzedFrom};
+ghost use Rattle.just_analyzer.specs.Steps.{BreaksInOrder, BreaksPlace, CanCompile, CanCompileAll, CompilesAt, HaveCompiledAll, made_in};
+
+use just_checking::{Checked, check_files, notes_at};
+use just_data::{Sequence, Shared, Text};
+use just_definitions::Label;
+use just_invoke::{Justfile, Recipes};
+use just_making::{Surroundings, make_justfile, take_inner};
+use just_parts::layers::{Ast, Config, Error, Evaluation, Number, Syntax};
+use just_resolving::resolve_module;
+use just_rules::files::{Files, ast_at};
+use just_rules::joined::Joined;
+use just_variables::Constants;
+use std::alloc::{AllocError, Global};
+
+/// What modules that are compiled add.
+#[derive(Drop)]
+pub struct Gathered<'src> {
+    /// Their recipes, one module after another.
+    pub recipes: Recipes<'src>,
+    /// The values that override their variables, each with the number of its variable.
+    pub overridden: Vec<(Number, Text)>,
+}
+
+// What the module whose own file stands at a place has besides its recipes: it takes the modules in it, under these labels.
+fn surroundings_at<'a, 'src, S: Syntax>(
+    alloc: Global,
+    files: &Files<'src, 'a>,
+    syntax: &S,
+    joined: &Joined,
+    loaded: &Shared<Sequence<Text>>,
+    place: usize,
+    labels: &[Label<'src>],
+    slots: &mut Vec<Option<Justfile<'src>>>,
+) -> Result<Surroundings<'src>, AllocError>
+    requires keys { length files.now.keys.items ≡ length files.now.asts.items }
+    requires files { length joined.now.files.items ≡ length files.now.asts.items }
+    requires modules { length joined.now.modules.items ≡ length files.now.asts.items }
+    requires room { length slots.old.items ≡ length files.now.asts.items }
+    requires ready { CanCompile (S.answers syntax.now).enabled files.now joined.now place }
+    requires inner { (js : List Justfile) × (map Some js ≡ map (slot slots.old.items) (targets joined.now.modules.items place)) }
+    requires labels { length labels.now ≡ length (targets joined.now.modules.items place) }
+    ensures made { let enabled = (S.answers syntax.now).enabled in
+        IfOk result (AreSurroundings enabled files.now joined.now loaded.now place labels.now slots.old.items) }
+    ensures others { let inner = targets joined.now.modules.items place in
+        OnOk result ((q : ℕ) → (Contains inner q → ⊥) → slot slots.new.items q ≡ slot slots.old.items q) }
+    ensures room { OnOk result (length slots.new.items ≡ length slots.old.items) }
+{
+    let source = Text::from_str(alloc, files.keys[place].1.as_str())?;
+    let loaded = loaded.clone()?;
+    let notes = notes_at(alloc, files, syntax, joined.files[place].as_slice())?;
+    let modules = take_inner(alloc, slots, joined.modules[place].as_slice(), labels)?;
+    Ok(Surroundings {
+        loaded,
+        modules,
+        notes,
+        source,
+    })
+}
+
+// The justfile of a module that is checked, of which `ast` says its own file. Its recipes, and the values that override its
+// variables, are added to the others.
+fn analyze_checked<'b, 'src, S: Syntax>(
+    alloc: Global,
+    ast: &Ast<'src>,
+    syntax: &S,
+    mut checked: Checked<'src, 'b>,
+    surroundings: Surroundings<'src>,
+    gathered: &mut Gathered<'src>,
+) -> Result<Justfile<'src>, Error<'src>>
+    requires once { IsOnce (unresolved_numbers (recipes_in checked.definitions)) }
+    requires priors { All HasPriors (recipes_in checked.definitions) }
+    requires apart { AreNew gathered.old.recipes (recipes_in checked.definitions) }
+    requires variables { AreVariablesOf (S.answers syntax.now) (contents_in checked.definitions) checked.variables }
+    ensures analyzed { let is = IsAnalyzedFrom (S.answers syntax.now) ast.now checked.entry surroundings.entry in
+        IfOk result (is (made_in gathered.old) (made_in gathered.new)) }
+    ensures named { IfErr result (Reports (BreaksRecipes (S.answers syntax.now) checked.entry.constants.settings (contents_in checked.entry.definitions))) }
+{
+    gathered
+        .overridden
+        .append(&mut checked.constants.overridden)?;
+    let (kept, default) = resolve_module(
+        alloc,
+        &checked.definitions,
+        ast,
+        syntax,
+        &checked.constants.settings,
+        &mut gathered.recipes,
+    )?;
+    let Checked {
+        definitions,
+        variables,
+        constants,
+        ..
+    } = checked;
+    let Constants { settings, .. } = constants;
+    let justfile = make_justfile(
+        alloc,
+        &definitions,
+        &kept,
+        ast,
+        default,
+        variables,
+        settings,
+        surroundings,
+    )?;
+    Ok(justfile)
+}
+
+// Compiles the module whose own file stands at a place, from those in it.
+fn compile_place<'a, 'src, S: Syntax, E: Evaluation>(
+    alloc: Global,
+    files: &Files<'src, 'a>,
+    syntax: &S,
+    evaluation: &E,
+    config: &Config,
+    joined: &Joined,
+    loaded: &Shared<Sequence<Text>>,
+    place: usize,
+    slots: &mut Vec<Option<Justfile<'src>>>,
+    gathered: &mut Gathered<'src>,
+) -> Result<(), Error<'src>>
+    requires keys { length files.now.keys.items ≡ length files.now.asts.items }
+    requires files { length joined.now.files.items ≡ length files.now.asts.items }
+    requires modules { length joined.now.modules.items ≡ length files.now.asts.items }
+    requires room { length slots.old.items ≡ length files.now.asts.items }
+    requires ready { CanCompile (S.answers syntax.now).enabled files.now joined.now place }
+    requires inner { (js : List Justfile) × (map Some js ≡ map (slot slots.old.items) (targets joined.now.modules.items place)) }
+    requires apart { AreNew gathered.old.recipes (recipes_of_place (S.answers syntax.now).enabled files.now joined.now place) }
+    ensures compiled { let given = given_of (S.answers syntax.now) (E.answers evaluation.now) config.now.overrides in
+        OnOk result (CompilesAt given files.now joined.now loaded.now place slots.old slots.new gathered.old gathered.new) }
+    ensures named { let given = given_of (S.answers syntax.now) (E.answers evaluation.now) config.now.overrides in
+        IfErr result (Reports (BreaksPlace given files.now joined.now place)) }
+{
+    let row = joined.files[place].as_slice();
+    let ast = ast_at(files, place);
+    let checked = check_files(
+        alloc,
+        files,
+        syntax,
+        evaluation,
+        config,
+        &ast.module_path,
+        row,
+    )?;
+    let surroundings = surroundings_at(
+        alloc,
+        files,
+        syntax,
+        joined,
+        loaded,
+        place,
+        checked.labels.as_slice(),
+        slots,
+    )?;
+    let justfile = analyze_checked(alloc, ast, syntax, checked, surroundings, gathered)?;
+    slots[place] = Some(justfile);
+    Ok(())
+}
+
+// No justfile at any of so many places.
+fn no_slots<'src>(alloc: Global, count: usize) -> Result<Vec<Option<Justfile<'src>>>, AllocError>
+    ensures { IfOk result (λ slots. length slots.items ≡ count) }
+{
+    let mut slots = Vec::with_capacity(alloc, count)?;
+    for _ in 0..count {
+        slots.push(None)?;
+    }
+    Ok(slots)
+}
+
+/// Compiles the modules whose own files stand at the places of an order: the justfiles of those that stand in no other,
+/// without a name, and what all add, one module after another.
+pub fn compile_in_order<'a, 'src, S: Syntax, E: Evaluation>(
+    alloc: Global,
+    files: &Files<'src, 'a>,
+    syntax: &S,
+    evaluation: &E,
+    config: &Config,
+    joined: &Joined,
+    loaded: &Shared<Sequence<Text>>,
+    order: &[usize],
+) -> Result<(Vec<Option<Justfile<'src>>>, Gathered<'src>), Error<'src>>
+    requires { CanCompileAll (S.answers syntax.now).enabled files.now joined.now order.now }
+    ensures compiled { let given = given_of (S.answers syntax.now) (E.answers evaluation.now) config.now.overrides in
+        IfOk result (HaveCompiledAll given files.now joined.now loaded.now order.now) }
+    ensures named { let given = given_of (S.answers syntax.now) (E.answers evaluation.now) config.now.overrides in
+        IfErr result (Reports (BreaksInOrder given files.now joined.now order.now)) }
+{
+    let mut slots = no_slots(alloc, files.asts.len())?;
+    let mut gathered = Gathered {
+        recipes: Recipes::new(alloc),
+        overridden: Vec::new(alloc),
+    };
+    for place in order {
+        compile_place(
+            alloc,
+            files,
+            syntax,
+            evaluation,
+            config,
+            joined,
+            loaded,
+            *place,
+            &mut slots,
+            &mut gathered,
+        )?;
+    }
+    Ok((slots, gathered))
+}

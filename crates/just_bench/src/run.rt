@@ -1,0 +1,35 @@
+//! The run of a compiled module, and what is written of it.
+ghost use Rattle.just_invoke.specs.Closed.{IsRooted};
+
+use crate::entries::write_entries;
+use crate::fault::Fault;
+use crate::recorder::Recorder;
+use crate::words::run_words;
+use just_data::Text;
+use just_invoke::{Justfile, Recipes};
+use just_parts::layers::{Config, Number};
+use std::alloc::Global;
+use std::collections::HashMap;
+use std::io::Write;
+
+/// Runs words over a compiled module, and writes which recipes began, before a fault too.
+pub fn run_and_write<'src, W: Write>(
+    alloc: Global,
+    root: &Justfile<'src>,
+    recipes: &Recipes<'src>,
+    overrides: &HashMap<Number, Text>,
+    config: &Config,
+    words: &[&str],
+    output: &mut W,
+) -> Result<(), Fault<'src>>
+    requires { IsRooted root.now recipes.now }
+{
+    let mut host = Recorder::new(alloc);
+    let ran = run_words(alloc, root, recipes, overrides, config, &mut host, words);
+    let is_written = write_entries(output, host.entries()).is_ok();
+    match ran {
+        Err(error) => Err(Fault::Analyzer(error)),
+        Ok(_) if is_written => Ok(()),
+        Ok(_) => Err(Fault::Write),
+    }
+}

@@ -1,0 +1,38 @@
+//! The run of a compiled module over the layers of the bench.
+ghost use Rattle.just_invoke.specs.Closed.{IsRooted};
+
+use crate::recorder::Recorder;
+use crate::stop_writer::StopWriter;
+use just_data::Text;
+use just_invoke::{Justfile, Recipes, Report};
+use just_parts::layers::{Config, Error, Number};
+use just_syntax::PlainSyntax;
+use just_values::PlainEvaluation;
+use std::alloc::Global;
+use std::collections::HashMap;
+
+/// Runs words over a compiled module. The host records what begins.
+pub fn run_words<'src>(
+    alloc: Global,
+    root: &Justfile<'src>,
+    recipes: &Recipes<'src>,
+    overrides: &HashMap<Number, Text>,
+    config: &Config,
+    host: &mut Recorder,
+    words: &[&str],
+) -> Result<Report, Error<'src>>
+    requires { IsRooted root.now recipes.now }
+{
+    let mut writer = StopWriter::new(alloc, 0)?;
+    root.run(
+        alloc,
+        config,
+        recipes,
+        &PlainSyntax::new(),
+        &mut PlainEvaluation,
+        host,
+        &mut writer,
+        words,
+        overrides,
+    )
+}

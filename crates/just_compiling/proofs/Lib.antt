@@ -1,3 +1,0 @@
-pub mod Grounds
-pub mod Ordered
-pub mod Placed

@@ -1,4 +1,0 @@
-pub mod FilePlaces
-pub mod Joining
-pub mod Numbers
-pub mod Placing

@@ -1,3 +1,0 @@
-pub mod Alike
-pub mod Checked
-pub mod Placed

@@ -1,2 +1,0 @@
-pub mod Analyzed
-pub mod Groups

@@ -1,3 +1,0 @@
-pub mod Labels
-pub mod Notes
-pub mod Said
