@@ -16,5 +16,6 @@ pub mod Placed
 pub mod Placing
 pub mod Readings
 pub mod Ready
+pub mod ShownPaths
 pub mod TableValues
 pub mod VariableNumbers

@@ -16,7 +16,7 @@ use Rattle.just_analyzer.specs.Analyzed.{IsAnalyzed}
 use Rattle.just_analyzer.specs.Readings.{Overrides, given_in, root_heading}
 use Rattle.just_analyzer.specs.Rules.{KeepsAll, Names}
 use Rattle.just_parts.specs.Items.{Ast}
-use Rattle.just_compilation.specs.declared.compilation.Compilation.{Compilation as CompilationOf}
+use Rattle.just_analyzer.specs.declared.compilation.Compilation.{Compilation as CompilationOf}
 
 abbrev pub Compilation : Type 0
 Compilation = CompilationOf Ast

@@ -5,6 +5,7 @@ pub mod Groups
 pub mod Justfiles
 pub mod Modules
 pub mod Parts
+pub mod Paths
 pub mod Readings
 pub mod Rules
 pub mod Steps

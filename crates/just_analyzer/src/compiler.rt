@@ -6,7 +6,8 @@ ghost use Rattle.just_parts.specs.Layers.{override_at};
 ghost use Rattle.just_analyzer.specs.Compiled.{Compiles};
 
 use crate::analyzer::Analyzer;
-use just_compilation::{Compilation, relative_paths};
+use crate::compilation::Compilation;
+use crate::paths::relative_paths;
 use just_data::{Shared, Text};
 use just_loader::{Loaded, Sources, load};
 use just_parts::layers::{Config, Error, Evaluation, Name, Syntax};

@@ -3,16 +3,18 @@
 #![tactic(auto)]
 
 mod analyzer;
+mod compilation;
 pub mod compiler;
 mod compiling;
+mod paths;
 
 pub use analyzer::Analyzer;
+pub use compilation::Compilation;
 pub use compiler::Compiler;
-pub use just_compilation::Compilation;
+pub use just_checking::VariableResolver;
 pub use just_invoke::{Invocation, InvocationParser, Justfile, RecipeKey, Recipes, Report};
 pub use just_loader::Sources;
 pub use just_parts::{Dependency, Recipe, Source, UnresolvedRecipe, layers};
 pub use just_paths::{Modulepath, is_clean};
 pub use just_references::{Reference, References};
-pub use just_resolver::VariableResolver;
 pub use just_table::{Keyed, Table};

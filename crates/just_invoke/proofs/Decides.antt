@@ -14,9 +14,9 @@ use Rattle.just_invoke.specs.declared.justfile.Justfile.{Justfile, out-Justfile}
 use Rattle.just_invoke.specs.declared.justfile.RecipeKey.{RecipeKey}
 use Rattle.just_invoke.specs.Closed.{recipe_named, default_recipe}
 use Rattle.just_invoke.specs.Cause.{Cause, unknown_recipe, unknown_submodule, expected_submodule, no_recipes, no_default, default_requires}
-use Rattle.just_words.specs.Words.{Words, has_colon, is_empty, IsPathWord}
+use Rattle.just_invoke.specs.Words.{Words, has_colon, is_empty, IsPathWord}
 use Rattle.just_invoke.specs.Head.{Held, name_of, NoDefault, BadName, goes_on, WordsLead, WordsMislead, NoPath, NoHead, IsHead, PathLeads}
-use Rattle.just_words.specs.Tail.{IsTail, first_variadic, group, uses_from}
+use Rattle.just_invoke.specs.Tail.{IsTail, first_variadic, group, uses_from}
 use Rattle.just_invoke.specs.Split.{Invoked, Invokes, Chain, IsSplit, Stops, IsFault, fault_of}
 use Rattle.just_invoke.proofs.Unique.{invokes_takes}
 

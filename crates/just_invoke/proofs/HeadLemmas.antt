@@ -12,7 +12,7 @@ use Rattle.just_invoke.specs.declared.justfile.Justfile.{Justfile}
 use Rattle.just_invoke.specs.Closed.{IsHeld}
 use Rattle.just_recipe.specs.Recipes.{find_number}
 use Rattle.just_invoke.specs.Cause.{Cause}
-use Rattle.just_words.specs.Words.{has_colon, is_empty}
+use Rattle.just_invoke.specs.Words.{has_colon, is_empty}
 use Rattle.just_invoke.specs.Head.{Held, WordsLead, WordsMislead, IsHead, PathLeads, NoPath, NoHead}
 
 number_step : (b : Bool) (x : Recipe Dependency) (rest : Option (Recipe Dependency)) (n : ℕ) (r : Recipe Dependency) → (b ≡ true → x.number.0 ≡ n) →

@@ -6,4 +6,5 @@ pub mod Namings
 pub mod Outcomes
 pub mod Scoping
 pub mod SplitLemmas
+pub mod TailLemmas
 pub mod Unique

@@ -9,16 +9,16 @@ use Rattle.just_recipe.specs.declared.dependency.Dependency.{Dependency}
 use Rattle.just_recipe.specs.declared.recipe.Recipe.{Recipe}
 use Rattle.just_invoke.specs.declared.justfile.Justfile.{Justfile}
 use Rattle.just_invoke.specs.Cause.{Cause, not_yet}
-use Rattle.just_words.specs.Words.{Words}
+use Rattle.just_invoke.specs.Words.{Words}
 use Rattle.just_invoke.specs.Head.{Held, name_of, IsHead}
-use Rattle.just_words.specs.Options.{has_options}
-use Rattle.just_words.specs.Tail.{IsTail, any_missing}
+use Rattle.just_invoke.specs.Options.{has_options}
+use Rattle.just_invoke.specs.Tail.{IsTail, any_missing}
 use Rattle.std.specs.List.{All}
 use Rattle.std.proofs.lemmas.List.Elements.{All-push}
 use Rattle.just_invoke.specs.Closed.{IsHeld}
 use Rattle.just_invoke.specs.declared.invocation.Invocation.{Invocation}
 use Rattle.just_invoke.specs.Split.{Invoked, invoked_of, Invokes, Chain, IsSplit, Stops, IsFault, fault_of, misfit}
-use Rattle.just_words.proofs.TailLemmas.{texts_back}
+use Rattle.just_invoke.proofs.TailLemmas.{texts_back}
 
 texts_cut : (n : ℕ) (words : List (Bor Text)) → texts words ≡ texts (take n words) ++ texts (drop n words)
 texts_cut n words = ap texts (sym (take-append-drop n words)) ∙ map-append (λ w. w.now) (take n words) (drop n words)

@@ -8,9 +8,9 @@ use Rattle.just_recipe.specs.declared.dependency.Dependency.{Dependency}
 use Rattle.just_recipe.specs.declared.recipe.Recipe.{Recipe}
 use Rattle.just_invoke.specs.declared.justfile.Justfile.{Justfile}
 use Rattle.just_invoke.specs.Closed.{recipe_named}
-use Rattle.just_words.specs.Words.{Words, has_colon, is_empty, IsPathWord}
+use Rattle.just_invoke.specs.Words.{Words, has_colon, is_empty, IsPathWord}
 use Rattle.just_invoke.specs.Head.{Held, WordsLead, IsHead, PathLeads}
-use Rattle.just_words.specs.Tail.{IsTail, group, uses_from}
+use Rattle.just_invoke.specs.Tail.{IsTail, group, uses_from}
 use Rattle.just_invoke.specs.Split.{Invoked, Invokes, Chain, IsSplit}
 use Rattle.just_paths.proofs.PathTexts.{word_path_once, argument_path_once}
 

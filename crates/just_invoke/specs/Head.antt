@@ -9,7 +9,7 @@ use Rattle.just_recipe.specs.declared.recipe.Recipe.{Recipe}
 use Rattle.just_invoke.specs.declared.justfile.Justfile.{Justfile, out-Justfile}
 use Rattle.just_invoke.specs.declared.justfile.RecipeKey.{RecipeKey}
 use Rattle.just_invoke.specs.Closed.{recipe_named, default_recipe}
-use Rattle.just_words.specs.Words.{IsPathWord, Words, has_colon, is_empty}
+use Rattle.just_invoke.specs.Words.{IsPathWord, Words, has_colon, is_empty}
 use Rattle.just_invoke.specs.Cause.{Cause, unknown_recipe, unknown_submodule, expected_submodule, no_recipes, no_default, default_requires}
 
 -- the recipes that are held

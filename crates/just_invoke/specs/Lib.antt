@@ -3,7 +3,10 @@ pub mod Closed
 pub mod Going
 pub mod Head
 pub mod Module
+pub mod Options
 pub mod Outcome
 pub mod Scopes
 pub mod Split
+pub mod Tail
 pub mod Variables
+pub mod Words

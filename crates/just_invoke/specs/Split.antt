@@ -6,10 +6,10 @@ use Rattle.just_recipe.specs.declared.recipe.Recipe.{Recipe}
 use Rattle.just_invoke.specs.declared.invocation.Invocation.{Invocation}
 use Rattle.just_invoke.specs.declared.justfile.Justfile.{Justfile}
 use Rattle.just_invoke.specs.Cause.{Cause, count_mismatch, not_yet}
-use Rattle.just_words.specs.Words.{Words}
+use Rattle.just_invoke.specs.Words.{Words}
 use Rattle.just_invoke.specs.Head.{Held, name_of, IsHead, NoHead}
-use Rattle.just_words.specs.Options.{has_options}
-use Rattle.just_words.specs.Tail.{IsTail, any_missing, shown}
+use Rattle.just_invoke.specs.Options.{has_options}
+use Rattle.just_invoke.specs.Tail.{IsTail, any_missing, shown}
 
 -- a recipe, with a group of words for each parameter
 pub record Invoked : Type 0 where

@@ -13,13 +13,13 @@ ghost use Rattle.just_invoke.specs.Split.{invoked_of, misfit, Invokes, Chain, Is
 
 use crate::invocation::Invocation;
 use crate::justfile::Justfile;
+use crate::options::has_options;
+use crate::paths::{as_words, contains_colon, path_word};
+use crate::tail::{any_missing, most_words, read_tail};
 use just_data::{BorrowedText, Text};
 use just_parts::Recipe;
 use just_parts::layers::{Error, Evaluation, InvocationError, RunError};
 use just_running::Recipes;
-use just_words::{
-    any_missing, as_words, contains_colon, has_options, most_words, path_word, read_tail,
-};
 use std::alloc::Global;
 
 /// Reads command words as invocations of recipes.

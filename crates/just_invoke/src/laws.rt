@@ -5,7 +5,7 @@ ghost use Rattle.just_parts.specs.Host.{Answer, KeepsPromises};
 ghost use Rattle.just_parts.specs.Steps.{Question, IsSteady};
 ghost use Rattle.just_invoke.specs.Cause.{Cause};
 ghost use Rattle.just_invoke.specs.Closed.{IsClosed, AreClosed};
-ghost use Rattle.just_words.specs.Words.{Words};
+ghost use Rattle.just_invoke.specs.Words.{Words};
 ghost use Rattle.just_invoke.specs.Head.{Held};
 ghost use Rattle.just_invoke.specs.Split.{Invokes, IsSplit, IsFault};
 ghost use Rattle.just_invoke.specs.declared.justfile.Justfile.{Justfile, out-Justfile};

@@ -1,13 +1,17 @@
 //! A module as it is compiled, what command words mean in it, and the run of what they mean.
 #![tactic(auto)]
 
+mod groups;
 mod invocation;
 pub mod invocation_parser;
 pub mod justfile;
 pub mod laws;
 mod naming;
+mod options;
+mod paths;
 mod running;
 mod scopes;
+mod tail;
 mod variables;
 
 pub use invocation::Invocation;

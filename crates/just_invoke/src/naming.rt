@@ -5,9 +5,9 @@ ghost use Rattle.just_invoke.specs.declared.invocation.Invocation.{Invocation};
 ghost use Rattle.just_invoke.specs.Closed.{IsHeld};
 ghost use Rattle.just_invoke.specs.Outcome.{tops_of};
 
+use crate::groups::copy_groups;
 use crate::invocation::Invocation;
 use just_running::{Pair, Recipes, Task};
-use just_words::copy_groups;
 use std::alloc::{AllocError, Global};
 
 /// The tasks of invocations.

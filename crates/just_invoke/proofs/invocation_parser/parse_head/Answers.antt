@@ -2,7 +2,7 @@ use Rattle.std.proofs.Common.{rules, IfSome, ◌≡◌, ◌∷◌, sym, ◌∙�
 use Rattle.std.proofs.lemmas.Result.{IfOk-weaker, IfErr-weaker}
 use Rattle.just_names.specs.Texts.{texts}
 use Rattle.just_invoke.specs.Cause.{cause_of}
-use Rattle.just_words.specs.Words.{has_colon}
+use Rattle.just_invoke.specs.Words.{has_colon}
 use Rattle.just_invoke.specs.Head.{WordsLead, IsHead, NoPath, NoHead}
 use Rattle.just_invoke.proofs.HeadLemmas.{head_by_names, head_by_path, no_head_by_path}
 use Rattle.just_invoke.proofs.invocation_parser.parse_head.Goals as goal

@@ -2,7 +2,7 @@ use Rattle.std.proofs.Common.{rules}
 use Rattle.just_invoke.specs.Cause.{cause_of, not_yet}
 use Rattle.just_invoke.specs.Head.{name_of}
 use Rattle.just_invoke.specs.Split.{misfit}
-use Rattle.just_words.specs.Tail.{shown}
+use Rattle.just_invoke.specs.Tail.{shown}
 use Rattle.just_invoke.proofs.SplitLemmas.{fault_missing, fault_none, fault_options, invokes_from, lacks_from}
 use Rattle.just_invoke.proofs.invocation_parser.parse_invocation.Goals as goal
 

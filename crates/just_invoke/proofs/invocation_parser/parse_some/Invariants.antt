@@ -2,7 +2,7 @@ use Rattle.std.proofs.Common.{◌≤◌, ◌-◌, ◌++◌, List, length, drop, 
 use Rattle.std.specs.List.{All}
 use Rattle.just_names.specs.Texts.{texts}
 use Rattle.just_invoke.specs.Closed.{IsHeld}
-use Rattle.just_words.specs.Words.{Words}
+use Rattle.just_invoke.specs.Words.{Words}
 use Rattle.just_invoke.specs.Split.{Invoked, Chain, invoked_of}
 use Rattle.just_invoke.proofs.invocation_parser.parse_some.Given as goal
 
