@@ -24,7 +24,7 @@ use Rattle.just_definitions.specs.Defaults.{IsDefaultAmong, IsDefaultOf}
 use Rattle.just_making.specs.Analysis.{IsKeyOf}
 use Rattle.just_making.specs.Labelled.{by_name, held_by_name}
 use Rattle.just_analyzer.specs.Justfiles.{AreCompiled, Built, Made, IsCompiled, none, one, recipes_in, recipes_of_all}
-use Rattle.just_analyzer.specs.Modules.{Forest, Module}
+use Rattle.just_trees.specs.Modules.{Forest, Module}
 use Rattle.just_graph.proofs.Index.{some_same}
 use Rattle.std.specs.Option.{option_map}
 use Rattle.just_resolving.proofs.Later.{marked_or_none}

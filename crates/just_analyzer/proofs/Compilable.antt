@@ -21,11 +21,11 @@ use Rattle.just_rules.specs.declared.files.Files.{Files}
 use Rattle.just_rules.specs.declared.files.Rows.{Rows}
 use Rattle.just_rules.specs.declared.joined.Joined.{Joined}
 use Rattle.just_rules.proofs.FilePlaces.{count, key_count}
-use Rattle.just_analyzer.proofs.ModulePaths.{file_path, one_outer, one_path, row_once, subs_at}
-use Rattle.just_analyzer.proofs.ModulePlaces.{file_inside, inner_keys}
+use Rattle.just_trees.proofs.ModulePaths.{file_path, one_outer, one_path, row_once, subs_at}
+use Rattle.just_trees.proofs.ModulePlaces.{file_inside, inner_keys}
 use Rattle.just_rules.proofs.Numbers.{have_priors, levels_once, numbers_apart, numbers_once}
-use Rattle.just_analyzer.proofs.VariableNumbers.{variables_once}
-use Rattle.just_analyzer.proofs.Ready.{edge_joined, labels_are, names_are, reached_joined}
+use Rattle.just_trees.proofs.VariableNumbers.{variables_once}
+use Rattle.just_trees.proofs.Ready.{edge_joined, labels_are, names_are, reached_joined}
 
 module _ (enabled : Item → Bool) (entries : List (AstKey × Ast)) (d : AstKey) (files : Files) (placed : ArePlaced entries files) (rows : Rows) (are : AreRows enabled files rows)
     (can : AreAnalyzable enabled (λ k. lookup (same_ast_key k) entries)) (joined : Joined) (aj : AreJoined rows (length (keys_of entries)) joined) (root : ℕ) (inside : root < length (keys_of entries))

@@ -22,7 +22,7 @@ use Rattle.just_analyzer.specs.Evaluated.{IsEvaluatedTo}
 use Rattle.just_making.specs.Labelled.{label_in, labelled_as, with_labels}
 use Rattle.just_analyzer.specs.Justfiles.{AreCompiled, Built, IsCompiled, Made, contents_in, none, notes_said, one, recipes_in}
 use Rattle.just_checking.specs.Noted.{notes_from}
-use Rattle.just_analyzer.specs.Modules.{Empty, Forest, Heading, Module, Tree, headings_in}
+use Rattle.just_trees.specs.Modules.{Empty, Forest, Heading, Module, Tree, headings_in}
 use Rattle.just_definitions.specs.Contents.{Contents}
 use Rattle.just_definitions.specs.Kept.{kept_recipes}
 use Rattle.just_definitions.specs.Named.{contents_from, function_by, lists_by, name_by, said_from, recipes_by, recipes_from, set_by, unexported_by, variable_by}
@@ -42,8 +42,8 @@ use Rattle.just_parts.proofs.AstKeys.{keys_equivalent}
 use Rattle.just_analyzer.proofs.Closing.{own_joined}
 use Rattle.just_rules.proofs.FilePlaces.{says}
 use Rattle.just_analyzer.proofs.Placed.{many_labels}
-use Rattle.just_analyzer.proofs.ModulePlaces.{TreeAt, file_inside, join_at, module_of, tree_at}
-use Rattle.just_analyzer.proofs.Ready.{labels_are}
+use Rattle.just_trees.proofs.ModulePlaces.{TreeAt, file_inside, join_at, module_of, tree_at}
+use Rattle.just_trees.proofs.Ready.{labels_are}
 use Rattle.just_parts.specs.Layers.{Given, Layers, layers_at}
 use Rattle.just_variables.specs.Variables.{AreVariables}
 use Rattle.just_making.specs.Variables.{HasVariables}

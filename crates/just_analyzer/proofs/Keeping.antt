@@ -10,9 +10,9 @@ use Rattle.just_parts.specs.Layers.{Given, Layers, layers_at}
 use Rattle.just_definitions.specs.Contents.{Contents}
 use Rattle.just_rules.specs.Files.{ArePlaced, AreRows}
 use Rattle.just_definitions.specs.Groups.{BreaksContents, KeepsContents, OfHeaders}
-use Rattle.just_analyzer.specs.Groups.{HasGround, KeepsGroups, KeepsModules, NamesModules, in_module}
+use Rattle.just_trees.specs.Groups.{HasGround, KeepsGroups, KeepsModules, NamesModules, in_module}
 use Rattle.just_rules.specs.Joined.{IsJoined}
-use Rattle.just_analyzer.specs.Modules.{Heading, IsHeading, Module, a_module, contents_of, no_module}
+use Rattle.just_trees.specs.Modules.{Heading, IsHeading, Module, a_module, contents_of, no_module}
 use Rattle.just_rules.specs.Reading.{Reading, reading_of}
 use Rattle.just_definitions.specs.Rules.{Modules, of_modules}
 use Rattle.just_rules.specs.OfPlaces.{contents_of_place, names_of_place}
@@ -22,8 +22,8 @@ use Rattle.just_rules.specs.declared.joined.Joined.{Joined}
 use Rattle.just_rules.proofs.Alike.{AreAlikeContents, breaks_alike, kept_alike}
 use Rattle.just_rules.proofs.FilePlaces.{says}
 use Rattle.just_analyzer.specs.Steps.{BreaksPlace, KeepsPlace, path_at, path_in}
-use Rattle.just_analyzer.proofs.ModulePlaces.{IsListed, TreeAt, file_inside, module_of, tree_at}
-use Rattle.just_analyzer.proofs.Ready.{docs_are, functions_are, lists_are, names_are, recipes_are, sets_are, unexports_are, variables_are}
+use Rattle.just_trees.proofs.ModulePlaces.{IsListed, TreeAt, file_inside, module_of, tree_at}
+use Rattle.just_trees.proofs.Ready.{docs_are, functions_are, lists_are, names_are, recipes_are, sets_are, unexports_are, variables_are}
 
 module _ (given : Given) (entries : List (AstKey × Ast)) (d : AstKey) (files : Files) (placed : ArePlaced entries files) (rows : Rows) (are : AreRows given.syntax.enabled files rows)
     (paths : (k : AstKey) (a : Ast) → lookup (same_ast_key k) entries ≡ Some a → a.module_path ≡ k.0) (joined : Joined)

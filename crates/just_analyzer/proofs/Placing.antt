@@ -32,8 +32,8 @@ use Rattle.just_definitions.specs.Resolved.{AreMadeOf}
 use Rattle.just_rules.specs.Reading.{Reading, Submodule, declared, items_in, submodules_of}
 use Rattle.just_making.specs.Labelled.{by_name, held_by_name, label_in}
 use Rattle.just_analyzer.specs.Justfiles.{AreCompiled, Built, Made, none, one}
-use Rattle.just_analyzer.specs.Modules.{Forest, HasModule, Module, after_it, first, in_it, path_of}
-use Rattle.just_analyzer.proofs.ModulePlaces.{nobody}
+use Rattle.just_trees.specs.Modules.{Forest, HasModule, Module, after_it, first, in_it, path_of}
+use Rattle.just_trees.proofs.ModulePlaces.{nobody}
 
 -- names that differ: the first is not among the others, which differ too
 head_differs : (n : Text) (ns : List Text) → AreDifferent (n ∷ ns) → (m : Text) → In m ns → n ≢ m

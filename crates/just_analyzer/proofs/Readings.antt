@@ -31,7 +31,7 @@ use Rattle.just_rules.specs.Files.{led}
 use Rattle.just_definitions.specs.Recipes.{recipes_of}
 use Rattle.just_rules.specs.Reading.{Reading, ast_of_both, enabled_items, located_ast, reading_of}
 use Rattle.just_definitions.specs.Resolved.{unresolved_numbers}
-use Rattle.just_analyzer.proofs.Agreeing.{Holds}
+use Rattle.just_trees.proofs.Agreeing.{Holds}
 use Rattle.just_analyzer.specs.Readings.{IsReadingOf, items_read, lists_at, lists_in}
 use Rattle.just_analyzer.proofs.Numbers.{once_recipes, once_variables, recipe_number_in, recipe_priors, variable_number_in}
 

@@ -19,10 +19,10 @@ use Rattle.just_paths.specs.declared.modulepath.Modulepath.{Modulepath}
 use Rattle.just_recipe.specs.declared.recipe.Recipe.{Recipe}
 use Rattle.just_invoke.specs.Closed.{AreClosed, IsPlaced}
 use Rattle.just_invoke.specs.declared.justfile.Justfile.{Justfile}
-use Rattle.just_analyzer.specs.Groups.{KeepsModules, NamesModules}
+use Rattle.just_trees.specs.Groups.{KeepsModules, NamesModules}
 use Rattle.just_making.specs.Labelled.{label_in}
 use Rattle.just_analyzer.specs.Justfiles.{AreCompiled, Built, overridden_of_all, recipes_of_all}
-use Rattle.just_analyzer.specs.Modules.{AreModules, Empty, Forest, Heading, IsHeading, Module, Tree, heading}
+use Rattle.just_trees.specs.Modules.{AreModules, Empty, Forest, Heading, IsHeading, Module, Tree, heading}
 use Rattle.just_rules.specs.Reading.{reading_of}
 use Rattle.just_definitions.specs.declared.labels.Label.{Label}
 

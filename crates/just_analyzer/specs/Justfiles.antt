@@ -16,7 +16,7 @@ use Rattle.just_analyzer.specs.Evaluated.{IsEvaluatedTo}
 use Rattle.just_definitions.specs.Labels.{doc_by}
 use Rattle.just_definitions.specs.Notes.{absent_by, features_by, notes_of, warnings_by}
 use Rattle.just_definitions.specs.declared.notes.Notes.{Notes}
-use Rattle.just_analyzer.specs.Modules.{Module, Forest, Empty, Tree, path_of}
+use Rattle.just_trees.specs.Modules.{Module, Forest, Empty, Tree, path_of}
 use Rattle.just_making.specs.Variables.{HasVariables}
 use Rattle.just_definitions.specs.Contents.{Contents}
 use Rattle.just_definitions.specs.Kept.{kept_recipes}

@@ -1,9 +1,7 @@
 pub mod Analyzed
 pub mod Compiled
 pub mod Evaluated
-pub mod Groups
 pub mod Justfiles
-pub mod Modules
 pub mod Parts
 pub mod Paths
 pub mod Readings

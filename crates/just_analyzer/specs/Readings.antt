@@ -12,7 +12,7 @@ use Rattle.just_literals.specs.declared.list_use.ListUse.{ListUse}
 use Rattle.just_loader.specs.Keys.{FileKey, IsLeastFileDepth, ast_key, items_at}
 use Rattle.just_loader.specs.Loaded.{with_path}
 use Rattle.just_loader.specs.Reached.{World, ast_of}
-use Rattle.just_analyzer.specs.Modules.{Heading, heading, label}
+use Rattle.just_trees.specs.Modules.{Heading, heading, label}
 use Rattle.just_rules.specs.Reading.{Reading, ast_of_both, enabled_items}
 
 -- the items of a file that count, at a depth, with the paths of the files to which they lead

@@ -4,8 +4,8 @@ use Rattle.just_errors.specs.Causes.{Cause, Keeps}
 use Rattle.just_parts.specs.Evaluator.{Evaluator}
 use Rattle.just_loader.specs.Keys.{NamesInFiles}
 use Rattle.just_loader.specs.Reached.{World}
-use Rattle.just_analyzer.specs.Groups.{KeepsModules, NamesModules}
-use Rattle.just_analyzer.specs.Modules.{AreModules, Forest}
+use Rattle.just_trees.specs.Groups.{KeepsModules, NamesModules}
+use Rattle.just_trees.specs.Modules.{AreModules, Forest}
 use Rattle.just_rules.specs.Reading.{Reading}
 use Rattle.just_analyzer.specs.Readings.{IsReadingOf, Overrides, given_in, root_heading}
 

@@ -95,7 +95,7 @@ impl Analyzer {
     ghost use Rattle.just_parts.specs.Asts.{same_ast_key};
     ghost use Rattle.just_rules.specs.Analyzable.{AreAnalyzable, HavePaths};
     ghost use Rattle.just_analyzer.specs.Analyzed.{AreAsBefore, Analyzes, NamesAnalyzed};
-    ghost use Rattle.just_analyzer.specs.Modules.{label};
+    ghost use Rattle.just_trees.specs.Modules.{label};
     ghost use Rattle.just_parts.specs.Layers.{given_of};
 
     /// The justfile of the module at `module_path`, whose own file is `root`, with the label that it is given (`name`,

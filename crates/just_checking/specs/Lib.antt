@@ -1,3 +1,2 @@
 pub mod Evaluated
 pub mod Noted
-pub mod Resolver

@@ -8,7 +8,7 @@ use just_analyzer::{Compilation, Compiler, Sources, is_clean};
 use just_bench::bundle::read_sources;
 use just_lines::asked::{Asked, read_asked};
 use just_lines::faults::add_fault;
-use just_questions::{answer_text, read_pairs};
+use just_readings::{answer_text, read_pairs};
 use just_syntax::PlainSyntax;
 use just_tellings::compiled::add_compiled;
 use just_tellings::variables::add_variable;

@@ -1,11 +1,11 @@
 //! The lines that tell what a compilation has, what words mean in it, and what a run of them did.
 ghost use Rattle.just_invoke.specs.Closed.{IsRooted};
 
-use crate::modules::{add_loaded, add_modules};
 use crate::runs::{add_run, add_split};
 use just_data::Text;
 use just_invoke::{Justfile, Recipes};
 use just_lines::asked::Asked;
+use just_listings::{add_loaded, add_modules};
 use just_parts::layers::Number;
 use std::alloc::{AllocError, Global};
 use std::collections::HashMap;

@@ -12,7 +12,7 @@ use Rattle.just_errors.proofs.Lifts.{reports_by}
 use Rattle.just_analyzer.specs.Analyzed.{IsAnalyzed}
 use Rattle.just_rules.specs.Joined.{AreArranged, AreGraphs}
 use Rattle.just_making.specs.Labelled.{labelled_as}
-use Rattle.just_analyzer.specs.Modules.{heading}
+use Rattle.just_trees.specs.Modules.{heading}
 use Rattle.just_rules.specs.OfPlaces.{RepeatsNames}
 use Rattle.just_analyzer.specs.Steps.{BreaksInOrder, CanCompileAll, HaveCompiled, made_in}
 use Rattle.just_analyzer.proofs.Analyzing.{all_can, broken_named, files_there, go_deeper, is_analyzed, repeats_named, root_held, rows_many}

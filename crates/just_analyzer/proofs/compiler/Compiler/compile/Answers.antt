@@ -10,8 +10,8 @@ use Rattle.just_loader.specs.Keys.{NamesInFiles}
 use Rattle.just_loader.specs.Reached.{World, world_of}
 use Rattle.just_loader.proofs.HeldKeys.{root_held}
 use Rattle.just_analyzer.specs.Analyzed.{IsAnalyzed}
-use Rattle.just_analyzer.specs.Groups.{NamesModules}
-use Rattle.just_analyzer.specs.Modules.{heading, label}
+use Rattle.just_trees.specs.Groups.{NamesModules}
+use Rattle.just_trees.specs.Modules.{heading, label}
 use Rattle.just_rules.specs.Reading.{reading_of}
 use Rattle.just_analyzer.specs.Readings.{given_in, root_heading}
 use Rattle.just_analyzer.specs.Rules.{Names, in_files, in_modules}

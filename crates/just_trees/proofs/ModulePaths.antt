@@ -27,7 +27,7 @@ use Rattle.just_rules.specs.declared.files.Rows.{Rows}
 use Rattle.just_rules.specs.declared.joined.Joined.{Joined}
 use Rattle.just_rules.proofs.FilePlaces.{import_inside, imports_here}
 use Rattle.just_rules.proofs.Joining.{in_row}
-use Rattle.just_analyzer.proofs.ModulePlaces.{agree, along, inner_keys}
+use Rattle.just_trees.proofs.ModulePlaces.{agree, along, inner_keys}
 
 -- an import stays in its module
 import_path : (path : Modulepath) (k : AstKey) (i : Item) → In k (imported path i) → k.0 ≡ path

@@ -14,8 +14,8 @@ use Rattle.just_parts.specs.Bare.{bare_item}
 use Rattle.just_rules.specs.Analyzable.{AreAnalyzable}
 use Rattle.just_rules.specs.Files.{all_led, led, led_by}
 use Rattle.just_definitions.specs.Groups.{Breaks}
-use Rattle.just_analyzer.specs.Groups.{KeepsModules, NamesModules, in_module}
-use Rattle.just_analyzer.specs.Modules.{AreModules, Empty, Forest, HasModule, Heading, IsHeading, IsModule, Module, Tree, a_module, after_it, contents_of, first, heading_of, headings_in, in_it, no_module, of_module, of_root, path_of}
+use Rattle.just_trees.specs.Groups.{KeepsModules, NamesModules, in_module}
+use Rattle.just_trees.specs.Modules.{AreModules, Empty, Forest, HasModule, Heading, IsHeading, IsModule, Module, Tree, a_module, after_it, contents_of, first, heading_of, headings_in, in_it, no_module, of_module, of_root, path_of}
 use Rattle.just_rules.specs.Reading.{Reading, Submodule, declared, imported, imports_of, items_in, located_ast, reading_of, submodules_of}
 use Rattle.just_rules.proofs.FilePlaces.{keys_flat, led_counted}
 use Rattle.just_rules.proofs.Holding.{led_counts, some_value}

@@ -7,7 +7,7 @@ ghost use Rattle.just_errors.specs.Causes.{Keeps, Reports};
 ghost use Rattle.just_parts.specs.Needs.{Gains, GainsAll, HasNone, IsSame, KeepsAll, same_number};
 ghost use Rattle.just_variables.specs.Resolved.{ResolvesTo};
 ghost use Rattle.just_references.specs.Numbers.{with_numbers};
-ghost use Rattle.just_checking.specs.Resolver.{known_by, number_here, overridden};
+ghost use Rattle.just_resolver.specs.Resolver.{known_by, number_here, overridden};
 ghost use Rattle.just_parts.specs.Known.{hides, known};
 ghost use Rattle.just_parts.specs.Misnaming.{Expressions, Misnames, MisnamesCall};
 ghost use Rattle.just_parts.specs.Reading.{Reads};

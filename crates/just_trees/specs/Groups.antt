@@ -4,7 +4,7 @@ use Rattle.just_errors.specs.Causes.{Cause}
 use Rattle.just_parts.specs.Layers.{Given, layers_at}
 use Rattle.just_definitions.specs.Groups.{Breaks, Group, KeepsBefore, KeepsContents, rank}
 use Rattle.just_rules.specs.Reading.{Reading}
-use Rattle.just_analyzer.specs.Modules.{Module, Heading, Forest, Empty, Tree, AreModules, HasModule, IsHeading, contents_of, path_of}
+use Rattle.just_trees.specs.Modules.{Module, Heading, Forest, Empty, Tree, AreModules, HasModule, IsHeading, contents_of, path_of}
 
 -- all groups of a module are kept
 abbrev pub KeepsGroups : Given → Module → Type 0

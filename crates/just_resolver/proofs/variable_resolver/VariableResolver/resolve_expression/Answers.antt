@@ -4,10 +4,10 @@ use Rattle.std.specs.HashSet.{contains}
 use Rattle.std.specs.Str.{bytes_eq}
 use Rattle.just_errors.specs.Causes.{Keeps, Reports}
 use Rattle.just_names.specs.Texts.{Text}
-use Rattle.just_checking.specs.Resolver.{known_by}
+use Rattle.just_resolver.specs.Resolver.{known_by}
 use Rattle.just_parts.specs.Known.{hides}
 use Rattle.just_parts.specs.Misnaming.{Misnames}
-use Rattle.just_checking.proofs.variable_resolver.VariableResolver.resolve_expression.Goals as goal
+use Rattle.just_resolver.proofs.variable_resolver.VariableResolver.resolve_expression.Goals as goal
 
 pub returns-in_err-check_expression-clause-named : goal.returns-in_err-check_expression-clause-named
 returns-in_err-check_expression-clause-named g c =

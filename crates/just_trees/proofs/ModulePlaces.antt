@@ -17,7 +17,7 @@ use Rattle.just_parts.specs.Items.{Ast, Item}
 use Rattle.just_parts.proofs.AstKeys.{key_same}
 use Rattle.just_rules.specs.Files.{ArePlaced, AreRows}
 use Rattle.just_rules.specs.Joined.{IsJoined}
-use Rattle.just_analyzer.specs.Modules.{AreModules, Forest, Empty, Tree, HasModule, Heading, IsModule, Module, a_module, after_it, first, heading_of, headings_in, in_it, no_module}
+use Rattle.just_trees.specs.Modules.{AreModules, Forest, Empty, Tree, HasModule, Heading, IsModule, Module, a_module, after_it, first, heading_of, headings_in, in_it, no_module}
 use Rattle.just_rules.specs.Reading.{Reading, Submodule, imports_of, located_ast, reading_of, submodules_of}
 use Rattle.just_rules.specs.declared.files.Files.{Files}
 use Rattle.just_rules.specs.declared.files.Rows.{Rows}

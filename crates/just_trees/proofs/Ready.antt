@@ -36,8 +36,8 @@ use Rattle.just_rules.specs.declared.joined.Joined.{Joined}
 use Rattle.just_rules.proofs.Alike.{AreAlike, outline_of, outlines_of}
 use Rattle.just_rules.proofs.BareOutlines.{outline_located}
 use Rattle.just_rules.proofs.FilePlaces.{are_graphs, says}
-use Rattle.just_analyzer.specs.Modules.{items_of}
-use Rattle.just_analyzer.proofs.ModulePlaces.{no_ast}
+use Rattle.just_trees.specs.Modules.{items_of}
+use Rattle.just_trees.proofs.ModulePlaces.{no_ast}
 
 abbrev name_of : Submodule → Name
 name_of s = s.name

@@ -9,13 +9,13 @@ use Rattle.just_parts.specs.Asts.{AstKey, same_ast_key}
 use Rattle.just_parts.specs.Items.{Ast, Item}
 use Rattle.just_rules.specs.Files.{ArePlaced, AreRows}
 use Rattle.just_rules.specs.Joined.{IsJoined}
-use Rattle.just_analyzer.specs.Modules.{Heading, IsHeading, heading_of, of_module, of_root}
+use Rattle.just_trees.specs.Modules.{Heading, IsHeading, heading_of, of_module, of_root}
 use Rattle.just_rules.specs.Reading.{Reading, reading_of}
 use Rattle.just_rules.specs.declared.files.Files.{Files}
 use Rattle.just_rules.specs.declared.files.Rows.{Rows}
 use Rattle.just_rules.specs.declared.joined.Joined.{Joined}
-use Rattle.just_analyzer.proofs.ModulePaths.{entered, subs_at}
-use Rattle.just_analyzer.proofs.ModulePlaces.{is_module}
+use Rattle.just_trees.proofs.ModulePaths.{entered, subs_at}
+use Rattle.just_trees.proofs.ModulePlaces.{is_module}
 
 module _ (enabled : Item → Bool) (entries : List (AstKey × Ast)) (d : AstKey) (files : Files) (placed : ArePlaced entries files) (rows : Rows) (are : AreRows enabled files rows)
     (paths : (k : AstKey) (a : Ast) → lookup (same_ast_key k) entries ≡ Some a → a.module_path ≡ k.0) (joined : Joined) (root : ℕ)

@@ -8,7 +8,7 @@ use Rattle.just_parts.specs.Needs.{has_number}
 use Rattle.just_variables.specs.Numbered.{number_by}
 use Rattle.just_parts.specs.Syntax.{SyntaxAnswers}
 use Rattle.just_records.specs.declared.function_definition.FunctionParameter.{FunctionParameter}
-use Rattle.just_checking.specs.declared.variable_resolver.VariableResolver.{VariableResolver}
+use Rattle.just_resolver.specs.declared.variable_resolver.VariableResolver.{VariableResolver}
 use Rattle.just_parts.specs.Known.{Known}
 use Rattle.just_needs.specs.Lent.{known_in}
 
