@@ -1,9 +1,28 @@
 -- The modules of a run.
-use Rattle.std.specs.Prelude.{Some, IsSome}
+use Rattle.std.specs.Prelude.{◌≡◌, Some}
 use Rattle.just_running.specs.Homes.{Modules, module_at}
+use Rattle.just_running.specs.declared.scopes.ModuleScope.{ModuleScope}
 use Rattle.just_invoke.specs.Closed.{StandsIn}
 use Rattle.just_invoke.specs.declared.justfile.Justfile.{Justfile, out-Justfile}
 
--- each module that stands in the root is among them
+-- what a module hands to the layers is what it has
+pub record IsScopeOf (j : Justfile) (m : ModuleScope) : Type 0 where
+  pub path : m.context.module_path.now ≡ (out-Justfile j).module_path
+  pub folder : m.context.working_directory.now ≡ (out-Justfile j).working_directory
+  pub assignments : m.context.assignments.now ≡ (out-Justfile j).assignments
+  pub functions : m.context.functions.now ≡ (out-Justfile j).functions
+  pub settings : m.context.settings.now ≡ (out-Justfile j).settings
+  pub unexports : m.context.unexports.now ≡ (out-Justfile j).unexports
+
+-- under the path of a module is what one of this path, which stands in the root, hands to the layers
+pub record HasScope (root : Justfile) (modules : Modules) (j : Justfile) : Type 0 where
+  pub scope : ModuleScope
+  pub there : module_at modules (Some (out-Justfile j).module_path) ≡ Some scope
+  pub owner : Justfile
+  pub stands : StandsIn root owner
+  pub same : (out-Justfile owner).module_path ≡ (out-Justfile j).module_path
+  pub own : IsScopeOf owner scope
+
+-- so of each module that stands in the root
 abbrev pub HasScopes : Justfile → Modules → Type 0
-HasScopes root modules = (j : Justfile) → StandsIn root j → IsSome (module_at modules (Some (out-Justfile j).module_path))
+HasScopes root modules = (j : Justfile) → StandsIn root j → HasScope root modules j

@@ -1,7 +1,6 @@
 //! The modules of a run.
-ghost use Rattle.std.specs.Prelude.{◌≡◌, IfOk};
-ghost use Rattle.just_invoke.specs.declared.justfile.Justfile.{out-Justfile};
-ghost use Rattle.just_invoke.specs.Scopes.{HasScopes};
+ghost use Rattle.std.specs.Prelude.{IfOk};
+ghost use Rattle.just_invoke.specs.Scopes.{HasScopes, IsScopeOf};
 
 use crate::justfile::Justfile;
 use crate::variables::add_modules;
@@ -17,7 +16,9 @@ fn bare_scope<'run, 'src>(
     config: &'run Config,
     module: &'run Justfile<'src>,
     overrides: &'run HashMap<Number, Text>,
-) -> ModuleScope<'run, 'src> {
+) -> ModuleScope<'run, 'src>
+    ensures { IsScopeOf «module».now result }
+{
     ModuleScope {
         context: Context {
             config,

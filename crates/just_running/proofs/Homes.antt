@@ -1,5 +1,5 @@
 -- What tasks at home lead to is at home.
-use Rattle.std.proofs.Common.{◌≡◌, ◌∙◌, ℕ, zero, suc, ◌<◌, Bool, true, false, not, ◌&&◌, ◌||◌, List, [], ◌∷◌, ◌++◌, map, length, drop, take, Option, None, Some, IsSome, Ok, refl, sym, ap, subst, arith, inl, inr}
+use Rattle.std.proofs.Common.{◌≡◌, ◌∙◌, ℕ, zero, suc, ◌<◌, Bool, true, false, not, ◌&&◌, ◌||◌, List, [], ◌∷◌, ◌++◌, map, length, drop, take, Option, None, Some, Ok, refl, sym, ap, subst, arith, inl, inr}
 use Rattle.std.specs.Prelude.{flat_map, is_some, option_to_list, if◌then◌else◌}
 use Rattle.std.proofs.lemmas.Bool.{cases_Bool}
 use Rattle.std.specs.List.{All, Contains, list_any, slice_get}
@@ -20,7 +20,7 @@ use Rattle.just_parts.specs.Known.{Known, sources}
 use Rattle.just_parts.specs.Host.{Answer}
 use Rattle.just_parts.specs.Steps.{both, kept_by}
 use Rattle.just_parts.proofs.StepLemmas.{took-gives}
-use Rattle.just_running.specs.Homes.{AreHome, IsCallable, IsHome, Modules, attribute_expressions, line_expressions, module_at, parameter_expressions}
+use Rattle.just_running.specs.Homes.{AreHome, IsAmong, IsCallable, IsHome, Modules, attribute_expressions, line_expressions, parameter_expressions}
 use Rattle.just_running.specs.Leaves.{AsksAlone, ask_steps, follow_steps}
 use Rattle.just_running.specs.Pairs.{AllBelow, at_place, needed, place_of, prior_dependencies, subsequent_dependencies, task_of}
 use Rattle.just_running.specs.Unready.{AreReady, DependsOn, is_empty, places}
@@ -114,17 +114,16 @@ All-got P [] k x h e = cc
 All-got P (y ∷ xs) zero x h e = let same : y ≡ x = cc in subst P same (All-head P y xs h)
 All-got P (y ∷ xs) (suc k) x h e = All-got P xs k x (All-tail P y xs h) e
 
-got-some : {A : Type 0} (o : Option A) → IsSome o → (x : A) × (o ≡ Some x)
-got-some None h = cc
-got-some (Some x) h = (x, refl)
-
 -- where the module of each recipe is among those of a run, recipes that can be run are at home
-pub ready-home : (modules : Modules) (rs : List (Recipe Dependency)) (ts : List Task) → All (λ (r : Recipe Dependency). IsSome (module_at modules r.module_path)) rs → AreReady rs ts → AreHome modules rs ts
+pub ready-home : (modules : Modules) (rs : List (Recipe Dependency)) (ts : List Task) → All (IsAmong modules) rs → AreReady rs ts → AreHome modules rs ts
 ready-home modules rs ts among ready place r led at =
-    let found = got-some (module_at modules r.module_path) (All-got (λ (r : Recipe Dependency). IsSome (module_at modules r.module_path)) rs place r among at) in
+    let found = All-got (IsAmong modules) rs place r among at in
     let known : Known = sources found.0.context.assignments.now found.0.context.functions.now in
     record {
       home = found.0;
       there = found.1;
-      bound = subst (All (Covers known (values_of found.0.scope))) (sym (reads-nothing r.attributes r.body r.parameters (ready place r led at))) (All-nil (Covers known (values_of found.0.scope)));
+      own = record {
+        path = found.2;
+        bound = subst (All (Covers known (values_of found.0.scope))) (sym (reads-nothing r.attributes r.body r.parameters (ready place r led at))) (All-nil (Covers known (values_of found.0.scope)));
+      };
     }

@@ -57,11 +57,16 @@ run_expressions r =
 abbrev pub IsBound : ModuleScope → Recipe Dependency → Type 0
 IsBound m r = All (Covers (sources m.context.assignments.now m.context.functions.now) (values_of m.scope)) (run_expressions r)
 
--- a recipe is at home: its module is among those of the run, and what it reads is bound there
+-- a module is that of a recipe: it has the recipe's path, and what the recipe reads is bound in it
+pub record IsHomeOf (m : ModuleScope) (r : Recipe Dependency) : Type 0 where
+  pub path : r.module_path ≡ Some m.context.module_path.now
+  pub bound : IsBound m r
+
+-- a recipe is at home: its module is among those of the run
 pub record IsHome (modules : Modules) (r : Recipe Dependency) : Type 0 where
   pub home : ModuleScope
   pub there : module_at modules r.module_path ≡ Some home
-  pub bound : IsBound home r
+  pub own : IsHomeOf home r
 
 -- each recipe that they lead to is at home
 abbrev pub AreHome : Modules → List (Recipe Dependency) → List Task → Type 0
@@ -72,6 +77,10 @@ pub record IsCallable (modules : Modules) (recipes : List (Recipe Dependency)) (
   pub place : t.pair.recipe < length recipes
   pub home : AreHome modules recipes (t ∷ [])
 
--- what the recipe at a place reads is bound in a module
-abbrev pub IsBoundAt : ModuleScope → List (Recipe Dependency) → ℕ → Type 0
-IsBoundAt m recipes place = (recipe : Recipe Dependency) → slice_get recipes place ≡ Some recipe → IsBound m recipe
+-- a module is that of the recipe at a place
+abbrev pub IsHomeAt : ModuleScope → List (Recipe Dependency) → ℕ → Type 0
+IsHomeAt m recipes place = (recipe : Recipe Dependency) → slice_get recipes place ≡ Some recipe → IsHomeOf m recipe
+
+-- the module of a recipe is under its path among those of a run
+abbrev pub IsAmong : Modules → Recipe Dependency → Type 0
+IsAmong modules r = (m : ModuleScope) × (module_at modules r.module_path ≡ Some m) × (r.module_path ≡ Some m.context.module_path.now)

@@ -4,7 +4,7 @@ ghost use Rattle.std.specs.List.{All};
 ghost use Rattle.just_parts.specs.Host.{KeepsPromises};
 ghost use Rattle.just_parts.specs.Steps.{kept_by};
 ghost use Rattle.just_running.specs.Frames.{Blocks, Calls, Finishes, IsLighter, IsOpen, IsSound, Leads, items_of};
-ghost use Rattle.just_running.specs.Homes.{AreHome, IsBoundAt, IsCallable};
+ghost use Rattle.just_running.specs.Homes.{AreHome, IsCallable, IsHomeAt};
 ghost use Rattle.just_running.specs.Leaves.{AsksAlone, Executes, ask_steps, follow_steps};
 ghost use Rattle.just_running.specs.Pairs.{AllBelow};
 ghost use Rattle.just_recipe.specs.Recipes.{IsOrdered, IsResolved};
@@ -35,7 +35,7 @@ fn ask<'src, E: Evaluation>(
     task: &Task,
 ) -> Result<Vec<Task>, Halt<'src>>
     requires place { task.now.pair.recipe < length recipes.now }
-    requires bound { IsBoundAt _module.now recipes.now task.now.pair.recipe }
+    requires home { IsHomeAt _module.now recipes.now task.now.pair.recipe }
     requires resolved { All IsResolved recipes.now }
     ensures keeps { KeepsPromises (E.promised _evaluation.old) (E.promised _evaluation.new) }
     ensures took { let took = AsksAlone (E.promised _evaluation.old) (ask_steps recipes.now task.now) in
@@ -53,7 +53,7 @@ fn follow<'src, E: Evaluation>(
     task: &Task,
 ) -> Result<Vec<Task>, Halt<'src>>
     requires place { task.now.pair.recipe < length recipes.now }
-    requires bound { IsBoundAt _module.now recipes.now task.now.pair.recipe }
+    requires home { IsHomeAt _module.now recipes.now task.now.pair.recipe }
     requires resolved { All IsResolved recipes.now }
     ensures keeps { KeepsPromises (E.promised _evaluation.old) (E.promised _evaluation.new) }
     ensures took { let took = AsksAlone (E.promised _evaluation.old) (follow_steps recipes.now task.now) in
@@ -71,7 +71,7 @@ fn execute<'src, E: Evaluation, H: Host>(
     task: &Task,
 ) -> Result<(), Halt<'src>>
     requires place { task.now.pair.recipe < length recipes.now }
-    requires bound { IsBoundAt _module.now recipes.now task.now.pair.recipe }
+    requires home { IsHomeAt _module.now recipes.now task.now.pair.recipe }
     requires resolved { All IsResolved recipes.now }
     ensures keeps { KeepsPromises (E.promised _evaluation.old) (E.promised _evaluation.new) }
     ensures keeps_host { KeepsPromises (H.promised host.old) (H.promised host.new) }

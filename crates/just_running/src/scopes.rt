@@ -1,5 +1,5 @@
 //! What recipes run in: the modules of a run.
-ghost use Rattle.just_running.specs.Homes.{IsBound, IsHome};
+ghost use Rattle.just_running.specs.Homes.{IsHome, IsHomeOf};
 
 use just_parts::Recipe;
 use just_parts::layers::{Context, Scope};
@@ -24,7 +24,7 @@ pub(crate) fn module_of<'a, 'run, 'src>(
     recipe: &Recipe<'src>,
 ) -> &'a ModuleScope<'run, 'src>
     requires { IsHome scopes.now recipe.now }
-    ensures { IsBound result.now recipe.now }
+    ensures { IsHomeOf result.now recipe.now }
 {
     scopes.get(recipe.module_path()).unwrap()
 }

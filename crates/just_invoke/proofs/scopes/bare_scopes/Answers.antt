@@ -16,7 +16,7 @@ loop-module-smaller c =
 pub loop-module-preserved : goal.loop-module-preserved
 loop-module-preserved c =
     let same : c.in_ok-path.path ≡ (out-Justfile c.in-Some.module.now).module_path = search rules in
-    taken-scopes c.args.root.now c.loop-module.scopes c.insert.new.self c.loop-module.left.items c.pop.new.self.items c.add_modules.new.left.items c.in-Some.module c.bare_scope.result c.in_ok-path.path
+    taken-scopes c.args.root.now c.loop-module.scopes c.insert.new.self c.loop-module.left.items c.pop.new.self.items c.add_modules.new.left.items c.in-Some.module c.bare_scope.result c.in_ok-path.path c.bare_scope.ensures
     c.in-Some.ensures.items c.in_ok-add_modules.ensures same c.in_ok-insert.ensures.updates c.loop-module.invariant
 
 pub returns : goal.returns
