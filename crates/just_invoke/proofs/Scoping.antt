@@ -1,15 +1,10 @@
 -- The modules of a run are those that stand in the root.
-use Rattle.std.proofs.Common.{◌≡◌, ◌⊎◌, ◌∙◌, nat_eq, zero, suc, Bool, cond, true, false, List, [], ◌∷◌, ◌++◌, Some, refl, sym, ap, subst, inl, inr, arith}
-use Rattle.std.specs.BTreeMap as tree
+use Rattle.std.proofs.Common.{◌≡◌, ◌⊎◌, ◌∙◌, zero, suc, cond, true, List, [], ◌∷◌, ◌++◌, Some, refl, sym, ap, subst, inl, inr, arith}
+use Rattle.std.specs.HashMap as hash
 use Rattle.std.specs.Borrow.{Bor}
 use Rattle.std.specs.List.{All, Contains}
-use Rattle.std.specs.Bool.{beq}
-use Rattle.std.specs.Cmp.{both_tied}
-use Rattle.std.specs.Cmp.Lexicographic.{lists_ties, pointwise, slice_cmp, texts_ties}
-use Rattle.std.specs.Ordering.{bool_cmp, is_eq, nat_cmp}
 use Rattle.std.proofs.lemmas.Bool.{cases_Bool}
 use Rattle.std.proofs.lemmas.List.Elements.{All-append, All-cons, All-contains, All-contains_itself, All-nil, All-weaker, Contains-append_left, Contains-append_right, Contains-append_cases}
-use Rattle.just_paths.specs.contracts.modulepath.ModulepathOrd.TheImpl as path_order
 use Rattle.just_paths.specs.contracts.modulepath.ModulepathPartialEq.TheImpl as path_eq
 use Rattle.just_paths.specs.declared.modulepath.Modulepath.{Modulepath}
 use Rattle.just_parts.specs.Asts.{AstKey}
@@ -44,21 +39,9 @@ none_left root modules left j in_root = elim (left.each j in_root) [
   | inr found ↦ let c = found.1 in absurd (let l = c.1 in omega arith)
 ]
 
--- paths of one place in their order are one path
-bools-tied : (a b : Bool) → beq a b ≡ is_eq (bool_cmp a b)
-bools-tied true true = refl
-bools-tied true false = refl
-bools-tied false true = refl
-bools-tied false false = refl
-
-paths-tied : (p q : Modulepath) → path_eq.ghosts.eq p q ≡ is_eq (path_order.ghosts.cmp p q)
-paths-tied p q = both_tied (pointwise (pointwise nat_eq) p.components q.components) (beq p.spaced q.spaced) (slice_cmp (slice_cmp nat_cmp) p.components q.components) (bool_cmp p.spaced q.spaced)
-    (lists_ties (slice_cmp nat_cmp) texts_ties p.components q.components) (bools-tied p.spaced q.spaced)
-
-same-path : (p q : Modulepath) → is_eq (path_order.ghosts.cmp p q) ≡ true → p ≡ q
-same-path p q e =
-    let are : path_eq.ghosts.eq p q ≡ true = paths-tied p q ∙ e in
-    ap (λ (k : AstKey). k.0) ((key_same (p, []) (q, [])).0 (rw are refl))
+-- paths that are the same are equal
+same-path : (p q : Modulepath) → path_eq.ghosts.eq p q ≡ true → p ≡ q
+same-path p q e = ap (λ (k : AstKey). k.0) ((key_same (p, []) (q, [])).0 (rw e refl))
 
 -- the modules in one that stands in the root stand there too
 stands-below : (root m n : Justfile) → StandsIn root m → Contains (out-Justfile m).modules n → StandsIn root n
@@ -66,11 +49,11 @@ stands-below root m n itself c = inside c itself
 stands-below root m n (inside {inner = i} d below) c = inside d (stands-below i m n below c)
 
 module _ (root : Justfile) (old new : Modules) (rest : List Justfile) (m : Justfile) (scope : ModuleScope) (own : IsScopeOf m scope) (stands : StandsIn root m)
-    (put : tree.UpdatesBy path_order.ghosts.cmp (path_order.ghosts.cmp (out-Justfile m).module_path) old new (Some scope)) where
+    (put : hash.UpdatesBy path_eq.ghosts.eq (path_eq.ghosts.eq (out-Justfile m).module_path) old new (Some scope)) where
   stays : (j : Justfile) → HasScope root old j → HasScope root new j
   stays j h =
       let at = (out-Justfile j).module_path in
-      elim (cases_Bool (is_eq (path_order.ghosts.cmp (out-Justfile m).module_path at))) [
+      elim (cases_Bool (path_eq.ghosts.eq (out-Justfile m).module_path at)) [
         | inl t ↦ record { scope = scope; there = put.0 at ∙ ap (λ b. cond b (Some scope) (module_at old (Some at))) t; owner = m; stands = stands; same = same-path (out-Justfile m).module_path at t; own = own }
         | inr f ↦ record { scope = h.scope; there = put.0 at ∙ ap (λ b. cond b (Some scope) (module_at old (Some at))) f ∙ h.there; owner = h.owner; stands = h.stands; same = h.same; own = h.own }
       ]
@@ -96,12 +79,12 @@ module _ (root : Justfile) (old new : Modules) (rest : List Justfile) (m : Justf
 
 -- a module is taken from the end of those that are left, and its own take its place
 pub taken-scopes : (root : Justfile) (old new : Modules) (all rest more : List (Bor Justfile)) (m : Bor Justfile) (scope : ModuleScope) (path : Modulepath) → IsScopeOf m.now scope → all ≡ rest ++ m ∷ [] → shown more ≡ shown rest ++ (out-Justfile m.now).modules →
-    path ≡ (out-Justfile m.now).module_path → tree.UpdatesBy path_order.ghosts.cmp (path_order.ghosts.cmp path) old new (Some scope) → AreLeft root old (shown all) → AreLeft root new (shown more)
+    path ≡ (out-Justfile m.now).module_path → hash.UpdatesBy path_eq.ghosts.eq (path_eq.ghosts.eq path) old new (Some scope) → AreLeft root old (shown all) → AreLeft root new (shown more)
 taken-scopes root old new all rest more m scope path own taken added same put left =
     let before : AreLeft root old (shown rest ++ m.now ∷ []) = subst (AreLeft root old) (shown_taken root all rest m taken) left in
     let stands : StandsIn root m.now = All-contains (StandsIn root) (shown rest ++ m.now ∷ []) m.now before.standing (Contains-append_right (shown rest) (m.now ∷ []) m.now (0, omega arith, refl)) in
     subst (AreLeft root new) (sym added) (left-more root old new (shown rest) m.now scope own stands
-    (subst (λ p. tree.UpdatesBy path_order.ghosts.cmp (path_order.ghosts.cmp p) old new (Some scope)) same put) before)
+    (subst (λ p. hash.UpdatesBy path_eq.ghosts.eq (path_eq.ghosts.eq p) old new (Some scope)) same put) before)
 
 -- so the module of each recipe is among them
 is-among : (root : Justfile) (modules : Modules) → HasScopes root modules → (r : Recipe Dependency) → IsPlaced root r → IsAmong modules r

@@ -8,7 +8,7 @@ use just_data::{Sequence, Text};
 use just_parts::layers::{Config, Context, Number, Scope};
 use just_running::{ModuleScope, Scopes};
 use std::alloc::{AllocError, Global};
-use std::collections::{BTreeMap, HashMap};
+use std::collections::HashMap;
 
 // A module without values.
 fn bare_scope<'run, 'src>(
@@ -45,7 +45,7 @@ pub(crate) fn bare_scopes<'run, 'src>(
 ) -> Result<Scopes<'run, 'src>, AllocError>
     ensures { IfOk result (HasScopes root.now) }
 {
-    let mut scopes = BTreeMap::new(alloc);
+    let mut scopes = HashMap::new(alloc);
     let mut left = Vec::new(alloc);
     left.push(root)?;
     while let Some(module) = left.pop() {

@@ -1,6 +1,7 @@
 -- Where recipes run: the modules of a run, and what is bound in them.
+use Rattle.std.proofs.Common.{BuildHasherDefault, FoldHasher}
 use Rattle.std.specs.Prelude.{◌≡◌, ◌<◌, ◌++◌, ℕ, List, [], ◌∷◌, flat_map, length, Option, None, Some, option_to_list, if◌then◌else◌}
-use Rattle.std.specs.BTreeMap.{BTreeMap, get}
+use Rattle.std.specs.HashMap.{HashMap, get}
 use Rattle.std.specs.List.{All, slice_get}
 use Rattle.just_attributes.specs.declared.attribute.Attribute.{Attribute}
 use Rattle.just_attributes.specs.declared.attribute.Attribute.TheVariants as attribute
@@ -8,7 +9,7 @@ use Rattle.just_attributes.specs.declared.attribute.NamedAttribute.{NamedAttribu
 use Rattle.just_expressions.specs.declared.expression.Expression.{Expression}
 use Rattle.just_parts.specs.Evaluator.{Covers, values_of}
 use Rattle.just_parts.specs.Known.{sources}
-use Rattle.just_paths.specs.contracts.modulepath.ModulepathOrd.TheImpl as path_order
+use Rattle.just_paths.specs.contracts.modulepath.ModulepathPartialEq.TheImpl as path_eq
 use Rattle.just_paths.specs.declared.modulepath.Modulepath.{Modulepath}
 use Rattle.just_recipe.specs.declared.dependency.Dependency.{Dependency}
 use Rattle.just_recipe.specs.declared.recipe.Recipe.{Recipe}
@@ -23,11 +24,11 @@ use Rattle.just_running.specs.Unready.{LeadTo}
 
 -- the modules of a run, by their paths
 abbrev pub Modules : Type 0
-Modules = BTreeMap Modulepath ModuleScope
+Modules = HashMap Modulepath ModuleScope (BuildHasherDefault FoldHasher)
 
 abbrev pub module_at : Modules → Option Modulepath → Option ModuleScope
 module_at modules None = None
-module_at modules (Some path) = get path_order.ghosts.cmp modules path
+module_at modules (Some path) = get path_eq.ghosts.eq modules path
 
 -- the expressions that a run of a recipe reads: of its attributes, of its parameters and of its lines
 abbrev pub attribute_expressions : Attribute Expression → List Expression

@@ -4,7 +4,7 @@ ghost use Rattle.just_running.specs.Homes.{IsHome, IsHomeOf};
 use just_parts::Recipe;
 use just_parts::layers::{Context, Scope};
 use just_paths::Modulepath;
-use std::collections::BTreeMap;
+use std::collections::HashMap;
 
 /// A module of a run.
 #[derive(Drop)]
@@ -16,7 +16,7 @@ pub struct ModuleScope<'run, 'src> {
 }
 
 /// The modules of a run, by their paths.
-pub type Scopes<'run, 'src> = BTreeMap<Modulepath, ModuleScope<'run, 'src>>;
+pub type Scopes<'run, 'src> = HashMap<Modulepath, ModuleScope<'run, 'src>>;
 
 /// The module in which a recipe runs.
 pub(crate) fn module_of<'a, 'run, 'src>(

@@ -1,4 +1,4 @@
-use Rattle.std.proofs.Common.{rules}
+use Rattle.std.proofs.Common.{Err, inr, rules}
 use Rattle.just_running.specs.Unready.{AreReady}
 use Rattle.just_running.proofs.Homes.{ready-home}
 use Rattle.just_invoke.proofs.Scoping.{are-among}
@@ -8,3 +8,6 @@ pub run_tasks-requires-clause-home : goal.run_tasks-requires-clause-home
 run_tasks-requires-clause-home g c =
     let ready : AreReady c.args.recipes.now c.in_ok-tops.tops.items = search rules in
     ready-home c.in_ok-scopes.scopes c.args.recipes.now c.in_ok-tops.tops.items (are-among c.args.root.now c.in_ok-scopes.scopes c.args.recipes.now c.in_ok-scopes.ensures c.requires.placed) ready
+
+pub returns-in_err-run_tasks-clause-comes : goal.returns-in_err-run_tasks-clause-comes
+returns-in_err-run_tasks-clause-comes g c = inr (search rules, Err c.in_err-run_tasks.field-0.0, search rules, search rules, search rules)
