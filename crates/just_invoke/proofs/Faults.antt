@@ -11,7 +11,7 @@ use Rattle.just_invoke.specs.declared.justfile.RecipeKey.{RecipeKey}
 use Rattle.just_invoke.specs.Closed.{recipe_named, default_recipe}
 use Rattle.just_invoke.specs.Cause.{Cause}
 use Rattle.just_invoke.specs.Words.{Words, has_colon, is_empty}
-use Rattle.just_invoke.specs.Head.{Held, name_of, NoDefault, BadName, goes_on, WordsLead, WordsMislead, NoPath, NoHead, IsHead, PathLeads}
+use Rattle.just_invoke.specs.Head.{Held, NoDefault, BadName, goes_on, WordsLead, WordsMislead, NoPath, NoHead, IsHead, PathLeads}
 use Rattle.just_invoke.specs.Tail.{IsTail}
 use Rattle.just_invoke.specs.Split.{Invoked, Invokes, Chain, IsSplit, Lacks, Stops, IsFault, fault_of}
 use Rattle.just_invoke.proofs.Unique.{path_word_once, head_once, tail_once, invokes_once}

@@ -1,7 +1,7 @@
 pub mod Decides
 pub mod Faults
 pub mod HeadLemmas
-pub mod Leftovers
+pub mod ModuleLemmas
 pub mod Namings
 pub mod Outcomes
 pub mod Scoping

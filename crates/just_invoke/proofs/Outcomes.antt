@@ -24,7 +24,7 @@ use Rattle.just_invoke.specs.Cause as cause
 use Rattle.just_invoke.specs.Going.{TasksComeTo, IsHindered}
 use Rattle.just_invoke.specs.Outcome.{tops, Refuses, fault, excess, variables, not_yet, memory, MayRun, IsOutcome, refused, ran}
 use Rattle.just_invoke.specs.Split.{Invoked, IsSplit, IsFault}
-use Rattle.just_invoke.specs.Variables.{HasVariables, IsHeldBack}
+use Rattle.just_invoke.specs.Variables.{SomeVariable, IsHeldBack}
 use Rattle.just_invoke.proofs.Faults.{split_no_fault}
 use Rattle.just_invoke.proofs.Unique.{split_once}
 
@@ -95,7 +95,7 @@ module _ (root : Justfile) (recipes : List (Recipe Dependency)) (words : List (L
         MayRun root recipes words config.one others → IsSo p q recipes others old old r
     held-so e held r is p q others may = subst (λ r. IsSo p q recipes others old old r) (sym (answered r e is)) (held-expected e held p q others may)
 
-  module _ (p : Inquiry → Option Answer) (q : Entry → Option Answer) (invoked : List Invoked) (split : IsSplit root recipes words invoked) (few : config.one ≡ true → length invoked ≤ 1) (plain : HasVariables root → ⊥)
+  module _ (p : Inquiry → Option Answer) (q : Entry → Option Answer) (invoked : List Invoked) (split : IsSplit root recipes words invoked) (few : config.one ≡ true → length invoked ≤ 1) (plain : SomeVariable root → ⊥)
       (old new : Kept) (result : Result Report Error) where
     stopped : (e : Error) → IsHindered recipes (tops recipes invoked) e → Refuses root recipes words config.one e
     stopped e (inl is) = subst (Refuses root recipes words config.one) (sym is) memory

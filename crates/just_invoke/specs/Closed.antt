@@ -1,5 +1,5 @@
 -- Modules whose recipes are among those that are held.
-use Rattle.std.specs.Prelude.{◌≡◌, ℕ, List, Option, Some, None, IsSome}
+use Rattle.std.specs.Prelude.{◌≡◌, ◌↔◌, ℕ, List, Option, Some, None, IsSome}
 use Rattle.std.specs.List.{All, Contains}
 use Rattle.just_table.specs.Entries.{find}
 use Rattle.just_names.specs.declared.number.Number.{Number}
@@ -52,6 +52,10 @@ inner_closed (all_closed closed below) = below
 pub data StandsIn : Justfile → Justfile → Type 0 where
   itself : {root : Justfile} → StandsIn root root
   inside : {root inner j : Justfile} → Contains (out-Justfile root).modules inner → StandsIn inner j → StandsIn root j
+
+-- these are the modules that stand in the root
+abbrev pub AreModulesIn : Justfile → List Justfile → Type 0
+AreModulesIn root modules = (j : Justfile) → Contains modules j ↔ StandsIn root j
 
 -- the recipe is that of a module that stands in the root
 abbrev pub IsPlaced : Justfile → Recipe Dependency → Type 0

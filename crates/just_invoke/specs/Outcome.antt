@@ -22,7 +22,7 @@ use Rattle.just_invoke.specs.declared.justfile.Justfile.{Justfile}
 use Rattle.just_invoke.specs.Cause.{Cause, cause_of}
 use Rattle.just_invoke.specs.Head.{name_of}
 use Rattle.just_invoke.specs.Split.{Invoked, invoked_of, IsSplit, IsFault}
-use Rattle.just_invoke.specs.Variables.{HasVariables}
+use Rattle.just_invoke.specs.Variables.{SomeVariable}
 
 -- the task of what is invoked: it does not run as a dependency
 abbrev pub top : List (Recipe Dependency) → Invoked → Task
@@ -42,7 +42,7 @@ pub data Refuses (root : Justfile) (recipes : List (Recipe Dependency)) (words :
   excess : (invoked : List Invoked) → IsSplit root recipes words invoked → one ≡ true → 1 < length invoked →
       Refuses root recipes words one (Run (ExcessInvocations (length invoked)))
   variables : (first : Invoked) (rest : List Invoked) → IsSplit root recipes words (first ∷ rest) → (one ≡ true → length (first ∷ rest) ≤ 1) →
-      HasVariables root → Refuses root recipes words one (Run (NotYet (name_of first.recipe)))
+      SomeVariable root → Refuses root recipes words one (Run (NotYet (name_of first.recipe)))
   not_yet : (name : List ℕ) (invoked : List Invoked) → IsSplit root recipes words invoked → (one ≡ true → length invoked ≤ 1) →
       IsUnready recipes (tops recipes invoked) name → Refuses root recipes words one (Run (NotYet name))
   memory : Refuses root recipes words one Memory
@@ -52,7 +52,7 @@ pub data Refuses (root : Justfile) (recipes : List (Recipe Dependency)) (words :
 pub record MayRun (root : Justfile) (recipes : List (Recipe Dependency)) (words : List (List ℕ)) (one : Bool) (invoked : List Invoked) : Type 0 where
   pub split : IsSplit root recipes words invoked
   pub few : one ≡ true → length invoked ≤ 1
-  pub plain : HasVariables root → ⊥
+  pub plain : SomeVariable root → ⊥
   pub ready : AreReady recipes (tops recipes invoked)
 
 -- The words are refused, and what is kept is as it was; or they may be run, and are.

@@ -6,6 +6,7 @@ mod invocation;
 pub mod invocation_parser;
 pub mod justfile;
 pub mod laws;
+mod modules;
 mod naming;
 mod options;
 mod paths;

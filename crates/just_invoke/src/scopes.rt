@@ -3,7 +3,7 @@ ghost use Rattle.std.specs.Prelude.{IfOk};
 ghost use Rattle.just_invoke.specs.Scopes.{HasScopes, IsScopeOf};
 
 use crate::justfile::Justfile;
-use crate::variables::add_modules;
+use crate::modules::modules_in;
 use just_data::{Sequence, Text};
 use just_parts::layers::{Config, Context, Number, Scope};
 use just_running::{ModuleScope, Scopes};
@@ -46,12 +46,9 @@ pub(crate) fn bare_scopes<'run, 'src>(
     ensures { IfOk result (HasScopes root.now) }
 {
     let mut scopes = HashMap::new(alloc);
-    let mut left = Vec::new(alloc);
-    left.push(root)?;
-    while let Some(module) = left.pop() {
+    for module in modules_in(alloc, root)? {
         let path = module.module_path.clone()?;
         scopes.insert(path, bare_scope(alloc, config, module, overrides))?;
-        add_modules(&mut left, module)?;
     }
     Ok(scopes)
 }

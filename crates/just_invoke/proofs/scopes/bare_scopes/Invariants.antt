@@ -1,9 +1,9 @@
-use Rattle.just_invoke.proofs.Leftovers.{shown, count_all}
-use Rattle.just_invoke.proofs.Scoping.{AreLeft}
+use Rattle.std.proofs.Common.{◌++◌}
+use Rattle.std.specs.List.{All}
+use Rattle.just_invoke.specs.Closed.{AreModulesIn}
+use Rattle.just_invoke.specs.Scopes.{HasScope}
+use Rattle.just_invoke.proofs.ModuleLemmas.{shown}
 use Rattle.just_invoke.proofs.scopes.bare_scopes.Given as goal
 
 abbrev pub invariant-loop-module : goal.invariant-loop-module
-invariant-loop-module l = AreLeft l.root l.scopes (shown l.left.items)
-
-abbrev pub decreases-loop-module : goal.decreases-loop-module
-decreases-loop-module l = count_all (shown l.left.items)
+invariant-loop-module l = All (HasScope l.root l.scopes) (shown l.yielded) × AreModulesIn l.root (shown (l.yielded ++ l.module-iterator.rest.items))
