@@ -1,12 +1,12 @@
 //! What tries the analyzer without a host of one's own: a recorder, a writer, bundles of files, a text that is read as the
-//! root, words that are run over a module, and what the program writes of a run and of a fault.
+//! root, words that are run over a module, and what the program writes of a run and of an error.
 #![tactic(auto)]
 
 pub mod bundle;
 mod entries;
-mod fault;
 pub mod laws;
 mod one_line;
+mod program_error;
 mod reading;
 pub mod recorder;
 mod run;
@@ -15,7 +15,7 @@ mod told;
 mod words;
 
 pub use entries::write_entries;
-pub use fault::Fault;
+pub use program_error::ProgramError;
 pub use reading::{parse, root_source};
 pub use recorder::Recorder;
 pub use run::run_and_write;

@@ -2,7 +2,7 @@
 ghost use Rattle.just_invoke.specs.Closed.{IsRooted};
 
 use crate::entries::write_entries;
-use crate::fault::Fault;
+use crate::program_error::ProgramError;
 use crate::recorder::Recorder;
 use crate::words::run_words;
 use just_data::Text;
@@ -12,7 +12,7 @@ use std::alloc::Global;
 use std::collections::HashMap;
 use std::io::Write;
 
-/// Runs words over a compiled module, and writes which recipes began, before a fault too.
+/// Runs words over a compiled module, and writes which recipes began, before an error too.
 pub fn run_and_write<'src, W: Write>(
     alloc: Global,
     root: &Justfile<'src>,
@@ -21,15 +21,15 @@ pub fn run_and_write<'src, W: Write>(
     config: &Config,
     words: &[&str],
     output: &mut W,
-) -> Result<(), Fault<'src>>
+) -> Result<(), ProgramError<'src>>
     requires { IsRooted root.now recipes.now }
 {
     let mut host = Recorder::new(alloc);
     let ran = run_words(alloc, root, recipes, overrides, config, &mut host, words);
     let is_written = write_entries(output, host.entries()).is_ok();
     match ran {
-        Err(error) => Err(Fault::Analyzer(error)),
+        Err(error) => Err(ProgramError::Analyzer(error)),
         Ok(_) if is_written => Ok(()),
-        Ok(_) => Err(Fault::Write),
+        Ok(_) => Err(ProgramError::Write),
     }
 }

@@ -1,15 +1,15 @@
 ghost use Rattle.std.specs.Prelude.{◌≡◌};
 
-use crate::fault::Fault;
 use crate::one_line::OneLine;
+use crate::program_error::ProgramError;
 use std::io::Write;
 
-/// Tells a fault in a line, and answers the status that it gives. Whether the line is written counts for nothing.
-pub fn tell<E: Write>(errors: &mut E, fault: &Fault) -> u8
+/// Tells an error in a line, and answers the status that it gives. Whether the line is written counts for nothing.
+pub fn tell<E: Write>(errors: &mut E, error: &ProgramError) -> u8
     ensures { result ≡ 1 }
 {
-    let name = fault.name();
-    let message = OneLine(fault);
+    let name = error.name();
+    let message = OneLine(error);
     let _ = writeln!(errors, "justrun: {name}: {message}");
     1
 }

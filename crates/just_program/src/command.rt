@@ -6,7 +6,7 @@ ghost use Rattle.just_invoke.specs.Closed.{IsRooted};
 use just_analyzer::layers::{Config, Error};
 use just_analyzer::{Compilation, Compiler, Sources, is_clean};
 use just_bench::bundle::{read_sources, read_text};
-use just_bench::{Fault, run_and_write, tell, tell_usage};
+use just_bench::{ProgramError, run_and_write, tell, tell_usage};
 use just_syntax::PlainSyntax;
 use just_values::PlainEvaluation;
 use std::alloc::Global;
@@ -39,7 +39,7 @@ fn run_sources<'src, W: Write>(
     root: &str,
     words: &[&str],
     output: &mut W,
-) -> Result<(), Fault<'src>>
+) -> Result<(), ProgramError<'src>>
     requires { IsClean root.now }
 {
     let config = Config::new(alloc);
@@ -53,7 +53,7 @@ fn run_sources<'src, W: Write>(
             } = &compilation;
             run_and_write(alloc, justfile, recipes, overrides, &config, words, output)
         }
-        Err(error) => Err(Fault::Analyzer(error)),
+        Err(error) => Err(ProgramError::Analyzer(error)),
     }
 }
 
@@ -64,12 +64,12 @@ fn run_bundle<'src, W: Write>(
     root: &str,
     words: &[&str],
     output: &mut W,
-) -> Result<(), Fault<'src>>
+) -> Result<(), ProgramError<'src>>
     requires { IsClean root.now }
 {
     match read_sources(alloc, text) {
         Ok(sources) => run_sources(alloc, &sources, root, words, output),
-        Err(error) => Err(Fault::Bundle(error)),
+        Err(error) => Err(ProgramError::Bundle(error)),
     }
 }
 
@@ -87,7 +87,7 @@ fn run_text<W: Write, E: Write>(
 {
     match run_bundle(alloc, text, root, words, output) {
         Ok(()) => 0,
-        Err(fault) => tell(errors, &fault),
+        Err(error) => tell(errors, &error),
     }
 }
 
@@ -104,11 +104,11 @@ fn run_input<R: Read, W: Write, E: Write>(
     ensures not_clean { (IsClean root.now → ⊥) → result ≡ 1 }
 {
     if !is_clean(root) {
-        return tell(errors, &Fault::NotClean(root));
+        return tell(errors, &ProgramError::NotClean(root));
     }
     match read_text(alloc, input) {
         Ok(text) => run_text(alloc, text.as_str(), root, words, output, errors),
-        Err(error) => tell(errors, &Fault::Bundle(error)),
+        Err(error) => tell(errors, &ProgramError::Bundle(error)),
     }
 }
 

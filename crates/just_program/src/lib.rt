@@ -4,4 +4,4 @@
 mod command;
 
 pub use command::program;
-pub use just_bench::{Fault, tell};
+pub use just_bench::{ProgramError, tell};

@@ -5,7 +5,7 @@ use std::fmt;
 
 /// Why the program ends early, when it was used well.
 #[derive(Drop)]
-pub enum Fault<'src> {
+pub enum ProgramError<'src> {
     /// The root, which is told, is no clean path.
     NotClean(&'src str),
     /// The input is no bundle of files.
@@ -18,16 +18,16 @@ pub enum Fault<'src> {
     Memory,
 }
 
-impl<'src> Fault<'src> {
-    /// The name of the fault.
+impl<'src> ProgramError<'src> {
+    /// The name of the error.
     pub fn name(&self) -> &'static str {
         match self {
-            Fault::NotClean(_) => "NotClean",
-            Fault::Bundle(BundleError::Memory) => "Memory",
-            Fault::Bundle(_) => "Bundle",
-            Fault::Analyzer(error) => error.name(),
-            Fault::Write => "Write",
-            Fault::Memory => "Memory",
+            ProgramError::NotClean(_) => "NotClean",
+            ProgramError::Bundle(BundleError::Memory) => "Memory",
+            ProgramError::Bundle(_) => "Bundle",
+            ProgramError::Analyzer(error) => error.name(),
+            ProgramError::Write => "Write",
+            ProgramError::Memory => "Memory",
         }
     }
 }
@@ -43,19 +43,19 @@ fn write_error<W: fmt::Write>(f: &mut fmt::Formatter<W>, error: &Error) -> fmt::
     }
 }
 
-impl<'src> fmt::Display for Fault<'src> {
+impl<'src> fmt::Display for ProgramError<'src> {
     fn fmt<W: fmt::Write>(&self, f: &mut fmt::Formatter<W>) -> fmt::Result {
         match self {
-            Fault::NotClean(root) => {
+            ProgramError::NotClean(root) => {
                 write!(
                     f,
                     "The root `{root}` is not a clean path: that begins with `/`, and no part of it is empty, `.` or `..`"
                 )
             }
-            Fault::Bundle(error) => write!(f, "{error}"),
-            Fault::Analyzer(error) => write_error(f, error),
-            Fault::Write => f.write_str("The output could not be written"),
-            Fault::Memory => f.write_str("Out of memory"),
+            ProgramError::Bundle(error) => write!(f, "{error}"),
+            ProgramError::Analyzer(error) => write_error(f, error),
+            ProgramError::Write => f.write_str("The output could not be written"),
+            ProgramError::Memory => f.write_str("Out of memory"),
         }
     }
 }
