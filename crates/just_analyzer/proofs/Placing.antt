@@ -1,7 +1,6 @@
 -- Each recipe that is compiled is that of a module that stands in the root.
-use Rattle.std.proofs.Common.{◌≡◌, ◌≢◌, ◌<◌, ◌∙◌, ℕ, zero, suc, Bool, true, false, cond, List, [], ◌∷◌, ◌++◌, length, map, Option, None, Some, refl, sym, ap, subst, inl, inr, arith}
+use Rattle.std.proofs.Common.{◌≡◌, ◌≢◌, ◌∙◌, ℕ, suc, List, [], ◌∷◌, map, Option, None, Some, refl, sym, ap, subst, inl, inr, arith}
 use Rattle.std.specs.Prelude.{flat_map}
-use Rattle.std.specs.List.{Contains}
 use Rattle.std.specs.Map.{values_of}
 use Rattle.std.specs.Str.{bytes_eq}
 use Rattle.std.proofs.lemmas.Bool.{cases_Bool}
@@ -9,7 +8,7 @@ use Rattle.std.proofs.lemmas.List.{get_or_default}
 use Rattle.std.proofs.lemmas.Slice.Eq.{bytes_eq-Decides}
 use Rattle.just_graph.proofs.Index.{some_same}
 use Rattle.just_items.specs.declared.item.Item.TheVariants as item
-use Rattle.just_graph.proofs.Members.{In, contained, from_flat, in_map, is_in}
+use Rattle.just_graph.proofs.Members.{In, contained, from_flat}
 use Rattle.just_table.specs.Entries.{find, put}
 use Rattle.just_table.proofs.Puts.{find_put}
 use Rattle.just_names.specs.Name.{text_of_name}
@@ -31,7 +30,7 @@ use Rattle.just_variables.specs.Documented.{AreDocumented}
 use Rattle.just_definitions.specs.Resolved.{AreMadeOf}
 use Rattle.just_rules.specs.Reading.{Reading, Submodule, declared, items_in, submodules_of}
 use Rattle.just_making.specs.Labelled.{by_name, held_by_name, label_in}
-use Rattle.just_analyzer.specs.Justfiles.{AreCompiled, Built, Made, none, one}
+use Rattle.just_analyzer.specs.Justfiles.{AreCompiled, Built, none, one}
 use Rattle.just_trees.specs.Modules.{Forest, HasModule, Module, after_it, first, in_it, path_of}
 use Rattle.just_trees.proofs.ModulePlaces.{nobody}
 

@@ -15,7 +15,7 @@ use Rattle.just_errors.specs.declared.error.CompileErrorKind.TheVariants as kind
 use Rattle.just_errors.specs.declared.error.Definition.TheVariants as definition
 use Rattle.just_recipe.specs.declared.dependency.UnresolvedDependency.{UnresolvedDependency}
 use Rattle.just_recipe.specs.declared.recipe.Recipe.{Recipe}
-use Rattle.just_definitions.specs.Contents.{Contents, Defined, all_defined, defined_in, defined_recipe, function_names, function_texts, module_of_name, signatures, texts_of_defined, variable_names}
+use Rattle.just_definitions.specs.Contents.{Contents, Defined, all_defined, defined_in, defined_recipe, function_texts, module_of_name, signatures, texts_of_defined, variable_names}
 use Rattle.just_index.specs.Index.{texts_of_names, AreApart, AreDifferent, IsLast, NoneRepeats, Repeats, name_at}
 use Rattle.just_definitions.specs.Recipes.{name_of, names_of}
 use Rattle.just_definitions.specs.Settings.{Conflicts, allows_variables}

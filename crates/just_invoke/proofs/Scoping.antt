@@ -40,10 +40,10 @@ module _ (root : Justfile) (old new : Modules) (m : Justfile) (scope : ModuleSco
   put_there = record { scope = scope; there = put.1; owner = m; stands = stands; same = refl; own = own }
 
 -- the next of the modules is put in
-pub next_scoped : (root : Justfile) (old new : Modules) (done left more : List (Bor Justfile)) (m : Bor Justfile) (scope : ModuleScope) (path : Modulepath) → IsScopeOf m.now scope → left ≡ m ∷ more →
+pub next_scoped : {root : Justfile} {old new : Modules} (done : List (Bor Justfile)) {left more : List (Bor Justfile)} {m : Bor Justfile} {scope : ModuleScope} {path : Modulepath} → IsScopeOf m.now scope → left ≡ m ∷ more →
     path ≡ (out-Justfile m.now).module_path → hash.UpdatesBy path_eq.ghosts.eq (path_eq.ghosts.eq path) old new (Some scope) → All (HasScope root old) (shown done) → AreModulesIn root (shown (done ++ left)) →
     All (HasScope root new) (shown (done ++ m ∷ [])) × AreModulesIn root (shown ((done ++ m ∷ []) ++ more))
-next_scoped root old new done left more m scope path own next same put are all =
+next_scoped {root} {old} {new} done {left} {more} {m} {scope} {path} own next same put are all =
     let stands : StandsIn root m.now = next_stands root done left all m more next in
     let there : hash.UpdatesBy path_eq.ghosts.eq (path_eq.ghosts.eq (out-Justfile m.now).module_path) old new (Some scope) =
     subst (λ p. hash.UpdatesBy path_eq.ghosts.eq (path_eq.ghosts.eq p) old new (Some scope)) same put in

@@ -1,5 +1,5 @@
 -- The spelling of a part of the lexemes as a part of the spelling.
-use Rattle.std.proofs.Common.{suc, zero, ◌≡◌, ℕ, ◌+◌, ◌-◌, ◌<◌, ◌≤◌, sym, ◌∙◌, ap, refl, subst, List, [], ◌∷◌, ◌++◌, length, take, drop, get_or, Bool, true, false, arith, Option, Some, None, append_assoc, add-one, length-append, rules}
+use Rattle.std.proofs.Common.{suc, ◌≡◌, ℕ, ◌+◌, ◌-◌, ◌<◌, ◌≤◌, sym, ◌∙◌, ap, refl, subst, List, [], ◌∷◌, ◌++◌, length, take, drop, get_or, Bool, true, false, arith, Option, Some, None, append_assoc, length-append, rules}
 use Rattle.std.proofs.Math.Seq.{drop-cons, take-add, take-length, get_or-append_seam, drop-append_seam, take-append_seam}
 use Rattle.std.specs.Prelude.{if◌then◌else◌, ◌||◌, slice_range}
 use Rattle.std.specs.List.{All}
@@ -7,7 +7,7 @@ use Rattle.std.specs.Str.{IsCharBoundary, IsUtf8}
 use Rattle.std.proofs.lemmas.List.{append-nil, take_more, take-append-drop}
 use borrow.Author.Count.{below_more}
 use Rattle.std.proofs.Math.ListN.{get_or-append}
-use Rattle.std.proofs.lemmas.List.Elements.{All-nil, All-cons, All-head, All-tail, All-push, All-take, All-drop}
+use Rattle.std.proofs.lemmas.List.Elements.{All-nil, All-head, All-tail, All-push, All-take, All-drop}
 use Rattle.std.proofs.lemmas.Str.{IsCharBoundary-start, IsCharBoundary-at_seam, IsUtf8-nil, IsUtf8-append, IsUtf8-from_ascii}
 use Rattle.just_names.specs.Token.{lexeme}
 use Rattle.just_lexer.specs.declared.lexer.Kind.{Kind}

@@ -8,7 +8,6 @@ use Rattle.just_graph.specs.Unfolding.{key}
 use Rattle.just_graph.specs.declared.unfolding.Unfolded.{Unfolded}
 use Rattle.just_graph.proofs.Members.{In, in_flat, is_in}
 use Rattle.just_parts.specs.Syntax.{AreRising, numbers}
-use Rattle.just_paths.specs.contracts.modulepath.ModulepathPartialEq.TheImpl as path_eq
 use Rattle.just_parts.specs.Items.{Ast}
 use Rattle.just_parts.specs.Asts.{AstKey, same_ast_key}
 use Rattle.just_parts.proofs.AstKeys.{key_same}

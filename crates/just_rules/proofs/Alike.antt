@@ -1,5 +1,5 @@
 -- Recipes that are alike in what the rules read break the same rules.
-use Rattle.std.proofs.Common.{◌≡◌, ℕ, zero, suc, ◌+◌, ◌<◌, Bool, true, false, ◌||◌, ◌&&◌, not, List, [], ◌∷◌, ◌++◌, map, length, get_or, Option, None, Some, refl, sym, ◌∙◌, ap, subst}
+use Rattle.std.proofs.Common.{◌≡◌, ℕ, zero, suc, ◌+◌, ◌<◌, Bool, true, false, ◌||◌, ◌&&◌, not, List, [], ◌∷◌, ◌++◌, map, length, get_or, Some, refl, sym, ◌∙◌, ap, subst}
 use Rattle.std.specs.Prelude.{◌≢◌, ◌≤◌, flat_map, if◌then◌else◌}
 use Rattle.std.specs.Cmp.Lexicographic.{slice_cmp}
 use Rattle.std.specs.Ordering.{nat_cmp}
@@ -33,7 +33,7 @@ use Rattle.just_names.specs.declared.name.Namepath.{Namepath}
 use Rattle.just_errors.specs.declared.error.Definition.TheVariants as definition
 use Rattle.just_definitions.specs.Contents.{Contents, Defined, Signature, all_defined, defined, defined_in, defined_recipe, function_names, module_of_name, signature, signatures, variable_names}
 use Rattle.just_index.specs.Index.{texts_of_names, Repeats}
-use Rattle.just_definitions.specs.Constants.{AreConstants, AsksConstants, AsksFor, Constants, Docs, Evaluated, IsEvaluated, attribute_expressions, constant_expressions, constants_fault, doc_fault, functions_asked, in_doc, in_setting, recipe_expressions, settings_among, settings_expressions, settings_fault, sets_lists, value_among}
+use Rattle.just_definitions.specs.Constants.{AreConstants, AsksConstants, AsksFor, Constants, Docs, Evaluated, IsEvaluated, attribute_expressions, constant_expressions, constants_fault, doc_fault, functions_asked, in_doc, in_setting, recipe_expressions, settings_among, settings_fault, sets_lists}
 use Rattle.just_definitions.specs.Groups.{BodiesAndDocs, Breaks, Group, OfAliases, OfBodies, OfConstants, OfDependencies, OfExpressions, OfHeaders, OfNames, in_bodies, in_docs}
 use Rattle.just_definitions.specs.Known.{functions_under, known_of, variables_under}
 use Rattle.just_parts.specs.Known.{Known, known, none_hidden}

@@ -1,6 +1,6 @@
 -- Rows of places, as they are read, joined and set.
 use Rattle.std.proofs.Common.{◌≡◌, ◌≢◌, inl, inr, subst, ℕ, zero, suc, ◌+◌, ◌-◌, ◌<◌, List, [], ◌∷◌, ◌++◌, take, length, get_or, set, slice_index, refl, sym, ap, ◌∙◌, ◌↔◌, arith}
-use Rattle.std.specs.Prelude.{flat_map, nat_eq, slice_get, Some}
+use Rattle.std.specs.Prelude.{flat_map, nat_eq}
 use Rattle.std.specs.List.{All, Contains}
 use Rattle.std.proofs.lemmas.Bool.{cases_eq, cases_lt}
 use Rattle.std.proofs.lemmas.List.Elements.{All-append, Contains-get_or}

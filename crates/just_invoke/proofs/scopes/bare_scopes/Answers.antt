@@ -15,14 +15,12 @@ loop-module-init c =
 pub loop-module-preserved-in_ok-insert : goal.loop-module-preserved-in_ok-insert
 loop-module-preserved-in_ok-insert c =
     let same : c.in_ok-path.path ≡ (out-Justfile c.in-Some.module.now).module_path = search rules in
-    next_scoped c.args.root.now c.loop-module.scopes c.insert.new.self c.loop-module.yielded c.loop-module.module-iterator.rest.items c.next.new.self.rest.items c.in-Some.module c.bare_scope.result c.in_ok-path.path
-    c.bare_scope.ensures c.in-Some.ensures.steps.0 same c.in_ok-insert.ensures.updates c.loop-module.invariant.0 c.loop-module.invariant.1
+    next_scoped c.loop-module.yielded c.bare_scope.ensures c.in-Some.ensures.steps.0 same c.in_ok-insert.ensures.updates c.loop-module.invariant.0 c.loop-module.invariant.1
 
 pub loop-module-preserved : goal.loop-module-preserved
 loop-module-preserved c =
     let same : c.in_ok-path.path ≡ (out-Justfile c.in-Some.module.now).module_path = search rules in
-    next_scoped c.args.root.now c.loop-module.scopes c.insert.new.self c.loop-module.yielded c.loop-module.module-iterator.rest.items c.next.new.self.rest.items c.in-Some.module c.bare_scope.result c.in_ok-path.path
-    c.bare_scope.ensures c.in-Some.ensures.steps.0 same c.in_ok-insert.ensures.updates c.loop-module.invariant.0 c.loop-module.invariant.1
+    next_scoped c.loop-module.yielded c.bare_scope.ensures c.in-Some.ensures.steps.0 same c.in_ok-insert.ensures.updates c.loop-module.invariant.0 c.loop-module.invariant.1
 
 pub returns : goal.returns
 returns c =
