@@ -21,33 +21,33 @@ use Rattle.just_recipe.specs.Recipes.{IsResolved}
 use Rattle.just_invoke.specs.Closed.{IsPlaced, StandsIn}
 use Rattle.just_invoke.specs.Module as naming
 use Rattle.just_invoke.specs.declared.justfile.Justfile.{Justfile, out-Justfile, out-roll-Justfile}
-use Rattle.just_rules.specs.Analyzable.{AreAnalyzable}
+use Rattle.just_module_headers.specs.Analyzable.{AreAnalyzable}
 use Rattle.just_analyzer.specs.Analyzed.{ComeAfter, IsAnalyzed}
-use Rattle.just_index.specs.Index.{texts_of_names, AreDifferent}
-use Rattle.just_rules.specs.Files.{ArePlaced, AreRows}
-use Rattle.just_trees.specs.Groups.{KeepsGroups, NamesModules}
-use Rattle.just_rules.specs.Joined.{AreArranged, AreJoined, GoDeeper, IsJoined}
-use Rattle.just_making.specs.Labelled.{label_in, labelled_as, slot}
+use Rattle.just_names.specs.Index.{texts_of_names, AreDifferent}
+use Rattle.just_module_headers.specs.Files.{ArePlaced, AreRows}
+use Rattle.just_module_tree.specs.Groups.{KeepsGroups, NamesModules}
+use Rattle.just_module_headers.specs.Joined.{AreArranged, AreJoined, GoDeeper, IsJoined}
+use Rattle.just_analyzer.specs.Labelled.{label_in, labelled_as, slot}
 use Rattle.just_analyzer.specs.Justfiles.{AreCompiled, Built, Made, recipes_of_all}
-use Rattle.just_definitions.specs.declared.labels.Label.{Label}
-use Rattle.just_trees.specs.Modules.{AreModules, Empty, Forest, HasModule, Heading, IsHeading, Module, Tree, a_module, after_it, first, in_it, no_module}
-use Rattle.just_rules.specs.Reading.{Reading, Submodule, reading_of}
-use Rattle.just_rules.specs.OfPlaces.{RepeatsNames, labels_of_place, names_of_place}
+use Rattle.just_module_contents.specs.declared.labels.Label.{Label}
+use Rattle.just_module_tree.specs.Modules.{AreModules, Empty, Forest, HasModule, Heading, IsHeading, Module, Tree, a_module, after_it, first, in_it, no_module}
+use Rattle.just_module_headers.specs.Reading.{Reading, Submodule, reading_of}
+use Rattle.just_module_headers.specs.OfPlaces.{RepeatsNames, labels_of_place, names_of_place}
 use Rattle.just_analyzer.specs.Steps.{BreaksInOrder, CanCompileAll, HaveCompiled}
-use Rattle.just_rules.specs.declared.files.Files.{Files}
-use Rattle.just_rules.specs.declared.files.Rows.{Rows}
-use Rattle.just_rules.specs.declared.joined.Joined.{Joined}
-use Rattle.just_trees.proofs.Agreeing.{find_reached}
+use Rattle.just_module_headers.specs.declared.files.Files.{Files}
+use Rattle.just_module_headers.specs.declared.files.Rows.{Rows}
+use Rattle.just_module_headers.specs.declared.joined.Joined.{Joined}
+use Rattle.just_module_tree.proofs.Agreeing.{find_reached}
 use Rattle.just_analyzer.proofs.Closing.{forest_closed}
 use Rattle.just_analyzer.proofs.Compilable.{can_compile_all, listed, one_at, stands, subs_differ}
-use Rattle.just_rules.proofs.FilePlaces.{count, one_place}
+use Rattle.just_module_headers.proofs.FilePlaces.{count, one_place}
 use Rattle.just_analyzer.proofs.Forests.{forest_at, is_compiled, tree_compiled}
-use Rattle.just_trees.proofs.Headed.{heading_at}
+use Rattle.just_module_tree.proofs.Headed.{heading_at}
 use Rattle.just_analyzer.proofs.Keeping.{keeps_groups, keeps_listed, names_next, names_repeated}
-use Rattle.just_trees.proofs.ModulePaths.{below_root, deeper, ends_same, entered, not_root, one_path, subs_at}
-use Rattle.just_trees.proofs.ModulePlaces.{IsListed, file_inside, module_of, nobody}
+use Rattle.just_module_tree.proofs.ModulePaths.{below_root, deeper, ends_same, entered, not_root, one_path, subs_at}
+use Rattle.just_module_tree.proofs.ModulePlaces.{IsListed, file_inside, module_of, nobody}
 use Rattle.just_analyzer.proofs.Placing.{declared_names, made_path, standing, submodule_names}
-use Rattle.just_trees.proofs.Ready.{edge_joined}
+use Rattle.just_module_tree.proofs.Ready.{edge_joined}
 use Rattle.just_parts.specs.Layers.{Given}
 
 pair_flat : {A B : Type 0} (of : Made → List B) (f : ℕ → A) (made : ℕ → Made) (xs : List ℕ) → flat_map (λ q. of (made q)) xs ≡ flat_map (λ (b : A × Made). of b.1) (map (λ q. (f q, made q)) xs)

@@ -20,18 +20,18 @@ use Rattle.just_recipe.specs.Recipes.{IsResolved, find_number, numbers}
 use Rattle.just_invoke.specs.Module.{module_name}
 use Rattle.just_invoke.specs.declared.justfile.Justfile.{Justfile, out-Justfile}
 use Rattle.just_invoke.specs.declared.justfile.RecipeKey.{RecipeKey}
-use Rattle.just_definitions.specs.Defaults.{IsDefaultAmong, IsDefaultOf}
-use Rattle.just_making.specs.Analysis.{IsKeyOf}
-use Rattle.just_making.specs.Labelled.{by_name, held_by_name}
+use Rattle.just_module_contents.specs.Defaults.{IsDefaultAmong, IsDefaultOf}
+use Rattle.just_analyzer.specs.Analysis.{IsKeyOf}
+use Rattle.just_analyzer.specs.Labelled.{by_name, held_by_name}
 use Rattle.just_analyzer.specs.Justfiles.{AreCompiled, Built, Made, IsCompiled, none, one, recipes_in, recipes_of_all}
-use Rattle.just_trees.specs.Modules.{Forest, Module}
+use Rattle.just_module_tree.specs.Modules.{Forest, Module}
 use Rattle.just_graph.proofs.Index.{some_same}
 use Rattle.std.specs.Option.{option_map}
-use Rattle.just_resolving.proofs.Later.{marked_or_none}
-use Rattle.just_definitions.specs.Kept.{kept_recipes}
-use Rattle.just_definitions.specs.Recipes.{recipes_of}
-use Rattle.just_definitions.specs.Resolved.{number_at, unresolved_numbers}
-use Rattle.just_making.proofs.Keys.{each_found}
+use Rattle.just_module_recipes.proofs.Later.{marked_or_none}
+use Rattle.just_module_contents.specs.Kept.{kept_recipes}
+use Rattle.just_module_contents.specs.Recipes.{recipes_of}
+use Rattle.just_module_contents.specs.Resolved.{number_at, unresolved_numbers}
+use Rattle.just_analyzer.proofs.Keys.{each_found}
 use Rattle.just_analyzer.proofs.TableValues.{put_cases}
 use Rattle.just_parts.specs.Layers.{Given}
 

@@ -10,22 +10,22 @@ use Rattle.just_graph.specs.Steps.{IsOrder, Reached, from_member, from_start, in
 use Rattle.just_graph.proofs.Members.{In, is_in}
 use Rattle.just_parts.specs.Asts.{AstKey, same_ast_key}
 use Rattle.just_parts.specs.Items.{Ast, Item}
-use Rattle.just_rules.specs.Analyzable.{AreAnalyzable}
-use Rattle.just_index.specs.Index.{texts_of_names, AreDifferent}
-use Rattle.just_rules.specs.Files.{ArePlaced, AreRows}
-use Rattle.just_rules.specs.Joined.{AreJoined, IsJoined}
-use Rattle.just_rules.specs.Reading.{Submodule}
-use Rattle.just_rules.specs.OfPlaces.{labels_of_place, names_of_place}
+use Rattle.just_module_headers.specs.Analyzable.{AreAnalyzable}
+use Rattle.just_names.specs.Index.{texts_of_names, AreDifferent}
+use Rattle.just_module_headers.specs.Files.{ArePlaced, AreRows}
+use Rattle.just_module_headers.specs.Joined.{AreJoined, IsJoined}
+use Rattle.just_module_headers.specs.Reading.{Submodule}
+use Rattle.just_module_headers.specs.OfPlaces.{labels_of_place, names_of_place}
 use Rattle.just_analyzer.specs.Steps.{CanCompile, CanCompileAll}
-use Rattle.just_rules.specs.declared.files.Files.{Files}
-use Rattle.just_rules.specs.declared.files.Rows.{Rows}
-use Rattle.just_rules.specs.declared.joined.Joined.{Joined}
-use Rattle.just_rules.proofs.FilePlaces.{count, key_count}
-use Rattle.just_trees.proofs.ModulePaths.{file_path, one_outer, one_path, row_once, subs_at}
-use Rattle.just_trees.proofs.ModulePlaces.{file_inside, inner_keys}
-use Rattle.just_rules.proofs.Numbers.{have_priors, levels_once, numbers_apart, numbers_once}
-use Rattle.just_trees.proofs.VariableNumbers.{variables_once}
-use Rattle.just_trees.proofs.Ready.{edge_joined, labels_are, names_are, reached_joined}
+use Rattle.just_module_headers.specs.declared.files.Files.{Files}
+use Rattle.just_module_headers.specs.declared.files.Rows.{Rows}
+use Rattle.just_module_headers.specs.declared.joined.Joined.{Joined}
+use Rattle.just_module_headers.proofs.FilePlaces.{count, key_count}
+use Rattle.just_module_tree.proofs.ModulePaths.{file_path, one_outer, one_path, row_once, subs_at}
+use Rattle.just_module_tree.proofs.ModulePlaces.{file_inside, inner_keys}
+use Rattle.just_module_headers.proofs.Numbers.{have_priors, levels_once, numbers_apart, numbers_once}
+use Rattle.just_module_tree.proofs.VariableNumbers.{variables_once}
+use Rattle.just_module_tree.proofs.Ready.{edge_joined, labels_are, names_are, reached_joined}
 
 module _ (enabled : Item → Bool) (entries : List (AstKey × Ast)) (d : AstKey) (files : Files) (placed : ArePlaced entries files) (rows : Rows) (are : AreRows enabled files rows)
     (can : AreAnalyzable enabled (λ k. lookup (same_ast_key k) entries)) (joined : Joined) (aj : AreJoined rows (length (keys_of entries)) joined) (root : ℕ) (inside : root < length (keys_of entries))

@@ -16,7 +16,7 @@ use Rattle.just_loader.specs.Loaded.{IsLoaded}
 use Rattle.just_loader.specs.Reached.{World}
 use Rattle.just_loader.proofs.HeldKeys.{root_held}
 use Rattle.just_analyzer.specs.Analyzed.{IsAnalyzed}
-use Rattle.just_trees.proofs.Agreeing.{agreeing_kept, agreeing_unnamed}
+use Rattle.just_module_tree.proofs.Agreeing.{agreeing_kept, agreeing_unnamed}
 use Rattle.just_analyzer.specs.Compiled.{Compilation, Compiles}
 use Rattle.just_analyzer.specs.Readings.{Overrides, given_in, root_heading}
 use Rattle.just_analyzer.specs.Rules.{KeepsAll, Names, in_files, in_modules}

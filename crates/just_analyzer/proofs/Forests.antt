@@ -13,42 +13,42 @@ use Rattle.just_parts.specs.Asts.{AstKey, same_ast_key}
 use Rattle.just_names.specs.Texts.{Text}
 use Rattle.just_parts.specs.Items.{Ast, Item}
 use Rattle.just_invoke.specs.declared.justfile.Justfile.{Justfile, out-Justfile, out-roll-Justfile}
-use Rattle.just_definitions.specs.Defaults.{IsDefaultAmong}
-use Rattle.just_making.specs.Analysis.{AreKeysOf, HasDefault, HasKeysOf, IsOf}
-use Rattle.just_rules.specs.Files.{ArePlaced, AreRows, asts_in}
-use Rattle.just_rules.specs.Joined.{IsJoined}
-use Rattle.just_variables.specs.Documented.{AreDocumented, HasDoc}
+use Rattle.just_module_contents.specs.Defaults.{IsDefaultAmong}
+use Rattle.just_analyzer.specs.Analysis.{AreKeysOf, HasDefault, HasKeysOf, IsOf}
+use Rattle.just_module_headers.specs.Files.{ArePlaced, AreRows, asts_in}
+use Rattle.just_module_headers.specs.Joined.{IsJoined}
+use Rattle.just_module_variables.specs.Documented.{AreDocumented, HasDoc}
 use Rattle.just_analyzer.specs.Evaluated.{IsEvaluatedTo}
-use Rattle.just_making.specs.Labelled.{label_in, labelled_as, with_labels}
+use Rattle.just_analyzer.specs.Labelled.{label_in, labelled_as, with_labels}
 use Rattle.just_analyzer.specs.Justfiles.{AreCompiled, Built, IsCompiled, Made, contents_in, none, notes_said, one, recipes_in}
-use Rattle.just_checking.specs.Noted.{notes_from}
-use Rattle.just_trees.specs.Modules.{Empty, Forest, Heading, Module, Tree, headings_in}
-use Rattle.just_definitions.specs.Contents.{Contents}
-use Rattle.just_definitions.specs.Kept.{kept_recipes}
-use Rattle.just_definitions.specs.Named.{contents_from, function_by, lists_by, name_by, said_from, recipes_by, recipes_from, set_by, unexported_by, variable_by}
-use Rattle.just_definitions.specs.Said.{said_in}
-use Rattle.just_definitions.specs.Recipes.{recipes_of}
-use Rattle.just_rules.specs.Reading.{Submodule, items_in}
-use Rattle.just_definitions.specs.Resolved.{AreResolved}
-use Rattle.just_rules.specs.OfPlaces.{contents_of_place, labels_of_place, recipes_of_place}
+use Rattle.just_module_declarations.specs.Noted.{notes_from}
+use Rattle.just_module_tree.specs.Modules.{Empty, Forest, Heading, Module, Tree, headings_in}
+use Rattle.just_module_contents.specs.Contents.{Contents}
+use Rattle.just_module_contents.specs.Kept.{kept_recipes}
+use Rattle.just_module_contents.specs.Named.{contents_from, function_by, lists_by, name_by, said_from, recipes_by, recipes_from, set_by, unexported_by, variable_by}
+use Rattle.just_module_contents.specs.Said.{said_in}
+use Rattle.just_module_contents.specs.Recipes.{recipes_of}
+use Rattle.just_module_headers.specs.Reading.{Submodule, items_in}
+use Rattle.just_module_contents.specs.Resolved.{AreResolved}
+use Rattle.just_module_headers.specs.OfPlaces.{contents_of_place, labels_of_place, recipes_of_place}
 use Rattle.just_analyzer.specs.Steps.{IsCompiledAt, path_at, path_in}
-use Rattle.just_rules.specs.declared.files.Files.{Files}
-use Rattle.just_definitions.specs.declared.labels.Label.{Label}
-use Rattle.just_definitions.specs.declared.notes.Notes.{Notes}
-use Rattle.just_definitions.specs.Notes.{absent_by, features_by, notes_of, warnings_by}
-use Rattle.just_rules.specs.declared.files.Rows.{Rows}
-use Rattle.just_rules.specs.declared.joined.Joined.{Joined}
+use Rattle.just_module_headers.specs.declared.files.Files.{Files}
+use Rattle.just_module_contents.specs.declared.labels.Label.{Label}
+use Rattle.just_module_contents.specs.declared.notes.Notes.{Notes}
+use Rattle.just_module_contents.specs.Notes.{absent_by, features_by, notes_of, warnings_by}
+use Rattle.just_module_headers.specs.declared.files.Rows.{Rows}
+use Rattle.just_module_headers.specs.declared.joined.Joined.{Joined}
 use Rattle.just_parts.proofs.AstKeys.{keys_equivalent}
 use Rattle.just_analyzer.proofs.Closing.{own_joined}
-use Rattle.just_rules.proofs.FilePlaces.{says}
+use Rattle.just_module_headers.proofs.FilePlaces.{says}
 use Rattle.just_analyzer.proofs.Placed.{many_labels}
-use Rattle.just_trees.proofs.ModulePlaces.{TreeAt, file_inside, join_at, module_of, tree_at}
-use Rattle.just_trees.proofs.Ready.{labels_are}
+use Rattle.just_module_tree.proofs.ModulePlaces.{TreeAt, file_inside, join_at, module_of, tree_at}
+use Rattle.just_module_tree.proofs.Ready.{labels_are}
 use Rattle.just_parts.specs.Layers.{Given, Layers, layers_at}
-use Rattle.just_variables.specs.Variables.{AreVariables}
-use Rattle.just_making.specs.Variables.{HasVariables}
-use Rattle.just_definitions.specs.Labels.{doc_by}
-use Rattle.just_expressions.specs.declared.expression.Expression.{Expression}
+use Rattle.just_module_variables.specs.Variables.{AreVariables}
+use Rattle.just_analyzer.specs.Variables.{HasVariables}
+use Rattle.just_module_contents.specs.Labels.{doc_by}
+use Rattle.just_ast_expressions.specs.declared.expression.Expression.{Expression}
 
 -- justfiles have the labels that they are given, whose docs are evaluated
 labelled_documented : (value : Expression → Option (List Text)) (said labels : List Label) (js : List Justfile) → length labels ≡ length js → AreDocumented value said labels → AreDocumented value said (map label_in (with_labels js labels))

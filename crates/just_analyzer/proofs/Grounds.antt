@@ -2,13 +2,13 @@
 use Rattle.std.proofs.Common.{arith, subst}
 use Rattle.just_errors.specs.Causes.{Cause, Keeps}
 use Rattle.just_parts.specs.Layers.{Layers}
-use Rattle.just_variables.proofs.Once.{evaluated_once}
-use Rattle.just_definitions.specs.Constants.{Docs, Evaluated, IsEvaluated}
-use Rattle.just_definitions.specs.Contents.{Contents}
-use Rattle.just_definitions.specs.Groups.{BodiesAndDocs, Breaks, BreaksContents, KeepsBefore, KeepsContents, OfAliases, OfBodies, OfConstants, OfDependencies, OfExpressions, OfHeaders, OfNames, in_docs, in_bodies as in_body}
-use Rattle.just_definitions.specs.Kept.{kept_recipes}
-use Rattle.just_definitions.specs.Rules.{Bodies, Dependencies, Under, under}
-use Rattle.just_resolving.specs.Broken.{BreaksRecipes, in_bodies, in_defaults, in_dependencies}
+use Rattle.just_module_variables.proofs.Once.{evaluated_once}
+use Rattle.just_module_contents.specs.Constants.{Docs, Evaluated, IsEvaluated}
+use Rattle.just_module_contents.specs.Contents.{Contents}
+use Rattle.just_module_contents.specs.Groups.{BodiesAndDocs, Breaks, BreaksContents, KeepsBefore, KeepsContents, OfAliases, OfBodies, OfConstants, OfDependencies, OfExpressions, OfHeaders, OfNames, in_docs, in_bodies as in_body}
+use Rattle.just_module_contents.specs.Kept.{kept_recipes}
+use Rattle.just_module_contents.specs.Rules.{Bodies, Dependencies, Under, under}
+use Rattle.just_module_recipes.specs.Broken.{BreaksRecipes, in_bodies, in_defaults, in_dependencies}
 
 module _ (layers : Layers) (m : Contents) (earlier : KeepsBefore layers OfBodies m) where
   before_dependencies : Keeps (Breaks layers OfBodies m) → KeepsBefore layers OfDependencies m

@@ -7,23 +7,23 @@ use Rattle.just_parts.specs.Asts.{AstKey, same_ast_key}
 use Rattle.just_errors.specs.Causes.{Cause}
 use Rattle.just_parts.specs.Items.{Ast}
 use Rattle.just_parts.specs.Layers.{Given, Layers, layers_at}
-use Rattle.just_definitions.specs.Contents.{Contents}
-use Rattle.just_rules.specs.Files.{ArePlaced, AreRows}
-use Rattle.just_definitions.specs.Groups.{BreaksContents, KeepsContents, OfHeaders}
-use Rattle.just_trees.specs.Groups.{HasGround, KeepsGroups, KeepsModules, NamesModules, in_module}
-use Rattle.just_rules.specs.Joined.{IsJoined}
-use Rattle.just_trees.specs.Modules.{Heading, IsHeading, Module, a_module, contents_of, no_module}
-use Rattle.just_rules.specs.Reading.{Reading, reading_of}
-use Rattle.just_definitions.specs.Rules.{Modules, of_modules}
-use Rattle.just_rules.specs.OfPlaces.{contents_of_place, names_of_place}
-use Rattle.just_rules.specs.declared.files.Files.{Files}
-use Rattle.just_rules.specs.declared.files.Rows.{Rows}
-use Rattle.just_rules.specs.declared.joined.Joined.{Joined}
-use Rattle.just_rules.proofs.Alike.{AreAlikeContents, breaks_alike, kept_alike}
-use Rattle.just_rules.proofs.FilePlaces.{says}
+use Rattle.just_module_contents.specs.Contents.{Contents}
+use Rattle.just_module_headers.specs.Files.{ArePlaced, AreRows}
+use Rattle.just_module_contents.specs.Groups.{BreaksContents, KeepsContents, OfHeaders}
+use Rattle.just_module_tree.specs.Groups.{HasGround, KeepsGroups, KeepsModules, NamesModules, in_module}
+use Rattle.just_module_headers.specs.Joined.{IsJoined}
+use Rattle.just_module_tree.specs.Modules.{Heading, IsHeading, Module, a_module, contents_of, no_module}
+use Rattle.just_module_headers.specs.Reading.{Reading, reading_of}
+use Rattle.just_module_contents.specs.Rules.{Modules, of_modules}
+use Rattle.just_module_headers.specs.OfPlaces.{contents_of_place, names_of_place}
+use Rattle.just_module_headers.specs.declared.files.Files.{Files}
+use Rattle.just_module_headers.specs.declared.files.Rows.{Rows}
+use Rattle.just_module_headers.specs.declared.joined.Joined.{Joined}
+use Rattle.just_module_headers.proofs.Alike.{AreAlikeContents, breaks_alike, kept_alike}
+use Rattle.just_module_headers.proofs.FilePlaces.{says}
 use Rattle.just_analyzer.specs.Steps.{BreaksPlace, KeepsPlace, path_at, path_in}
-use Rattle.just_trees.proofs.ModulePlaces.{IsListed, TreeAt, file_inside, module_of, tree_at}
-use Rattle.just_trees.proofs.Ready.{docs_are, functions_are, lists_are, names_are, recipes_are, sets_are, unexports_are, variables_are}
+use Rattle.just_module_tree.proofs.ModulePlaces.{IsListed, TreeAt, file_inside, module_of, tree_at}
+use Rattle.just_module_tree.proofs.Ready.{docs_are, functions_are, lists_are, names_are, recipes_are, sets_are, unexports_are, variables_are}
 
 module _ (given : Given) (entries : List (AstKey × Ast)) (d : AstKey) (files : Files) (placed : ArePlaced entries files) (rows : Rows) (are : AreRows given.syntax.enabled files rows)
     (paths : (k : AstKey) (a : Ast) → lookup (same_ast_key k) entries ≡ Some a → a.module_path ≡ k.0) (joined : Joined)

@@ -13,3 +13,7 @@ pub mod Placing
 pub mod Readings
 pub mod ShownPaths
 pub mod TableValues
+pub mod Held
+pub mod Keys
+pub mod Makings
+pub mod Taking

@@ -8,15 +8,15 @@ use Rattle.just_graph.proofs.Members.{In, contained, from_flat, from_map, in_fla
 use Rattle.just_parts.specs.Bare.{bare_item}
 use Rattle.just_parts.specs.Syntax.{AreRising, PriorsAreDependencies, item_numbers, numbers, function_numbers, parameter_numbers}
 use Rattle.just_parts.specs.Items.{Item}
-use Rattle.just_items.specs.declared.item.Item.TheVariants as item
+use Rattle.just_ast_items.specs.declared.item.Item.TheVariants as item
 use Rattle.just_recipe.specs.declared.dependency.UnresolvedDependency.{UnresolvedDependency}
 use Rattle.just_recipe.specs.declared.recipe.Recipe.{Recipe}
-use Rattle.just_records.specs.declared.assignment.Assignment.{Assignment}
-use Rattle.just_definitions.specs.Said.{said}
-use Rattle.just_rules.specs.Analyzable.{assignment_numbers}
-use Rattle.just_definitions.specs.Named.{variable_by}
-use Rattle.just_definitions.specs.Recipes.{recipes_of}
-use Rattle.just_definitions.specs.Resolved.{HasPriors, unresolved_numbers}
+use Rattle.just_ast_definitions.specs.declared.assignment.Assignment.{Assignment}
+use Rattle.just_module_contents.specs.Said.{said}
+use Rattle.just_module_headers.specs.Analyzable.{assignment_numbers}
+use Rattle.just_module_contents.specs.Named.{variable_by}
+use Rattle.just_module_contents.specs.Recipes.{recipes_of}
+use Rattle.just_module_contents.specs.Resolved.{HasPriors, unresolved_numbers}
 
 from_if : (b : Bool) (q r : Recipe UnresolvedDependency) (rs : List (Recipe UnresolvedDependency)) → In r (if b then q ∷ rs else rs) → (r ≡ q) ⊎ In r rs
 from_if true q r rs h = h

@@ -15,18 +15,18 @@ use Rattle.just_errors.proofs.Lifts.{reports_by}
 use Rattle.just_recipe.specs.declared.recipe.Recipe.{Recipe}
 use Rattle.just_recipe.specs.Recipes.{numbers}
 use Rattle.just_invoke.specs.declared.justfile.Justfile.{Justfile, roll-Justfile}
-use Rattle.just_making.specs.Labelled.{slot}
+use Rattle.just_analyzer.specs.Labelled.{slot}
 use Rattle.just_analyzer.specs.Justfiles.{Made}
-use Rattle.just_definitions.specs.Kept.{kept_recipes}
-use Rattle.just_definitions.proofs.Keeping.{kept_number}
-use Rattle.just_definitions.specs.Resolved.{unresolved_numbers}
-use Rattle.just_rules.specs.OfPlaces.{recipes_of_place}
+use Rattle.just_module_contents.specs.Kept.{kept_recipes}
+use Rattle.just_module_contents.proofs.Keeping.{kept_number}
+use Rattle.just_module_contents.specs.Resolved.{unresolved_numbers}
+use Rattle.just_module_headers.specs.OfPlaces.{recipes_of_place}
 use Rattle.just_analyzer.specs.Steps.{BreaksInOrder, BreaksPlace, CanCompileAll, CompilesPlace, HaveCompiled, IsCompiledAt}
-use Rattle.just_rules.specs.declared.files.Files.{Files}
-use Rattle.just_rules.specs.declared.joined.Joined.{Joined}
-use Rattle.just_resolving.proofs.Resolved.{made_numbers}
+use Rattle.just_module_headers.specs.declared.files.Files.{Files}
+use Rattle.just_module_headers.specs.declared.joined.Joined.{Joined}
+use Rattle.just_module_recipes.proofs.Resolved.{made_numbers}
 use Rattle.just_parts.specs.Layers.{Given}
-use Rattle.just_literals.specs.declared.settings.Settings.{Settings}
+use Rattle.just_ast_expressions.specs.declared.settings.Settings.{Settings}
 
 -- a function that is changed at a place
 abbrev put_at : {A : Type 0} → ℕ → A → (ℕ → A) → ℕ → A

@@ -1,32 +1,32 @@
 -- The module at a place, as it is checked.
 use Rattle.std.proofs.Common.{◌≡◌, ◌∙◌, ℕ, suc, List, [], ◌∷◌, length, Option, Some, sym, ap, subst}
 use Rattle.std.specs.Prelude.{slice_get}
-use Rattle.just_variables.specs.Constants.{evaluated_in}
-use Rattle.just_variables.specs.Documented.{AreDocumented}
-use Rattle.just_variables.specs.Variables.{AreVariablesOf}
+use Rattle.just_module_variables.specs.Constants.{evaluated_in}
+use Rattle.just_module_variables.specs.Documented.{AreDocumented}
+use Rattle.just_module_variables.specs.Variables.{AreVariablesOf}
 use Rattle.just_errors.specs.Causes.{Cause, Keeps}
 use Rattle.just_graph.specs.Graph.{targets}
 use Rattle.just_invoke.specs.declared.justfile.Justfile.{Justfile, out-Justfile}
-use Rattle.just_definitions.specs.Contents.{Contents}
-use Rattle.just_definitions.specs.Definitions.{contents_in}
-use Rattle.just_rules.specs.Files.{asts_in}
-use Rattle.just_definitions.specs.Groups.{BreaksContents, KeepsBefore, OfBodies}
-use Rattle.just_definitions.specs.Named.{contents_from, said_from}
-use Rattle.just_rules.specs.OfPlaces.{contents_of_place, labels_of_place}
-use Rattle.just_rules.specs.declared.files.Files.{Files}
-use Rattle.just_rules.specs.declared.joined.Joined.{Joined}
-use Rattle.just_resolving.specs.Broken.{BreaksRecipes}
-use Rattle.just_checking.specs.Evaluated.{IsChecked}
+use Rattle.just_module_contents.specs.Contents.{Contents}
+use Rattle.just_module_contents.specs.Definitions.{contents_in}
+use Rattle.just_module_headers.specs.Files.{asts_in}
+use Rattle.just_module_contents.specs.Groups.{BreaksContents, KeepsBefore, OfBodies}
+use Rattle.just_module_contents.specs.Named.{contents_from, said_from}
+use Rattle.just_module_headers.specs.OfPlaces.{contents_of_place, labels_of_place}
+use Rattle.just_module_headers.specs.declared.files.Files.{Files}
+use Rattle.just_module_headers.specs.declared.joined.Joined.{Joined}
+use Rattle.just_module_recipes.specs.Broken.{BreaksRecipes}
+use Rattle.just_module_declarations.specs.Evaluated.{IsChecked}
 use Rattle.just_analyzer.specs.Evaluated.{IsEvaluatedTo}
 use Rattle.just_analyzer.specs.Steps.{BreaksPlace, KeepsPlace, path_at, path_in}
-use Rattle.just_checking.specs.declared.checking.Checked.{Checked}
+use Rattle.just_module_declarations.specs.declared.checking.Checked.{Checked}
 use Rattle.just_analyzer.proofs.Grounds.{all_kept, recipes_broken}
 use Rattle.just_names.specs.Texts.{Text}
-use Rattle.just_definitions.specs.Labels.{label_by}
-use Rattle.just_definitions.specs.declared.labels.Label.{Label}
+use Rattle.just_module_contents.specs.Labels.{label_by}
+use Rattle.just_module_contents.specs.declared.labels.Label.{Label}
 use Rattle.just_parts.specs.Items.{Ast}
 use Rattle.just_parts.specs.Layers.{Given, Layers, layers_at}
-use Rattle.just_expressions.specs.declared.expression.Expression.{Expression}
+use Rattle.just_ast_expressions.specs.declared.expression.Expression.{Expression}
 
 -- as many labels as are said
 pub many_labels : (value : Expression → Option (List Text)) (said made : List Label) → AreDocumented value said made → length made ≡ length said

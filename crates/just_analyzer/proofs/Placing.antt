@@ -7,14 +7,14 @@ use Rattle.std.proofs.lemmas.Bool.{cases_Bool}
 use Rattle.std.proofs.lemmas.List.{get_or_default}
 use Rattle.std.proofs.lemmas.Slice.Eq.{bytes_eq-Decides}
 use Rattle.just_graph.proofs.Index.{some_same}
-use Rattle.just_items.specs.declared.item.Item.TheVariants as item
+use Rattle.just_ast_items.specs.declared.item.Item.TheVariants as item
 use Rattle.just_graph.proofs.Members.{In, contained, from_flat}
 use Rattle.just_table.specs.Entries.{find, put}
 use Rattle.just_table.proofs.Puts.{find_put}
 use Rattle.just_names.specs.Name.{text_of_name}
 use Rattle.just_names.specs.Texts.{Text}
-use Rattle.just_expressions.specs.declared.expression.Expression.{Expression}
-use Rattle.just_index.specs.Index.{AreDifferent, texts_of_names}
+use Rattle.just_ast_expressions.specs.declared.expression.Expression.{Expression}
+use Rattle.just_names.specs.Index.{AreDifferent, texts_of_names}
 use Rattle.just_parts.specs.Asts.{AstKey}
 use Rattle.just_parts.specs.Items.{Ast, Item}
 use Rattle.just_parts.specs.Layers.{Given}
@@ -22,17 +22,17 @@ use Rattle.just_paths.specs.declared.modulepath.Modulepath.{Modulepath}
 use Rattle.just_recipe.specs.declared.dependency.Dependency.{Dependency}
 use Rattle.just_recipe.specs.declared.dependency.UnresolvedDependency.{UnresolvedDependency}
 use Rattle.just_recipe.specs.declared.recipe.Recipe.{Recipe}
-use Rattle.just_definitions.specs.declared.labels.Label.{Label}
+use Rattle.just_module_contents.specs.declared.labels.Label.{Label}
 use Rattle.just_invoke.specs.Closed.{StandsIn, itself, inside}
 use Rattle.just_invoke.specs.Module as naming
 use Rattle.just_invoke.specs.declared.justfile.Justfile.{Justfile, out-Justfile}
-use Rattle.just_variables.specs.Documented.{AreDocumented}
-use Rattle.just_definitions.specs.Resolved.{AreMadeOf}
-use Rattle.just_rules.specs.Reading.{Reading, Submodule, declared, items_in, submodules_of}
-use Rattle.just_making.specs.Labelled.{by_name, held_by_name, label_in}
+use Rattle.just_module_variables.specs.Documented.{AreDocumented}
+use Rattle.just_module_contents.specs.Resolved.{AreMadeOf}
+use Rattle.just_module_headers.specs.Reading.{Reading, Submodule, declared, items_in, submodules_of}
+use Rattle.just_analyzer.specs.Labelled.{by_name, held_by_name, label_in}
 use Rattle.just_analyzer.specs.Justfiles.{AreCompiled, Built, none, one}
-use Rattle.just_trees.specs.Modules.{Forest, HasModule, Module, after_it, first, in_it, path_of}
-use Rattle.just_trees.proofs.ModulePlaces.{nobody}
+use Rattle.just_module_tree.specs.Modules.{Forest, HasModule, Module, after_it, first, in_it, path_of}
+use Rattle.just_module_tree.proofs.ModulePlaces.{nobody}
 
 -- names that differ: the first is not among the others, which differ too
 head_differs : (n : Text) (ns : List Text) → AreDifferent (n ∷ ns) → (m : Text) → In m ns → n ≢ m

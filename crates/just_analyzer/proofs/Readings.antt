@@ -11,12 +11,12 @@ use Rattle.just_graph.proofs.Members.{In, contained, is_in}
 use Rattle.just_parts.specs.Asts.{AstKey, same_ast_key}
 use Rattle.just_parts.specs.Bare.{bare_item}
 use Rattle.just_paths.specs.Clean.{folder_of}
-use Rattle.just_items.specs.Edge.{absolute_of}
+use Rattle.just_ast_items.specs.Edge.{absolute_of}
 use Rattle.just_parts.specs.Located.{located_item, with_depth}
 use Rattle.just_names.specs.Texts.{Text}
 use Rattle.just_parts.specs.Syntax.{numbers}
 use Rattle.just_parts.specs.Items.{Ast, Item}
-use Rattle.just_items.specs.declared.item.Item.TheVariants as item
+use Rattle.just_ast_items.specs.declared.item.Item.TheVariants as item
 use Rattle.just_paths.specs.declared.modulepath.Modulepath.{Modulepath}
 use Rattle.just_parts.proofs.AstKeys.{key_same}
 use Rattle.just_parts.proofs.Edges.{bare_twice}
@@ -24,14 +24,14 @@ use Rattle.just_loader.specs.Keys.{IsLeastFileDepth, ast_key, items_at, key_of_a
 use Rattle.just_loader.specs.Loaded.{IsLoaded, with_path}
 use Rattle.just_loader.specs.Reached.{World}
 use Rattle.just_loader.proofs.HeldKeys.{closed, held_key, held_path, key_held, path_led, said}
-use Rattle.just_rules.specs.Analyzable.{AreAnalyzable, assignment_numbers}
-use Rattle.just_definitions.specs.Named.{variable_by}
-use Rattle.just_definitions.specs.Said.{said as said_of}
-use Rattle.just_rules.specs.Files.{led}
-use Rattle.just_definitions.specs.Recipes.{recipes_of}
-use Rattle.just_rules.specs.Reading.{Reading, ast_of_both, enabled_items, located_ast, reading_of}
-use Rattle.just_definitions.specs.Resolved.{unresolved_numbers}
-use Rattle.just_trees.proofs.Agreeing.{Holds}
+use Rattle.just_module_headers.specs.Analyzable.{AreAnalyzable, assignment_numbers}
+use Rattle.just_module_contents.specs.Named.{variable_by}
+use Rattle.just_module_contents.specs.Said.{said as said_of}
+use Rattle.just_module_headers.specs.Files.{led}
+use Rattle.just_module_contents.specs.Recipes.{recipes_of}
+use Rattle.just_module_headers.specs.Reading.{Reading, ast_of_both, enabled_items, located_ast, reading_of}
+use Rattle.just_module_contents.specs.Resolved.{unresolved_numbers}
+use Rattle.just_module_tree.proofs.Agreeing.{Holds}
 use Rattle.just_analyzer.specs.Readings.{IsReadingOf, items_read, lists_at, lists_in}
 use Rattle.just_analyzer.proofs.Numbers.{once_recipes, once_variables, recipe_number_in, recipe_priors, variable_number_in}
 

@@ -12,8 +12,8 @@ use Rattle.just_parts.specs.Asts.{AstKey, same_ast_key}
 use Rattle.just_parts.specs.Items.{Ast}
 use Rattle.just_parts.proofs.AstKeys.{key_same}
 use Rattle.just_loader.specs.ModuleFile.{relative}
-use Rattle.just_rules.proofs.FilePlaces.{holds_at}
-use Rattle.just_rules.proofs.Holding.{some_value}
+use Rattle.just_module_headers.proofs.FilePlaces.{holds_at}
+use Rattle.just_module_headers.proofs.Holding.{some_value}
 
 module _ (folder : Text) where
   -- the file of a key has its path

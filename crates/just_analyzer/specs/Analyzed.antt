@@ -3,7 +3,7 @@ use Rattle.std.specs.Prelude.{◌≡◌, ◌<◌, ◌++◌, ℕ, List, [], ◌�
 use Rattle.std.specs.HashMap.{HashMap, get}
 use Rattle.std.specs.List.{All, Contains}
 use Rattle.std.specs.Option.{option_or}
-use Rattle.just_variables.specs.Overrides.{last_of}
+use Rattle.just_module_variables.specs.Overrides.{last_of}
 use Rattle.just_analyzer.specs.declared.compiling.Gathered.{Gathered}
 use Rattle.just_names.specs.declared.number.Number.{Number}
 use Rattle.just_parts.specs.Needs.{same_number}
@@ -19,12 +19,12 @@ use Rattle.just_paths.specs.declared.modulepath.Modulepath.{Modulepath}
 use Rattle.just_recipe.specs.declared.recipe.Recipe.{Recipe}
 use Rattle.just_invoke.specs.Closed.{AreClosed, IsPlaced}
 use Rattle.just_invoke.specs.declared.justfile.Justfile.{Justfile}
-use Rattle.just_trees.specs.Groups.{KeepsModules, NamesModules}
-use Rattle.just_making.specs.Labelled.{label_in}
+use Rattle.just_module_tree.specs.Groups.{KeepsModules, NamesModules}
+use Rattle.just_analyzer.specs.Labelled.{label_in}
 use Rattle.just_analyzer.specs.Justfiles.{AreCompiled, Built, overridden_of_all, recipes_of_all}
-use Rattle.just_trees.specs.Modules.{AreModules, Empty, Forest, Heading, IsHeading, Module, Tree, heading}
-use Rattle.just_rules.specs.Reading.{reading_of}
-use Rattle.just_definitions.specs.declared.labels.Label.{Label}
+use Rattle.just_module_tree.specs.Modules.{AreModules, Empty, Forest, Heading, IsHeading, Module, Tree, heading}
+use Rattle.just_module_headers.specs.Reading.{reading_of}
+use Rattle.just_module_contents.specs.declared.labels.Label.{Label}
 
 -- values are put in one after another, each under its number
 abbrev pub AreInserted : {G : Type 0} → List (Number × Text) → HashMap Number Text G → HashMap Number Text G → Type 0

@@ -9,7 +9,7 @@ use Rattle.just_invoke.specs.Closed.{AreClosed, IsRooted}
 use Rattle.just_parts.specs.Evaluator.{Evaluator}
 use Rattle.just_parts.specs.Needs.{same_number}
 use Rattle.just_names.specs.declared.number.Number.{Number}
-use Rattle.just_variables.specs.Overrides.{last_of}
+use Rattle.just_module_variables.specs.Overrides.{last_of}
 use Rattle.just_loader.specs.Loaded.{IsLoaded}
 use Rattle.just_loader.specs.Reached.{World}
 use Rattle.just_analyzer.specs.Analyzed.{IsAnalyzed}

@@ -1,12 +1,12 @@
 -- What is evaluated of a module that is compiled.
 use Rattle.std.specs.Prelude.{◌≡◌, List}
-use Rattle.just_checking.specs.Evaluated.{AreLabels, overridden_in}
+use Rattle.just_module_declarations.specs.Evaluated.{AreLabels, overridden_in}
 use Rattle.just_invoke.specs.declared.justfile.Justfile.{Justfile, out-Justfile}
-use Rattle.just_definitions.specs.Constants.{Evaluated, IsEvaluated}
-use Rattle.just_definitions.specs.Contents.{Contents}
+use Rattle.just_module_contents.specs.Constants.{Evaluated, IsEvaluated}
+use Rattle.just_module_contents.specs.Contents.{Contents}
 use Rattle.just_names.specs.Texts.{Text}
 use Rattle.just_names.specs.declared.number.Number.{Number}
-use Rattle.just_definitions.specs.declared.labels.Label.{Label}
+use Rattle.just_module_contents.specs.declared.labels.Label.{Label}
 use Rattle.just_parts.specs.Layers.{Layers}
 
 -- What is evaluated of a module that is compiled: its constants and its settings, which its justfile has, the labels of the modules in it, and the values that override its variables.

@@ -10,21 +10,21 @@ use Rattle.just_recipe.specs.declared.dependency.UnresolvedDependency.{Unresolve
 use Rattle.just_recipe.specs.declared.recipe.Recipe.{Recipe}
 use Rattle.std.specs.List.{Contains}
 use Rattle.just_invoke.specs.declared.justfile.Justfile.{Justfile, out-Justfile}
-use Rattle.just_making.specs.Analysis.{HasDefault, IsOf}
-use Rattle.just_making.specs.Labelled.{by_name, label_in, notes_in}
+use Rattle.just_analyzer.specs.Analysis.{HasDefault, IsOf}
+use Rattle.just_analyzer.specs.Labelled.{by_name, label_in, notes_in}
 use Rattle.just_analyzer.specs.Evaluated.{IsEvaluatedTo}
-use Rattle.just_definitions.specs.Labels.{doc_by}
-use Rattle.just_definitions.specs.Notes.{absent_by, features_by, notes_of, warnings_by}
-use Rattle.just_definitions.specs.declared.notes.Notes.{Notes}
-use Rattle.just_trees.specs.Modules.{Module, Forest, Empty, Tree, path_of}
-use Rattle.just_making.specs.Variables.{HasVariables}
-use Rattle.just_definitions.specs.Contents.{Contents}
-use Rattle.just_definitions.specs.Kept.{kept_recipes}
-use Rattle.just_definitions.specs.Named.{function_by, lists_by, name_by, set_by, unexported_by, variable_by}
-use Rattle.just_definitions.specs.Said.{said_in}
-use Rattle.just_definitions.specs.Recipes.{recipes_of}
-use Rattle.just_rules.specs.Reading.{Submodule, items_in}
-use Rattle.just_definitions.specs.Resolved.{AreResolved}
+use Rattle.just_module_contents.specs.Labels.{doc_by}
+use Rattle.just_module_contents.specs.Notes.{absent_by, features_by, notes_of, warnings_by}
+use Rattle.just_module_contents.specs.declared.notes.Notes.{Notes}
+use Rattle.just_module_tree.specs.Modules.{Module, Forest, Empty, Tree, path_of}
+use Rattle.just_analyzer.specs.Variables.{HasVariables}
+use Rattle.just_module_contents.specs.Contents.{Contents}
+use Rattle.just_module_contents.specs.Kept.{kept_recipes}
+use Rattle.just_module_contents.specs.Named.{function_by, lists_by, name_by, set_by, unexported_by, variable_by}
+use Rattle.just_module_contents.specs.Said.{said_in}
+use Rattle.just_module_contents.specs.Recipes.{recipes_of}
+use Rattle.just_module_headers.specs.Reading.{Submodule, items_in}
+use Rattle.just_module_contents.specs.Resolved.{AreResolved}
 
 -- the recipes that files say, file after file
 abbrev pub recipes_in : (Item → Bool) → (AstKey → Option Ast) → List AstKey → List (Recipe UnresolvedDependency)

@@ -7,3 +7,6 @@ pub mod Paths
 pub mod Readings
 pub mod Rules
 pub mod Steps
+pub mod Analysis
+pub mod Labelled
+pub mod Variables

@@ -3,25 +3,25 @@ use Rattle.std.specs.Prelude.{◌≡◌, ◌++◌, ℕ, Bool, List, map, slice_g
 use Rattle.just_errors.specs.Causes.{Keeps}
 use Rattle.just_graph.specs.Graph.{targets}
 use Rattle.just_invoke.specs.declared.justfile.Justfile.{Justfile, out-Justfile}
-use Rattle.just_definitions.specs.Definitions.{contents_in, recipes_in}
-use Rattle.just_rules.specs.Files.{keys_in}
-use Rattle.just_definitions.specs.Kept.{kept_recipes}
-use Rattle.just_definitions.specs.Named.{AreAdded, recipes_by}
-use Rattle.just_rules.specs.declared.files.Files.{Files}
-use Rattle.just_rules.specs.declared.joined.Joined.{Joined}
-use Rattle.just_making.specs.Analysis.{HasDefault, IsOf}
-use Rattle.just_making.specs.Labelled.{by_name, notes_in, slot, with_labels}
+use Rattle.just_module_contents.specs.Definitions.{contents_in, recipes_in}
+use Rattle.just_module_headers.specs.Files.{keys_in}
+use Rattle.just_module_contents.specs.Kept.{kept_recipes}
+use Rattle.just_module_contents.specs.Named.{AreAdded, recipes_by}
+use Rattle.just_module_headers.specs.declared.files.Files.{Files}
+use Rattle.just_module_headers.specs.declared.joined.Joined.{Joined}
+use Rattle.just_analyzer.specs.Analysis.{HasDefault, IsOf}
+use Rattle.just_analyzer.specs.Labelled.{by_name, notes_in, slot, with_labels}
 use Rattle.just_analyzer.specs.Justfiles.{Made}
-use Rattle.just_checking.specs.Noted.{notes_of_place}
-use Rattle.just_making.specs.Variables.{HasVariables}
-use Rattle.just_checking.specs.declared.checking.Checked.{Checked}
-use Rattle.just_making.specs.declared.making.Surroundings.{Surroundings}
+use Rattle.just_module_declarations.specs.Noted.{notes_of_place}
+use Rattle.just_analyzer.specs.Variables.{HasVariables}
+use Rattle.just_module_declarations.specs.declared.checking.Checked.{Checked}
+use Rattle.just_analyzer.specs.declared.making.Surroundings.{Surroundings}
 use Rattle.just_names.specs.Texts.{Text}
-use Rattle.just_definitions.specs.declared.labels.Label.{Label}
+use Rattle.just_module_contents.specs.declared.labels.Label.{Label}
 use Rattle.just_parts.specs.Asts.{AstKey}
 use Rattle.just_parts.specs.Items.{Ast, Item}
 use Rattle.just_parts.specs.Syntax.{SyntaxAnswers}
-use Rattle.just_resolving.specs.Broken.{BreaksRecipes}
+use Rattle.just_module_recipes.specs.Broken.{BreaksRecipes}
 
 -- What the module at a place has besides its recipes: the list of loaded files, its own file, what is noted of its files, and the modules in it, which were held, under labels.
 pub record AreSurroundings (enabled : Item → Bool) (files : Files) (joined : Joined) (loaded : List Text) (p : ℕ) (labels : List Label) (held : List (Option Justfile)) (it : Surroundings) : Type 0 where

@@ -8,12 +8,12 @@ use Rattle.just_parts.specs.Evaluator.{Evaluator}
 use Rattle.just_parts.specs.Layers.{Given}
 use Rattle.just_parts.specs.Located.{with_depth}
 use Rattle.just_parts.specs.Items.{Ast, Item}
-use Rattle.just_literals.specs.declared.list_use.ListUse.{ListUse}
+use Rattle.just_ast_expressions.specs.declared.list_use.ListUse.{ListUse}
 use Rattle.just_loader.specs.Keys.{FileKey, IsLeastFileDepth, ast_key, items_at}
 use Rattle.just_loader.specs.Loaded.{with_path}
 use Rattle.just_loader.specs.Reached.{World, ast_of}
-use Rattle.just_trees.specs.Modules.{Heading, heading, label}
-use Rattle.just_rules.specs.Reading.{Reading, ast_of_both, enabled_items}
+use Rattle.just_module_tree.specs.Modules.{Heading, heading, label}
+use Rattle.just_module_headers.specs.Reading.{Reading, ast_of_both, enabled_items}
 
 -- the items of a file that count, at a depth, with the paths of the files to which they lead
 abbrev pub items_read : World → FileKey → ℕ → List Item

@@ -4,9 +4,9 @@ use Rattle.just_errors.specs.Causes.{Cause, Keeps}
 use Rattle.just_parts.specs.Evaluator.{Evaluator}
 use Rattle.just_loader.specs.Keys.{NamesInFiles}
 use Rattle.just_loader.specs.Reached.{World}
-use Rattle.just_trees.specs.Groups.{KeepsModules, NamesModules}
-use Rattle.just_trees.specs.Modules.{AreModules, Forest}
-use Rattle.just_rules.specs.Reading.{Reading}
+use Rattle.just_module_tree.specs.Groups.{KeepsModules, NamesModules}
+use Rattle.just_module_tree.specs.Modules.{AreModules, Forest}
+use Rattle.just_module_headers.specs.Reading.{Reading}
 use Rattle.just_analyzer.specs.Readings.{IsReadingOf, Overrides, given_in, root_heading}
 
 -- What a compilation breaks: a rule of files; or where these are kept, one of a module that is reached from the root's.

@@ -9,28 +9,28 @@ use Rattle.just_parts.specs.Asts.{AstKey}
 use Rattle.just_errors.specs.Causes.{Cause}
 use Rattle.just_names.specs.Texts.{Text}
 use Rattle.just_paths.specs.declared.modulepath.Modulepath.{Modulepath}
-use Rattle.just_definitions.specs.declared.labels.Label.{Label}
-use Rattle.just_records.specs.declared.assignment.Assignment.{Assignment}
+use Rattle.just_module_contents.specs.declared.labels.Label.{Label}
+use Rattle.just_ast_definitions.specs.declared.assignment.Assignment.{Assignment}
 use Rattle.just_parts.specs.Layers.{Given, layers_at}
 use Rattle.just_parts.specs.Items.{Ast, Item}
 use Rattle.just_invoke.specs.declared.justfile.Justfile.{Justfile, out-Justfile}
-use Rattle.just_making.specs.Analysis.{HasDefault, IsOf}
+use Rattle.just_analyzer.specs.Analysis.{HasDefault, IsOf}
 use Rattle.just_analyzer.specs.Evaluated.{IsEvaluatedTo}
-use Rattle.just_index.specs.Index.{texts_of_names, AreDifferent}
-use Rattle.just_rules.specs.Analyzable.{assignment_numbers}
-use Rattle.just_rules.specs.Files.{asts_in, keys_in}
-use Rattle.just_making.specs.Labelled.{by_name, notes_in, slot, with_labels}
+use Rattle.just_names.specs.Index.{texts_of_names, AreDifferent}
+use Rattle.just_module_headers.specs.Analyzable.{assignment_numbers}
+use Rattle.just_module_headers.specs.Files.{asts_in, keys_in}
+use Rattle.just_analyzer.specs.Labelled.{by_name, notes_in, slot, with_labels}
 use Rattle.just_analyzer.specs.Justfiles.{Made}
 use Rattle.just_analyzer.specs.declared.compiling.Gathered.{Gathered}
-use Rattle.just_checking.specs.Noted.{notes_of_place}
-use Rattle.just_making.specs.Variables.{HasVariables}
-use Rattle.just_definitions.specs.Groups.{BreaksContents, KeepsContents}
-use Rattle.just_definitions.specs.Kept.{kept_recipes}
-use Rattle.just_definitions.specs.Named.{recipes_by, said_from, variable_by}
-use Rattle.just_definitions.specs.Resolved.{AreResolved, HasPriors, unresolved_numbers}
-use Rattle.just_rules.specs.OfPlaces.{contents_of_place, labels_of_place, names_of_place, recipes_of_place}
-use Rattle.just_rules.specs.declared.files.Files.{Files}
-use Rattle.just_rules.specs.declared.joined.Joined.{Joined}
+use Rattle.just_module_declarations.specs.Noted.{notes_of_place}
+use Rattle.just_analyzer.specs.Variables.{HasVariables}
+use Rattle.just_module_contents.specs.Groups.{BreaksContents, KeepsContents}
+use Rattle.just_module_contents.specs.Kept.{kept_recipes}
+use Rattle.just_module_contents.specs.Named.{recipes_by, said_from, variable_by}
+use Rattle.just_module_contents.specs.Resolved.{AreResolved, HasPriors, unresolved_numbers}
+use Rattle.just_module_headers.specs.OfPlaces.{contents_of_place, labels_of_place, names_of_place, recipes_of_place}
+use Rattle.just_module_headers.specs.declared.files.Files.{Files}
+use Rattle.just_module_headers.specs.declared.joined.Joined.{Joined}
 
 -- the path of the module of a file
 abbrev pub path_in : Option Ast → Modulepath

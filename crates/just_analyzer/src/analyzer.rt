@@ -3,20 +3,20 @@
 ghost use Rattle.std.specs.Prelude.{◌≡◌, ◌≤◌, IfErr, IfOk, IsSome, None, length};
 ghost use Rattle.std.specs.HashMap.{get, spare};
 ghost use Rattle.just_parts.specs.Asts.{same_ast_key};
-ghost use Rattle.just_rules.specs.Analyzable.{AreAnalyzable};
+ghost use Rattle.just_module_headers.specs.Analyzable.{AreAnalyzable};
 ghost use Rattle.just_analyzer.specs.Analyzed.{AnalyzesAt, AreInserted, NamesAnalyzed};
 ghost use Rattle.just_parts.specs.Layers.{given_of};
 
 use crate::compiling::{Gathered, compile_in_order};
+use crate::inner::{labelled, take_at};
 use just_data::{Sequence, Shared, Text};
-use just_definitions::Label;
 use just_invoke::{Justfile, Recipes};
-use just_making::{labelled, take_at};
+use just_module_contents::Label;
+use just_module_headers::files::{file_rows, place_files, place_of};
+use just_module_headers::joined::arrange;
+use just_module_headers::module_names::check_module_names;
 use just_parts::layers::{Ast, Config, Error, Evaluation, Name, Number, StringLiteral, Syntax};
 use just_paths::Modulepath;
-use just_rules::files::{file_rows, place_files, place_of};
-use just_rules::joined::arrange;
-use just_rules::module_names::check_module_names;
 use std::alloc::{AllocError, Global};
 use std::collections::HashMap;
 
@@ -93,9 +93,9 @@ impl Analyzer {
     ghost use Rattle.std.specs.HashMap.{get};
     ghost use Rattle.std.specs.Str.{bytes_eq};
     ghost use Rattle.just_parts.specs.Asts.{same_ast_key};
-    ghost use Rattle.just_rules.specs.Analyzable.{AreAnalyzable, HavePaths};
+    ghost use Rattle.just_module_headers.specs.Analyzable.{AreAnalyzable, HavePaths};
     ghost use Rattle.just_analyzer.specs.Analyzed.{AreAsBefore, Analyzes, NamesAnalyzed};
-    ghost use Rattle.just_trees.specs.Modules.{label};
+    ghost use Rattle.just_module_tree.specs.Modules.{label};
     ghost use Rattle.just_parts.specs.Layers.{given_of};
 
     /// The justfile of the module at `module_path`, whose own file is `root`, with the label that it is given (`name`,

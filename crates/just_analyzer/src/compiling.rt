@@ -2,30 +2,31 @@
 
 ghost use Rattle.std.specs.Prelude.{◌≡◌, ◌<◌, ℕ, List, IfOk, IfErr, None, OnOk, Some, length, map};
 ghost use Rattle.std.specs.List.{All, Contains};
-ghost use Rattle.just_variables.specs.Variables.{AreVariablesOf};
+ghost use Rattle.just_module_variables.specs.Variables.{AreVariablesOf};
 ghost use Rattle.just_graph.specs.Graph.{targets};
 ghost use Rattle.just_graph.specs.Steps.{IsOnce};
 ghost use Rattle.just_errors.specs.Causes.{Reports};
 ghost use Rattle.just_invoke.specs.declared.justfile.Justfile.{Justfile};
-ghost use Rattle.just_making.specs.Labelled.{slot};
+ghost use Rattle.just_analyzer.specs.Labelled.{slot};
 ghost use Rattle.just_parts.specs.Layers.{given_of};
-ghost use Rattle.just_definitions.specs.Definitions.{contents_in, recipes_in};
-ghost use Rattle.just_definitions.specs.Resolved.{AreNew, HasPriors, unresolved_numbers};
-ghost use Rattle.just_rules.specs.OfPlaces.{recipes_of_place};
-ghost use Rattle.just_resolving.specs.Broken.{BreaksRecipes};
+ghost use Rattle.just_module_contents.specs.Definitions.{contents_in, recipes_in};
+ghost use Rattle.just_module_contents.specs.Resolved.{AreNew, HasPriors, unresolved_numbers};
+ghost use Rattle.just_module_headers.specs.OfPlaces.{recipes_of_place};
+ghost use Rattle.just_module_recipes.specs.Broken.{BreaksRecipes};
 ghost use Rattle.just_analyzer.specs.Parts.{AreSurroundings, IsAnalyzedFrom};
 ghost use Rattle.just_analyzer.specs.Steps.{BreaksInOrder, BreaksPlace, CanCompile, CanCompileAll, CompilesAt, HaveCompiledAll, made_in};
 
-use just_checking::{Checked, check_files, notes_at};
+use crate::inner::take_inner;
+use crate::making::{Surroundings, make_justfile};
 use just_data::{Sequence, Shared, Text};
-use just_definitions::Label;
 use just_invoke::{Justfile, Recipes};
-use just_making::{Surroundings, make_justfile, take_inner};
+use just_module_contents::Label;
+use just_module_declarations::{Checked, check_files, notes_at};
+use just_module_headers::files::{Files, ast_at};
+use just_module_headers::joined::Joined;
+use just_module_recipes::add_recipes;
+use just_module_variables::Constants;
 use just_parts::layers::{Ast, Config, Error, Evaluation, Number, Syntax};
-use just_resolving::resolve_module;
-use just_rules::files::{Files, ast_at};
-use just_rules::joined::Joined;
-use just_variables::Constants;
 use std::alloc::{AllocError, Global};
 
 /// What modules that are compiled add.
@@ -94,7 +95,7 @@ fn analyze_checked<'b, 'src, S: Syntax>(
     gathered
         .overridden
         .append(&mut checked.constants.overridden)?;
-    let (kept, default) = resolve_module(
+    let (kept, default) = add_recipes(
         alloc,
         &checked.definitions,
         ast,

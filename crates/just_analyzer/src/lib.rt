@@ -1,20 +1,87 @@
-//! Compiles a source map of justfiles, or names a broken rule: the rules of all modules, group by group, and what these
-//! are compiled to, one after another. What its callers name of the crates below is here too.
+//! Compiles source maps of justfiles, tells what command words mean, and runs recipes: each name that a caller needs, in the
+//! modules of the original.
 #![tactic(auto)]
 
-mod analyzer;
-mod compilation;
+pub mod analyzer;
+pub mod compilation;
 pub mod compiler;
 mod compiling;
+mod inner;
+mod making;
 mod paths;
+
+/// Tables: values under their keys, in byte order.
+pub mod table {
+    pub use just_table::{Keyed, Table};
+}
+
+/// Paths of modules.
+pub mod modulepath {
+    pub use just_paths::Modulepath;
+}
+
+/// The traits of the layers, the records that they hand over and are handed, and the errors.
+pub use just_parts::layers;
+
+/// Files: how one came in, and all that there are, under their paths.
+pub mod source {
+    pub use just_loader::Sources;
+    pub use just_parts::Source;
+    pub use just_paths::is_clean;
+}
+
+/// What an expression reads and calls.
+pub mod references {
+    pub use just_ast_references::{Reference, References};
+}
+
+/// Names in expressions, resolved to numbers.
+pub mod variable_resolver {
+    pub use just_module_variables::VariableResolver;
+}
+
+/// What a recipe that is resolved depends on.
+pub mod dependency {
+    pub use just_parts::Dependency;
+}
+
+/// Recipes that are resolved, and all of a compilation by their numbers.
+pub mod recipe {
+    pub use just_invoke::Recipes;
+    pub use just_parts::Recipe;
+}
+
+/// Recipes as a text says them.
+pub mod unresolved_recipe {
+    pub use just_parts::UnresolvedRecipe;
+}
+
+/// What command words mean.
+pub mod invocation_parser {
+    pub use just_invoke::{Invocation, InvocationParser};
+}
+
+/// A module as it is compiled, and what is told of a run.
+pub mod justfile {
+    pub use just_invoke::{Justfile, RecipeKey, Report};
+}
+
+/// Texts, lists and shared values that contracts see as plain data.
+pub mod data {
+    pub use just_data::{BorrowedText, Sequence, Shared, Text};
+}
 
 pub use analyzer::Analyzer;
 pub use compilation::Compilation;
 pub use compiler::Compiler;
-pub use just_invoke::{Invocation, InvocationParser, Justfile, RecipeKey, Recipes, Report};
-pub use just_loader::Sources;
-pub use just_parts::{Dependency, Recipe, Source, UnresolvedRecipe, layers};
-pub use just_paths::{Modulepath, is_clean};
-pub use just_references::{Reference, References};
-pub use just_resolver::VariableResolver;
-pub use just_table::{Keyed, Table};
+pub use data::{BorrowedText, Sequence, Shared, Text};
+pub use dependency::Dependency;
+pub use invocation_parser::{Invocation, InvocationParser};
+pub use justfile::{Justfile, RecipeKey, Report};
+pub use modulepath::Modulepath;
+pub use recipe::{Recipe, Recipes};
+pub use references::{Reference, References};
+pub use source::{Source, Sources, is_clean};
+pub use table::{Keyed, Table};
+pub use unresolved_recipe::UnresolvedRecipe;
+pub use variable_resolver::VariableResolver;

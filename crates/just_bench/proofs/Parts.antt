@@ -7,7 +7,7 @@ use Rattle.std.specs.Str.Pattern.{EndsAtFirstMatch, FindsText, FindsTextPrefix, 
 use Rattle.just_paths.specs.Clean.{IsClean}
 use Rattle.just_table.specs.Entries.{put}
 use Rattle.just_loader.specs.Sources.{Files}
-use Rattle.just_lexer.specs.Lines.{is_newline}
+use Rattle.just_bench_expressions.specs.Lines.{is_newline}
 use Rattle.just_bench.specs.Bundle.{Text, mark, file_of, HasNoMark, AreParts, AreHeld, HasBadPath, HoldsBundle, IsBeforeLine, IsNoBundle, IsNoFile}
 use Rattle.just_bench.specs.declared.bundle.BundleError.{BundleError}
 use Rattle.just_bench.specs.declared.bundle.BundleError.TheVariants as error

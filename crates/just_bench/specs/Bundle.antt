@@ -8,7 +8,7 @@ use Rattle.just_loader.specs.declared.sources.SourceFile.{SourceFile}
 use Rattle.just_loader.specs.Sources.{Files}
 use Rattle.just_bench.specs.declared.bundle.BundleError.{BundleError}
 use Rattle.just_bench.specs.declared.bundle.BundleError.TheVariants as error
-use Rattle.just_lexer.specs.Lines.{is_newline}
+use Rattle.just_bench_expressions.specs.Lines.{is_newline}
 
 abbrev pub Text : Type 0
 Text = List ℕ

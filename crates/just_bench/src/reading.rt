@@ -1,9 +1,9 @@
 //! A text that is read as the root.
+use just_bench_syntax::PlainSyntax;
 use just_data::Text;
 use just_parts::Source;
 use just_parts::layers::{Ast, Error, LoadError, Numerator, Syntax};
 use just_paths::is_clean;
-use just_syntax::PlainSyntax;
 use std::alloc::Global;
 
 /// The source of the root `/justfile`.

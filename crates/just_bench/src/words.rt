@@ -3,11 +3,11 @@ ghost use Rattle.just_invoke.specs.Closed.{IsRooted};
 
 use crate::recorder::Recorder;
 use crate::stop_writer::StopWriter;
+use just_bench_evaluation::PlainEvaluation;
+use just_bench_syntax::PlainSyntax;
 use just_data::Text;
 use just_invoke::{Justfile, Recipes, Report};
 use just_parts::layers::{Config, Error, Number};
-use just_syntax::PlainSyntax;
-use just_values::PlainEvaluation;
 use std::alloc::Global;
 use std::collections::HashMap;
 

@@ -6,13 +6,13 @@ ghost use Rattle.just_invoke.specs.Closed.{IsRooted};
 use just_analyzer::layers::{Config, Error};
 use just_analyzer::{Compilation, Compiler, Sources, is_clean};
 use just_bench::bundle::read_sources;
-use just_lines::asked::{Asked, read_asked};
-use just_lines::faults::add_fault;
-use just_readings::{answer_text, read_pairs};
-use just_syntax::PlainSyntax;
-use just_tellings::compiled::add_compiled;
-use just_tellings::variables::add_variable;
-use just_values::PlainEvaluation;
+use just_bench_evaluation::PlainEvaluation;
+use just_bench_syntax::PlainSyntax;
+use just_examples_answers::compiled::add_compiled;
+use just_examples_answers::variables::add_variable;
+use just_examples_answers::{answer_text, read_pairs};
+use just_examples_format::asked::{Asked, read_asked};
+use just_examples_format::faults::add_fault;
 use std::alloc::{AllocError, Global};
 
 // Compiles the file at a path.
@@ -84,6 +84,6 @@ pub fn answer(alloc: Global, bundle: &str, question: &str) -> Result<Option<Stri
     match kind {
         "just" | "variable" => Ok(Some(answer_compiled(alloc, bundle, kind, rest)?)),
         "parse" | "read" | "conflicts" => Ok(Some(answer_text(alloc, kind, rest)?)),
-        _ => just_questions::answer(alloc, bundle, kind, rest),
+        _ => just_examples_answers::answer(alloc, bundle, kind, rest),
     }
 }

@@ -3,8 +3,8 @@
 //! A case is a name in a line of its own, a bundle of files, and questions. A question is a line that begins with `$ `, and
 //! each line below it is a line that is wanted of its answer.
 use crate::answers::answer;
-use just_lines::cases::{add_differences, bundle_of};
-use just_lines::written::repeated;
+use just_examples_format::cases::{add_differences, bundle_of};
+use just_examples_format::written::repeated;
 use std::alloc::{AllocError, Global};
 
 // Adds what differs between the answer to a question and what is wanted of it.

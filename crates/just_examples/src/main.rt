@@ -6,7 +6,7 @@ mod cases;
 
 use crate::cases::differences;
 use anyhow::{Context, Result, ensure};
-use just_lines::cases::name_of;
+use just_examples_format::cases::name_of;
 use std::{env, fs};
 
 // Runs the cases of a file, and answers how many of them differ. What stands before the first is a comment.

@@ -5,8 +5,8 @@ use Rattle.std.proofs.lemmas.Bool.{cases_eq, cases_lt, false≢true}
 use Rattle.std.proofs.lemmas.List.{append-nil, take-append-drop, length-take, drop_all}
 use Rattle.std.proofs.lemmas.List.Sums.{prefix_len-le-length}
 use Rattle.just_names.specs.Texts.{Text, text_of}
-use Rattle.just_records.specs.Parameter.{is_variadic, least_arguments}
-use Rattle.just_records.specs.declared.parameter.Parameter.{Parameter}
+use Rattle.just_ast_definitions.specs.Parameter.{is_variadic, least_arguments}
+use Rattle.just_ast_definitions.specs.declared.parameter.Parameter.{Parameter}
 use Rattle.just_recipe.specs.declared.dependency.Dependency.{Dependency}
 use Rattle.just_recipe.specs.declared.recipe.Recipe.{Recipe}
 use Rattle.just_paths.proofs.PathTexts.{PathOrNone, decide_argument_path, decide_word_path}

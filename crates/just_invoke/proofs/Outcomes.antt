@@ -16,9 +16,9 @@ use Rattle.just_recipe.specs.declared.recipe.Recipe.{Recipe}
 use Rattle.just_parts.specs.Evaluation.{Inquiry}
 use Rattle.just_errors.specs.Halts.{come_to}
 use Rattle.just_parts.specs.Host.{Answer}
-use Rattle.just_running.specs.declared.running.Report.{Report}
-use Rattle.just_running.specs.Reports.{IsAsExpected}
-use Rattle.just_running.specs.Unready.{IsUnready, AreReady}
+use Rattle.just_execution.specs.declared.running.Report.{Report}
+use Rattle.just_execution.specs.Reports.{IsAsExpected}
+use Rattle.just_execution.specs.Unready.{IsUnready, AreReady}
 use Rattle.just_invoke.specs.declared.justfile.Justfile.{Justfile}
 use Rattle.just_invoke.specs.Cause as cause
 use Rattle.just_invoke.specs.Going.{TasksComeTo, IsHindered}

@@ -11,8 +11,8 @@ use Rattle.just_parts.specs.Asts.{AstKey}
 use Rattle.just_parts.proofs.AstKeys.{key_same}
 use Rattle.just_recipe.specs.declared.dependency.Dependency.{Dependency}
 use Rattle.just_recipe.specs.declared.recipe.Recipe.{Recipe}
-use Rattle.just_running.specs.Homes.{IsAmong, Modules, module_at}
-use Rattle.just_running.specs.declared.scopes.ModuleScope.{ModuleScope}
+use Rattle.just_execution.specs.Homes.{IsAmong, Modules, module_at}
+use Rattle.just_execution.specs.declared.scopes.ModuleScope.{ModuleScope}
 use Rattle.just_invoke.specs.Closed.{AreModulesIn, IsPlaced, StandsIn}
 use Rattle.just_invoke.specs.Scopes.{HasScope, HasScopes, IsScopeOf}
 use Rattle.just_invoke.specs.declared.justfile.Justfile.{Justfile, out-Justfile}

@@ -4,7 +4,7 @@ use Rattle.std.specs.Prelude.{if◌then◌else◌}
 use Rattle.std.proofs.lemmas.List.{append_assoc, take-append-drop, drop-drop, append-nil, map-append, length-map, length-take-le, drop_all}
 use Rattle.std.specs.Borrow.{Bor}
 use Rattle.just_names.specs.Texts.{Text, texts}
-use Rattle.just_records.specs.declared.parameter.Parameter.{Parameter}
+use Rattle.just_ast_definitions.specs.declared.parameter.Parameter.{Parameter}
 use Rattle.just_recipe.specs.declared.dependency.Dependency.{Dependency}
 use Rattle.just_recipe.specs.declared.recipe.Recipe.{Recipe}
 use Rattle.just_invoke.specs.declared.justfile.Justfile.{Justfile}

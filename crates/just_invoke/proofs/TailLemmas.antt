@@ -10,7 +10,7 @@ use Rattle.just_names.specs.Texts.{texts}
 use Rattle.just_names.specs.Texts.{Text}
 use Rattle.just_invoke.specs.Words.{Words}
 use Rattle.just_invoke.specs.Tail.{shown, place, uses_from, group, any_missing, is_missing}
-use Rattle.just_records.specs.declared.parameter.Parameter.{Parameter}
+use Rattle.just_ast_definitions.specs.declared.parameter.Parameter.{Parameter}
 
 pub texts_front : (names : List (Bor Text)) (i : ℕ) (d : Bor Text) → i < length names →
     texts (take (i + 1) names) ≡ texts (take i names) ++ (get_or names i d).now ∷ []

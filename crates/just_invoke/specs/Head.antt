@@ -2,7 +2,7 @@
 use Rattle.std.specs.Prelude.{◌≡◌, ◌⊎◌, Bool, true, false, not, ◌&&◌, Option, Some, None, List, [], ◌∷◌}
 use Rattle.std.specs.Bool.{MatchBool}
 use Rattle.just_names.specs.Token.{lexeme}
-use Rattle.just_records.specs.Parameter.{least_arguments}
+use Rattle.just_ast_definitions.specs.Parameter.{least_arguments}
 use Rattle.just_names.specs.Texts.{Text, text_of}
 use Rattle.just_recipe.specs.declared.dependency.Dependency.{Dependency}
 use Rattle.just_recipe.specs.declared.recipe.Recipe.{Recipe}

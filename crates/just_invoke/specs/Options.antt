@@ -3,11 +3,11 @@ use Rattle.std.specs.Prelude.{Bool, true, false, ◌||◌}
 use Rattle.std.specs.List.{list_any}
 use Rattle.just_recipe.specs.declared.dependency.Dependency.{Dependency}
 use Rattle.just_recipe.specs.declared.recipe.Recipe.{Recipe}
-use Rattle.just_records.specs.Parameter.{is_option}
-use Rattle.just_attributes.specs.declared.attribute.Attribute.{Attribute}
-use Rattle.just_attributes.specs.declared.attribute.Attribute.TheVariants as attribute
-use Rattle.just_attributes.specs.declared.attribute.NamedAttribute.{NamedAttribute}
-use Rattle.just_expressions.specs.declared.expression.Expression.{Expression}
+use Rattle.just_ast_definitions.specs.Parameter.{is_option}
+use Rattle.just_ast_definitions.specs.declared.attribute.Attribute.{Attribute}
+use Rattle.just_ast_definitions.specs.declared.attribute.Attribute.TheVariants as attribute
+use Rattle.just_ast_definitions.specs.declared.attribute.NamedAttribute.{NamedAttribute}
+use Rattle.just_ast_expressions.specs.declared.expression.Expression.{Expression}
 
 abbrev is_argument : Attribute Expression → Bool
 is_argument (attribute.Arg argument) = true

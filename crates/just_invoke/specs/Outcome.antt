@@ -12,11 +12,11 @@ use Rattle.just_recipe.specs.declared.recipe.Recipe.{Recipe}
 use Rattle.just_errors.specs.Halts.{come_to}
 use Rattle.just_parts.specs.Evaluation.{Inquiry}
 use Rattle.just_parts.specs.Host.{Answer}
-use Rattle.just_running.specs.declared.running.Report.{Report}
-use Rattle.just_running.specs.declared.task.Task.{Task}
-use Rattle.just_running.specs.Pairs.{task, place_of}
-use Rattle.just_running.specs.Reports.{IsRun, IsAsExpected}
-use Rattle.just_running.specs.Unready.{IsUnready, AreReady}
+use Rattle.just_execution.specs.declared.running.Report.{Report}
+use Rattle.just_execution.specs.declared.task.Task.{Task}
+use Rattle.just_execution.specs.Pairs.{task, place_of}
+use Rattle.just_execution.specs.Reports.{IsRun, IsAsExpected}
+use Rattle.just_execution.specs.Unready.{IsUnready, AreReady}
 use Rattle.just_invoke.specs.declared.invocation.Invocation as parsed
 use Rattle.just_invoke.specs.declared.justfile.Justfile.{Justfile}
 use Rattle.just_invoke.specs.Cause.{Cause, cause_of}

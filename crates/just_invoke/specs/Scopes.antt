@@ -1,7 +1,7 @@
 -- The modules of a run.
 use Rattle.std.specs.Prelude.{◌≡◌, Some}
-use Rattle.just_running.specs.Homes.{Modules, module_at}
-use Rattle.just_running.specs.declared.scopes.ModuleScope.{ModuleScope}
+use Rattle.just_execution.specs.Homes.{Modules, module_at}
+use Rattle.just_execution.specs.declared.scopes.ModuleScope.{ModuleScope}
 use Rattle.just_invoke.specs.Closed.{StandsIn}
 use Rattle.just_invoke.specs.declared.justfile.Justfile.{Justfile, out-Justfile}
 

@@ -1,6 +1,6 @@
 -- Words as invocations, and why words are none.
 use Rattle.std.specs.Prelude.{◌≡◌, ◌≢◌, ◌⊎◌, ℕ, List, [], ◌∷◌, ◌++◌, length, Option, Some, None, if◌then◌else◌}
-use Rattle.just_records.specs.Parameter.{least_arguments, most_words}
+use Rattle.just_ast_definitions.specs.Parameter.{least_arguments, most_words}
 use Rattle.just_recipe.specs.declared.dependency.Dependency.{Dependency}
 use Rattle.just_recipe.specs.declared.recipe.Recipe.{Recipe}
 use Rattle.just_invoke.specs.declared.invocation.Invocation.{Invocation}

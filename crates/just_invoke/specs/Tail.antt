@@ -5,8 +5,8 @@ use Rattle.std.specs.Borrow.{Bor}
 use Rattle.std.specs.declared.vec.Vec.{Vec}
 use Rattle.std.specs.declared.alloc.Global.{Global}
 use Rattle.just_names.specs.Texts.{Text, texts}
-use Rattle.just_records.specs.Parameter.{is_variadic, is_required}
-use Rattle.just_records.specs.declared.parameter.Parameter.{Parameter}
+use Rattle.just_ast_definitions.specs.Parameter.{is_variadic, is_required}
+use Rattle.just_ast_definitions.specs.declared.parameter.Parameter.{Parameter}
 use Rattle.just_invoke.specs.Words.{Words}
 
 -- the groups of borrowed words, as texts

@@ -17,9 +17,9 @@ use crate::options::has_options;
 use crate::paths::{as_words, contains_colon, path_word};
 use crate::tail::{any_missing, most_words, read_tail};
 use just_data::{BorrowedText, Text};
+use just_execution::Recipes;
 use just_parts::Recipe;
 use just_parts::layers::{Error, Evaluation, InvocationError, RunError};
-use just_running::Recipes;
 use std::alloc::Global;
 
 /// Reads command words as invocations of recipes.

@@ -3,13 +3,13 @@ use crate::invocation_parser::InvocationParser;
 use crate::running::run_invocations;
 use crate::variables::check_variables;
 use just_data::{BorrowedText, Exact, Sequence, Shared, Text};
-use just_needs::{Known, assignment_references};
+use just_execution::{Recipes, Report};
+use just_name_resolution::{Known, assignment_references};
 use just_parts::layers::{
     Assignment, Config, Error, Evaluation, FunctionDefinition, Host, Name, Number, Output,
     RunError, Settings, StringLiteral, Syntax, UnstableFeature, Warning,
 };
 use just_paths::Modulepath;
-use just_running::{Recipes, Report};
 use just_table::{Keyed, Table};
 use std::alloc::{AllocError, Global};
 use std::collections::{HashMap, HashSet};

@@ -17,5 +17,5 @@ mod variables;
 
 pub use invocation::Invocation;
 pub use invocation_parser::InvocationParser;
-pub use just_running::{Recipes, Report};
+pub use just_execution::{Recipes, Report};
 pub use justfile::{Justfile, RecipeKey};

@@ -1,13 +1,13 @@
 ghost use Rattle.std.specs.Prelude.{◌≡◌, length, IfOk};
 ghost use Rattle.std.specs.List.{All};
-ghost use Rattle.just_running.specs.Pairs.{AllBelow};
+ghost use Rattle.just_execution.specs.Pairs.{AllBelow};
 ghost use Rattle.just_invoke.specs.declared.invocation.Invocation.{Invocation};
 ghost use Rattle.just_invoke.specs.Closed.{IsHeld};
 ghost use Rattle.just_invoke.specs.Outcome.{tops_of};
 
 use crate::groups::copy_groups;
 use crate::invocation::Invocation;
-use just_running::{Pair, Recipes, Task};
+use just_execution::{Pair, Recipes, Task};
 use std::alloc::{AllocError, Global};
 
 /// The tasks of invocations.

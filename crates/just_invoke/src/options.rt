@@ -1,7 +1,7 @@
 //! Recipes with options.
 ghost use Rattle.std.specs.Prelude.{◌≡◌};
 ghost use Rattle.std.specs.List.{list_any};
-ghost use Rattle.just_records.specs.Parameter.{is_option};
+ghost use Rattle.just_ast_definitions.specs.Parameter.{is_option};
 ghost use Rattle.just_invoke.specs.Options.{has_options, is_of_parameter};
 
 use just_parts::Recipe;

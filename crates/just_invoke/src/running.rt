@@ -11,8 +11,8 @@ use crate::justfile::Justfile;
 use crate::naming::name_tops;
 use crate::scopes::bare_scopes;
 use just_data::Text;
+use just_execution::{Recipes, Report, find_unready, run_tasks};
 use just_parts::layers::{Config, Error, Evaluation, Host, Number, RunError};
-use just_running::{Recipes, Report, find_unready, run_tasks};
 use std::alloc::Global;
 use std::collections::HashMap;
 

@@ -5,8 +5,8 @@ ghost use Rattle.just_invoke.specs.Scopes.{HasScopes, IsScopeOf};
 use crate::justfile::Justfile;
 use crate::modules::modules_in;
 use just_data::{Sequence, Text};
+use just_execution::{ModuleScope, Scopes};
 use just_parts::layers::{Config, Context, Number, Scope};
-use just_running::{ModuleScope, Scopes};
 use std::alloc::{AllocError, Global};
 use std::collections::HashMap;
 

@@ -1,11 +1,11 @@
 //! The words that a recipe takes after its head.
 ghost use Rattle.std.specs.Prelude.{◌≡◌, ◌≤◌, ◌<◌, ◌++◌, ◌∷◌, [], ℕ, IfOk, OnOk, length, take, drop, slice_set, slice_index_or, vec_len};
 ghost use Rattle.just_names.specs.Texts.{texts};
-ghost use Rattle.just_records.specs.Parameter.{most_words};
+ghost use Rattle.just_ast_definitions.specs.Parameter.{most_words};
 ghost use Rattle.just_invoke.specs.Tail.{shown, first_variadic, IsTail, is_missing, any_missing};
 
+use just_ast_definitions::any_variadic;
 use just_parts::layers::Parameter;
-use just_records::any_variadic;
 use std::alloc::{AllocError, Global};
 
 // The place of the first variadic parameter, or the number of parameters.

@@ -18,7 +18,7 @@ use Rattle.just_paths.specs.Clean.{folder_of}
 use Rattle.just_names.specs.Name.{text_of_name}
 use Rattle.just_parts.specs.Items.{Item}
 use Rattle.just_parts.specs.Bare.{bare_item}
-use Rattle.just_items.specs.Edge.{Edge, Imports, Declares, edge_of}
+use Rattle.just_ast_items.specs.Edge.{Edge, Imports, Declares, edge_of}
 use Rattle.just_loader.specs.FileCircles.{HasRows, LeadsOn, by_edge, by_edges, ChainTo, at_root, and_next, NamesCircle, leads_back}
 use Rattle.just_loader.specs.Keys.{FileStep, end_of, items_at, steps_by, steps_of}
 use Rattle.just_loader.specs.Placed.{file_at, text_step}

@@ -11,7 +11,7 @@ use Rattle.just_graph.specs.declared.unfolding.Step.{Step}
 use Rattle.just_graph.proofs.StepRows.{steps_at as row_read}
 use Rattle.just_graph.proofs.Members.{In, in_cases}
 use Rattle.just_paths.specs.Clean.{folder_of}
-use Rattle.just_items.specs.Edge.{Edge, Imports, Declares, edge_of}
+use Rattle.just_ast_items.specs.Edge.{Edge, Imports, Declares, edge_of}
 use Rattle.just_names.specs.Name.{text_of_name}
 use Rattle.just_names.specs.Texts.{Text}
 use Rattle.just_names.specs.declared.name.Name.{Name}

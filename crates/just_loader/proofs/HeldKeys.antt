@@ -9,13 +9,13 @@ use Rattle.just_graph.proofs.Members.{In, contained, from_map, in_flat, in_map, 
 use Rattle.just_parts.specs.Asts.{AstKey, root_ast_key}
 use Rattle.just_parts.specs.Bare.{bare_item, bare_assignment, bare_recipe}
 use Rattle.just_paths.specs.Clean.{folder_of}
-use Rattle.just_items.specs.Edge.{absolute_of, edge_of}
+use Rattle.just_ast_items.specs.Edge.{absolute_of, edge_of}
 use Rattle.just_parts.specs.Located.{located_item, with_depth}
 use Rattle.just_names.specs.Texts.{Text}
 use Rattle.just_names.specs.Name.{text_of_name}
 use Rattle.just_parts.specs.Syntax.{ItemCameBy}
 use Rattle.just_parts.specs.Items.{Ast, Item}
-use Rattle.just_items.specs.declared.item.Item.TheVariants as item
+use Rattle.just_ast_items.specs.declared.item.Item.TheVariants as item
 use Rattle.just_paths.specs.declared.modulepath.Modulepath.{Modulepath}
 use Rattle.just_source.specs.declared.source.Source.{Source}
 use Rattle.just_loader.specs.Keys.{FileKey, FileNode, FileStep, IsKey, IsLeastFileDepth, ast_key, end_of, items_at, key_of_ast, root_file_key, steps_by, steps_of}

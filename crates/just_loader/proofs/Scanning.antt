@@ -6,7 +6,7 @@ use Rattle.std.proofs.lemmas.List.Elements.{Contains-append_cases}
 use Rattle.just_graph.specs.declared.unfolding.Step.{Step}
 use Rattle.just_names.specs.declared.name.Name.{Name}
 use Rattle.just_parts.specs.Items.{Item}
-use Rattle.just_items.specs.Edge.{Edge, Imports, Declares, edge_of}
+use Rattle.just_ast_items.specs.Edge.{Edge, Imports, Declares, edge_of}
 use Rattle.just_loader.specs.Links.{Link, Nowhere, To, Fault}
 use Rattle.just_loader.specs.Scanned.{IsPlaceOf, ArePlacesOf, IsStepTo, IsStepOf, AreSteps, Grows, Extends}
 use Rattle.just_loader.proofs.Numberings.{get_more, map_get, got, named_more}

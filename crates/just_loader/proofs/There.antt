@@ -13,7 +13,7 @@ use Rattle.just_names.specs.Name.{text_of_name}
 use Rattle.just_names.specs.Token.{Place}
 use Rattle.just_names.specs.declared.name.Name.{Name}
 use Rattle.just_parts.specs.Items.{Item}
-use Rattle.just_items.specs.Edge.{Edge, Imports, Declares, edge_of}
+use Rattle.just_ast_items.specs.Edge.{Edge, Imports, Declares, edge_of}
 use Rattle.just_loader.specs.Links.{Link, Nowhere, To, expanded, given, unless, import_link, choice, module_link, edge_link, link_in}
 use Rattle.just_loader.specs.ModuleFile.{candidates, file_at, files_in, is_module_file, or_else}
 use Rattle.just_errors.specs.Causes.{Cause, NoImport, NoModule}

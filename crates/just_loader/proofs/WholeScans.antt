@@ -19,7 +19,7 @@ use Rattle.just_paths.specs.Clean.{IsClean, folder_of}
 use Rattle.just_names.specs.declared.name.Name.{Name}
 use Rattle.just_table.specs.Entries.{find}
 use Rattle.just_parts.specs.Items.{Item}
-use Rattle.just_items.specs.Edge.{Edge, Imports, Declares, edge_of}
+use Rattle.just_ast_items.specs.Edge.{Edge, Imports, Declares, edge_of}
 use Rattle.just_loader.specs.Links.{Link, Nowhere, To, Fault}
 use Rattle.just_loader.specs.Numbering.{AreFound, paths_of}
 use Rattle.just_loader.specs.Reached.{World, Reached, from_root, from_file, items_of, link, LeadsTo, NamesAt, NamesInScan}

@@ -3,7 +3,7 @@ use Rattle.std.proofs.Common.{◌≡◌, ℕ, ◌<◌, List, [], ◌∷◌, ◌+
 use Rattle.std.specs.Option.{option_map}
 use Rattle.std.proofs.lemmas.List.{length-map}
 use Rattle.std.proofs.lemmas.Option.{get_or_from_slice_get, slice_get_within}
-use Rattle.just_items.specs.Edge.{with_absolute}
+use Rattle.just_ast_items.specs.Edge.{with_absolute}
 use Rattle.just_parts.specs.Syntax.{item_numbers, numbers}
 use Rattle.just_parts.proofs.Edges.{same_numbers}
 use Rattle.just_parts.specs.Items.{Item}

@@ -6,7 +6,7 @@ use Rattle.just_graph.specs.Unfolding.{AreFirstOf, KeyOf, KeyStepsOf, NodeOf}
 use Rattle.just_graph.specs.Unfolded.{AreApart}
 use Rattle.just_parts.specs.Asts.{AstKey}
 use Rattle.just_paths.specs.Clean.{folder_of}
-use Rattle.just_items.specs.Edge.{Edge, Imports, Declares, edge_of}
+use Rattle.just_ast_items.specs.Edge.{Edge, Imports, Declares, edge_of}
 use Rattle.just_names.specs.Name.{text_of_name}
 use Rattle.just_names.specs.declared.name.Name.{Name}
 use Rattle.just_names.specs.Texts.{Text}

@@ -2,7 +2,7 @@
 use Rattle.std.specs.Prelude.{◌==◌, Bool, List, [], ◌∷◌, ◌++◌, map, is_some, Option, None, Some, codes, if◌then◌else◌}
 use Rattle.std.specs.Option.{option_map}
 use Rattle.just_parts.specs.Bare.{bare_item}
-use Rattle.just_items.specs.Edge.{Edge, Imports, Declares, edge_of}
+use Rattle.just_ast_items.specs.Edge.{Edge, Imports, Declares, edge_of}
 use Rattle.just_table.specs.Entries.{find}
 use Rattle.just_paths.specs.Join.{clean_join}
 use Rattle.just_names.specs.Name.{text_of_name}
@@ -11,7 +11,7 @@ use Rattle.just_names.specs.Token.{Place}
 use Rattle.just_names.specs.Texts.{Text}
 use Rattle.just_names.specs.declared.name.Name.{Name}
 use Rattle.just_parts.specs.Items.{Item}
-use Rattle.just_literals.specs.declared.string_literal.StringLiteral.{StringLiteral}
+use Rattle.just_ast_expressions.specs.declared.string_literal.StringLiteral.{StringLiteral}
 use Rattle.just_parts.specs.declared.layers.config.Config.{Config}
 use Rattle.just_loader.specs.ModuleFile.{after, candidates, relative}
 use Rattle.just_errors.specs.Causes.{Cause, NoHome, NoImport, NoModule, SeveralFiles}

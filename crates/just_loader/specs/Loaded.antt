@@ -8,7 +8,7 @@ use Rattle.just_parts.specs.Asts.{AstKey, same_ast_key}
 use Rattle.just_parts.specs.Bare.{bare_ast}
 use Rattle.just_errors.specs.Causes.{Keeps, Reports}
 use Rattle.just_paths.specs.Clean.{folder_of}
-use Rattle.just_items.specs.Edge.{with_absolute}
+use Rattle.just_ast_items.specs.Edge.{with_absolute}
 use Rattle.just_parts.specs.Syntax.{AreRising, IsFrom, PriorsAreDependencies, components_of, numbers}
 use Rattle.just_names.specs.Texts.{Text}
 use Rattle.just_names.specs.Name.{names_of_path}

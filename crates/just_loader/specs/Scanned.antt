@@ -8,7 +8,7 @@ use Rattle.just_graph.specs.declared.unfolding.Step.{Step}
 use Rattle.just_graph.specs.Unfolded.{AreApart}
 use Rattle.just_errors.specs.Causes.{Cause}
 use Rattle.just_paths.specs.Clean.{IsClean, folder_of}
-use Rattle.just_items.specs.Edge.{Edge, Imports, Declares, edge_of}
+use Rattle.just_ast_items.specs.Edge.{Edge, Imports, Declares, edge_of}
 use Rattle.just_names.specs.declared.name.Name.{Name}
 use Rattle.just_names.specs.Texts.{Text}
 use Rattle.just_parts.specs.Items.{Item}

@@ -1,7 +1,7 @@
 //! What the items of a file lead to.
 
 ghost use Rattle.std.specs.Prelude.{◌≡◌, None, Some, is_some, map, option_map, string_bytes, IfOk, IfErr};
-ghost use Rattle.just_items.specs.Edge.{Imports};
+ghost use Rattle.just_ast_items.specs.Edge.{Imports};
 ghost use Rattle.just_table.specs.Entries.{find};
 ghost use Rattle.just_paths.specs.Join.{clean_join};
 ghost use Rattle.just_loader.specs.Links.{Nowhere, To, Fault, without_slashes, expanded, given, module_link, edge_link, link_by, linked};

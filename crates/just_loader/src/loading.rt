@@ -9,7 +9,7 @@ ghost use Rattle.just_graph.specs.declared.unfolding.Unfolded.{Unfolded};
 ghost use Rattle.just_paths.specs.Clean.{IsClean};
 ghost use Rattle.just_parts.specs.Syntax.{AreRising, PriorsAreDependencies, numbers};
 ghost use Rattle.just_parts.specs.Asts.{same_ast_key};
-ghost use Rattle.just_items.specs.Edge.{with_absolute};
+ghost use Rattle.just_ast_items.specs.Edge.{with_absolute};
 ghost use Rattle.just_loader.specs.Keys.{SpendsAt};
 ghost use Rattle.just_loader.specs.Loaded.{Loads};
 ghost use Rattle.just_loader.specs.Placed.{at_first_places, file_at};

@@ -4,3 +4,4 @@ pub mod Name
 pub mod Number
 pub mod Texts
 pub mod Token
+pub mod Index

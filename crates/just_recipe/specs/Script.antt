@@ -1,10 +1,10 @@
 -- Which recipes are scripts.
 use Rattle.std.specs.Prelude.{Bool, true, false, ◌||◌, ◌&&◌, not}
 use Rattle.std.specs.List.{list_any}
-use Rattle.just_attributes.specs.declared.attribute.Attribute.{Attribute}
-use Rattle.just_attributes.specs.declared.attribute.Attribute.TheVariants as attribute
-use Rattle.just_attributes.specs.declared.attribute.NamedAttribute.{NamedAttribute}
-use Rattle.just_literals.specs.declared.settings.Settings.{Settings}
+use Rattle.just_ast_definitions.specs.declared.attribute.Attribute.{Attribute}
+use Rattle.just_ast_definitions.specs.declared.attribute.Attribute.TheVariants as attribute
+use Rattle.just_ast_definitions.specs.declared.attribute.NamedAttribute.{NamedAttribute}
+use Rattle.just_ast_expressions.specs.declared.settings.Settings.{Settings}
 use Rattle.just_recipe.specs.declared.recipe.Recipe.{Recipe}
 
 -- the attribute says that it is none

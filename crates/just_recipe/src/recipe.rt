@@ -2,17 +2,15 @@
 ghost use Rattle.std.specs.Prelude.{◌≡◌, ◌≤◌, length, take, drop, count_by, IsSome, Some};
 ghost use Rattle.std.specs.List.{list_any};
 ghost use Rattle.just_recipe.specs.Script.{is_shell};
-ghost use Rattle.just_records.specs.Parameter.{is_required, least_arguments, most_arguments};
+ghost use Rattle.just_ast_definitions.specs.Parameter.{is_required, least_arguments, most_arguments};
 
 use crate::dependency::{Dependency, UnresolvedDependency};
-use just_attributes::{Attribute, NamedAttribute};
-use just_chain::Chain;
-use just_data::{Exact, Sequence, Text};
+use just_ast_definitions::{Attribute, Line, NamedAttribute, Parameter, any_variadic};
+use just_ast_expressions::Settings;
+use just_data::{Chain, Exact, Sequence, Text};
 use just_errors::ArgumentRange;
-use just_literals::Settings;
 use just_names::{Name, Number};
 use just_paths::Modulepath;
-use just_records::{Line, Parameter, any_variadic};
 use std::alloc::{AllocError, Global};
 
 /// A recipe. Its first `priors` dependencies run before it, the others after it. The last three fields are there once

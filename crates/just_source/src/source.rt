@@ -3,8 +3,7 @@ ghost use Rattle.std.specs.Prelude.{◌≡◌, ◌↔◌, ◌⊎◌, ◌+◌, []
 ghost use Rattle.just_paths.specs.Clean.{IsClean, folder_of};
 ghost use Rattle.just_names.specs.Name.{submodule_path};
 
-use just_chain::Chain;
-use just_data::{Exact, Text};
+use just_data::{Chain, Exact, Text};
 use just_errors::Error;
 use just_names::{Exhausted, Name, Namepath};
 use just_paths::folder_of;

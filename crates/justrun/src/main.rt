@@ -4,7 +4,7 @@
 #[cfg(test)]
 mod tests;
 
-use just_program::{ProgramError, program, tell};
+use justrun_program::{ProgramError, program, tell};
 use std::alloc::AllocError;
 use std::env;
 use std::env::Args;

@@ -1,5 +1,5 @@
 //! What the program answers to arguments, inputs and outputs, some of which fault.
-use just_program::program;
+use justrun_program::program;
 use std::alloc::{AllocError, Global};
 use std::io;
 use std::io::{ErrorKind, Read, Write};

@@ -3,22 +3,20 @@ ghost use Rattle.std.specs.Prelude.{◌≡◌, List, Option, Some, IfOk, IfErr, 
 ghost use Rattle.std.specs.HashMap.{get};
 ghost use Rattle.std.specs.HashSet.{contains};
 ghost use Rattle.std.specs.List.{All};
-ghost use Rattle.just_index.specs.Index.{texts_of_names};
+ghost use Rattle.just_names.specs.Index.{texts_of_names};
 ghost use Rattle.just_parts.specs.Evaluation.{Inquiry};
 ghost use Rattle.just_parts.specs.Evaluator.{Binds, Covers, Evaluator, FaultsAt, bare_set, functions_by_name, set_expressions, values_of, wanted_by};
 ghost use Rattle.just_parts.specs.Host.{Answer};
 ghost use Rattle.just_parts.specs.Known.{sources};
 ghost use Rattle.just_parts.specs.Needs.{IsClosed, has_number, same_number};
 ghost use Rattle.just_parts.specs.Reading.{IsEvaluationOrder};
-ghost use Rattle.just_references.specs.Numbers.{bare};
+ghost use Rattle.just_ast_references.specs.Numbers.{bare};
 
-use just_attributes::Set;
+use just_ast_definitions::{Assignment, FunctionDefinition, Set};
+use just_ast_expressions::{Expression, Scope, Settings};
 use just_data::{Sequence, Text};
 use just_errors::Error;
-use just_expressions::Expression;
-use just_literals::{Scope, Settings};
 use just_names::{Name, Number};
-use just_records::{Assignment, FunctionDefinition};
 use just_table::Table;
 use std::alloc::Global;
 use std::collections::{HashMap, HashSet};

@@ -10,14 +10,14 @@ use Rattle.just_parts.specs.Layers.{given_of}
 use Rattle.just_errors.specs.Causes.{Reports}
 use Rattle.just_errors.proofs.Lifts.{reports_by}
 use Rattle.just_analyzer.specs.Analyzed.{IsAnalyzed}
-use Rattle.just_rules.specs.Joined.{AreArranged, AreGraphs}
-use Rattle.just_making.specs.Labelled.{labelled_as}
-use Rattle.just_trees.specs.Modules.{heading}
-use Rattle.just_rules.specs.OfPlaces.{RepeatsNames}
+use Rattle.just_module_headers.specs.Joined.{AreArranged, AreGraphs}
+use Rattle.just_analyzer.specs.Labelled.{labelled_as}
+use Rattle.just_module_tree.specs.Modules.{heading}
+use Rattle.just_module_headers.specs.OfPlaces.{RepeatsNames}
 use Rattle.just_analyzer.specs.Steps.{BreaksInOrder, CanCompileAll, HaveCompiled, made_in}
 use Rattle.just_analyzer.proofs.Analyzing.{all_can, broken_named, files_there, go_deeper, is_analyzed, repeats_named, root_held, rows_many}
-use Rattle.just_rules.proofs.FilePlaces.{are_graphs, place_back}
-use Rattle.just_rules.proofs.Holding.{holds_all, place_known}
+use Rattle.just_module_headers.proofs.FilePlaces.{are_graphs, place_back}
+use Rattle.just_module_headers.proofs.Holding.{holds_all, place_known}
 use Rattle.just_analyzer.proofs.analyzer.analyze_modules.Goals as goal
 
 pub file_rows-requires : goal.file_rows-requires

@@ -1,7 +1,7 @@
 use Rattle.std.proofs.Common.{◌≡◌, ◌≤◌, length}
 use Rattle.std.specs.HashMap.{get, spare}
 use Rattle.std.specs.Option.{option_or}
-use Rattle.just_variables.specs.Overrides.{last_of}
+use Rattle.just_module_variables.specs.Overrides.{last_of}
 use Rattle.just_names.specs.declared.number.Number.{Number}
 use Rattle.just_parts.specs.Needs.{same_number}
 use Rattle.just_analyzer.proofs.analyzer.insert_all.Given as goal

@@ -1,9 +1,9 @@
 use Rattle.std.proofs.Common.{Some, rules, subst, sym}
-use Rattle.just_variables.proofs.Tabled.{variables_had}
-use Rattle.just_definitions.specs.Defaults.{IsDefaultAmong}
-use Rattle.just_definitions.specs.Definitions.{contents_in, recipes_in}
-use Rattle.just_definitions.specs.Kept.{kept_recipes}
-use Rattle.just_definitions.specs.Named.{recipes_by}
+use Rattle.just_module_variables.proofs.Tabled.{variables_had}
+use Rattle.just_module_contents.specs.Defaults.{IsDefaultAmong}
+use Rattle.just_module_contents.specs.Definitions.{contents_in, recipes_in}
+use Rattle.just_module_contents.specs.Kept.{kept_recipes}
+use Rattle.just_module_contents.specs.Named.{recipes_by}
 use Rattle.just_analyzer.proofs.compiling.analyze_checked.Goals as goal
 
 pub returns-in_err-append-clause-named : goal.returns-in_err-append-clause-named

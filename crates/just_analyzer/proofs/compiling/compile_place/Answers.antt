@@ -5,21 +5,21 @@ use Rattle.std.proofs.lemmas.Result.{IfErr-weaker}
 use Rattle.just_graph.specs.Steps.{IsOnce}
 use Rattle.just_errors.specs.Causes.{Reports}
 use Rattle.just_errors.proofs.Lifts.{reports_by}
-use Rattle.just_rules.specs.Analyzable.{assignment_numbers}
-use Rattle.just_definitions.specs.Contents.{Contents}
-use Rattle.just_definitions.specs.Definitions.{contents_in}
-use Rattle.just_rules.specs.Files.{asts_in}
-use Rattle.just_definitions.specs.Groups.{BreaksContents}
-use Rattle.just_definitions.specs.Kept.{kept_recipes}
-use Rattle.just_definitions.specs.Named.{contents_from, name_by, recipes_by, said_from, variable_by}
-use Rattle.just_definitions.specs.Resolved.{AreResolved, HasPriors, unresolved_numbers}
-use Rattle.just_rules.proofs.Joining.{row_lent}
-use Rattle.just_index.specs.Index.{texts_of_names, AreDifferent}
-use Rattle.just_making.specs.Analysis.{HasDefault}
-use Rattle.just_making.specs.Labelled.{by_name, with_labels}
-use Rattle.just_making.specs.Variables.{HasVariables}
-use Rattle.just_making.proofs.Makings.{is_of_same}
-use Rattle.just_resolving.specs.Broken.{BreaksRecipes}
+use Rattle.just_module_headers.specs.Analyzable.{assignment_numbers}
+use Rattle.just_module_contents.specs.Contents.{Contents}
+use Rattle.just_module_contents.specs.Definitions.{contents_in}
+use Rattle.just_module_headers.specs.Files.{asts_in}
+use Rattle.just_module_contents.specs.Groups.{BreaksContents}
+use Rattle.just_module_contents.specs.Kept.{kept_recipes}
+use Rattle.just_module_contents.specs.Named.{contents_from, name_by, recipes_by, said_from, variable_by}
+use Rattle.just_module_contents.specs.Resolved.{AreResolved, HasPriors, unresolved_numbers}
+use Rattle.just_module_headers.proofs.Joining.{row_lent}
+use Rattle.just_names.specs.Index.{texts_of_names, AreDifferent}
+use Rattle.just_analyzer.specs.Analysis.{HasDefault}
+use Rattle.just_analyzer.specs.Labelled.{by_name, with_labels}
+use Rattle.just_analyzer.specs.Variables.{HasVariables}
+use Rattle.just_analyzer.proofs.Makings.{is_of_same}
+use Rattle.just_module_recipes.specs.Broken.{BreaksRecipes}
 use Rattle.just_analyzer.proofs.Placed.{breaks_place, breaks_recipes, contents_are, evaluated_to, keeps_place, labels_many, variables_resolved}
 use Rattle.just_analyzer.proofs.compiling.compile_place.Goals as goal
 use Rattle.just_parts.specs.Layers.{given_of, layers_at}

@@ -4,10 +4,10 @@ use Rattle.std.proofs.lemmas.Option.{slice_get_read}
 use Rattle.just_graph.specs.Steps.{IsOnce}
 use Rattle.just_graph.proofs.Index.{map_get}
 use Rattle.just_parts.specs.Asts.{AstKey}
-use Rattle.just_rules.specs.Files.{asts_in, keys_in}
-use Rattle.just_rules.proofs.Joining.{row_lent}
-use Rattle.just_making.specs.Labelled.{slot}
-use Rattle.just_checking.specs.Noted.{notes_from}
+use Rattle.just_module_headers.specs.Files.{asts_in, keys_in}
+use Rattle.just_module_headers.proofs.Joining.{row_lent}
+use Rattle.just_analyzer.specs.Labelled.{slot}
+use Rattle.just_module_declarations.specs.Noted.{notes_from}
 use Rattle.just_analyzer.proofs.compiling.surroundings_at.Goals as goal
 
 pub take_inner-requires-clause-inside : goal.take_inner-requires-clause-inside

@@ -1,5 +1,5 @@
 use Rattle.std.proofs.Common.{◌≡◌, map, take, length}
-use Rattle.just_running.specs.Pairs.{AllBelow}
+use Rattle.just_execution.specs.Pairs.{AllBelow}
 use Rattle.just_invoke.specs.Outcome.{top}
 use Rattle.just_invoke.specs.Split.{invoked_of}
 use Rattle.just_invoke.proofs.naming.name_tops.Given as goal

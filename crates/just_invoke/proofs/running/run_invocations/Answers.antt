@@ -1,6 +1,6 @@
 use Rattle.std.proofs.Common.{Err, inr, rules}
-use Rattle.just_running.specs.Unready.{AreReady}
-use Rattle.just_running.proofs.Homes.{ready-home}
+use Rattle.just_execution.specs.Unready.{AreReady}
+use Rattle.just_execution.proofs.Homes.{ready-home}
 use Rattle.just_invoke.proofs.Scoping.{are-among}
 use Rattle.just_invoke.proofs.running.run_invocations.Goals as goal
 

@@ -10,9 +10,9 @@ use Rattle.just_loader.specs.Keys.{NamesInFiles}
 use Rattle.just_loader.specs.Reached.{World, world_of}
 use Rattle.just_loader.proofs.HeldKeys.{root_held}
 use Rattle.just_analyzer.specs.Analyzed.{IsAnalyzed}
-use Rattle.just_trees.specs.Groups.{NamesModules}
-use Rattle.just_trees.specs.Modules.{heading, label}
-use Rattle.just_rules.specs.Reading.{reading_of}
+use Rattle.just_module_tree.specs.Groups.{NamesModules}
+use Rattle.just_module_tree.specs.Modules.{heading, label}
+use Rattle.just_module_headers.specs.Reading.{reading_of}
 use Rattle.just_analyzer.specs.Readings.{given_in, root_heading}
 use Rattle.just_analyzer.specs.Rules.{Names, in_files, in_modules}
 use Rattle.just_analyzer.proofs.Compilations.{all_kept, none_named, put_in_none, refused}

@@ -1,0 +1,69 @@
+use Rattle.std.proofs.Common.{◌≡◌, sym, ◌∙◌, ap, subst, arith, rules, ◌<◌, length, false}
+use Rattle.std.specs.HashMap.{get}
+use Rattle.std.specs.HashSet.{contains}
+use Rattle.std.proofs.lemmas.List.{length-map}
+use Rattle.std.proofs.lemmas.Result.{IfErr-weaker}
+use Rattle.just_names.specs.Index.{texts_of_names}
+use Rattle.just_names.specs.Name.{text_of_name}
+use Rattle.just_parts.specs.Evaluator.{FaultsAt, wanted_by}
+use Rattle.just_parts.specs.Needs.{same_number}
+use Rattle.just_bench_evaluation.specs.Constants.{Adds, demanded}
+use Rattle.just_bench_evaluation.specs.Lookup.{table_values}
+use Rattle.just_bench_evaluation.proofs.Ended.{binds, constants_are, refused}
+use Rattle.just_bench_evaluation.proofs.Settled.{Settled, adds_any, name_at_place, settled_more}
+use Rattle.just_bench_evaluation.proofs.Told.{faults_on}
+use Rattle.just_bench_evaluation.proofs.constants.constants_of.Goals as goal
+
+pub returns-in_err-add_constant-clause-refused : goal.returns-in_err-add_constant-clause-refused
+returns-in_err-add_constant-clause-refused c = λ lists.
+    let overrides = get same_number c.args.overrides.now in
+    let set = contains same_number c.args.references.now in
+    let order = texts_of_names c.args.order.now in
+    let old = c.loop-name.constants in
+    let same = name_at_place c.args.order.now c.loop-name.name-index c.name-item.result c.loop-name-test.true c.name-item.is in
+    let inside : c.loop-name.name-index < length order = omega (arith, length-map c.args.order.now text_of_name) in
+    let wanted = wanted_by c.args.assignments.now c.args.functions.now overrides set lists in
+    IfErr-weaker c.from_residual.result (λ e. e ≡ c.in_err-add_constant.field-0.0) _
+    (λ e is. faults_on (λ none. refused c.args.assignments.now c.args.functions.now overrides set lists order c.requires.order c.loop-name.name-index old
+    (c.loop-name.invariant.settled lists) inside (ap (demanded wanted (table_values old)) (sym same) ∙ none)) e
+    (subst (FaultsAt (demanded wanted (table_values old) (text_of_name c.name-item.result))) (sym is) c.in_err-add_constant.ensures.refused)) (search rules)
+
+pub loop-name-preserved : goal.loop-name-preserved
+loop-name-preserved c =
+    let overrides = get same_number c.args.overrides.now in
+    let set = contains same_number c.args.references.now in
+    let order = texts_of_names c.args.order.now in
+    let old = c.loop-name.constants in
+    let new = c.add_constant.new.constants in
+    let same = name_at_place c.args.order.now c.loop-name.name-index c.name-item.result c.loop-name-test.true c.name-item.is in
+    let inside : c.loop-name.name-index < length order = omega (arith, length-map c.args.order.now text_of_name) in
+    let wanted = wanted_by c.args.assignments.now c.args.functions.now overrides set false in
+    record {
+      settled = λ lists. settled_more c.args.assignments.now c.args.functions.now overrides set lists order c.requires.order c.loop-name.name-index old
+          (c.loop-name.invariant.settled lists) inside new
+          (λ need. subst (λ name. Adds c.args.assignments.now (wanted_by c.args.assignments.now c.args.functions.now overrides set lists) name old new) same
+          (adds_any c.args.assignments.now c.args.functions.now overrides set lists (text_of_name c.name-item.result) old new
+          (c.in_ok-add_constant.ensures.added (ap wanted.needed same ∙ need))))
+          (λ none. c.in_ok-add_constant.ensures.skipped (ap wanted.needed same ∙ none));
+      keyed = c.in_ok-add_constant.ensures.keyed c.loop-name.invariant.keyed;
+    }
+
+pub returns-clause-constants : goal.returns-clause-constants
+returns-clause-constants c = λ lists.
+    let overrides = get same_number c.args.overrides.now in
+    let set = contains same_number c.args.references.now in
+    let order = texts_of_names c.args.order.now in
+    let whole : c.loop-name.name-index ≡ length order = omega (arith, length-map c.args.order.now text_of_name) in
+    constants_are c.args.assignments.now c.args.functions.now overrides set lists order c.requires.order c.loop-name.constants
+    (subst (λ k. Settled c.args.assignments.now (wanted_by c.args.assignments.now c.args.functions.now overrides set lists) order k c.loop-name.constants) whole (c.loop-name.invariant.settled lists))
+    c.loop-name.invariant.keyed c.scope_of.ensures.sorted c.in_ok-scope_of.field-0 c.in_ok-scope_of.ensures.bindings
+
+pub returns-clause-binds : goal.returns-clause-binds
+returns-clause-binds c = λ lists.
+    let overrides = get same_number c.args.overrides.now in
+    let set = contains same_number c.args.references.now in
+    let order = texts_of_names c.args.order.now in
+    let whole : c.loop-name.name-index ≡ length order = omega (arith, length-map c.args.order.now text_of_name) in
+    binds c.args.assignments.now c.args.functions.now overrides set lists order c.requires.order c.loop-name.constants
+    (subst (λ k. Settled c.args.assignments.now (wanted_by c.args.assignments.now c.args.functions.now overrides set lists) order k c.loop-name.constants) whole (c.loop-name.invariant.settled lists))
+    c.loop-name.invariant.keyed c.scope_of.ensures.sorted c.in_ok-scope_of.field-0 c.in_ok-scope_of.ensures.bindings

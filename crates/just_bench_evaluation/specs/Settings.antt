@@ -1,0 +1,68 @@
+-- What settings come to.
+use Rattle.std.specs.Prelude.{false, List, [], ◌∷◌, map, Option, None, Some}
+use Rattle.std.specs.Option.{option_and_then, option_map}
+use Rattle.just_names.specs.Texts.{Text}
+use Rattle.just_parts.specs.Evaluator.{Functions, Values}
+use Rattle.just_ast_expressions.specs.declared.expression.Expression.{Expression}
+use Rattle.just_ast_expressions.specs.declared.interpreter.Interpreter.{Interpreter}
+use Rattle.just_ast_definitions.specs.declared.setting.Set.{Set}
+use Rattle.just_ast_definitions.specs.declared.setting.Setting.{Setting}
+use Rattle.just_ast_definitions.specs.declared.setting.Setting.TheVariants as setting
+use Rattle.just_ast_expressions.specs.declared.settings.Settings.{Settings}
+use Rattle.just_bench_evaluation.specs.Values.{Outcome, all_of, one_text, value_of}
+
+-- no setting is on
+abbrev pub default_settings : Settings
+default_settings = record {
+  allow_duplicate_recipes = false;
+  allow_duplicate_variables = false;
+  default_script = false;
+  export = false;
+  ignore_comments = false;
+  lazy = false;
+  lists = false;
+  no_cd = false;
+  no_exit_message = false;
+  positional_arguments = false;
+  quiet = false;
+  script_interpreter = None;
+  shell = None;
+  unstable = false;
+}
+
+-- What is set, where expressions come to these values.
+module _ (value : Expression → Outcome) where
+  -- the text of an expression
+  abbrev pub text_with : Expression → Option Text
+  text_with e = option_map one_text (value e)
+
+  -- the texts of a program and of its arguments
+  abbrev pub interpreter_with : Interpreter Expression → Option (Interpreter Text)
+  interpreter_with i =
+      option_and_then (λ command. option_map (λ arguments. record { command = command; arguments = arguments }) (all_of (map text_with i.arguments))) (text_with i.command)
+
+  -- settings with one more that is set
+  abbrev pub setting_with : Setting → Settings → Option Settings
+  setting_with (setting.AllowDuplicateRecipes on) s = Some (record s { allow_duplicate_recipes = on })
+  setting_with (setting.AllowDuplicateVariables on) s = Some (record s { allow_duplicate_variables = on })
+  setting_with (setting.DefaultScript on) s = Some (record s { default_script = on })
+  setting_with (setting.Export on) s = Some (record s { export = on })
+  setting_with (setting.IgnoreComments on) s = Some (record s { ignore_comments = on })
+  setting_with (setting.Lazy on) s = Some (record s { lazy = on })
+  setting_with (setting.Lists on) s = Some (record s { lists = on })
+  setting_with (setting.NoCd on) s = Some (record s { no_cd = on })
+  setting_with (setting.NoExitMessage on) s = Some (record s { no_exit_message = on })
+  setting_with (setting.PositionalArguments on) s = Some (record s { positional_arguments = on })
+  setting_with (setting.Quiet on) s = Some (record s { quiet = on })
+  setting_with (setting.Unstable on) s = Some (record s { unstable = on })
+  setting_with (setting.ScriptInterpreter i) s = option_map (λ made. record s { script_interpreter = Some made }) (interpreter_with i)
+  setting_with (setting.Shell i) s = option_map (λ made. record s { shell = Some made }) (interpreter_with i)
+
+  -- settings after each of these in turn
+  abbrev pub settings_with : List Set → Settings → Option Settings
+  settings_with [] s = Some s
+  settings_with (x ∷ xs) s = option_and_then (settings_with xs) (setting_with x.value s)
+
+-- the settings of a module
+abbrev pub settings_of : Functions → Values → List Set → Option Settings
+settings_of functions constants sets = settings_with (value_of functions constants) sets default_settings

@@ -1,0 +1,5 @@
+pub mod Cuts
+pub mod Lexing
+pub mod Quoting
+pub mod Spelled
+pub mod Reading

@@ -1,0 +1,6 @@
+pub mod Lexemes
+pub mod Lines
+pub mod Spelling
+pub mod Expressions
+pub mod Features
+pub mod Stack

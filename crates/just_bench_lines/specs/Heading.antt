@@ -1,0 +1,130 @@
+-- The line that a recipe begins with.
+use Rattle.std.specs.Prelude.{zero, suc, ℕ, ◌+◌, ◌-◌, ◌==◌, Bool, false, if◌then◌else◌, List, [], ◌∷◌, ◌++◌, length, drop, Option, Some, None}
+use Rattle.std.specs.Option.{option_map}
+use Rattle.just_names.specs.Token.{lexeme}
+use Rattle.just_names.specs.declared.name.Name.{Name}
+use Rattle.just_names.specs.Number.{no_number}
+use Rattle.just_ast_expressions.specs.declared.expression.Expression.{Expression}
+use Rattle.just_ast_definitions.specs.declared.parameter.Parameter.{Parameter}
+use Rattle.just_ast_definitions.specs.declared.parameter.ParameterKind.{ParameterKind}
+use Rattle.just_ast_definitions.specs.declared.parameter.ParameterKind.TheVariants as parameter_kind
+use Rattle.just_bench_expressions.specs.declared.expressions.Found.{Found}
+use Rattle.just_bench_expressions.specs.declared.lexer.Lexeme.{Lexeme}
+use Rattle.just_bench_expressions.specs.Expressions.{expression}
+use Rattle.just_bench_lines.specs.declared.heading.Heading.{Heading}
+use Rattle.just_bench_lines.specs.Places.{name_at, stands, is_and, is_at_sign, is_colon, is_equals, is_name, is_plus, is_star}
+
+-- what is written before the name of a parameter
+abbrev pub mark : ParameterKind → List ℕ
+mark parameter_kind.Singular = []
+mark parameter_kind.Plus = 43 ∷ []
+mark parameter_kind.Star = 42 ∷ []
+
+-- what is written after it
+abbrev pub default_text : Option Expression → List ℕ
+default_text None = []
+default_text (Some value) = 61 ∷ value.text
+
+abbrev pub parameter_text : Name → ParameterKind → Option Expression → List ℕ
+parameter_text name kind default = mark kind ++ lexeme name.token ++ default_text default
+
+-- a parameter without a number
+abbrev pub made_of : Name → ParameterKind → Option Expression → Parameter
+made_of name kind default = record {
+  name = name;
+  number = no_number;
+  kind = kind;
+  default = default;
+  value = None;
+  long = None;
+  short = None;
+  flag = false;
+  pattern = None;
+  help = None;
+  text = parameter_text name kind default;
+}
+
+-- a parameter with this default, and the place after it
+abbrev pub with_default : Name → ParameterKind → Option Found → Option (Parameter × ℕ)
+with_default name kind None = None
+with_default name kind (Some found) = Some (made_of name kind (Some found.made), found.end)
+
+-- a parameter whose name stands at a place, and the place after it
+abbrev pub by_name : List Lexeme → ℕ → ParameterKind → Option Name → Option (Parameter × ℕ)
+by_name all at kind None = None
+by_name all at kind (Some name) =
+    if stands is_equals all (at + 1) then with_default name kind (expression false all (at + 2))
+    else Some (made_of name kind None, at + 1)
+
+unfoldable pub named_parameter : List Lexeme → ℕ → ParameterKind → Option (Parameter × ℕ)
+named_parameter all at kind = by_name all at kind (name_at all at)
+
+-- a parameter: its mark, its name and its default
+unfoldable pub parameter : List Lexeme → ℕ → Option (Parameter × ℕ)
+parameter all at =
+    if stands is_star all at then named_parameter all (at + 1) parameter_kind.Star
+    else (if stands is_plus all at then named_parameter all (at + 1) parameter_kind.Plus
+    else named_parameter all at parameter_kind.Singular)
+
+-- a parameter before others, which begin after the lexemes that it takes
+abbrev pub before_others : ℕ → Option (Parameter × ℕ) → (ℕ → Option (List Parameter × ℕ)) → Option (List Parameter × ℕ)
+before_others at None others = None
+before_others at (Some found) others = option_map {U = List Parameter × ℕ} (λ more. (found.0 ∷ more.0, more.1)) (others (found.1 - (at + 1)))
+
+-- the parameters up to a `:`, and its place, where so many lexemes at the front belong to the parameter before
+abbrev pub parameters_from : List Lexeme → ℕ → ℕ → List Lexeme → Option (List Parameter × ℕ)
+parameters_from all at skip [] = None
+parameters_from all at (suc skip) (l ∷ rest) = parameters_from all (at + 1) skip rest
+parameters_from all at zero (l ∷ rest) =
+    if is_colon l.kind then Some ([], at)
+    else before_others at (parameter all at) (λ skip. parameters_from all (at + 1) skip rest)
+
+unfoldable pub parameters : List Lexeme → ℕ → Option (List Parameter × ℕ)
+parameters all start = parameters_from all start 0 (drop start all)
+
+-- the names at the front
+abbrev pub names_of : List Lexeme → List Name
+names_of [] = []
+names_of (l ∷ rest) = if is_name l.kind then record { token = l.token } ∷ names_of rest else []
+
+-- the names from a place on, and the place after them
+unfoldable pub names : List Lexeme → ℕ → List Name
+names all start = names_of (drop start all)
+
+unfoldable pub after_names : List Lexeme → ℕ → ℕ
+after_names all start = start + length (names_of (drop start all))
+
+-- those that run after it end the line
+abbrev pub with_subsequents : List Lexeme → List Name → List Name → ℕ → Option (List Name × List Name)
+with_subsequents all priors subsequents end = if end == length all then Some (priors, subsequents) else None
+
+-- after those that run before it stands nothing, or `&&` and those that run after it
+abbrev pub with_priors : List Lexeme → List Name → ℕ → Option (List Name × List Name)
+with_priors all priors end =
+    if end == length all then Some (priors, [])
+    else (if stands is_and all end then with_subsequents all priors (names all (end + 1)) (after_names all (end + 1)) else None)
+
+unfoldable pub dependencies : List Lexeme → ℕ → Option (List Name × List Name)
+dependencies all start = with_priors all (names all start) (after_names all start)
+
+abbrev pub with_dependencies : Bool → Name → List Parameter → Option (List Name × List Name) → Option Heading
+with_dependencies quiet name parameters None = None
+with_dependencies quiet name parameters (Some all) = Some (record { quiet = quiet; name = name; parameters = parameters; priors = all.0; subsequents = all.1 })
+
+abbrev pub with_parameters : List Lexeme → Bool → Name → Option (List Parameter × ℕ) → Option Heading
+with_parameters all quiet name None = None
+with_parameters all quiet name (Some found) = with_dependencies quiet name found.0 (dependencies all (found.1 + 1))
+
+unfoldable pub after_name : List Lexeme → Bool → Name → ℕ → Option Heading
+after_name all quiet name at = with_parameters all quiet name (parameters all at)
+
+-- a heading whose name stands at a place
+abbrev pub heading_at : List Lexeme → Bool → ℕ → Option Name → Option Heading
+heading_at all quiet at None = None
+heading_at all quiet at (Some name) = after_name all quiet name (at + 1)
+
+-- `@` or nothing, a name, parameters, `:`, and dependencies
+unfoldable pub heading : List Lexeme → Option Heading
+heading all =
+    if stands is_at_sign all 0 then heading_at all (stands is_at_sign all 0) 1 (name_at all 1)
+    else heading_at all (stands is_at_sign all 0) 0 (name_at all 0)

@@ -1,0 +1,14 @@
+-- How many blanks and tabs are dropped from a line of a body.
+use Rattle.std.proofs.Common.{◌≡◌, ℕ, ◌∙◌, ap, List, length, take, Bool, Some, None}
+use Rattle.std.specs.Prelude.{if◌then◌else◌, nat_eq, ◌==◌}
+use Rattle.std.specs.List.{starts_with}
+use Rattle.just_bench_expressions.specs.declared.lines.TextLine.{TextLine}
+use Rattle.just_bench_syntax.specs.declared.items.Body.{Body}
+use Rattle.just_bench_syntax.specs.declared.items.Body.TheVariants as body
+use Rattle.just_bench_syntax.specs.Items.{dropped}
+
+-- how many blanks and tabs are dropped after a first line
+pub dropped_by : (first : List ℕ) (line : TextLine) (blanks : ℕ) (it : Body) (b : Bool) → it ≡ body.Goes first → starts_with nat_eq (take blanks line.text) first ≡ b
+    → dropped it line blanks ≡ (if b then Some (length first) else (if blanks == length line.text then Some blanks else None))
+dropped_by first line blanks it b goes is =
+    ap (λ i. dropped i line blanks) goes ∙ ap (λ c. if c then Some (length first) else (if blanks == length line.text then Some blanks else None)) is

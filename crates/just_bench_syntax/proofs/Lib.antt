@@ -1,0 +1,9 @@
+pub mod Dropped
+pub mod Faults
+pub mod InPlace
+pub mod Marks
+pub mod Proper
+pub mod Steady
+pub mod Distinct
+pub mod Kept
+pub mod Numbers

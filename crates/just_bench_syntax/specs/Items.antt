@@ -1,0 +1,162 @@
+-- The items of a text, line by line, without numbers.
+use Rattle.std.specs.Prelude.{ℕ, ◌==◌, Bool, true, false, if◌then◌else◌, List, [], ◌∷◌, ◌++◌, length, take, codes, nat_eq, Option, Some, None, Result, Ok, Err}
+use Rattle.std.specs.List.{starts_with}
+use Rattle.just_names.specs.Token.{lexeme}
+use Rattle.just_parts.specs.Items.{Item}
+use Rattle.just_ast_items.specs.declared.item.Item.TheVariants as item
+use Rattle.just_recipe.specs.declared.dependency.UnresolvedDependency.{UnresolvedDependency}
+use Rattle.just_recipe.specs.declared.recipe.Recipe.{Recipe}
+use Rattle.just_ast_definitions.specs.declared.line.Fragment.{Fragment}
+use Rattle.just_ast_definitions.specs.declared.line.Fragment.TheVariants as fragment
+use Rattle.just_ast_definitions.specs.declared.line.Line.{Line}
+use Rattle.just_ast_expressions.specs.declared.list_use.ListUse.{ListUse}
+use Rattle.just_bench_expressions.specs.declared.lines.TextLine.{TextLine}
+use Rattle.just_bench_expressions.specs.Lines.{lines_of}
+use Rattle.just_bench_lines.specs.declared.attributes.Mark.{Mark}
+use Rattle.just_bench_lines.specs.declared.attributes.Options.{Options}
+use Rattle.just_bench_lines.specs.declared.body.BodyLine.{BodyLine}
+use Rattle.just_bench_lines.specs.declared.heading.Heading.{Heading}
+use Rattle.just_bench_syntax.specs.declared.items.Body.{Body}
+use Rattle.just_bench_syntax.specs.declared.items.Body.TheVariants as body
+use Rattle.just_bench_syntax.specs.declared.items.Items.{Items}
+use Rattle.just_bench_syntax.specs.declared.items.Reading.{Reading}
+use Rattle.just_bench_lines.specs.declared.meaning.Declaration.{Declaration}
+use Rattle.just_bench_lines.specs.declared.meaning.Meaning.{Meaning}
+use Rattle.just_bench_lines.specs.declared.meaning.Meaning.TheVariants as meaning
+use Rattle.just_bench_lines.specs.declared.meaning.Said.{Said}
+use Rattle.just_bench_lines.specs.declared.meaning.Statement.{Statement}
+use Rattle.just_bench_lines.specs.declared.meaning.Statement.TheVariants as statements
+use Rattle.just_bench_lines.specs.Body.{body_line, indent}
+use Rattle.just_bench_lines.specs.Meaning.{said}
+use Rattle.just_bench_syntax.specs.Recipe.{recipe}
+
+abbrev pub is_nil : {A : Type 0} → List A → Bool
+is_nil [] = true
+is_nil (x ∷ rest) = false
+
+-- for the private functions: what was changed, or the number of a line that does not follow the grammar
+abbrev pub told : Result (Unit {0}) ℕ → Reading → Result Reading ℕ
+told (Ok done) reading = Ok reading
+told (Err number) reading = Err number
+
+-- the item that a line is
+abbrev pub item_of : Statement → Item
+item_of (statements.Imports path optional) = item.Import path None optional
+item_of (statements.Sets it) = item.Setting it
+item_of (statements.Unexports name) = item.Unexport name
+item_of (statements.Assigns it) = item.Assignment it
+item_of (statements.Defines it) = item.Function it
+
+-- an item that takes no attributes
+abbrev pub with_item : Reading → Item → Result Reading ℕ
+with_item reading it = if is_nil reading.attributes then Ok (record reading { items = reading.items ++ it ∷ []; body = body.Closed }) else Err reading.first
+
+-- an attribute of the next item, on this line
+abbrev pub and_options : List Options → Option Options → List Options
+and_options options None = options
+and_options options (Some more) = options ++ more ∷ []
+
+abbrev pub with_mark : Reading → ℕ → Mark → Reading
+with_mark reading number mark = record reading {
+  attributes = reading.attributes ++ mark.named ∷ [];
+  options = and_options reading.options mark.options;
+  first = if is_nil reading.attributes then number else reading.first;
+  body = body.Closed;
+}
+
+-- a recipe with the attributes before it
+abbrev pub with_recipe_of : Reading → Option (Recipe UnresolvedDependency) → Result Reading ℕ
+with_recipe_of reading None = Err reading.first
+with_recipe_of reading (Some r) = Ok (record reading { items = reading.items ++ item.Recipe r ∷ []; attributes = []; options = []; body = body.Begins })
+
+abbrev pub with_recipe : Reading → Heading → Result Reading ℕ
+with_recipe reading h = with_recipe_of reading (recipe h reading.attributes reading.options)
+
+-- a module with the attributes before it, none of which speaks of a parameter
+abbrev pub with_module : Reading → Declaration → Result Reading ℕ
+with_module reading declared =
+    if is_nil reading.options then Ok (record reading { items = reading.items ++ item.Module declared.name declared.path None reading.attributes None declared.optional ∷ []; attributes = []; body = body.Closed })
+    else Err reading.first
+
+-- a line that begins with `#!`
+abbrev pub begins_shebang : List Fragment → Bool
+begins_shebang [] = false
+begins_shebang (fragment.Text token ∷ rest) = starts_with nat_eq (lexeme token) (codes "#!")
+begins_shebang (fragment.Interpolation it ∷ rest) = false
+
+abbrev pub is_shebang : Line → Bool
+is_shebang line = begins_shebang line.fragments
+
+-- a recipe with another line; the first line says whether it is a script
+abbrev pub add_line : Line → Item → Item
+add_line line (item.Recipe r) = item.Recipe (record r { body = r.body ++ line ∷ []; shebang = if is_nil r.body then is_shebang line else r.shebang })
+add_line line it = it
+
+-- the last of a list changed
+abbrev pub at_last : {A : Type 0} → (A → A) → List A → List A
+at_last f [] = []
+at_last f (x ∷ []) = f x ∷ []
+at_last f (x ∷ y ∷ rest) = x ∷ at_last f (y ∷ rest)
+
+-- how many blanks and tabs are dropped from a line that begins with so many, if it may stand in a body there
+abbrev pub dropped : Body → TextLine → ℕ → Option ℕ
+dropped body.Closed line size = None
+dropped body.Begins line size = Some size
+dropped (body.Goes first) line size = if starts_with nat_eq (take size line.text) first then Some (length first) else (if size == length line.text then Some size else None)
+
+-- the first line of a body that has more than blanks and tabs says which are dropped
+abbrev pub begun : TextLine → ℕ → Body → Body
+begun line size body.Begins = if size == length line.text then body.Begins else body.Goes (take size line.text)
+begun line size it = it
+
+abbrev pub with_body_line : TextLine → ℕ → Reading → Option BodyLine → Result Reading ℕ
+with_body_line line size reading None = Err line.number
+with_body_line line size reading (Some made) =
+    Ok (record reading { items = at_last (add_line made.line) reading.items; lists = reading.lists ++ made.lists; body = begun line size reading.body })
+
+abbrev pub with_dropped : List ℕ → List ℕ → TextLine → ℕ → Reading → Option ℕ → Result Reading ℕ
+with_dropped path text line size reading None = Err line.number
+with_dropped path text line size reading (Some start) = with_body_line line size reading (body_line path text line start)
+
+abbrev pub with_body : List ℕ → List ℕ → TextLine → Reading → Result Reading ℕ
+with_body path text line reading = with_dropped path text line (indent line) reading (dropped reading.body line (indent line))
+
+-- after a line that means this
+abbrev pub with_meaning : List ℕ → List ℕ → TextLine → Meaning → Reading → Result Reading ℕ
+with_meaning path text line meaning.Bad reading = Err line.number
+with_meaning path text line meaning.Ignored reading = Ok reading
+with_meaning path text line meaning.Indented reading = with_body path text line reading
+with_meaning path text line (meaning.Marks mark) reading = Ok (with_mark reading line.number mark)
+with_meaning path text line (meaning.Begins h) reading = with_recipe reading h
+with_meaning path text line (meaning.Declares declared) reading = with_module reading declared
+with_meaning path text line (meaning.States it) reading = with_item reading (item_of it)
+
+-- for what follows
+abbrev pub onward : {A B : Type 0} → Result A ℕ → (A → Result B ℕ) → Result B ℕ
+onward (Err number) more = Err number
+onward (Ok x) more = more x
+
+-- after a line, with where it needs lists
+abbrev pub with_uses : List ListUse → Result Reading ℕ → Result Reading ℕ
+with_uses lists (Err number) = Err number
+with_uses lists (Ok reading) = Ok (record reading { lists = reading.lists ++ lists })
+
+abbrev pub with_said : List ℕ → List ℕ → TextLine → Said → Reading → Result Reading ℕ
+with_said path text line it reading = with_uses it.lists (with_meaning path text line it.meaning reading)
+
+-- after lines
+abbrev pub with_lines : List ℕ → List ℕ → Reading → List TextLine → Result Reading ℕ
+with_lines path text reading [] = Ok reading
+with_lines path text reading (line ∷ rest) = onward (with_said path text line (said path text line) reading) (λ more. with_lines path text more rest)
+
+-- before any line
+abbrev pub unread : Reading
+unread = record { items = []; lists = []; attributes = []; options = []; first = 0; body = body.Closed }
+
+-- at the end of a text no attribute is left
+abbrev pub finished : Reading → Result Items ℕ
+finished reading = if is_nil reading.attributes then Ok (record { items = reading.items; lists = reading.lists }) else Err reading.first
+
+-- the items of a text, or the number of a line that does not follow the grammar
+unfoldable pub items_of : List ℕ → List ℕ → Result Items ℕ
+items_of path text = onward (with_lines path text unread (lines_of text)) finished

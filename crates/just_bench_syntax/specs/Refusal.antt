@@ -1,0 +1,27 @@
+-- What a refusal of the plain grammar says.
+use Rattle.std.specs.Prelude.{◌≡◌, ◌<◌, ℕ, ◌^◌, List, Some, Err}
+use Rattle.std.specs.List.{slice_get}
+use Rattle.just_errors.specs.declared.error.CompileError.{CompileError}
+use Rattle.just_errors.specs.declared.error.CompileErrorKind.TheVariants.{Syntax}
+use Rattle.just_errors.specs.declared.error.Error.{Error}
+use Rattle.just_errors.specs.declared.error.Error.TheVariants as error
+use Rattle.just_bench_expressions.specs.declared.lines.TextLine.{TextLine}
+use Rattle.just_bench_expressions.specs.Lines.{lines_of, line_place}
+use Rattle.just_bench_syntax.specs.Items.{items_of}
+
+-- the token is the whole of the line that is told not to follow the grammar
+pub record IsBadLine (path text : List ℕ) (e : CompileError) : Type 0 where
+  pub kind : e.kind ≡ Syntax
+  pub told : items_of path text ≡ Err e.token.line
+  pub line : TextLine
+  pub stands : slice_get (lines_of text) e.token.line ≡ Some line
+  pub whole : e.token ≡ line_place path text line
+
+-- why the items of a text could not be made, where so many numbers are wanted, those that were given before among them
+abbrev pub RefusesLine : List ℕ → List ℕ → Error → ℕ → Type 0
+RefusesLine path text (error.Compile e) wanted = IsBadLine path text e
+RefusesLine path text error.Exhausted wanted = 2 ^ 64 < wanted
+RefusesLine path text error.Memory wanted = Unit {0}
+RefusesLine path text (error.Load e) wanted = ⊥
+RefusesLine path text (error.Invocation e) wanted = ⊥
+RefusesLine path text (error.Run e) wanted = ⊥

@@ -1,6 +1,0 @@
-use Rattle.std.proofs.Common.{◌≡◌, drop}
-use Rattle.just_definitions.specs.Labels.{doc_of}
-use Rattle.just_definitions.proofs.labels.doc_of.Given as goal
-
-abbrev pub invariant-loop-named : goal.invariant-loop-named
-invariant-loop-named l = doc_of l.attributes ≡ doc_of (drop l.named-index l.attributes)

@@ -1,0 +1,16 @@
+//! The answers of worked examples, line by line: what a text says, what the crates below the analyzer answer, what a
+//! compilation has, what words mean in it, and what a run did.
+#![tactic(auto)]
+
+mod answers;
+mod bundles;
+pub mod compiled;
+mod copies;
+mod items;
+mod paths;
+mod readings;
+mod runs;
+pub mod variables;
+
+pub use answers::answer;
+pub use items::{answer_text, read_pairs};

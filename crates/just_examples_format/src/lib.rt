@@ -1,0 +1,11 @@
+//! The lines of worked examples: how a case is written, and what tells of a fault and of the modules of a compilation.
+#![tactic(auto)]
+
+pub mod asked;
+pub mod cases;
+pub mod faults;
+pub mod lists;
+mod modules;
+pub mod written;
+
+pub use modules::{add_loaded, add_modules};

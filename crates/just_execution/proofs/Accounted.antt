@@ -1,0 +1,317 @@
+-- For every host a run has its account.
+use Rattle.std.proofs.Common.{◌≡◌, ◌⊎◌, ℕ, zero, suc, ◌<◌, ◌≤◌, ◌^◌, true, false, List, [], ◌∷◌, ◌++◌, length, map, get_or, Option, Some, None, Result, Ok, Err, refl, sym, ◌∙◌, ap, subst, inl, inr, arith}
+use Rattle.std.specs.List.{All, slice_get}
+use Rattle.std.proofs.lemmas.Bool.{cases_Bool, cond-true, cond-false}
+use Rattle.std.proofs.lemmas.List.{append-nil}
+use Rattle.std.proofs.lemmas.List.Elements.{All-head, All-tail, All-nil, All-cons, All-weaker, All-map}
+use Rattle.just_paths.specs.declared.modulepath.Modulepath.{Modulepath}
+use Rattle.just_recipe.specs.declared.dependency.Dependency.{Dependency}
+use Rattle.just_errors.specs.declared.halt.Halt.{Halt}
+use Rattle.just_errors.specs.declared.halt.Halt.TheVariants.{Memory, Exhausted, Failed}
+use Rattle.just_parts.specs.declared.layers.host.Entry.{Entry}
+use Rattle.just_parts.specs.declared.layers.host.Entry.TheVariants.{Begin}
+use Rattle.just_recipe.specs.declared.recipe.Recipe.{Recipe}
+use Rattle.just_parts.specs.Host.{Answer, Executed, executed}
+use Rattle.just_parts.specs.Steps.{Kept, executed_in, Question, Steps, Give, and_then, Took}
+use Rattle.just_parts.proofs.StepLemmas.{took-split}
+use Rattle.just_execution.specs.declared.pair.Pair.{Pair}
+use Rattle.just_execution.specs.Account.{Asked, OnceTables, Empty, Asks, Runs, own, executions, In, AreIn, AreNamed, Complete, counts, HasAccount, Tells, of_recipe, at_path}
+use Rattle.just_execution.specs.Firsts.{has}
+use Rattle.just_execution.specs.Leaves.{begin_steps, recipe_steps, leaves_of}
+use Rattle.just_execution.specs.declared.task.Task.{Task}
+use Rattle.just_execution.specs.Pairs.{OnceTable, same_pair, place_of, task_of, prior_dependencies, subsequent_dependencies, AllBelow}
+use Rattle.just_recipe.specs.Recipes.{IsOrdered}
+use Rattle.just_execution.specs.Walking.{Leaves, State, counted, all_steps, opened, fresh_steps, block_steps, ran, ran_steps, visit_steps, walk_steps}
+use Rattle.just_execution.proofs.Joined.{with_priors, asks, join, still-new, In-left, In-right, add-zero, none-in, none-below}
+use Rattle.just_execution.proofs.Places.{priors-before, subsequents-before}
+use Rattle.just_execution.proofs.Standing.{Stands, Walked, Accounts, IsFresh, Blocks, ok-is, ok-not, err-is, memory-not, gained-none, gave, broke, stands-then, stands-low, accounts-then, accounts-broke, count-split, full-here, stands-asked, stands-opened, fresh-of, fresh-broke, block-broke, block-none, block-ran, ask-broke, priors-broke, visit-broke, visit-ran}
+
+-- what steps for tasks keep: nothing is executed, and they come to what is named
+pub record GivesNamed (recipes : List (Recipe Dependency)) (dependencies : List Dependency) (old new : Kept) (r : Result (List Task) Halt) : Type 0 where
+  pub still : executed_in new ≡ executed_in old
+  pub named : (ts : List Task) → r ≡ Ok ts → AreNamed recipes dependencies ts
+  pub unfull : r ≡ Err Exhausted → ⊥
+
+-- what the steps of a body keep: the task is executed, or they failed
+pub record GivesExecuted (recipes : List (Recipe Dependency)) (t : Task) (old new : Kept) (r : Result (Unit {0}) Halt) : Type 0 where
+  pub whole : (x : Unit {0}) → r ≡ Ok x → executed_in new ≡ executed_in old ++ executions recipes (t ∷ [])
+  pub broken : (e : Halt) → r ≡ Err e → (executed_in new ≡ executed_in old ++ executions recipes (t ∷ [])) ⊎ (executed_in new ≡ executed_in old)
+  pub unfull : r ≡ Err Exhausted → ⊥
+
+-- what is asked of one task keeps these, under the promises p
+pub record AreAccounted (recipes : List (Recipe Dependency)) (leaves : Leaves) (p : Question → Option Answer) : Type 0 where
+  pub ask : (t : Task) (old new : Kept) (r : Result (List Task) Halt) → Took p (leaves.ask t) old new r → GivesNamed recipes (prior_dependencies recipes t.pair.recipe) old new r
+  pub follow : (t : Task) (old new : Kept) (r : Result (List Task) Halt) → Took p (leaves.follow t) old new r → GivesNamed recipes (subsequent_dependencies recipes t.pair.recipe) old new r
+  pub execute : (t : Task) (old new : Kept) (r : Result (Unit {0}) Halt) → Took p (leaves.execute t) old new r → GivesExecuted recipes t old new r
+
+-- tasks that are named stand where what they are named by stands
+All-unmap : {X Y : Type 0} (P : X → Type 0) (f : Y → X) (ys : List Y) → All P (map f ys) → All (λ y. P (f y)) ys
+All-unmap P f [] h = All-nil (λ y. P (f y))
+All-unmap P f (y ∷ ys) h = All-cons (λ y. P (f y)) y ys (All-head P (f y) (map f ys) h) (All-unmap P f ys (All-tail P (f y) (map f ys) h))
+
+named-below : (recipes : List (Recipe Dependency)) (k : ℕ) (ds : List Dependency) (ts : List Task) → AllBelow k (map (task_of recipes) ds) → AreNamed recipes ds ts → AllBelow k ts
+named-below recipes k ds ts h n =
+    let low : ℕ → Type 0 = λ m. m < k in
+    let these : All (λ (d : Dependency). place_of recipes d.recipe.0 < k) ds = All-unmap (λ (t : Task). t.pair.recipe < k) (task_of recipes) ds h in
+    let places : All low (map (λ (d : Dependency). place_of recipes d.recipe.0) ds) = All-map low (λ (d : Dependency). place_of recipes d.recipe.0) ds these in
+    All-unmap low (λ (t : Task). t.pair.recipe) ts (subst (All low) (sym n.places) places)
+
+-- what the result says
+tells-of : (recipes : List (Recipe Dependency)) (tops : List Task) (old new : Kept) (r : Result (List ℕ) Halt) (u : OnceTables) → IsFresh recipes tops [] old new r u → Tells recipes tops u r
+tells-of recipes tops old new (Ok calls) u a =
+    let w : AreIn (own u) tops × Complete recipes u × (calls ≡ counts tops u) = a.whole calls refl in
+    record { all_begun = w.0; complete = w.1; counted = w.2 }
+tells-of recipes tops old new (Err Exhausted) u a = a.full refl
+tells-of recipes tops old new (Err Memory) u a = tt
+tells-of recipes tops old new (Err (Failed e)) u a = tt
+
+module _ (recipes : List (Recipe Dependency)) (leaves : Leaves) (p : Question → Option Answer) (ordered : IsOrdered recipes) (leaf : AreAccounted recipes leaves p) where
+  -- what is proved of a walk of tasks below n
+  abbrev WalkAt : ℕ → Type 0
+  WalkAt n = (tops : List Task) (before : List Asked) (done : List Pair) (s : State) (t : Task) (old new : Kept) (r : Result State Halt) →
+      t.pair.recipe < n → Stands tops before done (suc t.pair.recipe) s (t ∷ []) →
+      Took p (walk_steps leaves n s t) old new r → (u : OnceTables) × Accounts recipes tops before done (suc t.pair.recipe) s (t ∷ []) old new r u
+
+  -- tasks in turn, under one table
+  all-at : (n : ℕ) → WalkAt n → (tops : List Task) (ts : List Task) (before : List Asked) (done : List Pair) (bound : ℕ) (s : State) (old new : Kept) (r : Result State Halt) →
+      bound ≤ n → AllBelow bound ts → Stands tops before done bound s ts →
+      Took p (all_steps (walk_steps leaves n) s ts) old new r → (u : OnceTables) × Accounts recipes tops before done bound s ts old new r u
+  all-at n walk tops [] before done bound s old new r l b a t =
+      (Empty, gave recipes tops before done bound s s [] old new r refl a.table (sym (add-zero s.calls s.number)) (none-in done) t.0 t.1)
+  all-at n walk tops (x ∷ xs) before done bound s old new r l b a t =
+      let low : x.pair.recipe < bound = All-head (λ (q : Task). q.pair.recipe < bound) x xs b in
+      let rest : AllBelow bound xs = All-tail (λ (q : Task). q.pair.recipe < bound) x xs b in
+      let here : Stands tops before done (suc x.pair.recipe) s (x ∷ []) = stands-low tops before done (suc x.pair.recipe) bound s x xs (omega arith) a in
+      let inside : x.pair.recipe < n = omega arith in
+      let most : suc x.pair.recipe ≤ bound = omega arith in
+      elim (took-split p (walk_steps leaves n s x) (λ now. all_steps (walk_steps leaves n) now xs) old new r t) [
+        | inl (now, mid, gives, first, later) ↦
+            let (u, c) = walk tops before done s x old mid (Ok now) inside here first in
+            let w : Walked recipes done (x ∷ []) s now u = c.whole now refl in
+            let (v, d) = all-at n walk tops xs (before ++ asks u) (done ++ own u) bound now mid new r l rest (stands-then recipes tops before done bound s now x xs u a w) later in
+            (join u v, accounts-then recipes tops before done (suc x.pair.recipe) bound s now x xs old mid new r u v most a.number c d)
+        | inr (e, h, first) ↦
+            let (u, c) = walk tops before done s x old new (Err e) inside here first in
+            (u, accounts-broke recipes tops before done (suc x.pair.recipe) bound s x xs old new r e u most h c)
+      ]
+
+  -- tasks under a table of their own
+  fresh-at : (n : ℕ) → WalkAt n → (ts : List Task) (calls : List ℕ) (old new : Kept) (r : Result (List ℕ) Halt) → AllBelow n ts →
+      Took p (fresh_steps (walk_steps leaves n) ts calls) old new r → (u : OnceTables) × IsFresh recipes ts calls old new r u
+  fresh-at n walk [] calls old new r b t = (
+    Empty,
+    record {
+      gained = gained-none recipes old new (ap executed_in t.0);
+      fits = tt;
+      whole = λ now h. elim (t.1) [
+        | inl k ↦ (none-in [], tt, ok-is r now calls h k ∙ sym (append-nil calls))
+        | inr k ↦ absurd (ok-not r now Memory h k)
+      ];
+      full = λ h. elim (t.1) [
+        | inl k ↦ absurd (ok-not r calls Exhausted k h)
+        | inr k ↦ absurd (memory-not (err-is r Memory Exhausted k h))
+      ];
+    },
+  )
+  fresh-at n walk (x ∷ xs) calls old new r b t =
+      let stands : Stands (x ∷ xs) [] [] n (opened calls) (x ∷ xs) = stands-opened (x ∷ xs) n calls in
+      elim (took-split p (all_steps (walk_steps leaves n) (opened calls) (x ∷ xs)) (λ s. Give s.calls) old new r t) [
+        | inl (now, mid, gives, first, later) ↦
+            let (u, c) = all-at n walk (x ∷ xs) (x ∷ xs) [] [] n (opened calls) old mid (Ok now) (omega arith) b stands first in
+            (u, subst (λ es. IsFresh recipes (x ∷ xs) calls old es r u) (sym later.0) (fresh-of recipes x xs n calls now old mid r u c later.1))
+        | inr (e, h, first) ↦
+            let (u, c) = all-at n walk (x ∷ xs) (x ∷ xs) [] [] n (opened calls) old new (Err e) (omega arith) b stands first in
+            (u, fresh-broke recipes (x ∷ xs) n (opened calls) calls old new r e u c h)
+      ]
+
+  -- the body of a task, and its subsequents
+  block-at : (n : ℕ) → WalkAt n →
+      (tops : List Task) (before : List Asked) (done : List Pair) (t : Task) (ps : List Task) (calls : List ℕ) (old new : Kept) (r : Result (List ℕ) Halt) → t.pair.recipe ≤ n →
+      In (with_priors t ps) before → has same_pair done t.pair ≡ false → AreIn done ps →
+      Took p (block_steps leaves (walk_steps leaves n) t calls) old new r → (u : OnceTables) × Blocks recipes tops before done t ps calls old new r u
+  block-at n walk tops before done t ps calls old new r l i m d took =
+      elim (took-split p (leaves.execute t) (λ _. and_then (leaves.follow t) (λ ts. fresh_steps (walk_steps leaves n) ts calls)) old new r took) [
+        | inl (x, mid, gives, first, later) ↦
+            let g : executed_in mid ≡ executed_in old ++ executions recipes (t ∷ []) = (leaf.execute t old mid (Ok x) first).whole x refl in
+            elim (took-split p (leaves.follow t) (λ ts. fresh_steps (walk_steps leaves n) ts calls) mid new r later) [
+              | inl (ss, next, given, second, last) ↦
+                  let f : GivesNamed recipes (subsequent_dependencies recipes t.pair.recipe) mid next (Ok ss) = leaf.follow t mid next (Ok ss) second in
+                  let named : AreNamed recipes (subsequent_dependencies recipes t.pair.recipe) ss = f.named ss refl in
+                  let low : AllBelow t.pair.recipe ss = named-below recipes t.pair.recipe (subsequent_dependencies recipes t.pair.recipe) ss (subsequents-before recipes t.pair ordered) named in
+                  let inside : AllBelow n ss = All-weaker (λ (q : Task). q.pair.recipe < t.pair.recipe) (λ (q : Task). q.pair.recipe < n) (λ q h. omega arith) ss low in
+                  let (v, c) = fresh-at n walk ss calls next new r inside last in
+                  (Runs t ps ss v Empty, block-ran recipes tops before done t ps ss calls old next new r v i m d named (f.still ∙ g) c)
+              | inr (e, h, second) ↦
+                  let f : GivesNamed recipes (subsequent_dependencies recipes t.pair.recipe) mid new (Err e) = leaf.follow t mid new (Err e) second in
+                  (Runs t ps [] Empty Empty, block-broke recipes tops before done t ps calls old new r e i m d h (λ k. f.unfull (ap (λ x. Err x) k)) (f.still ∙ g))
+            ]
+        | inr (e, h, first) ↦
+            let f : GivesExecuted recipes t old new (Err e) = leaf.execute t old new (Err e) first in
+            elim (f.broken e refl) [
+              | inl g ↦ (Runs t ps [] Empty Empty, block-broke recipes tops before done t ps calls old new r e i m d h (λ k. f.unfull (ap (λ x. Err x) k)) g)
+              | inr g ↦ (Empty, block-none recipes tops before done t ps calls old new r e h (λ k. f.unfull (ap (λ x. Err x) k)) g)
+            ]
+      ]
+
+  -- the visit of a task whose pair did not run
+  abbrev asking : ℕ → State → Task → Steps State
+  asking n s t = and_then (leaves.ask t) (λ ps. and_then (all_steps (walk_steps leaves n) (counted s) ps) (ran_steps leaves (walk_steps leaves n) t))
+
+  visit-at : (n : ℕ) → WalkAt n → (tops : List Task) (before : List Asked) (done : List Pair) (s : State) (t : Task) (old new : Kept) (r : Result State Halt) → t.pair.recipe ≤ n →
+      Stands tops before done (suc t.pair.recipe) s (t ∷ []) → has same_pair done t.pair ≡ false →
+      Took p (asking n s t) old new r →
+      (u : OnceTables) × Accounts recipes tops before done (suc t.pair.recipe) s (t ∷ []) old new r u
+  visit-at n walk tops before done s t old new r l a m took =
+      elim (took-split p (leaves.ask t) (λ ps. and_then (all_steps (walk_steps leaves n) (counted s) ps) (ran_steps leaves (walk_steps leaves n) t)) old new r took) [
+        | inl (ps, mid, gives, first, later) ↦
+            let f : GivesNamed recipes (prior_dependencies recipes t.pair.recipe) old mid (Ok ps) = leaf.ask t old mid (Ok ps) first in
+            let named : AreNamed recipes (prior_dependencies recipes t.pair.recipe) ps = f.named ps refl in
+            let low : AllBelow t.pair.recipe ps = named-below recipes t.pair.recipe (prior_dependencies recipes t.pair.recipe) ps (priors-before recipes t.pair ordered) named in
+            let stands : Stands tops (before ++ with_priors t ps ∷ []) done t.pair.recipe (counted s) ps = stands-asked tops before done s t ps a in
+            elim (took-split p (all_steps (walk_steps leaves n) (counted s) ps) (ran_steps leaves (walk_steps leaves n) t) mid new r later) [
+              | inl (now, next, given, second, last) ↦
+                  let (u, c) = all-at n walk tops ps (before ++ with_priors t ps ∷ []) done t.pair.recipe (counted s) mid next (Ok now) l low stands second in
+                  let w : Walked recipes done ps (counted s) now u = c.whole now refl in
+                  let member : In (with_priors t ps) ((before ++ with_priors t ps ∷ []) ++ asks u) =
+                  In-left (with_priors t ps) (before ++ with_priors t ps ∷ []) (asks u) (In-right (with_priors t ps) before (with_priors t ps ∷ []) (inl refl)) in
+                  let unbegun : has same_pair (done ++ own u) t.pair ≡ false = still-new done (own u) t.pair m c.low in
+                  elim (took-split p (block_steps leaves (walk_steps leaves n) t now.calls) (λ calls. Give (ran now t calls)) next new r last) [
+                    | inl (calls, end, gave_it, third, rest) ↦
+                        let (v, b) = block-at n walk tops ((before ++ with_priors t ps ∷ []) ++ asks u) (done ++ own u) t ps now.calls next end (Ok calls) l member unbegun w.all_done third in (
+                          Asks (with_priors t ps) (join u v),
+                          subst (λ es. Accounts recipes tops before done (suc t.pair.recipe) s (t ∷ []) old es r (Asks (with_priors t ps) (join u v))) (sym rest.0)
+                              (visit-ran recipes tops before done s now t ps calls old mid next end r u v a m named f.still c b rest.1),
+                        )
+                    | inr (e, h, third) ↦
+                        let (v, b) = block-at n walk tops ((before ++ with_priors t ps ∷ []) ++ asks u) (done ++ own u) t ps now.calls next new (Err e) l member unbegun w.all_done third in
+                        (Asks (with_priors t ps) (join u v), visit-broke recipes tops before done s now t ps now.calls old mid next new r e u v a m named f.still h c b)
+                  ]
+              | inr (e, h, second) ↦
+                  let (u, c) = all-at n walk tops ps (before ++ with_priors t ps ∷ []) done t.pair.recipe (counted s) mid new (Err e) l low stands second in
+                  (Asks (with_priors t ps) u, priors-broke recipes tops before done s t ps old mid new r e u a m named f.still h c)
+            ]
+        | inr (e, h, first) ↦
+            let f : GivesNamed recipes (prior_dependencies recipes t.pair.recipe) old new (Err e) = leaf.ask t old new (Err e) first in
+            (Asks (with_priors t []) Empty, ask-broke recipes tops before done s t old new r e a m h (λ k. f.unfull (ap (λ x. Err x) k)) f.still)
+      ]
+
+  -- one place more
+  step-at : (n : ℕ) → WalkAt n → WalkAt (suc n)
+  step-at n walk tops before done s t old new r l a took =
+      let within : t.pair.recipe ≤ n = omega arith in
+      elim (count-split p (get_or s.calls s.number 0) (2 ^ 64) (counted s) (visit_steps leaves (walk_steps leaves n) t) old new r took) [
+        | inl (inl (e, c, h)) ↦ (
+          Empty,
+          broke recipes tops before done (suc t.pair.recipe) s (t ∷ []) old new r Empty Exhausted h (gained-none recipes old new (ap executed_in e)) tt (none-below (suc t.pair.recipe))
+              (λ k. inl (full-here tops before done (suc t.pair.recipe) s t (2 ^ 64) a c)),
+        )
+        | inl (inr (e, h)) ↦ (
+          Empty,
+          broke recipes tops before done (suc t.pair.recipe) s (t ∷ []) old new r Empty Memory h (gained-none recipes old new (ap executed_in e)) tt (none-below (suc t.pair.recipe))
+              (λ k. absurd (memory-not k)),
+        )
+        | inr visit ↦ elim (cases_Bool (s.table t.pair)) [
+          | inl h ↦
+              let given : Took p (Give (counted s)) old new r = subst (λ (q : Steps State). Took p q old new r)
+              (cond-true (s.table t.pair) (Give (counted s)) (asking n s t) h) visit in
+              let here : has same_pair done t.pair ≡ true = sym (ap (λ (f : OnceTable). f t.pair) a.table) ∙ h in (
+                Empty,
+                gave recipes tops before done (suc t.pair.recipe) s (counted s) (t ∷ []) old new r refl a.table refl
+                    (All-cons (λ (q : Task). has same_pair done q.pair ≡ true) t [] here (none-in done)) given.0 given.1,
+              )
+          | inr h ↦
+              let going : Took p (asking n s t) old new r = subst (λ (q : Steps State). Took p q old new r)
+              (cond-false (s.table t.pair) (Give (counted s)) (asking n s t) h) visit in
+              let missing : has same_pair done t.pair ≡ false = sym (ap (λ (f : OnceTable). f t.pair) a.table) ∙ h in
+              visit-at n walk tops before done s t old new r within a missing going
+        ]
+      ]
+
+  walk-at : (n : ℕ) → WalkAt n
+  walk-at zero tops before done s t old new r l a took = absurd (omega arith)
+  walk-at (suc n) tops before done s t old new r l a took = step-at n (walk-at n) tops before done s t old new r l a took
+
+  -- a run of tasks below n has its account
+  pub account-of : (n : ℕ) (tops : List Task) → AllBelow n tops → (old new : Kept) (r : Result (List ℕ) Halt) → Took p (fresh_steps (walk_steps leaves n) tops []) old new r →
+      (t : OnceTables) × HasAccount recipes old new tops t × Tells recipes tops t r
+  account-of n tops b old new r took =
+      let (u, a) = fresh-at n (walk-at n) tops [] old new r b took in
+      (u, record { gained = a.gained; fits = a.fits }, tells-of recipes tops old new r u a)
+
+-- the leaves of recipes: nothing is asked before the priors and the subsequents
+named-all : (recipes : List (Recipe Dependency)) (ds : List Dependency) → AreNamed recipes ds (map (task_of recipes) ds)
+named-all recipes ds = record {
+  places = places ds;
+  flags = All-map (λ (t : Task). t.dependency ≡ true) (task_of recipes) ds (λ i d l. refl);
+} where
+  places : (xs : List Dependency) → map (λ (t : Task). t.pair.recipe) (map (task_of recipes) xs) ≡ map (λ (d : Dependency). place_of recipes d.recipe.0) xs
+  places [] = refl
+  places (x ∷ xs) = ap (λ ns. place_of recipes x.recipe.0 ∷ ns) (places xs)
+
+gives-named : (recipes : List (Recipe Dependency)) (p : Question → Option Answer) (ds : List Dependency) (old new : Kept) (r : Result (List Task) Halt) →
+    Took p (Give (map (task_of recipes) ds)) old new r → GivesNamed recipes ds old new r
+gives-named recipes p ds old new r t = record {
+  still = ap executed_in t.0;
+  named = λ ts h. elim (t.1) [
+    | inl k ↦ subst (λ ts. AreNamed recipes ds ts) (ok-is r (map (task_of recipes) ds) ts k h) (named-all recipes ds)
+    | inr k ↦ absurd (ok-not r ts Memory h k)
+  ];
+  unfull = λ h. elim (t.1) [
+    | inl k ↦ absurd (ok-not r (map (task_of recipes) ds) Exhausted k h)
+    | inr k ↦ absurd (memory-not (err-is r Memory Exhausted k h))
+  ];
+}
+
+-- what was executed is what the entries say, one after another
+executed-append : (xs ys : List Entry) → executed (xs ++ ys) ≡ executed xs ++ executed ys
+executed-append [] ys = refl
+executed-append (Begin path groups ∷ xs) ys = ap (λ es. record { path = path; groups = groups } ∷ es) (executed-append xs ys)
+
+abbrev IsExecuted : List Executed → Kept → Kept → Result (Unit {0}) Halt → Type 0
+IsExecuted es old new r = ((executed_in new ≡ executed_in old ++ es) × ((r ≡ Ok tt) ⊎ (r ≡ Err Memory))) ⊎ ((executed_in new ≡ executed_in old) × (r ≡ Err Memory))
+
+no-execution : (old new : Kept) → new ≡ old → executed_in new ≡ executed_in old ++ []
+no-execution old new h = ap executed_in h ∙ sym (append-nil (executed_in old))
+
+begin-executes : (p : Question → Option Answer) (groups : List (List (List ℕ))) (o : Option Modulepath) (old new : Kept) (r : Result (Unit {0}) Halt) →
+    Took p (begin_steps groups o) old new r → IsExecuted (at_path groups o) old new r
+begin-executes p groups None old new r t = inl (no-execution old new t.0, t.1)
+begin-executes p groups (Some path) old new r (inl t) = inr (ap executed_in t.0, t.1)
+begin-executes p groups (Some path) old new r (inr t) = inl (ap executed_in t.2.0 ∙ executed-append old.entries (Begin path groups ∷ []), t.2.1)
+
+recipe-executes : (p : Question → Option Answer) (t : Task) (o : Option (Recipe Dependency)) (old new : Kept) (r : Result (Unit {0}) Halt) → Took p (recipe_steps t o) old new r →
+    IsExecuted (of_recipe t o) old new r
+recipe-executes p t None old new r h = inl (no-execution old new h.0, h.1)
+recipe-executes p t (Some recipe) old new r h = begin-executes p t.pair.groups recipe.recipe_path old new r h
+
+gives-executed : (recipes : List (Recipe Dependency)) (t : Task) (old new : Kept) (r : Result (Unit {0}) Halt) →
+    IsExecuted (of_recipe t (slice_get recipes t.pair.recipe)) old new r → GivesExecuted recipes t old new r
+gives-executed recipes t old new r (inl h) =
+    let one : executed_in old ++ of_recipe t (slice_get recipes t.pair.recipe) ≡ executed_in old ++ executions recipes (t ∷ []) =
+    ap (λ x. executed_in old ++ x) (sym (append-nil (of_recipe t (slice_get recipes t.pair.recipe)))) in
+    record {
+      whole = λ x k. h.0 ∙ one;
+      broken = λ e k. inl (h.0 ∙ one);
+      unfull = λ k. elim (h.1) [
+        | inl j ↦ absurd (ok-not r tt Exhausted j k)
+        | inr j ↦ absurd (memory-not (err-is r Memory Exhausted j k))
+      ];
+    }
+gives-executed recipes t old new r (inr h) = record {
+  whole = λ x k. absurd (ok-not r x Memory k h.1);
+  broken = λ e k. inr h.0;
+  unfull = λ k. absurd (memory-not (err-is r Memory Exhausted h.1 k));
+}
+
+pub leaves-accounted : (recipes : List (Recipe Dependency)) (p : Question → Option Answer) → AreAccounted recipes (leaves_of recipes) p
+leaves-accounted recipes p = record {
+  ask = λ t old new r h. gives-named recipes p (prior_dependencies recipes t.pair.recipe) old new r h;
+  follow = λ t old new r h. gives-named recipes p (subsequent_dependencies recipes t.pair.recipe) old new r h;
+  execute = λ t old new r h. gives-executed recipes t old new r (recipe-executes p t (slice_get recipes t.pair.recipe) old new r h);
+}
+
+-- The account of a run of recipes, for every host.
+pub fresh-account : (recipes : List (Recipe Dependency)) → IsOrdered recipes → (p : Question → Option Answer) (tops : List Task) →
+    AllBelow (length recipes) tops → (old new : Kept) (r : Result (List ℕ) Halt) →
+    Took p (fresh_steps (walk_steps (leaves_of recipes) (length recipes)) tops []) old new r → (t : OnceTables) × HasAccount recipes old new tops t × Tells recipes tops t r
+fresh-account recipes ordered p tops below old new r took = account-of recipes (leaves_of recipes) p ordered (leaves-accounted recipes p) (length recipes) tops below old new r took

@@ -1,0 +1,142 @@
+-- Frames and counters, as the code changes them.
+use Rattle.std.specs.List.{All}
+use Rattle.std.proofs.Common.{◌≡◌, ◌≢◌, ℕ, zero, suc, ◌+◌, ◌^◌, ◌<◌, ◌≤◌, List, [], ◌∷◌, ◌++◌, length, get_or, set, refl, sym, ◌∙◌, ap, subst, arith, append_assoc}
+use Rattle.std.proofs.lemmas.List.{length_push}
+use Rattle.std.proofs.lemmas.List.Elements.{All-nil, All-cons, All-append, All-head, All-tail, All-weaker}
+use Rattle.just_parts.specs.Steps.{Steps, and_then}
+use Rattle.just_execution.specs.declared.course.Course.{Course}
+use Rattle.just_execution.specs.declared.frame.Frame.{Frame}
+use Rattle.just_execution.specs.declared.frame.Frame.TheVariants.{Call, Block, Back}
+use Rattle.just_execution.specs.declared.frame.OpenTable.{OpenTable}
+use Rattle.just_execution.specs.declared.pair.Pair.{Pair}
+use Rattle.just_execution.specs.Frames.{walk_at, with_calls, under, left, calls_of, IsOpen, AreOpen, state_of, IsSound, IsLighter, IsOpened, left_of}
+use Rattle.just_execution.specs.Homes.{IsCallable}
+use Rattle.just_execution.specs.declared.task.Task.{Task}
+use Rattle.just_execution.specs.Pairs.{AllBelow, put, table_of}
+use Rattle.just_execution.specs.Walking.{Leaves, State, add_at, counted, opened, fresh_steps, ran}
+use Rattle.just_execution.proofs.FrameLemmas.{opened-left}
+use Rattle.just_execution.proofs.WeightLemmas.{block-lighter, taken-lighter}
+
+pub add-set : (ns : List ℕ) (i d a : ℕ) → i < length ns → set ns i (get_or ns i d + a) ≡ add_at ns i a
+add-set [] i d a h = absurd (omega arith)
+add-set (n ∷ ns) zero d a h = refl
+add-set (n ∷ ns) (suc i) d a h = ap (λ x. n ∷ x) (add-set ns i d a (omega arith))
+
+-- the last task is called last
+pub calls-last : (ts : List Task) (t : Task) → calls_of (ts ++ t ∷ []) ≡ Call t ∷ calls_of ts
+calls-last [] t = refl
+calls-last (u ∷ ts) t = ap (λ x. x ++ Call u ∷ []) (calls-last ts t)
+
+-- one more task is called
+pub one-called : (frames more all : List Frame) (left right : List Task) (t : Task) → right ≡ left ++ t ∷ [] → more ≡ frames ++ Call t ∷ [] → frames ++ calls_of right ≡ all → more ++ calls_of left ≡ all
+one-called frames more all left right t is pushed h =
+    ap (λ x. x ++ calls_of left) pushed ∙ append_assoc frames (Call t ∷ []) (calls_of left)
+    ∙ ap (λ x. frames ++ x) (sym (calls-last left t) ∙ ap calls_of (sym is)) ∙ h
+
+-- a frame is put in, and tasks are called above it
+pub pushed-calls : (one xs : List Frame) (x : Frame) (ts : List Task) (all : List Frame) → one ≡ xs ++ x ∷ [] → all ≡ one ++ calls_of ts → all ≡ xs ++ x ∷ calls_of ts
+pushed-calls one xs x ts all e h = h ∙ ap (λ ys. ys ++ calls_of ts) e ∙ append_assoc xs (x ∷ []) (calls_of ts)
+
+pub first-calls : (one all : List Frame) (ts : List Task) → one ≡ [] → all ≡ one ++ calls_of ts → all ≡ calls_of ts
+first-calls one all ts none h = h ∙ ap (λ xs. xs ++ calls_of ts) none
+
+-- the frames that are open stay so while counters are added
+open-more : (P : Task → Type 0) (n m : ℕ) → n ≤ m → (x : Frame) → IsOpen P n x → IsOpen P m x
+open-more P n m l (Call t) h = h
+open-more P n m l (Block t) h = h
+open-more P n m l (Back outer) h = omega arith
+
+pub opens-more : (P : Task → Type 0) (n m : ℕ) → n ≤ m → (xs : List Frame) → AreOpen P n xs → AreOpen P m xs
+opens-more P n m l xs h = All-weaker (IsOpen P n) (IsOpen P m) (open-more P n m l) xs h
+
+-- tasks below a place are open above other frames
+pub opens-calls : (P : Task → Type 0) (n : ℕ) (ts : List Task) → All P ts → AreOpen P n (calls_of ts)
+opens-calls P n [] b = All-nil (IsOpen P n)
+opens-calls P n (t ∷ ts) b = All-append (IsOpen P n) (calls_of ts) (Call t ∷ [])
+    (opens-calls P n ts (All-tail P t ts b))
+    (All-cons (IsOpen P n) (Call t) [] (All-head P t ts b) (All-nil (IsOpen P n)))
+
+pub opens-over : (P : Task → Type 0) (n : ℕ) (xs : List Frame) (x : Frame) (ts : List Task) → AreOpen P n xs → IsOpen P n x → All P ts → AreOpen P n (xs ++ x ∷ calls_of ts)
+opens-over P n xs x ts h k b = All-append (IsOpen P n) xs (x ∷ calls_of ts) h (All-cons (IsOpen P n) x (calls_of ts) k (opens-calls P n ts b))
+
+-- tasks are called under a table of their own
+left-opened : (leaves : Leaves) (xs : List Frame) (outer : OpenTable) (tasks : List Task) (calls : List ℕ) → tasks ≢ [] →
+    left leaves (xs ++ Back outer ∷ calls_of tasks) (opened calls) ≡ and_then (fresh_steps (walk_at leaves) tasks calls) (λ calls. left leaves xs (under outer calls))
+left-opened leaves xs outer [] calls some = absurd (some refl)
+left-opened leaves xs outer (t ∷ ts) calls some = opened-left leaves xs outer t ts calls
+
+module _ (old new : Course) (tasks : List Task) (frames : new.frames.items ≡ old.frames.items ++ Back old.current ∷ calls_of tasks) (state : state_of new ≡ opened old.calls.items) where
+  course-opened : tasks ≢ [] → (leaves : Leaves) → left_of leaves new ≡ and_then (fresh_steps (walk_at leaves) tasks old.calls.items) (λ calls. left leaves old.frames.items (with_calls (state_of old) calls))
+  course-opened some leaves = ap (λ xs. left leaves xs (state_of new)) frames ∙ ap (left leaves (old.frames.items ++ Back old.current ∷ calls_of tasks)) state
+      ∙ left-opened leaves old.frames.items old.current tasks old.calls.items some
+
+  sound-opened : (P : Task → Type 0) → IsSound P old → All P tasks → IsSound P new
+  sound-opened P sound below =
+      let calls : new.calls.items ≡ old.calls.items ++ 0 ∷ [] = ap (λ s. s.calls) state in
+      let more : length new.calls.items ≡ length old.calls.items + 1 = ap length calls ∙ length_push old.calls.items 0 in
+      let number : new.current.number ≡ length old.calls.items = ap (λ s. s.number) state in
+      record {
+        frames = subst (AreOpen P (length new.calls.items)) (sym frames)
+            (opens-over P (length new.calls.items) old.frames.items (Back old.current) tasks (opens-more P (length old.calls.items) (length new.calls.items) (omega arith) old.frames.items sound.frames) (omega (arith, sound.number)) below);
+        number = omega arith;
+      }
+
+-- a table is opened; or none, where there are no tasks
+pub is-opened : (old new : Course) (tasks : List Task) → new.frames.items ≡ old.frames.items ++ Back old.current ∷ calls_of tasks → state_of new ≡ opened old.calls.items → tasks ≢ [] → length tasks < 2 ^ 64 → IsOpened old tasks new
+is-opened old new tasks frames state some few = record {
+  left = course-opened old new tasks frames state some;
+  sound = λ modules recipes callables sound. sound-opened old new tasks frames state (IsCallable modules recipes) sound callables;
+  lighter = λ t below. subst (λ fs. IsLighter fs old.frames.items (Block t)) (sym frames) (block-lighter (2 ^ 64) old.frames.items t old.current tasks below few);
+}
+
+pub not-opened : (old : Course) (tasks : List Task) → length tasks ≡ 0 → IsOpened old tasks old
+not-opened old (t ∷ ts) none = absurd (omega arith)
+not-opened old [] none = record {
+  left = λ leaves. refl;
+  sound = λ modules recipes callables sound. sound;
+  lighter = λ t below. taken-lighter (2 ^ 64) old.frames.items (Block t);
+}
+
+pub length-add : (ns : List ℕ) (i a : ℕ) → length (add_at ns i a) ≡ length ns
+length-add [] i a = refl
+length-add (n ∷ ns) zero a = refl
+length-add (n ∷ ns) (suc i) a = ap suc (length-add ns i a)
+
+-- a call that is counted leaves the run sound
+pub counted-sound : (P : Task → Type 0) (old new : Course) → state_of new ≡ counted (state_of old) → new.frames.items ≡ old.frames.items → IsSound P old → IsSound P new
+counted-sound P old new state frames sound =
+    let long : length new.calls.items ≡ length old.calls.items = ap (λ s. length s.calls) state ∙ length-add old.calls.items old.current.number 1 in
+    let number : new.current.number ≡ old.current.number = ap (λ s. s.number) state in
+    record {
+      frames = subst (AreOpen P (length new.calls.items)) (sym frames) (opens-more P (length old.calls.items) (length new.calls.items) (omega arith) old.frames.items sound.frames);
+      number = omega (arith, sound.number);
+    }
+
+pub below-more : (n m : ℕ) (ts : List Task) → n ≤ m → AllBelow n ts → AllBelow m ts
+below-more n m ts l h = All-weaker (λ (t : Task). t.pair.recipe < n) (λ (t : Task). t.pair.recipe < m) (λ t k. omega arith) ts h
+
+-- and so does a task whose priors are called
+pub called-sound : (P : Task → Type 0) (old new : Course) (t : Task) (ps : List Task) → state_of new ≡ counted (state_of old) → new.frames.items ≡ old.frames.items ++ Block t ∷ calls_of ps →
+    P t → All P ps → IsSound P old → IsSound P new
+called-sound P old new t ps state frames callable callables sound =
+    let long : length new.calls.items ≡ length old.calls.items = ap (λ s. length s.calls) state ∙ length-add old.calls.items old.current.number 1 in
+    let number : new.current.number ≡ old.current.number = ap (λ s. s.number) state in
+    record {
+      frames = subst (AreOpen P (length new.calls.items)) (sym frames) (opens-over P (length new.calls.items) old.frames.items (Block t) ps
+          (opens-more P (length old.calls.items) (length new.calls.items) (omega arith) old.frames.items sound.frames) callable callables);
+      number = omega (arith, sound.number);
+    }
+
+-- the pair of a task that was executed is put in, and its subsequents are called
+pub block-last : (leaves : Leaves) (old : Course) (t : Task) (table : List Pair) (ts : List Task) (u : Steps State) → table_of table ≡ put (table_of old.current.table) t.pair →
+    u ≡ and_then (fresh_steps (walk_at leaves) ts old.calls.items) (λ calls. left leaves old.frames.items (under (record { number = old.current.number; table = table }) calls)) →
+    u ≡ and_then (fresh_steps (walk_at leaves) ts old.calls.items) (λ calls. left leaves old.frames.items (ran (state_of old) t calls))
+block-last leaves old t table ts u is h =
+    h ∙ ap (λ now. and_then (fresh_steps (walk_at leaves) ts old.calls.items) (λ calls. left leaves old.frames.items (record { number = old.current.number; table = now; calls = calls }))) is
+
+-- the first calls of a run
+pub begun-sound : (P : Task → Type 0) (course : Course) (tasks : List Task) → course.frames.items ≡ calls_of tasks → state_of course ≡ opened [] → All P tasks → IsSound P course
+begun-sound P course tasks frames state callables = record {
+  frames = subst (AreOpen P (length course.calls.items)) (sym frames) (opens-calls P (length course.calls.items) tasks callables);
+  number = let n : course.current.number ≡ 0 = ap (λ s. s.number) state in let k : length course.calls.items ≡ 1 = ap (λ s. length s.calls) state in omega arith;
+}

@@ -1,0 +1,39 @@
+-- The tasks that recipes name stand at lower places.
+use Rattle.std.proofs.Common.{ℕ, zero, suc, List, [], ◌∷◌, Option, None, Ok, refl, subst}
+use Rattle.just_recipe.specs.declared.dependency.Dependency.{Dependency}
+use Rattle.just_recipe.specs.declared.recipe.Recipe.{Recipe}
+use Rattle.just_parts.specs.Evaluation.{Inquiry}
+use Rattle.just_parts.specs.Host.{Answer}
+use Rattle.just_parts.specs.Steps.{Question, both, kept_by}
+use Rattle.just_parts.proofs.StepLemmas.{took-gives}
+use Rattle.just_execution.specs.Expansion.{Part, Ask, Block}
+use Rattle.just_execution.specs.Leaves.{AsksAlone, ask_steps, follow_steps, leaves_of}
+use Rattle.just_execution.specs.Lower.{IsLower}
+use Rattle.just_execution.specs.declared.task.Task.{Task}
+use Rattle.just_execution.specs.Pairs.{AllBelow}
+use Rattle.just_recipe.specs.Recipes.{IsOrdered}
+use Rattle.just_execution.specs.Run.{subsequents_by, parts, Each, IsEvenPart, IsEven}
+use Rattle.just_execution.proofs.Places.{priors-before, subsequents-before}
+
+pub leaves-lower : (recipes : List (Recipe Dependency)) → IsOrdered recipes → IsLower (leaves_of recipes)
+leaves-lower recipes ordered = record {
+  priors = λ t ps g. subst (AllBelow t.pair.recipe) g (priors-before recipes t.pair ordered);
+  subsequents = λ t ts g. subst (AllBelow t.pair.recipe) g (subsequents-before recipes t.pair ordered);
+}
+
+-- what a task was asked for and answered leads to lower places
+pub asked-below : (recipes : List (Recipe Dependency)) → IsOrdered recipes → (e : Inquiry → Option Answer) (t : Task) (before later : List Inquiry) (ps : List Task) → AsksAlone e (ask_steps recipes t) before later (Ok ps) → AllBelow t.pair.recipe ps
+asked-below recipes ordered e t before later ps took = (leaves-lower recipes ordered).priors t ps (took-gives (both e (λ entry. None)) (ask_steps recipes t) (kept_by [] before) (kept_by [] later) ps (took (λ entry. None) []))
+
+pub followed-below : (recipes : List (Recipe Dependency)) → IsOrdered recipes → (e : Inquiry → Option Answer) (t : Task) (before later : List Inquiry) (ts : List Task) → AsksAlone e (follow_steps recipes t) before later (Ok ts) → AllBelow t.pair.recipe ts
+followed-below recipes ordered e t before later ts took = (leaves-lower recipes ordered).subsequents t ts (took-gives (both e (λ entry. None)) (follow_steps recipes t) (kept_by [] before) (kept_by [] later) ts (took (λ entry. None) []))
+
+-- the priors of a task do not hang on how it is called
+parts-even : (recipes : List (Recipe Dependency)) (f : Question → Answer) (run : List Task → Type 0) → ((ts : List Task) → run ts) → (xs : List (Part Task)) → Each (IsEvenPart (leaves_of recipes) f run) xs
+parts-even recipes f run h [] = tt
+parts-even recipes f run h (Ask t ∷ xs) = (refl, parts-even recipes f run h xs)
+parts-even recipes f run h (Block t ∷ xs) = (h (subsequents_by (leaves_of recipes) f t), parts-even recipes f run h xs)
+
+pub leaves-even : (recipes : List (Recipe Dependency)) (f : Question → Answer) (n : ℕ) (tops : List Task) → IsEven (leaves_of recipes) f n tops
+leaves-even recipes f zero tops = tt
+leaves-even recipes f (suc n) tops = parts-even recipes f (IsEven (leaves_of recipes) f n) (leaves-even recipes f n) (parts (leaves_of recipes) f (suc n) tops)

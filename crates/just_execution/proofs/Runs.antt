@@ -1,0 +1,38 @@
+-- A run of tasks, from the steps that it takes.
+use Rattle.std.proofs.Common.{◌≡◌, List, [], length, Option, Ok, Err, refl, subst}
+use Rattle.std.specs.Prelude.{Result}
+use Rattle.just_recipe.specs.declared.dependency.Dependency.{Dependency}
+use Rattle.just_errors.specs.declared.halt.Halt.{Halt}
+use Rattle.just_parts.specs.declared.layers.host.Entry.{Entry}
+use Rattle.just_recipe.specs.declared.recipe.Recipe.{Recipe}
+use Rattle.just_errors.specs.Halts.{without}
+use Rattle.just_parts.specs.Evaluation.{Inquiry}
+use Rattle.just_parts.specs.Host.{Answer}
+use Rattle.just_parts.specs.Steps.{Kept, both, path, outcome, Follows}
+use Rattle.just_execution.specs.declared.running.Report.{Report}
+use Rattle.just_execution.specs.declared.task.Task.{Task}
+use Rattle.just_execution.specs.Leaves.{leaves_of}
+use Rattle.just_execution.specs.Pairs.{AllBelow}
+use Rattle.just_recipe.specs.Recipes.{IsOrdered}
+use Rattle.just_execution.specs.Reports.{calls_in, IsRun, IsAsExpected, Starts, expected_steps}
+use Rattle.just_execution.specs.Walking.{fresh_steps, walk_steps}
+use Rattle.just_execution.proofs.Accounted.{fresh-account}
+use Rattle.just_execution.proofs.Leaves.{leaves-lower}
+use Rattle.just_execution.proofs.Told.{took-run}
+use Rattle.just_execution.proofs.Whole.{fresh-run}
+
+without-calls : (r : Result Report Halt) → without (calls_in r) ≡ without r
+without-calls (Ok report) = refl
+without-calls (Err e) = refl
+
+module _ (recipes : List (Recipe Dependency)) (ordered : IsOrdered recipes) (e : Inquiry → Option Answer) (h : Entry → Option Answer) (tops : List Task) (below : AllBelow (length recipes) tops) (old new : Kept) (r : Result Report Halt)
+    (took : Starts e h recipes tops old new r) where
+  pub account-run : IsRun recipes tops old new r
+  account-run = let a = fresh-account recipes ordered (both e h) tops below old new (calls_in r) took in record { tables = a.0; account = a.1; tells = a.2 }
+
+  pub expected-run : IsAsExpected e h recipes tops old new r
+  expected-run = λ f steady even.
+      let steps = expected_steps recipes f tops in
+      subst (Follows (path f steps) (outcome f steps) old new) (without-calls r)
+      (took-run (both e h) f (fresh_steps (walk_steps (leaves_of recipes) (length recipes)) tops []) steps old new (calls_in r)
+      (fresh-run (leaves_of recipes) (leaves-lower recipes ordered) f (length recipes) tops [] below even) steady took)

@@ -1,0 +1,95 @@
+use Rattle.std.proofs.Common.{◌≡◌, ◌++◌, ◌∷◌, [], List, length, Option, refl, sym, ◌∙◌, ◌<◌, ◌^◌, subst, arith, rules}
+use Rattle.just_parts.specs.Host.{Answer}
+use Rattle.just_parts.specs.Steps.{Kept, Question, both, kept_by}
+use Rattle.just_execution.specs.declared.frame.Frame.{Frame}
+use Rattle.just_execution.specs.declared.frame.Frame.TheVariants.{Call, Block}
+use Rattle.just_execution.specs.Frames.{state_of, weight}
+use Rattle.just_execution.specs.Homes.{IsCallable}
+use Rattle.just_execution.specs.Leaves.{leaves_of}
+use Rattle.just_execution.specs.declared.task.Task.{Task}
+use Rattle.just_execution.proofs.CourseLemmas.{called-sound, counted-sound, pushed-calls}
+use Rattle.just_execution.proofs.Goings.{goes-err, over-took, known-took, unasked-took, asked-took, halted-took}
+use Rattle.just_execution.proofs.Homes.{asked-callable, home-of}
+use Rattle.just_execution.proofs.Leaves.{asked-below, leaves-lower}
+use Rattle.just_execution.proofs.WeightLemmas.{call-lighter, taken-lighter}
+use Rattle.just_execution.proofs.running.call_task.Goals as goal
+
+pub module_of-module-requires : goal.module_of-module-requires
+module_of-module-requires g c = home-of c.args.scopes.now c.args.recipes.now c.args.task c.requires.callable c.at.result.now c.at.ensures
+
+pub returns-in_err-count_call-clause-goes : goal.returns-in_err-count_call-clause-goes
+returns-in_err-count_call-clause-goes g c = λ h entries.
+    let old : Kept = kept_by entries (g.E.Evaluation.inquiries c.args.evaluation.now) in
+    let p : Question → Option Answer = both (g.E.Evaluation.promised c.args.evaluation.now) h in
+    let lower = leaves-lower c.args.recipes.now c.requires.ordered in
+    goes-err p _ _ old old c.in_err-count_call.field-0.0 c.from_residual.result (search rules)
+    (over-took (leaves_of c.args.recipes.now) lower p c.args.run.now.frames.items c.args.task (state_of c.args.run.now) old c.in_err-count_call.field-0.0 (search rules) (search rules))
+
+pub returns-then-contains-clause-goes : goal.returns-then-contains-clause-goes
+returns-then-contains-clause-goes g c = λ h entries new r t.
+    let old : Kept = kept_by entries (g.E.Evaluation.inquiries c.args.evaluation.now) in
+    let p : Question → Option Answer = both (g.E.Evaluation.promised c.args.evaluation.now) h in
+    let lower = leaves-lower c.args.recipes.now c.requires.ordered in
+    known-took (leaves_of c.args.recipes.now) lower p c.args.run.now.frames.items c.args.task (state_of c.args.run.now) c.count_call.new.calls.items
+    (search rules) (search rules) (sym c.contains.ensures ∙ c.if-contains.true) old new r t
+
+pub returns-then-contains-clause-sound : goal.returns-then-contains-clause-sound
+returns-then-contains-clause-sound g c = counted-sound _ c.args.run.now _ (search rules) refl c.requires.sound
+
+pub returns-then-contains-clause-lighter : goal.returns-then-contains-clause-lighter
+returns-then-contains-clause-lighter g c = taken-lighter _ c.args.run.now.frames.items (Call c.args.task)
+
+pub returns-in_err-priors-clause-goes : goal.returns-in_err-priors-clause-goes
+returns-in_err-priors-clause-goes g c = λ h entries.
+    let old : Kept = kept_by entries (g.E.Evaluation.inquiries c.args.evaluation.now) in
+    let p : Question → Option Answer = both (g.E.Evaluation.promised c.args.evaluation.now) h in
+    let lower = leaves-lower c.args.recipes.now c.requires.ordered in
+    goes-err p _ _ old _ c.in_err-priors.field-0.0 c.from_residual-in_err-priors.result (search rules)
+    (unasked-took (leaves_of c.args.recipes.now) lower p c.args.run.now.frames.items c.args.task (state_of c.args.run.now) c.count_call.new.calls.items
+    (search rules) (search rules) (sym c.contains.ensures ∙ c.if-contains.false) old _ c.in_err-priors.field-0.0 (c.in_err-priors.ensures.took h entries))
+
+pub returns-in_err-push-clause-goes : goal.returns-in_err-push-clause-goes
+returns-in_err-push-clause-goes g c = λ h entries.
+    let old : Kept = kept_by entries (g.E.Evaluation.inquiries c.args.evaluation.now) in
+    let p : Question → Option Answer = both (g.E.Evaluation.promised c.args.evaluation.now) h in
+    let lower = leaves-lower c.args.recipes.now c.requires.ordered in
+    goes-err p _ _ old _ _ c.from_residual-in_err-push.result (search rules)
+    (halted-took (leaves_of c.args.recipes.now) lower p c.args.run.now.frames.items c.args.task (state_of c.args.run.now) c.count_call.new.calls.items
+    (search rules) (search rules) (sym c.contains.ensures ∙ c.if-contains.false) c.in_ok-priors.priors.items old _ (c.in_ok-priors.ensures.took h entries))
+
+pub returns-in_err-push_calls-clause-goes : goal.returns-in_err-push_calls-clause-goes
+returns-in_err-push_calls-clause-goes g c = λ h entries.
+    let old : Kept = kept_by entries (g.E.Evaluation.inquiries c.args.evaluation.now) in
+    let p : Question → Option Answer = both (g.E.Evaluation.promised c.args.evaluation.now) h in
+    let lower = leaves-lower c.args.recipes.now c.requires.ordered in
+    goes-err p _ _ old _ _ c.from_residual-in_err-push_calls.result (search rules)
+    (halted-took (leaves_of c.args.recipes.now) lower p c.args.run.now.frames.items c.args.task (state_of c.args.run.now) c.count_call.new.calls.items
+    (search rules) (search rules) (sym c.contains.ensures ∙ c.if-contains.false) c.in_ok-priors.priors.items old _ (c.in_ok-priors.ensures.took h entries))
+
+pub returns-clause-goes : goal.returns-clause-goes
+returns-clause-goes g c = λ h entries new r t.
+    let old : Kept = kept_by entries (g.E.Evaluation.inquiries c.args.evaluation.now) in
+    let p : Question → Option Answer = both (g.E.Evaluation.promised c.args.evaluation.now) h in
+    let lower = leaves-lower c.args.recipes.now c.requires.ordered in
+    let xs : List Frame = c.args.run.now.frames.items in
+    let pushed : c.push.new.self.items ≡ xs ++ Block c.args.task ∷ [] = search rules in
+    asked-took (leaves_of c.args.recipes.now) lower p xs c.args.task (state_of c.args.run.now) c.count_call.new.calls.items
+    (search rules) (search rules) (sym c.contains.ensures ∙ c.if-contains.false) c.in_ok-priors.priors.items c.push_calls.new.frames.items (pushed-calls _ xs (Block c.args.task) c.in_ok-priors.priors.items _ pushed c.in_ok-push_calls.ensures) old _ new r (c.in_ok-priors.ensures.took h entries) t
+
+pub returns-clause-sound : goal.returns-clause-sound
+returns-clause-sound g c =
+    let rs = c.args.recipes.now in
+    let ps : List Task = c.in_ok-priors.priors.items in
+    let opens = asked-callable c.args.scopes.now rs c.args.task c.requires.callable c.requires.ordered (g.E.Evaluation.promised c.args.evaluation.now) _ _ ps c.in_ok-priors.ensures.took in
+    let pushed : c.push.new.self.items ≡ c.args.run.now.frames.items ++ Block c.args.task ∷ [] = search rules in
+    called-sound (IsCallable c.args.scopes.now rs) c.args.run.now _ c.args.task ps (search rules) (pushed-calls _ _ (Block c.args.task) ps c.push_calls.new.frames.items pushed c.in_ok-push_calls.ensures) c.requires.callable opens c.requires.sound
+
+pub returns-clause-lighter : goal.returns-clause-lighter
+returns-clause-lighter g c =
+    let rs = c.args.recipes.now in
+    let ps : List Task = c.in_ok-priors.priors.items in
+    let below = asked-below rs c.requires.ordered (g.E.Evaluation.promised c.args.evaluation.now) c.args.task _ _ ps c.in_ok-priors.ensures.took in
+    let pushed : c.push.new.self.items ≡ c.args.run.now.frames.items ++ Block c.args.task ∷ [] = search rules in
+    let few : length ps < 2 ^ 64 = omega (arith, c.in_ok-priors.priors.small) in
+    subst (λ fs. weight (2 ^ 64) fs < weight (2 ^ 64) (c.args.run.now.frames.items ++ Call c.args.task ∷ [])) (sym (pushed-calls _ _ (Block c.args.task) ps c.push_calls.new.frames.items pushed c.in_ok-push_calls.ensures))
+    (call-lighter (2 ^ 64) c.args.run.now.frames.items c.args.task ps below few)

@@ -1,0 +1,47 @@
+use Rattle.std.proofs.Common.{◌≡◌, List, [], Option, Err, sym, subst, rules}
+use Rattle.std.specs.Prelude.{Result}
+use Rattle.just_errors.specs.declared.halt.Halt.{Halt}
+use Rattle.just_parts.specs.Host.{Answer}
+use Rattle.just_parts.specs.Steps.{Kept, Question, Took, both, kept_by}
+use Rattle.just_parts.proofs.StepLemmas.{keeps-both, keeps-then, took-kept}
+use Rattle.just_execution.specs.declared.frame.Frame.{Frame}
+use Rattle.just_execution.specs.Frames.{left, left_of, state_of}
+use Rattle.just_execution.specs.Leaves.{leaves_of}
+use Rattle.just_execution.specs.Walking.{Leaves, State}
+use Rattle.just_execution.proofs.Goings.{ended-took, none-took}
+use Rattle.just_execution.proofs.running.finish.Goals as goal
+
+pub loop-frame-preserved : goal.loop-frame-preserved
+loop-frame-preserved g c =
+    let p : Question → Option Answer = both (g.E.Evaluation.promised c.loop-frame.evaluation) (g.H.Host.promised c.loop-frame.host) in
+    let q : Question → Option Answer = both (g.E.Evaluation.promised c.take.new.evaluation) (g.H.Host.promised c.take.new.host) in
+    let L : Leaves = leaves_of c.args.recipes.now in
+    let old : Kept = kept_by (g.H.Host.entries c.loop-frame.host) (g.E.Evaluation.inquiries c.loop-frame.evaluation) in
+    let mid : Kept = kept_by (g.H.Host.entries c.take.new.host) (g.E.Evaluation.inquiries c.take.new.evaluation) in
+    let s : State = state_of c.loop-frame.run in
+    record {
+      keeps = keeps-then _ _ _ c.loop-frame.invariant.keeps c.take.ensures.keeps;
+      keeps_host = keeps-then _ _ _ c.loop-frame.invariant.keeps_host c.take.ensures.keeps_host;
+      sound = c.in_ok-take.ensures.sound;
+      rest = λ new r t. c.loop-frame.invariant.rest new r (subst (λ xs. Took p (left L xs s) old new r) (sym {A = List Frame} c.in-Some.ensures.items)
+          (c.in_ok-take.ensures.goes new r (took-kept p q (keeps-both _ _ _ _ c.take.ensures.keeps c.take.ensures.keeps_host) (left_of L c.take.new.run) mid new r t)));
+    }
+
+pub returns-in_err-take-clause-took : goal.returns-in_err-take-clause-took
+returns-in_err-take-clause-took g c =
+    let p : Question → Option Answer = both (g.E.Evaluation.promised c.loop-frame.evaluation) (g.H.Host.promised c.loop-frame.host) in
+    let first : Question → Option Answer = both (g.E.Evaluation.promised c.args.evaluation.now) (g.H.Host.promised c.args.host.now) in
+    let L : Leaves = leaves_of c.args.recipes.now in
+    let old : Kept = kept_by (g.H.Host.entries c.loop-frame.host) (g.E.Evaluation.inquiries c.loop-frame.evaluation) in
+    let mid : Kept = kept_by (g.H.Host.entries c.take.new.host) (g.E.Evaluation.inquiries c.take.new.evaluation) in
+    let s : State = state_of c.loop-frame.run in
+    let r : Result State Halt = Err c.in_err-take.field-0.0 in
+    ended-took first (left_of L c.args.run.now) (kept_by (g.H.Host.entries c.args.host.now) (g.E.Evaluation.inquiries c.args.evaluation.now)) mid c.in_err-take.field-0.0 (state_of c.take.new.run) c.from_residual.result (search rules)
+    (c.loop-frame.invariant.rest mid r (subst (λ xs. Took p (left L xs s) old mid r) (sym {A = List Frame} c.in-Some.ensures.items) c.in_err-take.ensures.goes))
+
+pub returns-clause-took : goal.returns-clause-took
+returns-clause-took g c =
+    let p : Question → Option Answer = both (g.E.Evaluation.promised c.loop-frame.evaluation) (g.H.Host.promised c.loop-frame.host) in
+    let L : Leaves = leaves_of c.args.recipes.now in
+    let none : c.loop-frame.run.frames.items ≡ [] = search rules in
+    c.loop-frame.invariant.rest _ _ (none-took L p c.loop-frame.run.frames.items (state_of c.loop-frame.run) (kept_by (g.H.Host.entries c.loop-frame.host) (g.E.Evaluation.inquiries c.loop-frame.evaluation)) none)

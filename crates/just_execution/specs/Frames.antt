@@ -1,0 +1,136 @@
+-- What is left of a run: frames in a list, the last of which is taken next.
+use Rattle.std.specs.Prelude.{◌≡◌, ◌+◌, ◌*◌, ◌^◌, ◌<◌, ℕ, zero, suc, List, [], ◌∷◌, ◌++◌, length, Option, Result, Ok, Err}
+use Rattle.std.specs.List.{All}
+use Rattle.std.specs.declared.vec.Vec.{Vec}
+use Rattle.std.specs.declared.alloc.Global.{Global}
+use Rattle.just_errors.specs.declared.halt.Halt.{Halt}
+use Rattle.just_parts.specs.declared.layers.host.Entry.{Entry}
+use Rattle.just_recipe.specs.declared.dependency.Dependency.{Dependency}
+use Rattle.just_recipe.specs.declared.recipe.Recipe.{Recipe}
+use Rattle.just_parts.specs.Evaluation.{Inquiry}
+use Rattle.just_parts.specs.Host.{Answer}
+use Rattle.just_parts.specs.Steps.{Kept, kept_by, Question, Steps, Give, and_then, Took, both}
+use Rattle.just_execution.specs.declared.course.Course.{Course}
+use Rattle.just_execution.specs.declared.frame.Frame.{Frame}
+use Rattle.just_execution.specs.declared.frame.Frame.TheVariants.{Call, Block, Back}
+use Rattle.just_execution.specs.declared.frame.OpenTable.{OpenTable}
+use Rattle.just_execution.specs.declared.task.Task.{Task}
+use Rattle.just_execution.specs.Homes.{IsCallable, Modules}
+use Rattle.just_execution.specs.Pairs.{AllBelow, table_of}
+use Rattle.just_execution.specs.Leaves.{leaves_of}
+use Rattle.just_execution.specs.Walking.{Leaves, State, fresh_steps, ran_steps, walk_steps}
+
+-- the walk of a task, with as much fuel as its place needs
+abbrev pub walk_at : Leaves → State → Task → Steps State
+walk_at leaves s t = walk_steps leaves (suc t.pair.recipe) s t
+
+abbrev pub block_at : Leaves → Task → State → Steps State
+block_at leaves t s = ran_steps leaves (walk_steps leaves t.pair.recipe) t s
+
+-- the state with other counters
+abbrev pub with_calls : State → List ℕ → State
+with_calls s calls = record { number = s.number; table = s.table; calls = calls }
+
+-- the state in which a table is open
+abbrev pub under : OpenTable → List ℕ → State
+under outer calls = record { number = outer.number; table = table_of outer.table; calls = calls }
+
+-- what a frame stands for
+abbrev pub frame_steps : Leaves → Frame → State → Steps State
+frame_steps leaves (Call t) s = walk_at leaves s t
+frame_steps leaves (Block t) s = block_at leaves t s
+frame_steps leaves (Back outer) s = Give (under outer s.calls)
+
+-- what is left
+abbrev pub left : Leaves → List Frame → State → Steps State
+left leaves [] s = Give s
+left leaves (x ∷ xs) s = and_then (left leaves xs s) (frame_steps leaves x)
+
+-- the calls of tasks, the first of which is taken next
+abbrev pub calls_of : List Task → List Frame
+calls_of [] = []
+calls_of (t ∷ ts) = calls_of ts ++ Call t ∷ []
+
+-- its task can be called (by what P says), or its counter is there
+abbrev pub IsOpen : (Task → Type 0) → ℕ → Frame → Type 0
+IsOpen P counters (Call t) = P t
+IsOpen P counters (Block t) = P t
+IsOpen P counters (Back outer) = outer.number < counters
+
+abbrev pub AreOpen : (Task → Type 0) → ℕ → List Frame → Type 0
+AreOpen P counters frames = All (IsOpen P counters) frames
+
+-- How much is left at most, where a task leads to fewer than `most` others: it falls with each frame that is taken.
+abbrev pub cost : ℕ → ℕ → ℕ
+cost most zero = 1
+cost most (suc n) = suc (suc (most * cost most n) + most * cost most n)
+
+abbrev pub frame_weight : ℕ → Frame → ℕ
+frame_weight most (Call t) = cost most (suc t.pair.recipe)
+frame_weight most (Block t) = suc (most * cost most t.pair.recipe)
+frame_weight most (Back outer) = 1
+
+abbrev pub weight : ℕ → List Frame → ℕ
+weight most [] = 0
+weight most (x ∷ xs) = frame_weight most x + weight most xs
+
+-- where a run under way stands
+abbrev pub state_of : Course → State
+state_of course = under course.current course.calls.items
+
+-- each task that is left can be called, and each table has its counter
+pub record IsSound (P : Task → Type 0) (course : Course) : Type 0 where
+  pub frames : AreOpen P (length course.calls.items) course.frames.items
+  pub number : course.current.number < length course.calls.items
+
+-- what is left of it; and with one more frame
+abbrev pub left_of : Leaves → Course → Steps State
+left_of leaves course = left leaves course.frames.items (state_of course)
+
+abbrev pub left_with : Leaves → Frame → Course → Steps State
+left_with leaves frame course = left leaves (course.frames.items ++ frame ∷ []) (state_of course)
+
+-- steps were taken, from the first to the second where it succeeds
+abbrev pub Goes : {A U : Type 0} → (Question → Option Answer) → Steps A → Kept → Steps A → Kept → Result U Halt → Type 0
+Goes {A} promised first old second mid (Ok u) = (new : Kept) (r : Result A Halt) → Took promised second mid new r → Took promised first old new r
+Goes promised first old second mid (Err e) = Took promised first old mid (Err e)
+
+-- a value in place of that of a success
+abbrev pub with_value : {A U E : Type 0} → A → Result U E → Result A E
+with_value x (Ok u) = Ok x
+with_value x (Err e) = Err e
+
+-- a frame leads from what was left to what is left
+abbrev pub Leads : (Inquiry → Option Answer) → (Entry → Option Answer) → List (Recipe Dependency) → Frame → Course → Kept → Course → Kept → Result (Unit {0}) Halt → Type 0
+Leads evaluator host recipes frame old kept new keeps result =
+    Goes (both evaluator host) (left_with (leaves_of recipes) frame old) kept (left_of (leaves_of recipes) new) keeps result
+
+-- the call of a task, which asks the host nothing; and its block
+abbrev pub Calls : (Inquiry → Option Answer) → List (Recipe Dependency) → Task → Course → List Inquiry → Course → List Inquiry → Result (Unit {0}) Halt → Type 0
+Calls evaluator recipes task old before new later result =
+    (host : Entry → Option Answer) (entries : List Entry) → Leads evaluator host recipes (Call task) old (kept_by entries before) new (kept_by entries later) result
+
+abbrev pub Blocks : (Inquiry → Option Answer) → (Entry → Option Answer) → List (Recipe Dependency) → Task → Course → Kept → Course → Kept → Result (Unit {0}) Halt → Type 0
+Blocks evaluator host recipes task old kept new keeps result = Leads evaluator host recipes (Block task) old kept new keeps result
+
+-- all that was left was taken
+abbrev pub Finishes : (Inquiry → Option Answer) → (Entry → Option Answer) → List (Recipe Dependency) → Course → Kept → Course → Kept → Result (Unit {0}) Halt → Type 0
+Finishes evaluator host recipes old kept new keeps result =
+    Took (both evaluator host) (left_of (leaves_of recipes) old) kept keeps (with_value (state_of new) result)
+
+-- fewer is left than a frame more
+abbrev pub IsLighter : List Frame → List Frame → Frame → Type 0
+IsLighter new old frame = weight (2 ^ 64) new < weight (2 ^ 64) (old ++ frame ∷ [])
+
+-- tasks are called next under a table of their own, where there are any
+pub record IsOpened (old : Course) (tasks : List Task) (new : Course) : Type 0 where
+  pub left : (leaves : Leaves) → left_of leaves new ≡
+      and_then (fresh_steps (walk_at leaves) tasks old.calls.items) (λ calls. left leaves old.frames.items (with_calls (state_of old) calls))
+  pub sound : (modules : Modules) (recipes : List (Recipe Dependency)) → All (IsCallable modules recipes) tasks →
+      IsSound (IsCallable modules recipes) old → IsSound (IsCallable modules recipes) new
+  pub lighter : (task : Task) → AllBelow task.pair.recipe tasks → IsLighter new.frames.items old.frames.items (Block task)
+
+-- the elements of a vector that came out
+abbrev pub items_of : {A E : Type 0} → Result (Vec A Global) E → Result (List A) E
+items_of (Ok v) = Ok v.items
+items_of (Err e) = Err e

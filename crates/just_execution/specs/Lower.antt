@@ -1,0 +1,11 @@
+-- The tasks that a task leads to stand at lower places.
+use Rattle.std.specs.Prelude.{List}
+use Rattle.just_parts.specs.Steps.{Gives}
+use Rattle.just_execution.specs.declared.task.Task.{Task}
+use Rattle.just_execution.specs.Pairs.{AllBelow}
+use Rattle.just_execution.specs.Walking.{Leaves}
+
+-- whatever is answered, priors and subsequents are tasks of recipes that stand before that of the task
+pub record IsLower (leaves : Leaves) : Type 0 where
+  pub priors : (t : Task) (ps : List Task) → Gives (leaves.ask t) ps → AllBelow t.pair.recipe ps
+  pub subsequents : (t : Task) (ts : List Task) → Gives (leaves.follow t) ts → AllBelow t.pair.recipe ts

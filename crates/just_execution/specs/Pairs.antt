@@ -1,0 +1,84 @@
+-- The tasks that recipes name: those that run before a task, and those that run after it.
+use Rattle.std.specs.Prelude.{ℕ, zero, suc, ◌==◌, ◌&&◌, ◌||◌, ◌<◌, Bool, true, false, cond, List, [], ◌∷◌, map, take, drop, nat_eq}
+use Rattle.std.specs.List.{All}
+use Rattle.std.specs.Cmp.Lexicographic.{pointwise}
+use Rattle.just_recipe.specs.declared.dependency.Dependency.{Dependency}
+use Rattle.just_recipe.specs.declared.recipe.Recipe.{Recipe}
+use Rattle.just_execution.specs.declared.pair.Pair.{Pair}
+use Rattle.just_execution.specs.declared.task.Task.{Task}
+use Rattle.just_execution.specs.Firsts.{has}
+
+-- whether two pairs have one recipe and the same texts
+abbrev pub same_pair : Pair → Pair → Bool
+same_pair p q = (p.recipe == q.recipe) && pointwise (pointwise (pointwise nat_eq)) p.groups q.groups
+
+-- which pairs ran under a table
+abbrev pub OnceTable : Type 0
+OnceTable = Pair → Bool
+
+-- those of a list did
+abbrev pub table_of : List Pair → OnceTable
+table_of pairs = has same_pair pairs
+
+-- none did
+abbrev pub none : OnceTable
+none p = false
+
+-- one more did
+abbrev pub put : OnceTable → Pair → OnceTable
+put table pair p = table p || same_pair pair p
+
+-- the pair alone is what a once table holds
+abbrev pub key : Task → Pair
+key t = t.pair
+
+-- the task of a pair
+abbrev pub task : Bool → Pair → Task
+task dependency p = record { pair = p; dependency = dependency }
+
+-- the place of the first recipe of a number, and the length of the list where there is none
+abbrev pub place_of : List (Recipe Dependency) → ℕ → ℕ
+place_of [] number = 0
+place_of (r ∷ rs) number = cond (r.number.0 == number) 0 (suc (place_of rs number))
+
+-- what f gives of the recipe at a place, and nothing past the last
+abbrev pub at_place : {A : Type 0} → (Recipe Dependency → List A) → List (Recipe Dependency) → ℕ → List A
+at_place f [] k = []
+at_place f (r ∷ rs) zero = f r
+at_place f (r ∷ rs) (suc k) = at_place f rs k
+
+-- one empty group for each parameter of the recipe at a place
+abbrev pub empty_groups : List (Recipe Dependency) → ℕ → List (List (List ℕ))
+empty_groups recipes place = at_place (λ r. map (λ _. []) r.parameters) recipes place
+
+-- the pair of a dependency
+abbrev pub pair_of : List (Recipe Dependency) → Dependency → Pair
+pair_of recipes d = record { recipe = place_of recipes d.recipe.0; groups = empty_groups recipes (place_of recipes d.recipe.0) }
+
+-- what the recipe at a place depends on
+abbrev pub needed : List (Recipe Dependency) → ℕ → List Dependency
+needed recipes place = at_place (λ r. r.dependencies) recipes place
+
+-- the dependencies that run before the recipe at a place
+abbrev pub prior_dependencies : List (Recipe Dependency) → ℕ → List Dependency
+prior_dependencies recipes place = at_place (λ r. take r.priors r.dependencies) recipes place
+
+-- the dependencies that run after the recipe at a place
+abbrev pub subsequent_dependencies : List (Recipe Dependency) → ℕ → List Dependency
+subsequent_dependencies recipes place = at_place (λ r. drop r.priors r.dependencies) recipes place
+
+-- the task of a dependency
+abbrev pub task_of : List (Recipe Dependency) → Dependency → Task
+task_of recipes d = task true (pair_of recipes d)
+
+-- the tasks that run before a task
+abbrev pub priors : List (Recipe Dependency) → Task → List Task
+priors recipes t = map (task_of recipes) (prior_dependencies recipes t.pair.recipe)
+
+-- the tasks that run after a task
+abbrev pub subsequents : List (Recipe Dependency) → Task → List Task
+subsequents recipes t = map (task_of recipes) (subsequent_dependencies recipes t.pair.recipe)
+
+-- each task's recipe stands below the place
+abbrev pub AllBelow : ℕ → List Task → Type 0
+AllBelow bound ts = All (λ (t : Task). t.pair.recipe < bound) ts

@@ -1,6 +1,0 @@
-use Rattle.std.proofs.Common.{◌≡◌, drop}
-use Rattle.just_grammar.specs.Items.{with_lines}
-use Rattle.just_grammar.proofs.items.add_lines.Given as goal
-
-abbrev pub invariant-loop-line : goal.invariant-loop-line
-invariant-loop-line l = with_lines l.path l.text l.initial.reading l.all ≡ with_lines l.path l.text l.reading (drop l.line-index l.all)

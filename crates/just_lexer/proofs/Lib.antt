@@ -1,4 +1,0 @@
-pub mod Cuts
-pub mod Lexing
-pub mod Quoting
-pub mod Spelled

@@ -1,3 +1,0 @@
-pub mod Lexemes
-pub mod Lines
-pub mod Spelling

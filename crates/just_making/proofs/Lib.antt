@@ -1,4 +1,0 @@
-pub mod Held
-pub mod Keys
-pub mod Makings
-pub mod Taking

@@ -1,3 +1,0 @@
-pub mod Analysis
-pub mod Labelled
-pub mod Variables

@@ -1,0 +1,83 @@
+-- Which of several definitions of one name are kept.
+use Rattle.std.specs.Prelude.{◌≡◌, ◌<◌, ◌≤◌, ℕ, ◌+◌, Bool, false, not, ◌&&◌, ◌||◌, ltb, nat_eq, List, [], ◌∷◌, drop, get_or, length, map, Option, None, Some, if◌then◌else◌}
+use Rattle.std.specs.List.{list_any}
+use Rattle.std.specs.Str.{bytes_eq}
+use Rattle.just_names.specs.Texts.{Text}
+use Rattle.just_names.specs.Name.{text_of_name}
+use Rattle.just_ast_definitions.specs.declared.assignment.Assignment.{Assignment}
+use Rattle.just_recipe.specs.declared.dependency.UnresolvedDependency.{UnresolvedDependency}
+use Rattle.just_recipe.specs.declared.recipe.Recipe.{Recipe}
+use Rattle.just_module_contents.specs.Recipes.{name_of}
+use Rattle.just_module_contents.specs.declared.kept.Claim.{Claim}
+
+-- another definition of the same name lies at a smaller depth, or at the same
+abbrev pub lies_above : Claim → Claim → Bool
+lies_above c other = bytes_eq other.name c.name && ltb other.depth c.depth
+
+abbrev pub lies_beside : Claim → Claim → Bool
+lies_beside c other = bytes_eq other.name c.name && nat_eq other.depth c.depth
+
+-- it gives way: one of its name among all lies at a smaller depth, or one of those after it at the same
+abbrev pub gives_way : List Claim → List Claim → Claim → Bool
+gives_way all later c = list_any (lies_above c) all || list_any (lies_beside c) later
+
+-- those of a list that do not, among all
+abbrev pub left_of : {A : Type 0} → (A → Claim) → List A → List A → List A
+left_of claim all [] = []
+left_of claim all (x ∷ xs) = if gives_way (map claim all) (map claim xs) (claim x) then left_of claim all xs else x ∷ left_of claim all xs
+
+-- what is kept: of the definitions of one name those of least depth, and of these the last
+abbrev pub kept : {A : Type 0} → (A → Claim) → List A → List A
+kept claim xs = left_of claim xs xs
+
+-- the name of a recipe or a variable, with the depth of its file
+abbrev pub claim_of_recipe : Recipe UnresolvedDependency → Claim
+claim_of_recipe r = record { name = name_of r; depth = r.file_depth }
+
+abbrev pub claim_of_variable : Assignment → Claim
+claim_of_variable a = record { name = text_of_name a.name; depth = a.file_depth }
+
+-- the recipes, and the variables, that are kept
+abbrev pub kept_recipes : List (Recipe UnresolvedDependency) → List (Recipe UnresolvedDependency)
+kept_recipes = kept claim_of_recipe
+
+abbrev pub kept_variables : List Assignment → List Assignment
+kept_variables = kept claim_of_variable
+
+-- what is read where there is no claim
+abbrev pub no_claim : Claim
+no_claim = record { name = []; depth = 0 }
+
+abbrev pub claim_at : List Claim → ℕ → Claim
+claim_at claims i = get_or claims i no_claim
+
+-- Of the first n claims, that of a name at a place is kept: no other lies at a smaller depth, and none after it at the same.
+pub record IsBest (claims : List Claim) (n : ℕ) (name : Text) (place : ℕ) : Type 0 where
+  pub there : place < n
+  pub named : (claim_at claims place).name ≡ name
+  pub least : (k : ℕ) → k < n → (claim_at claims k).name ≡ name → (claim_at claims place).depth ≤ (claim_at claims k).depth
+  pub last : (k : ℕ) → place < k → k < n → (claim_at claims k).name ≡ name → (claim_at claims place).depth < (claim_at claims k).depth
+
+-- the place of the one that is kept; none where no claim has the name
+abbrev pub IsBestOf : List Claim → ℕ → Text → Option ℕ → Type 0
+IsBestOf claims n name None = (k : ℕ) → k < n → (claim_at claims k).name ≡ name → ⊥
+IsBestOf claims n name (Some place) = IsBest claims n name place
+
+-- each name is found at the place of the one that is kept of the first n, or of all
+abbrev pub IsBestSoFar : List Claim → ℕ → (Text → Option ℕ) → Type 0
+IsBestSoFar claims n found = (name : Text) → IsBestOf claims n name (found name)
+
+abbrev pub IsBestIndex : List Claim → (Text → Option ℕ) → Type 0
+IsBestIndex claims found = IsBestSoFar claims (length claims) found
+
+-- the one that is found lies at a smaller depth
+abbrev pub outdoes : List Claim → ℕ → Option ℕ → Bool
+outdoes claims i None = false
+outdoes claims i (Some best) = ltb (claim_at claims best).depth (claim_at claims i).depth
+
+abbrev pub is_outdone : List Claim → (Text → Option ℕ) → ℕ → Bool
+is_outdone claims found i = outdoes claims i (found (claim_at claims i).name)
+
+-- the claim at a place is kept
+abbrev pub stays : List Claim → ℕ → Bool
+stays claims i = not (gives_way claims (drop (i + 1) claims) (claim_at claims i))

@@ -1,0 +1,163 @@
+-- The rules of a module: each relates what is compiled to the errors that report where it is broken.
+use Rattle.std.specs.Prelude.{◌≡◌, ◌≢◌, ℕ, ◌+◌, ◌-◌, ◌<◌, ◌≤◌, ◌⊎◌, Bool, true, false, List, [], ◌∷◌, map, length, get_or, Some}
+use Rattle.std.specs.List.{Contains, slice_get}
+use Rattle.just_errors.specs.Causes.{Cause, Broken}
+use Rattle.just_names.specs.ListFeature.{is_function}
+use Rattle.just_names.specs.Texts.{Text}
+use Rattle.just_names.specs.Name.{text_of_name, texts_of_path}
+use Rattle.just_names.specs.Token.{Place, lexeme}
+use Rattle.just_names.specs.declared.name.Namepath.{Namepath}
+use Rattle.just_errors.specs.declared.error.CompileErrorKind.{CompileErrorKind}
+use Rattle.just_errors.specs.declared.error.CompileErrorKind.TheVariants as kind
+use Rattle.just_errors.specs.declared.error.Definition.TheVariants as definition
+use Rattle.just_names.specs.declared.name.Name.{Name}
+use Rattle.just_ast_expressions.specs.declared.list_use.ListUse.{ListUse}
+use Rattle.just_ast_definitions.specs.declared.setting.Set.{Set}
+use Rattle.just_ast_expressions.specs.declared.settings.Settings.{Settings}
+use Rattle.just_parts.specs.Syntax.{SyntaxAnswers}
+use Rattle.just_recipe.specs.declared.dependency.UnresolvedDependency.{UnresolvedDependency}
+use Rattle.just_recipe.specs.declared.recipe.Recipe.{Recipe}
+use Rattle.just_module_contents.specs.Contents.{Contents, Defined, Signature, defined_in, function_names, function_texts, module_of_name, signatures, texts_of_defined, variable_names}
+use Rattle.just_names.specs.Index.{texts_of_names, Repeats, name_at}
+use Rattle.just_module_contents.specs.Shells.{Shells}
+use Rattle.just_module_contents.specs.Settings.{Conflicts, allows_variables, are_incompatible, line_at, place_at, setting_at, setting_names}
+use Rattle.just_module_contents.specs.Recipes.{name_of, named_parameters, parameter_names, FollowsDefault, named_paths, least_of, most_of, recipe_at, DependsOn}
+
+-- A recipe has a parameter's name twice: those two that follow each other under that name; or a parameter whose group may not be empty follows one with a default, both given by their places. It is told at the later parameter.
+pub data Parameters (recipes : List (Recipe UnresolvedDependency)) : Cause → Type 0 where
+  duplicate_parameter : {second : Name} {recipe : List ℕ} (i p q : ℕ) → i < length recipes → name_of (recipe_at recipes i) ≡ recipe
+      → Repeats (parameter_names (recipe_at recipes i)) p q → slice_get (named_parameters (recipe_at recipes i)) q ≡ Some second
+      → Parameters recipes (Broken second.token (kind.DuplicateParameter recipe (text_of_name second)))
+  required_after_default : {second : Name} (i q : ℕ) → i < length recipes → FollowsDefault (recipe_at recipes i).parameters q
+      → slice_get (named_parameters (recipe_at recipes i)) q ≡ Some second
+      → Parameters recipes (Broken second.token (kind.RequiredParameterFollowsDefaultParameter (text_of_name second)))
+
+-- How two definitions of one name are told: at the one on the greater line, and the line of the other with it; of one line the second, as they were met, comes after the first.
+pub record IsRedefinition (first second : Defined) (place : Place) (told : CompileErrorKind) : Type 0 where
+  pub greater : second.name.token.line < first.name.token.line → (place ≡ first.name.token)
+      × (told ≡ kind.Redefinition second.sort first.sort (text_of_name first.name) second.name.token.line)
+  pub not_greater : first.name.token.line ≤ second.name.token.line → (place ≡ second.name.token)
+      × (told ≡ kind.Redefinition first.sort second.sort (text_of_name second.name) first.name.token.line)
+
+-- Two of these definitions have one name: those two that follow each other under that name.
+pub record Redefines (ds : List Defined) (place : Place) (told : CompileErrorKind) : Type 0 where
+  pub i : ℕ
+  pub j : ℕ
+  pub first : Defined
+  pub second : Defined
+  pub repeats : Repeats (texts_of_defined ds) i j
+  pub first_is : slice_get ds i ≡ Some first
+  pub second_is : slice_get ds j ≡ Some second
+  pub told_is : IsRedefinition first second place told
+
+-- A setting is set twice: at those two places that follow each other under its name. It is told at the second.
+pub data SetTwice (sets : List Set) : Cause → Type 0 where
+  duplicate_set : (i j : ℕ) → Repeats (setting_names sets) i j → SetTwice sets (Broken (place_at sets j) (kind.DuplicateSet (setting_at sets j) (line_at sets i)))
+
+-- What is broken by settings: one is set twice, or two are set of which neither may be set beside the other, which is told at the second.
+pub data Sets (conflicts : Conflicts) (sets : List Set) : Cause → Type 0 where
+  set_twice : {c : Cause} → SetTwice sets c → Sets conflicts sets c
+  incompatible_settings : (i j : ℕ) → i < j → j < length sets → are_incompatible conflicts sets i j ≡ true
+      → Sets conflicts sets (Broken (place_at sets j) (kind.IncompatibleSettings (setting_at sets i) (line_at sets i) (setting_at sets j)))
+
+-- A variable is unexported twice. It is told at the second place.
+pub data Unexports (names : List Name) : Cause → Type 0 where
+  duplicate_unexport : {second : Name} (i j : ℕ) → Repeats (texts_of_names names) i j → slice_get names j ≡ Some second → Unexports names (Broken second.token (kind.DuplicateUnexport (text_of_name second)))
+
+-- Two modules have one name.
+pub data Modules (names : List Name) : Cause → Type 0 where
+  module_redefinition : {place : Place} {told : CompileErrorKind} → Redefines (map module_of_name names) place told → Modules names (Broken place told)
+
+-- What is broken in the headers of a module: those of its recipes, its settings, the names that it unexports, or those of its modules.
+pub data Headers (conflicts : Conflicts) (m : Contents) : Cause → Type 0 where
+  of_parameters : {c : Cause} → Parameters m.recipes c → Headers conflicts m c
+  of_sets : {c : Cause} → Sets conflicts m.sets c → Headers conflicts m c
+  of_unexports : {c : Cause} → Unexports m.unexports c → Headers conflicts m c
+  of_modules : {c : Cause} → Modules m.modules c → Headers conflicts m c
+
+-- A function has the name of a parameter twice: those two that follow each other under that name. It is told at the second.
+pub data RepeatsParameter (s : Signature) : Cause → Type 0 where
+  duplicate_function_parameter : {second : Name} (p q : ℕ) → Repeats (texts_of_names s.parameters) p q → slice_get s.parameters q ≡ Some second
+      → RepeatsParameter s (Broken second.token (kind.DuplicateFunctionParameter (text_of_name s.name) (text_of_name second)))
+
+-- What is broken of functions: two have one name, those two that follow each other under it, and it is told at the second; or one has the name of a parameter twice.
+pub data Functions (functions : List Signature) : Cause → Type 0 where
+  function_redefinition : {first second : Name} (i j : ℕ) → Repeats (texts_of_names (function_names functions)) i j → slice_get (function_names functions) i ≡ Some first → slice_get (function_names functions) j ≡ Some second
+      → Functions functions (Broken second.token (kind.Redefinition definition.Function definition.Function (text_of_name second) first.token.line))
+  of_function : {s : Signature} {c : Cause} (i : ℕ) → slice_get functions i ≡ Some s → RepeatsParameter s c → Functions functions c
+
+-- A variable is assigned twice: at those two places that follow each other under its name. It is told at the second.
+pub data AssignedTwice (names : List Name) : Cause → Type 0 where
+  duplicate_variable : {second : Name} (i j : ℕ) → Repeats (texts_of_names names) i j → slice_get names j ≡ Some second → AssignedTwice names (Broken second.token (kind.DuplicateVariable (text_of_name second)))
+
+-- A variable is assigned and unexported. It is told where it is assigned.
+pub data Unexported (names unexports : List Name) : Cause → Type 0 where
+  export_unexported : {name : Name} (i j : ℕ) → slice_get names i ≡ Some name → j < length (texts_of_names unexports) → name_at (texts_of_names unexports) j ≡ text_of_name name
+      → Unexported names unexports (Broken name.token (kind.ExportUnexported (text_of_name name)))
+
+-- What is broken of variables: one is assigned twice, though no setting allows it, or one is unexported.
+pub data Variables (allowed : Bool) (names unexports : List Name) : Cause → Type 0 where
+  assigned_twice : {c : Cause} → allowed ≡ false → AssignedTwice names c → Variables allowed names unexports c
+  unexported : {c : Cause} → Unexported names unexports c → Variables allowed names unexports c
+
+-- the same, of a module
+abbrev pub VariablesOf : Contents → Cause → Type 0
+VariablesOf m = Variables (allows_variables m.sets) (variable_names m.variables) m.unexports
+
+-- What is broken in the names of a module: those of its variables, or of its functions.
+pub data Names (m : Contents) : Cause → Type 0 where
+  of_variables : {c : Cause} → VariablesOf m c → Names m c
+  of_functions : {c : Cause} → Functions (signatures m.functions) c → Names m c
+
+-- Two of these definitions have one name, and they are not two recipes that may have it.
+pub data Redefined (allowed : Bool) (ds : List Defined) : Cause → Type 0 where
+  redefinition : {place : Place} {told : CompileErrorKind} (r : Redefines ds place told) → (allowed ≡ true → r.first.sort ≡ definition.Module) → Redefined allowed ds (Broken place told)
+
+-- a function of one of these names stands for what needs lists
+pub record StandsFor (names : List Text) (used : ListUse) : Type 0 where
+  pub may : is_function used.feature ≡ true
+  pub at : ℕ
+  pub there : at < length names
+  pub named : name_at names at ≡ lexeme used.token
+
+-- Something needs lists, which are off, and no function of the module stands for it.
+pub data Lists (on : Bool) (names : List Text) (uses : List ListUse) : Cause → Type 0 where
+  list_feature : {used : ListUse} (i : ℕ) → on ≡ false → slice_get uses i ≡ Some used → (StandsFor names used → ⊥) → Lists on names uses (Broken used.token (kind.ListFeature used.feature))
+
+-- What is broken in the bodies of a module under its settings: something needs lists, two of its modules and recipes have one name, or something in a recipe that a shell runs.
+pub data Bodies (answers : SyntaxAnswers) (settings : Settings) (m : Contents) : Cause → Type 0 where
+  of_lists : {c : Cause} → Lists settings.lists (function_texts m) m.lists c → Bodies answers settings m c
+  of_defined : {c : Cause} → Redefined settings.allow_duplicate_recipes (defined_in m) c → Bodies answers settings m c
+  of_shells : {c : Cause} → Shells answers settings m.recipes c → Bodies answers settings m c
+
+-- what is broken under something that there is
+pub data Under {A : Type 0} (Is : A → Type 0) (broken : A → Cause → Type 0) : Cause → Type 0 where
+  under : {a : A} {c : Cause} → Is a → broken a c → Under Is broken c
+
+-- A circle of names: it begins and ends with one name, each recipe depends on the next, and `recipe` is the last that does.
+pub record IsCircleOf (recipes : List (Recipe UnresolvedDependency)) (recipe : List ℕ) (circle : List (List ℕ)) : Type 0 where
+  pub steps : 1 < length circle
+  pub closed : get_or circle 0 [] ≡ get_or circle (length circle - 1) []
+  pub walk : (k : ℕ) → k + 1 < length circle → DependsOn recipes (get_or circle k []) (get_or circle (k + 1) [])
+  pub closing : get_or circle (length circle - 2) [] ≡ recipe
+
+-- A dependency of a recipe of one name on one of another.
+pub record IsDependencyOn (recipes : List (Recipe UnresolvedDependency)) (dependent named : List ℕ) (path : Namepath) : Type 0 where
+  pub from : ℕ
+  pub there : from < length recipes
+  pub dependent_is : name_of (recipe_at recipes from) ≡ dependent
+  pub depends : Contains (named_paths (recipe_at recipes from)) path
+  pub names : texts_of_path path ≡ named ∷ []
+
+-- A dependency is no recipe, a recipe depends on itself, or one is depended on with too few or too many arguments, as values are lists or not. It is told at the last name of the dependency; of a circle, at that of one which closes it.
+pub data Dependencies (lists : Bool) (recipes : List (Recipe UnresolvedDependency)) : Cause → Type 0 where
+  unknown_dependency : {recipe : List ℕ} {unknown : Namepath} (i : ℕ) → i < length recipes → name_of (recipe_at recipes i) ≡ recipe
+      → Contains (named_paths (recipe_at recipes i)) unknown
+      → ((j : ℕ) → j < length recipes → texts_of_path unknown ≢ name_of (recipe_at recipes j) ∷ [])
+      → Dependencies lists recipes (Broken unknown.last.token (kind.UnknownDependency recipe unknown))
+  circular : {recipe : List ℕ} {circle : List (List ℕ)} {path : Namepath} → IsCircleOf recipes recipe circle → IsDependencyOn recipes recipe (get_or circle (length circle - 1) []) path
+      → Dependencies lists recipes (Broken path.last.token (kind.CircularRecipeDependency recipe circle))
+  argument_count : {dependency : Namepath} {found least most : ℕ} (i j : ℕ) → i < length recipes → j < length recipes
+      → Contains (named_paths (recipe_at recipes i)) dependency → texts_of_path dependency ≡ name_of (recipe_at recipes j) ∷ []
+      → found ≡ 0 → least_of (recipe_at recipes j) ≡ least → most_of lists (recipe_at recipes j) ≡ most → (found < least) ⊎ (most < found)
+      → Dependencies lists recipes (Broken dependency.last.token (kind.DependencyArgumentCountMismatch dependency found least most))

@@ -1,0 +1,194 @@
+ghost use Rattle.std.specs.Prelude.{◌≡◌, ◌<◌, IfOk, Some, length, slice_get};
+ghost use Rattle.just_module_contents.specs.Contents.{function_names, signatures};
+ghost use Rattle.just_module_contents.specs.Recipes.{recipes_of, recipe_at};
+ghost use Rattle.just_module_contents.specs.Definitions.{functions_in, lists_in, recipes_in, sets_in, variables_in};
+
+use crate::enabled::is_enabled;
+use crate::labels::doc_of;
+use just_parts::UnresolvedRecipe;
+use just_parts::layers::{
+    Assignment, Expression, FunctionDefinition, Item, ListUse, Name, NamedAttribute, Set, Syntax,
+};
+use std::alloc::{AllocError, Global};
+
+/// What the files of a module say of it, file after file, before its recipes are resolved.
+#[derive(Drop)]
+pub struct Definitions<'src, 'a> {
+    /// The recipes.
+    pub recipes: Vec<&'a UnresolvedRecipe<'src>>,
+    /// The functions.
+    pub functions: Vec<&'a FunctionDefinition<'src>>,
+    /// The variables.
+    pub variables: Vec<&'a Assignment<'src>>,
+    /// The names of the modules in it.
+    pub modules: Vec<Name<'src>>,
+    /// What the docs of these are evaluated from.
+    pub docs: Vec<&'a Expression<'src>>,
+    /// The names of the variables that it unexports.
+    pub unexports: Vec<Name<'src>>,
+    /// What it sets.
+    pub sets: Vec<&'a Set<'src>>,
+    /// Where it needs lists.
+    pub lists: Vec<&'a ListUse<'src>>,
+}
+
+impl<'a, 'src> Definitions<'src, 'a> {
+    ghost use Rattle.std.specs.Prelude.{◌++◌, [], OnOk, option_to_list};
+    ghost use Rattle.just_module_contents.specs.Contents.{no_contents, with_lists, with_module};
+    ghost use Rattle.just_module_contents.specs.Definitions.{contents_in, docs_in, functions_in, lists_in, recipes_in, sets_in, variables_in};
+    ghost use Rattle.just_module_contents.specs.Named.{function_by, name_by, set_by, unexported_by, variable_by};
+    ghost use Rattle.just_module_contents.specs.Labels.{doc_by, doc_of};
+    ghost use Rattle.just_module_contents.specs.Said.{said};
+
+    /// Nothing.
+    pub fn new(alloc: Global) -> Definitions<'src, 'a>
+        ensures { contents_in result ≡ no_contents }
+    {
+        Definitions {
+            recipes: Vec::new(alloc),
+            functions: Vec::new(alloc),
+            variables: Vec::new(alloc),
+            modules: Vec::new(alloc),
+            docs: Vec::new(alloc),
+            unexports: Vec::new(alloc),
+            sets: Vec::new(alloc),
+            lists: Vec::new(alloc),
+        }
+    }
+
+    /// Adds what the enabled items say, in the order of the text.
+    pub fn add<S: Syntax>(&mut self, items: &'a [Item<'src>], syntax: &S) -> Result<(), AllocError>
+        ensures recipes { OnOk result (recipes_in self.new ≡ recipes_in self.old ++ recipes_of (S.answers syntax.now).enabled items.now) }
+        ensures functions { OnOk result (functions_in self.new ≡ functions_in self.old ++ said function_by (S.answers syntax.now).enabled items.now) }
+        ensures variables { OnOk result (variables_in self.new ≡ variables_in self.old ++ said variable_by (S.answers syntax.now).enabled items.now) }
+        ensures modules { OnOk result (self.new.modules.items ≡ self.old.modules.items ++ said name_by (S.answers syntax.now).enabled items.now) }
+        ensures docs { OnOk result (docs_in self.new ≡ docs_in self.old ++ said doc_by (S.answers syntax.now).enabled items.now) }
+        ensures unexports { OnOk result (self.new.unexports.items ≡ self.old.unexports.items ++ said unexported_by (S.answers syntax.now).enabled items.now) }
+        ensures sets { OnOk result (sets_in self.new ≡ sets_in self.old ++ said set_by (S.answers syntax.now).enabled items.now) }
+        ensures lists { OnOk result (lists_in self.new ≡ lists_in self.old) }
+    {
+        for item in items {
+            if !is_enabled(item, syntax) {
+                continue;
+            }
+            match item {
+                Item::Recipe(recipe) => self.recipes.push(recipe)?,
+                Item::Function(function) => self.functions.push(function)?,
+                Item::Assignment(variable) => self.variables.push(variable)?,
+                Item::Module {
+                    name,
+                    absolute: Some(_),
+                    attributes,
+                    ..
+                } => self.add_module(name, attributes.as_slice())?,
+                Item::Unexport { name } => self.unexports.push(name.copied())?,
+                Item::Setting(set) => self.sets.push(set)?,
+                _ => continue,
+            }
+        }
+        Ok(())
+    }
+
+    // Adds a module that is declared under a name, with these attributes.
+    fn add_module(
+        &mut self,
+        name: &Name<'src>,
+        attributes: &'a [NamedAttribute<'src>],
+    ) -> Result<(), AllocError>
+        ensures { OnOk result (contents_in self.new ≡ with_module (contents_in self.old) name.now (option_to_list (doc_of attributes.now))) }
+    {
+        self.modules.push(name.copied())?;
+        if let Some(expression) = doc_of(attributes) {
+            self.docs.push(expression)?;
+        }
+        Ok(())
+    }
+
+    /// Adds where a file needs lists.
+    pub fn add_lists(&mut self, uses: &'a [ListUse<'src>]) -> Result<(), AllocError>
+        ensures { OnOk result (contents_in self.new ≡ with_lists (contents_in self.old) uses.now) }
+    {
+        for used in uses {
+            self.lists.push(used)?;
+        }
+        Ok(())
+    }
+}
+
+// The recipe that is lent at a place.
+fn lent_at<'b, 'a, 'src>(
+    definitions: &'b Definitions<'src, 'a>,
+    place: usize,
+) -> &'b UnresolvedRecipe<'src>
+    requires { place < length definitions.now.recipes.items }
+    ensures { slice_get (recipes_in definitions.now) place ≡ Some result.now }
+{
+    &*definitions.recipes[place]
+}
+
+/// The recipe at a place.
+pub fn recipe_at<'b, 'a, 'src>(
+    definitions: &'b Definitions<'src, 'a>,
+    place: usize,
+) -> &'b UnresolvedRecipe<'src>
+    requires { place < length definitions.now.recipes.items }
+    ensures recipe { slice_get (recipes_in definitions.now) place ≡ Some result.now }
+    ensures there { result.now ≡ recipe_at (recipes_in definitions.now) place }
+{
+    lent_at(definitions, place)
+}
+
+/// The function at a place.
+pub fn function_at<'b, 'a, 'src>(
+    definitions: &'b Definitions<'src, 'a>,
+    place: usize,
+) -> &'b FunctionDefinition<'src>
+    requires { place < length definitions.now.functions.items }
+    ensures { slice_get (functions_in definitions.now) place ≡ Some result.now }
+{
+    &*definitions.functions[place]
+}
+
+/// What is set at a place.
+pub fn set_at<'b, 'a, 'src>(definitions: &'b Definitions<'src, 'a>, place: usize) -> &'b Set<'src>
+    requires { place < length definitions.now.sets.items }
+    ensures { slice_get (sets_in definitions.now) place ≡ Some result.now }
+{
+    &*definitions.sets[place]
+}
+
+/// The variable at a place.
+pub fn variable_at<'b, 'a, 'src>(
+    definitions: &'b Definitions<'src, 'a>,
+    place: usize,
+) -> &'b Assignment<'src>
+    requires { place < length definitions.now.variables.items }
+    ensures { slice_get (variables_in definitions.now) place ≡ Some result.now }
+{
+    &*definitions.variables[place]
+}
+
+/// What needs lists at a place.
+pub fn list_at<'b, 'a, 'src>(
+    definitions: &'b Definitions<'src, 'a>,
+    place: usize,
+) -> &'b ListUse<'src>
+    requires { place < length definitions.now.lists.items }
+    ensures { slice_get (lists_in definitions.now) place ≡ Some result.now }
+{
+    &*definitions.lists[place]
+}
+
+/// The names of the functions.
+pub fn function_names<'a, 'src>(
+    alloc: Global,
+    definitions: &Definitions<'src, 'a>,
+) -> Result<Vec<Name<'src>>, AllocError>
+    ensures { IfOk result (λ names. names.items ≡ function_names (signatures (functions_in definitions.now))) }
+{
+    let mut names = Vec::new(alloc);
+    for place in 0..definitions.functions.len() {
+        names.push(function_at(definitions, place).name.copied())?;
+    }
+    Ok(names)
+}

@@ -1,0 +1,47 @@
+-- What is said of the modules whose own files stand at places.
+use Rattle.std.specs.Prelude.{◌<◌, ℕ, Bool, List, length, slice_index}
+use Rattle.std.specs.List.{All}
+use Rattle.just_graph.specs.Graph.{targets}
+use Rattle.just_errors.specs.Causes.{Cause}
+use Rattle.just_parts.specs.Items.{Item}
+use Rattle.just_recipe.specs.declared.dependency.UnresolvedDependency.{UnresolvedDependency}
+use Rattle.just_recipe.specs.declared.recipe.Recipe.{Recipe}
+use Rattle.just_names.specs.declared.name.Name.{Name}
+use Rattle.just_module_contents.specs.Labels.{label_by}
+use Rattle.just_module_contents.specs.declared.labels.Label.{Label}
+use Rattle.just_module_contents.specs.Contents.{Contents}
+use Rattle.just_names.specs.Index.{texts_of_names, AreDifferent}
+use Rattle.just_module_headers.specs.Files.{asts_in}
+use Rattle.just_module_contents.specs.Named.{contents_from, name_by, said_from, recipes_from}
+use Rattle.just_module_contents.specs.Rules.{Modules}
+use Rattle.just_module_headers.specs.declared.files.Files.{Files}
+use Rattle.just_module_headers.specs.declared.joined.Joined.{Joined}
+
+-- the recipes of the module at a place, and the names of the modules in it
+abbrev pub recipes_of_place : (Item → Bool) → Files → Joined → ℕ → List (Recipe UnresolvedDependency)
+recipes_of_place enabled files joined p = recipes_from enabled (asts_in files) (targets joined.files.items p)
+
+abbrev pub names_of_place : (Item → Bool) → Files → Joined → ℕ → List Name
+names_of_place enabled files joined p = said_from name_by enabled (asts_in files) (targets joined.files.items p)
+
+-- the labels of these
+abbrev pub labels_of_place : (Item → Bool) → Files → Joined → ℕ → List Label
+labels_of_place enabled files joined p = said_from label_by enabled (asts_in files) (targets joined.files.items p)
+
+-- all that the rules read of it
+abbrev pub contents_of_place : (Item → Bool) → Files → Joined → ℕ → Contents
+contents_of_place enabled files joined p = contents_from enabled (asts_in files) (targets joined.files.items p)
+
+-- Two modules have one name in the module at a place of an order.
+pub record RepeatsNames (enabled : Item → Bool) (files : Files) (joined : Joined) (order : List ℕ) (c : Cause) : Type 0 where
+  pub at : ℕ
+  pub there : at < length order
+  pub broken : Modules (names_of_place enabled files joined (slice_index order at)) c
+
+-- the files of each module of an order have places
+abbrev pub HaveFiles : Files → Joined → List ℕ → Type 0
+HaveFiles files joined order = (k : ℕ) → k < length order → All (λ q. q < length files.asts.items) (targets joined.files.items (slice_index order k))
+
+-- the modules in each module of an order have different names
+abbrev pub HaveNames : (Item → Bool) → Files → Joined → List ℕ → Type 0
+HaveNames enabled files joined order = (k : ℕ) → k < length order → AreDifferent (texts_of_names (names_of_place enabled files joined (slice_index order k)))

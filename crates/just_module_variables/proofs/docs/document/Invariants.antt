@@ -1,0 +1,12 @@
+use Rattle.std.proofs.Common.{take}
+use Rattle.std.specs.List.{All}
+use Rattle.just_module_variables.specs.Documented.{AreDocumented, known_by, value_by}
+use Rattle.just_module_variables.proofs.Documenting.{IsSoundLabel}
+use Rattle.just_module_variables.proofs.docs.document.Given as goal
+use Rattle.just_parts.specs.Evaluator.{values_of}
+
+abbrev pub invariant-loop-label : goal.invariant-loop-label
+invariant-loop-label g l = record {
+  made : AreDocumented (value_by (g.E.Evaluation.answers l.evaluation) l.variables (values_of l.constants)) (take l.label-index l.labels) l.made.items;
+  sound : All (IsSoundLabel (known_by (g.S.Syntax.answers l.syntax) l.variables) (value_by (g.E.Evaluation.answers l.evaluation) l.variables (values_of l.constants))) (take l.label-index l.labels);
+}

@@ -1,0 +1,26 @@
+-- The variables and functions of a module, resolved.
+use Rattle.std.specs.Prelude.{◌≡◌, List}
+use Rattle.just_module_contents.specs.Contents.{Contents}
+use Rattle.just_module_contents.specs.Known.{functions_under, variables_under}
+use Rattle.just_module_variables.specs.declared.variables.Variables.{Variables}
+use Rattle.just_names.specs.Texts.{Text}
+use Rattle.just_names.specs.declared.name.Name.{Name}
+use Rattle.just_parts.specs.Syntax.{SyntaxAnswers}
+use Rattle.just_ast_definitions.specs.declared.assignment.Assignment.{Assignment}
+use Rattle.just_ast_definitions.specs.declared.function_definition.FunctionDefinition.{FunctionDefinition}
+use Rattle.just_module_variables.specs.Numbered.{numbered_assignments, numbered_functions}
+use Rattle.just_module_variables.specs.Resolved.{AreInOrder}
+use Rattle.just_parts.specs.Known.{Known, known}
+
+-- what names stand for in a module, with the numbers of its definitions
+abbrev pub known_with_numbers : SyntaxAnswers → Contents → Known
+known_with_numbers answers m = known answers (variables_under m.variables) (functions_under m.functions)
+
+-- The variables of a module, those that are kept, and its functions, each with the numbers of what the names in it mean, and the names of the variables in an evaluation order.
+pub record AreVariables (answers : SyntaxAnswers) (m : Contents) (assignments : List (Text × Assignment)) (functions : List (Text × FunctionDefinition)) (order : List Name) : Type 0 where
+  pub assignments_are : assignments ≡ numbered_assignments (known_with_numbers answers m)
+  pub functions_are : functions ≡ numbered_functions (known_with_numbers answers m)
+  pub evaluation_order : AreInOrder (known_with_numbers answers m) order
+
+abbrev pub AreVariablesOf : SyntaxAnswers → Contents → Variables → Type 0
+AreVariablesOf answers m it = AreVariables answers m it.assignments it.functions it.evaluation_order

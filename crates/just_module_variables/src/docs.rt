@@ -1,0 +1,92 @@
+//! The docs of the modules that a module declares.
+
+ghost use Rattle.std.specs.Prelude.{◌≡◌, IfOk, IfErr};
+ghost use Rattle.just_module_variables.specs.Constants.{CoversAll};
+ghost use Rattle.just_module_variables.specs.Documented.{AreDocumentedIn, CoversDoc, DocFault, IsDocumented, KeepsDoc, doc_expressions, doc_of_value, known_by, value_by};
+ghost use Rattle.just_module_variables.specs.Variables.{AreVariablesOf};
+ghost use Rattle.just_errors.specs.Causes.{Keeps, Reports};
+ghost use Rattle.just_module_contents.specs.Constants.{Docs};
+ghost use Rattle.just_module_contents.specs.Definitions.{contents_in, docs_in};
+ghost use Rattle.just_parts.specs.Evaluator.{values_of};
+
+use crate::variables::Variables;
+use just_data::{Text, copied};
+use just_module_contents::Label;
+use just_module_contents::definitions::Definitions;
+use just_name_resolution::{Known, check_expression};
+use just_parts::layers::{Error, Evaluation, Expression, Scope, Syntax, joined};
+use std::alloc::{AllocError, Global};
+use std::collections::HashSet;
+
+// The doc that a value is: its texts with a blank between them, and none where it has none.
+fn doc_of_value(alloc: Global, value: &[Text]) -> Result<Option<Text>, AllocError>
+    ensures { IfOk result (λ doc. doc ≡ doc_of_value value.now) }
+{
+    if value.is_empty() {
+        return Ok(None);
+    }
+    Ok(Some(joined(alloc, value)?))
+}
+
+// A label with the doc evaluated.
+fn documented<'k, 'src, S: Syntax, E: Evaluation>(
+    alloc: Global,
+    label: &Label<'src>,
+    variables: &'k Variables<'src>,
+    constants: &Scope<'src>,
+    syntax: &'k S,
+    evaluation: &E,
+) -> Result<Label<'src>, Error<'src>>
+    requires { CoversDoc variables.now (values_of constants.now) label.now }
+    ensures kept { IfOk result (λ _. KeepsDoc (S.answers syntax.now) variables.now label.now) }
+    ensures label { IfOk result (IsDocumented (value_by (E.answers evaluation.now) variables.now (values_of constants.now)) label.now) }
+    ensures named { let value = value_by (E.answers evaluation.now) variables.now (values_of constants.now) in
+        IfErr result (Reports (DocFault (known_by (S.answers syntax.now) variables.now) value label.now.doc_expression)) }
+{
+    let mut made = copied(label)?;
+    let Some(expression) = &label.doc_expression else {
+        return Ok(made);
+    };
+    let known = Known {
+        assignments: &variables.assignments,
+        functions: &variables.functions,
+        syntax,
+    };
+    let hidden = HashSet::new(alloc);
+    check_expression(alloc, &known, &hidden, expression)?;
+    let value = evaluation.value_const(
+        alloc,
+        constants,
+        &variables.assignments,
+        &variables.functions,
+        expression,
+    )?;
+    made.doc = doc_of_value(alloc, value.as_slice())?;
+    Ok(made)
+}
+
+/// The labels of the modules that a module declares, with their docs evaluated among its constants. An error names a fault
+/// of the evaluation, or what is at fault with a name in a doc.
+pub fn document<'k, 'a, 'src, S: Syntax, E: Evaluation>(
+    alloc: Global,
+    definitions: &Definitions<'src, 'a>,
+    labels: &[Label<'src>],
+    variables: &'k Variables<'src>,
+    constants: &Scope<'src>,
+    syntax: &'k S,
+    evaluation: &E,
+) -> Result<Vec<Label<'src>>, Error<'src>>
+    requires docs { docs_in definitions.now ≡ doc_expressions labels.now }
+    requires variables { AreVariablesOf (S.answers syntax.now) (contents_in definitions.now) variables.now }
+    requires covered { CoversAll variables.now (values_of constants.now) (docs_in definitions.now) }
+    ensures kept { IfOk result (λ _. Keeps (Docs (S.answers syntax.now) (E.answers evaluation.now) (contents_in definitions.now) (values_of constants.now))) }
+    ensures labels { let m = contents_in definitions.now in
+        IfOk result (λ made. AreDocumentedIn (E.answers evaluation.now) m (values_of constants.now) labels.now made.items) }
+    ensures named { IfErr result (Reports (Docs (S.answers syntax.now) (E.answers evaluation.now) (contents_in definitions.now) (values_of constants.now))) }
+{
+    let mut made = Vec::with_capacity(alloc, labels.len())?;
+    for label in labels {
+        made.push(documented(alloc, label, variables, constants, syntax, evaluation)?)?;
+    }
+    Ok(made)
+}

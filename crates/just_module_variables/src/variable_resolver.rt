@@ -1,0 +1,179 @@
+//! Checks and resolves the names in expressions.
+
+ghost use Rattle.std.specs.Prelude.{◌≡◌, IfErr, IfOk, OnErr, OnOk};
+ghost use Rattle.std.specs.HashSet.{contains};
+ghost use Rattle.std.specs.Str.{bytes_eq};
+ghost use Rattle.just_errors.specs.Causes.{Keeps, Reports};
+ghost use Rattle.just_parts.specs.Needs.{Gains, GainsAll, HasNone, IsSame, KeepsAll, same_number};
+ghost use Rattle.just_module_variables.specs.Resolved.{ResolvesTo};
+ghost use Rattle.just_ast_references.specs.Numbers.{with_numbers};
+ghost use Rattle.just_module_variables.specs.Resolver.{known_by, number_here, overridden};
+ghost use Rattle.just_parts.specs.Known.{hides, known};
+ghost use Rattle.just_parts.specs.Misnaming.{Expressions, Misnames, MisnamesCall};
+ghost use Rattle.just_parts.specs.Reading.{Reads};
+
+use crate::numbering::parameter_numbers;
+use crate::resolving::resolve_assignments;
+use just_data::{BorrowedText, Text};
+use just_name_resolution::{Known, Numbers, check_call, check_expression, hidden_names, numbered};
+use just_parts::layers::{
+    Assignment, Error, Expression, FunctionDefinition, FunctionParameter, Name, Number, Syntax,
+};
+use just_table::Table;
+use std::alloc::{AllocError, Global};
+use std::collections::{HashMap, HashSet};
+
+/// Resolves the names in the expressions of a module: checks that each means something, gives each variable the number of
+/// what it means, and tells which variables an expression needs.
+#[derive(Drop)]
+pub struct VariableResolver<'a, 'src, S> {
+    // what names stand for
+    known: Known<'a, 'src, S>,
+    // the numbers of the variables, by their names
+    bindings: HashMap<BorrowedText<'src>, Number>,
+    // the values that some variables have in place of their own
+    overrides: &'a HashMap<Number, Text>,
+}
+
+impl<'a, 'src, S: Syntax> VariableResolver<'a, 'src, S> {
+    /// Checks the names in the values of the variables and in the bodies of the functions of a module, gives each variable
+    /// there the number of what it means, and answers the numbers of the variables, by their names, and their names in an
+    /// evaluation order. An error names a function that is not there or is given a wrong number of arguments, a variable
+    /// that is not there, or variables that read one another in a circle. After a refusal both tables are as they were.
+    pub fn resolve_assignments(
+        alloc: Global,
+        assignments: &mut Table<'src, Assignment<'src>>,
+        functions: &mut Table<'src, FunctionDefinition<'src>>,
+        syntax: &S,
+    ) -> Result<(HashMap<BorrowedText<'src>, Number>, Vec<Name<'src>>), Error<'src>>
+        ensures kept { OnOk result (Keeps (Expressions (known (S.answers syntax.now) assignments.old functions.old))) }
+        ensures resolved { IfOk result (λ made. ResolvesTo (known (S.answers syntax.now) assignments.old functions.old) made assignments.new functions.new) }
+        ensures named { IfErr result (Reports (Expressions (known (S.answers syntax.now) assignments.old functions.old))) }
+        ensures refused_assignments { OnErr result (assignments.new ≡ assignments.old) }
+        ensures refused_functions { OnErr result (functions.new ≡ functions.old) }
+    {
+        resolve_assignments(alloc, assignments, functions, syntax)
+    }
+
+    /// A resolver of the names in a module: its variables and functions, each under its name, the numbers of the variables,
+    /// as `resolve_assignments` answers them, and the values that some have in place of their own, by their numbers.
+    pub fn new(
+        assignments: &'a Table<'src, Assignment<'src>>,
+        bindings: HashMap<BorrowedText<'src>, Number>,
+        functions: &'a Table<'src, FunctionDefinition<'src>>,
+        overrides: &'a HashMap<Number, Text>,
+        syntax: &'a S,
+    ) -> VariableResolver<'a, 'src, S>
+        ensures assignments { result.known.assignments.now ≡ assignments.now }
+        ensures functions { result.known.functions.now ≡ functions.now }
+        ensures syntax { result.known.syntax.now ≡ syntax.now }
+        ensures bindings { result.bindings ≡ bindings.entry }
+        ensures overrides { result.overrides.now ≡ overrides.now }
+    {
+        let known = Known {
+            assignments,
+            functions,
+            syntax,
+        };
+        VariableResolver {
+            known,
+            bindings,
+            overrides,
+        }
+    }
+
+    /// Checks a call: that it names a function of the module or a built-in one, and gives it as many arguments as it takes.
+    pub fn resolve_call(&self, name: &Name<'src>, arguments: usize) -> Result<(), Error<'src>>
+        ensures kept { OnOk result (Keeps (MisnamesCall (known_by (S.answers self.now.known.syntax.now) self.now) name.now arguments)) }
+        ensures named { IfErr result (Reports (MisnamesCall (known_by (S.answers self.now.known.syntax.now) self.now) name.now arguments)) }
+    {
+        check_call(&self.known, name, arguments)
+    }
+
+    /// Adds the numbers of the variables that an expression needs under parameters: those that it reads, also through
+    /// functions, and of each that is not overridden those that it reads in turn. `visited` has the functions whose bodies
+    /// were looked into already: they are not looked into again, and those that are looked into now are added. Where memory
+    /// is refused, both sets have what they had.
+    pub fn collect_references(
+        &self,
+        alloc: Global,
+        expression: &Expression<'src>,
+        parameters: &[FunctionParameter<'src>],
+        references: &mut HashSet<Number>,
+        visited: &mut HashSet<BorrowedText<'src>>,
+    ) -> Result<(), AllocError>
+        ensures gains { let m = known_by (S.answers self.now.known.syntax.now) self.now in
+            let start = Reads m (hides parameters.now) expression.now in
+            OnOk result (Gains m (overridden self.now) start (contains same_number references.old) (contains same_number references.new)) }
+        ensures all { let m = known_by (S.answers self.now.known.syntax.now) self.now in
+            let start = Reads m (hides parameters.now) expression.now in
+            let old = contains same_number references.old in
+            OnOk result (HasNone (contains bytes_eq visited.old) → GainsAll m (overridden self.now) start old (contains same_number references.new)) }
+        ensures visited { OnOk result (KeepsAll (contains bytes_eq visited.old) (contains bytes_eq visited.new)) }
+        ensures refused { OnErr result (IsSame (contains same_number references.old) (contains same_number references.new)) }
+        ensures refused_visited { OnErr result (IsSame (contains bytes_eq visited.old) (contains bytes_eq visited.new)) }
+    {
+        just_name_resolution::collect_references(
+            alloc,
+            &self.known,
+            self.overrides,
+            expression,
+            parameters,
+            references,
+            visited,
+        )
+    }
+
+    // An expression again, with the numbers of what its names mean under parameters.
+    fn numbered_under(
+        &self,
+        alloc: Global,
+        expression: &Expression<'src>,
+        parameters: &[FunctionParameter<'src>],
+    ) -> Result<Expression<'src>, AllocError>
+        ensures { let number = number_here (S.answers self.now.known.syntax.now) self.now parameters.now in
+            IfOk result (λ made. made ≡ with_numbers number expression.now) }
+    {
+        let parameters = parameter_numbers(alloc, parameters)?;
+        let numbers = Numbers {
+            parameters: &parameters,
+            assignments: &self.bindings,
+            syntax: self.known.syntax,
+        };
+        numbered(alloc, expression, &numbers)
+    }
+
+    /// Checks the names in an expression under parameters, gives each variable in it the number of what it means, and adds
+    /// the numbers of the variables that it needs. An error names what is at fault. After a refusal the expression is as it
+    /// was, and the set has what it had.
+    pub fn resolve_expression(
+        &self,
+        alloc: Global,
+        expression: &mut Expression<'src>,
+        parameters: &[FunctionParameter<'src>],
+        references: &mut HashSet<Number>,
+    ) -> Result<(), Error<'src>>
+        ensures kept { let m = known_by (S.answers self.now.known.syntax.now) self.now in
+            OnOk result (Keeps (Misnames m (hides parameters.now) expression.old)) }
+        ensures numbers { let number = number_here (S.answers self.now.known.syntax.now) self.now parameters.now in
+            OnOk result (expression.new ≡ with_numbers number expression.old) }
+        ensures gains { let m = known_by (S.answers self.now.known.syntax.now) self.now in
+            let start = Reads m (hides parameters.now) expression.old in
+            OnOk result (Gains m (overridden self.now) start (contains same_number references.old) (contains same_number references.new)) }
+        ensures all { let m = known_by (S.answers self.now.known.syntax.now) self.now in
+            let start = Reads m (hides parameters.now) expression.old in
+            OnOk result (GainsAll m (overridden self.now) start (contains same_number references.old) (contains same_number references.new)) }
+        ensures named { let m = known_by (S.answers self.now.known.syntax.now) self.now in
+            IfErr result (Reports (Misnames m (hides parameters.now) expression.old)) }
+        ensures refused { OnErr result (expression.new ≡ expression.old) }
+        ensures refused_references { OnErr result (IsSame (contains same_number references.old) (contains same_number references.new)) }
+    {
+        let hidden = hidden_names(alloc, parameters)?;
+        check_expression(alloc, &self.known, &hidden, &*expression)?;
+        let made = self.numbered_under(alloc, &*expression, parameters)?;
+        let mut visited = HashSet::new(alloc);
+        self.collect_references(alloc, &*expression, parameters, references, &mut visited)?;
+        *expression = made;
+        Ok(())
+    }
+}

@@ -1,0 +1,7 @@
+-- What names stand for in a module whose tables the code lends.
+use Rattle.just_parts.specs.Known.{Known, known}
+use Rattle.just_parts.specs.Syntax.{SyntaxAnswers}
+use Rattle.just_name_resolution.specs.declared.checking.Known as lent
+
+abbrev pub known_in : {A : Type 0} → SyntaxAnswers → lent.Known A → Known
+known_in answers k = known answers k.assignments.now k.functions.now

@@ -1,5 +1,0 @@
-use Rattle.just_phrases.proofs.Closing.{Closing}
-use Rattle.just_phrases.proofs.body.close_at.Given as goal
-
-abbrev pub invariant-loop-at : goal.invariant-loop-at
-invariant-loop-at l = Closing l.bytes l.at l.quoted

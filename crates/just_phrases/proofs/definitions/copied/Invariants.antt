@@ -1,5 +1,0 @@
-use Rattle.std.proofs.Common.{◌≡◌, take}
-use Rattle.just_phrases.proofs.definitions.copied.Given as goal
-
-abbrev pub invariant-loop-expression : goal.invariant-loop-expression
-invariant-loop-expression l = l.copies ≡ take l.expression-index l.expressions

@@ -1,9 +1,0 @@
-use Rattle.std.proofs.Common.{length, ◌-◌}
-use Rattle.just_phrases.proofs.Listed.{Listed}
-use Rattle.just_phrases.proofs.definitions.read_parameters.Given as goal
-
-abbrev pub invariant-loop-name : goal.invariant-loop-name
-invariant-loop-name l = Listed l.lexemes l.start l.made l.at
-
-abbrev pub decreases-loop-name : goal.decreases-loop-name
-decreases-loop-name l = length l.lexemes - l.at

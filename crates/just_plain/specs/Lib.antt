@@ -1,3 +1,0 @@
-pub mod Expressions
-pub mod Features
-pub mod Stack

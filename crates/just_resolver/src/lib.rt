@@ -1,6 +1,0 @@
-//! Names in expressions, resolved.
-#![tactic(auto)]
-
-pub mod variable_resolver;
-
-pub use variable_resolver::VariableResolver;

@@ -1,7 +1,0 @@
-use Rattle.just_definitions.specs.Recipes.{dependency_paths, recipe_at}
-use Rattle.just_definitions.specs.Definitions.{recipes_in}
-use Rattle.just_definitions.specs.Rows.{HasTargets}
-use Rattle.just_resolving.proofs.recipe_resolver.row.Given as goal
-
-abbrev pub invariant-loop-at : goal.invariant-loop-at
-invariant-loop-at l = HasTargets (recipes_in l.definitions) (dependency_paths (recipe_at (recipes_in l.definitions) l.place)) l.at l.row.items

@@ -1,7 +1,0 @@
-use Rattle.std.proofs.Common.{◌≡◌, ◌<◌, ℕ, false}
-use Rattle.just_definitions.specs.Definitions.{sets_in}
-use Rattle.just_definitions.specs.Settings.{are_incompatible}
-use Rattle.just_rules.proofs.settings.check_sets.Given as goal
-
-abbrev pub invariant-loop-place : goal.invariant-loop-place
-invariant-loop-place g l = (j : ℕ) → j < l.place → (i : ℕ) → i < j → are_incompatible (g.S.Syntax.answers l.syntax).conflicts (sets_in l.definitions) i j ≡ false

@@ -1,7 +1,0 @@
-use Rattle.std.proofs.Common.{◌≡◌, drop}
-use Rattle.just_definitions.specs.Definitions.{sets_in}
-use Rattle.just_definitions.specs.Settings.{allows_variables}
-use Rattle.just_rules.proofs.variables.allows_variables.Given as goal
-
-abbrev pub invariant-loop-place : goal.invariant-loop-place
-invariant-loop-place l = allows_variables (sets_in l.definitions) ≡ allows_variables (drop l.place (sets_in l.definitions))

@@ -1,9 +1,0 @@
-use Rattle.std.proofs.Common.{length}
-use Rattle.just_running.specs.Leaves.{leaves_of}
-use Rattle.just_running.proofs.CourseLemmas.{below-more}
-use Rattle.just_running.proofs.Leaves.{leaves-lower}
-use Rattle.just_running.proofs.Whole.{more-run}
-use Rattle.just_running.proofs.laws.enough_fuel.Goals as goal
-
-pub returns : goal.returns
-returns c = λ rs n ordered enough f ts below. more-run (leaves_of rs) (leaves-lower rs ordered) f n (length rs) ts (below-more (length rs) n ts enough below) below

@@ -1,3 +1,0 @@
-pub mod Distinct
-pub mod Kept
-pub mod Numbers
