@@ -14,7 +14,7 @@ use Rattle.just_graph.proofs.Members.{In, contained, from_flat, from_map, is_in}
 use Rattle.just_parts.specs.Asts.{AstKey, same_ast_key}
 use Rattle.just_errors.specs.Causes.{Cause}
 use Rattle.just_names.specs.Texts.{Text}
-use Rattle.just_names.specs.Name.{text_of_name}
+use Rattle.just_names.specs.Name.{text_if_named, text_of_name}
 use Rattle.just_parts.specs.Items.{Ast}
 use Rattle.just_paths.specs.declared.modulepath.Modulepath.{Modulepath}
 use Rattle.just_recipe.specs.Recipes.{IsResolved}
@@ -191,18 +191,18 @@ module _ (given : Given) (entries : List (AstKey × Ast)) (d : AstKey) (files : 
             All-contains IsResolved (so.made (slice_index order k.0)).recipes r (so.each k.0 k.1).resolved.resolved (subst (λ p. Contains (so.made p).recipes r) (sym k.2) (contained r (so.made q.0).recipes q.2))
 
         -- the modules that a module declares have different names
-        names_at : (k : ℕ) → k < length order → AreDifferent (map (λ (s : Submodule). naming.text_of_name s.label.name) (subs_at given.syntax.enabled entries d files placed rows are can.paths joined (slice_index order k)))
+        names_at : (k : ℕ) → k < length order → AreDifferent (map (λ (s : Submodule). text_if_named s.label.name) (subs_at given.syntax.enabled entries d files placed rows are can.paths joined (slice_index order k)))
         names_at k l =
             let p = slice_index order k in
             subst AreDifferent (sym (submodule_names _ (declared_names R (map key_at (targets joined.files.items p)))))
             (subs_differ given.syntax.enabled entries d files placed rows are can joined aj root inside arr.root_joined arr.inner_joined order arr.ordered arr.reached different p (reached k l))
 
-        differ : (x : Module) (below' : Forest) → HasModule (Tree m0 inside0 Empty) x below' → AreDifferent (map (λ (s : Submodule). naming.text_of_name s.label.name) x.modules)
+        differ : (x : Module) (below' : Forest) → HasModule (Tree m0 inside0 Empty) x below' → AreDifferent (map (λ (s : Submodule). text_if_named s.label.name) x.modules)
         unfolding inside0
         differ x below' first = names_at k0 l0
         differ x below' (in_it i) =
             let l = (forest_at given entries d files placed rows are can.paths joined order below joins arr.ordered.steps_first loaded so.made so.justfile so.each many k0 l0 top e0).known x below' i in
-            subst (λ (y : Module). AreDifferent (map (λ (s : Submodule). naming.text_of_name s.label.name) y.modules)) (sym l.is) (names_at l.at l.there)
+            subst (λ (y : Module). AreDifferent (map (λ (s : Submodule). text_if_named s.label.name) y.modules)) (sym l.is) (names_at l.at l.there)
         differ x below' (after_it i) = absurd (nobody i refl)
 
         -- each recipe is that of a module that stands in the root's

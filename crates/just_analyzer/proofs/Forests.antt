@@ -21,7 +21,7 @@ use Rattle.just_module_variables.specs.Documented.{AreDocumented, HasDoc}
 use Rattle.just_analyzer.specs.Evaluated.{IsEvaluatedTo}
 use Rattle.just_analyzer.specs.Labelled.{label_in, labelled_as, with_labels}
 use Rattle.just_analyzer.specs.Justfiles.{AreCompiled, Built, IsCompiled, Made, contents_in, none, notes_said, one, recipes_in}
-use Rattle.just_module_declarations.specs.Noted.{notes_from}
+use Rattle.just_analyzer.specs.Noted.{notes_from}
 use Rattle.just_module_tree.specs.Modules.{Empty, Forest, Heading, Module, Tree, headings_in}
 use Rattle.just_module_contents.specs.Contents.{Contents}
 use Rattle.just_module_contents.specs.Kept.{kept_recipes}

@@ -1,10 +1,10 @@
 -- The numbers of recipes and of variables in a text.
-use Rattle.std.proofs.Common.{◌≡◌, ℕ, ◌+◌, ◌≤◌, Bool, true, false, List, [], ◌∷◌, ◌++◌, get_or, ◌⊎◌, inl, inr, refl, sym, ap, subst, arith}
+use Rattle.std.proofs.Common.{◌≡◌, ℕ, ◌+◌, ◌≤◌, Bool, true, false, List, [], ◌∷◌, ◌++◌, ◌⊎◌, inl, inr, refl, sym, ap, subst, arith}
 use Rattle.std.specs.Prelude.{if◌then◌else◌}
 use Rattle.std.specs.List.{All}
-use Rattle.std.proofs.lemmas.List.Elements.{All-contains, Contains-get_or}
+use Rattle.std.proofs.lemmas.List.Elements.{All-contains}
 use Rattle.just_graph.proofs.Leveling.{Once}
-use Rattle.just_graph.proofs.Members.{In, contained, from_flat, from_map, in_flat, is_in}
+use Rattle.just_graph.proofs.Members.{In, contained, from_flat, from_map, in_flat, all_in}
 use Rattle.just_parts.specs.Bare.{bare_item}
 use Rattle.just_parts.specs.Syntax.{AreRising, PriorsAreDependencies, item_numbers, numbers, function_numbers, parameter_numbers}
 use Rattle.just_parts.specs.Items.{Item}
@@ -62,12 +62,9 @@ once_recipes enabled low (item.Function f ∷ is) high r =
     let after = rising_after low (function_numbers f) (numbers is) high r in once_recipes enabled after.0 is high after.2
 once_recipes enabled low (_ ∷ is) high r = once_recipes enabled low is high r
 
-all_by : {A : Type 0} (P : A → Type 0) (xs : List A) → ((x : A) → In x xs → P x) → All P xs
-all_by P xs f = λ k d h. f (get_or xs k d) (is_in (get_or xs k d) xs (Contains-get_or xs k d h))
-
 -- recipes have no more priors than dependencies, where items have
 pub recipe_priors : (enabled : Item → Bool) (is : List Item) → All PriorsAreDependencies is → All HasPriors (recipes_of enabled is)
-recipe_priors enabled is all = all_by HasPriors (recipes_of enabled is) (λ r h. All-contains PriorsAreDependencies is (item.Recipe r) all (contained (item.Recipe r) is (recipe_item enabled r is h)))
+recipe_priors enabled is all = all_in HasPriors (recipes_of enabled is) (λ r h. All-contains PriorsAreDependencies is (item.Recipe r) all (contained (item.Recipe r) is (recipe_item enabled r is h)))
 
 variable_if : (b : Bool) (i : Item) (a : Assignment) → In a (if b then variable_by i else []) → i ≡ item.Assignment a
 variable_if true (item.Assignment v) a (inl e) = ap item.Assignment (sym e)

@@ -26,7 +26,7 @@ use Rattle.just_module_headers.specs.declared.files.Files.{Files}
 use Rattle.just_module_headers.specs.declared.joined.Joined.{Joined}
 use Rattle.just_module_recipes.proofs.Resolved.{made_numbers}
 use Rattle.just_parts.specs.Layers.{Given}
-use Rattle.just_ast_expressions.specs.declared.settings.Settings.{Settings}
+use Rattle.just_ast_expressions.specs.Settings.{default_settings}
 
 -- a function that is changed at a place
 abbrev put_at : {A : Type 0} → ℕ → A → (ℕ → A) → ℕ → A
@@ -153,26 +153,8 @@ module _ (given : Given) (files : Files) (joined : Joined) (loaded : List Text) 
       room = step.room ∙ so.room;
     }
 
-no_settings : Settings
-no_settings = record {
-  allow_duplicate_recipes = false;
-  allow_duplicate_variables = false;
-  default_script = false;
-  export = false;
-  ignore_comments = false;
-  lazy = false;
-  lists = false;
-  no_cd = false;
-  no_exit_message = false;
-  positional_arguments = false;
-  quiet = false;
-  script_interpreter = None;
-  shell = None;
-  unstable = false;
-}
-
 no_justfile : Justfile
-no_justfile = roll-Justfile (record { absent_modules = []; assignments = []; default = None; doc = None; evaluation_order = []; functions = []; groups = []; loaded = []; module_path = record { components = []; spaced = false }; modules = []; name = None; private = false; recipes = []; settings = no_settings; source = []; unexports = []; unstable_features = []; warnings = []; working_directory = [] })
+no_justfile = roll-Justfile (record { absent_modules = []; assignments = []; default = None; doc = None; evaluation_order = []; functions = []; groups = []; loaded = []; module_path = record { components = []; spaced = false }; modules = []; name = None; private = false; recipes = []; settings = default_settings; source = []; unexports = []; unstable_features = []; warnings = []; working_directory = [] })
 
 -- none is compiled
 pub compiled_none : (given : Given) (files : Files) (joined : Joined) (loaded : List Text) (order : List ℕ) (slots : List (Option Justfile)) (added : Made) → length slots ≡ length files.asts.items → added.recipes ≡ [] → added.overridden ≡ []

@@ -16,10 +16,10 @@ use Rattle.just_module_headers.specs.OfPlaces.{contents_of_place, labels_of_plac
 use Rattle.just_module_headers.specs.declared.files.Files.{Files}
 use Rattle.just_module_headers.specs.declared.joined.Joined.{Joined}
 use Rattle.just_module_recipes.specs.Broken.{BreaksRecipes}
-use Rattle.just_module_declarations.specs.Evaluated.{IsChecked}
+use Rattle.just_analyzer.specs.Checked.{IsChecked}
 use Rattle.just_analyzer.specs.Evaluated.{IsEvaluatedTo}
 use Rattle.just_analyzer.specs.Steps.{BreaksPlace, KeepsPlace, path_at, path_in}
-use Rattle.just_module_declarations.specs.declared.checking.Checked.{Checked}
+use Rattle.just_analyzer.specs.declared.groups.Checked.{Checked}
 use Rattle.just_analyzer.proofs.Grounds.{all_kept, recipes_broken}
 use Rattle.just_names.specs.Texts.{Text}
 use Rattle.just_module_contents.specs.Labels.{label_by}

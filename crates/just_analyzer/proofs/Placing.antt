@@ -11,7 +11,7 @@ use Rattle.just_ast_items.specs.declared.item.Item.TheVariants as item
 use Rattle.just_graph.proofs.Members.{In, contained, from_flat}
 use Rattle.just_table.specs.Entries.{find, put}
 use Rattle.just_table.proofs.Puts.{find_put}
-use Rattle.just_names.specs.Name.{text_of_name}
+use Rattle.just_names.specs.Name.{text_if_named, text_of_name}
 use Rattle.just_names.specs.Texts.{Text}
 use Rattle.just_ast_expressions.specs.declared.expression.Expression.{Expression}
 use Rattle.just_names.specs.Index.{AreDifferent, texts_of_names}
@@ -73,18 +73,18 @@ pub each_named : (js : List Justfile) → AreDifferent (map naming.module_name j
 each_named js different j i = found_in (naming.module_name j) (held_by_name [] js) j (all_held [] js different j i)
 
 -- evaluated labels have the names that are said
-documented_names : (value : Expression → Option (List Text)) (said made : List Label) → AreDocumented value said made → map (λ (l : Label). naming.text_of_name l.name) made ≡ map (λ (l : Label). naming.text_of_name l.name) said
-documented_names value [] made is = ap (map (λ (l : Label). naming.text_of_name l.name)) is
+documented_names : (value : Expression → Option (List Text)) (said made : List Label) → AreDocumented value said made → map (λ (l : Label). text_if_named l.name) made ≡ map (λ (l : Label). text_if_named l.name) said
+documented_names value [] made is = ap (map (λ (l : Label). text_if_named l.name)) is
 documented_names value (l ∷ said) made (x, rest, are, is, more) =
-    ap (map (λ (l : Label). naming.text_of_name l.name)) are ∙ (λ i. naming.text_of_name (is.name i) ∷ documented_names value said rest more i)
+    ap (map (λ (l : Label). text_if_named l.name)) are ∙ (λ i. text_if_named (is.name i) ∷ documented_names value said rest more i)
 
-names_of_labels : (js : List Justfile) → map (λ (l : Label). naming.text_of_name l.name) (map label_in js) ≡ map naming.module_name js
+names_of_labels : (js : List Justfile) → map (λ (l : Label). text_if_named l.name) (map label_in js) ≡ map naming.module_name js
 names_of_labels [] = refl
 names_of_labels (j ∷ js) = ap (λ ns. naming.module_name j ∷ ns) (names_of_labels js)
 
-labels_of_modules : (subs : List Submodule) → map (λ (l : Label). naming.text_of_name l.name) (map (λ (s : Submodule). s.label) subs) ≡ map (λ (s : Submodule). naming.text_of_name s.label.name) subs
+labels_of_modules : (subs : List Submodule) → map (λ (l : Label). text_if_named l.name) (map (λ (s : Submodule). s.label) subs) ≡ map (λ (s : Submodule). text_if_named s.label.name) subs
 labels_of_modules [] = refl
-labels_of_modules (s ∷ subs) = ap (λ ns. naming.text_of_name s.label.name ∷ ns) (labels_of_modules subs)
+labels_of_modules (s ∷ subs) = ap (λ ns. text_if_named s.label.name ∷ ns) (labels_of_modules subs)
 
 -- what declares a module says its name
 declared_name : (path : Modulepath) (i : Item) (s : Submodule) → In s (declared path i) → s.label.name ≡ Some s.name
@@ -99,9 +99,9 @@ declared_names R files s i =
     let x = from_flat (declared k.0.0) s (items_in (R k.0)) k.2 in
     declared_name k.0.0 x.0 s x.2
 
-pub submodule_names : (subs : List Submodule) → ((s : Submodule) → In s subs → s.label.name ≡ Some s.name) → map (λ (s : Submodule). naming.text_of_name s.label.name) subs ≡ texts_of_names (map (λ (s : Submodule). s.name) subs)
+pub submodule_names : (subs : List Submodule) → ((s : Submodule) → In s subs → s.label.name ≡ Some s.name) → map (λ (s : Submodule). text_if_named s.label.name) subs ≡ texts_of_names (map (λ (s : Submodule). s.name) subs)
 submodule_names [] named = refl
-submodule_names (s ∷ subs) named = λ i. naming.text_of_name (named s (inl refl) i) ∷ submodule_names subs (λ x h. named x (inr h)) i
+submodule_names (s ∷ subs) named = λ i. text_if_named (named s (inl refl) i) ∷ submodule_names subs (λ x h. named x (inr h)) i
 
 -- a recipe that is made at a path has that path
 pub made_path : (rs : List (Recipe UnresolvedDependency)) (path : Modulepath) (order : List ℕ) (made : List (Recipe Dependency)) → AreMadeOf rs path order made → (r : Recipe Dependency) → In r made → r.module_path ≡ Some path
@@ -121,7 +121,7 @@ module _ (given : Given) (asts : AstKey → Option Ast) (paths : (k : AstKey) (a
     pub path : (out-Justfile it).module_path ≡ path_of m
 
   pub standing : {f : Forest} {js : List Justfile} → AreCompiled given asts loaded built f js →
-      ((m : Module) (below : Forest) → HasModule f m below → AreDifferent (map (λ (s : Submodule). naming.text_of_name s.label.name) m.modules)) → {m : Module} {below : Forest} → HasModule f m below → Standing js m
+      ((m : Module) (below : Forest) → HasModule f m below → AreDifferent (map (λ (s : Submodule). text_if_named s.label.name) m.modules)) → {m : Module} {below : Forest} → HasModule f m below → Standing js m
   standing none different has = absurd (nobody has refl)
   standing (one {m = x} {j = j} made there inner is after) different first = record {
     top = j;
@@ -132,7 +132,7 @@ module _ (given : Given) (asts : AstKey → Option Ast) (paths : (k : AstKey) (a
   }
   standing (one {m = x} {inner = inner} {j = j} made there below is after) different (in_it has) =
       let s = standing below (λ m b h. different m b (in_it h)) has in
-      let names : map naming.module_name inner ≡ map (λ (s : Submodule). naming.text_of_name s.label.name) x.modules =
+      let names : map naming.module_name inner ≡ map (λ (s : Submodule). text_if_named s.label.name) x.modules =
       sym (names_of_labels inner) ∙ documented_names _ (map (λ (s : Submodule). s.label) x.modules) (map label_in inner) is.evaluated.documented ∙ labels_of_modules x.modules in
       let apart : AreDifferent (map naming.module_name inner) = subst AreDifferent (sym names) (different x _ first) in
       let there : In s.top (out-Justfile j).modules = subst (In s.top) (sym is.modules) (each_named inner apart s.top s.among) in

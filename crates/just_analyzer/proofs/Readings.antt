@@ -25,14 +25,14 @@ use Rattle.just_loader.specs.Loaded.{IsLoaded, with_path}
 use Rattle.just_loader.specs.Reached.{World}
 use Rattle.just_loader.proofs.HeldKeys.{closed, held_key, held_path, key_held, path_led, said}
 use Rattle.just_module_headers.specs.Analyzable.{AreAnalyzable, assignment_numbers}
-use Rattle.just_module_contents.specs.Named.{variable_by}
+use Rattle.just_module_contents.specs.Named.{variable_by, lists_by}
 use Rattle.just_module_contents.specs.Said.{said as said_of}
 use Rattle.just_module_headers.specs.Files.{led}
 use Rattle.just_module_contents.specs.Recipes.{recipes_of}
 use Rattle.just_module_headers.specs.Reading.{Reading, ast_of_both, enabled_items, located_ast, reading_of}
 use Rattle.just_module_contents.specs.Resolved.{unresolved_numbers}
 use Rattle.just_module_tree.proofs.Agreeing.{Holds}
-use Rattle.just_analyzer.specs.Readings.{IsReadingOf, items_read, lists_at, lists_in}
+use Rattle.just_analyzer.specs.Readings.{IsReadingOf, items_read, lists_at}
 use Rattle.just_analyzer.proofs.Numbers.{once_recipes, once_variables, recipe_number_in, recipe_priors, variable_number_in}
 
 -- an item that leads to a key has the path of its file
@@ -116,7 +116,7 @@ module _ (w : World) (asts : AstKey → Option Ast) (loaded : List Text) (is : I
       let n = is.only k ast e in
       let h = is.held n.0 n.1 in
       let same : h.0 ≡ ast = some_same (sym h.1 ∙ ap asts n.2 ∙ e) in
-      ap (λ (a : Ast). a.list_features) (sym same ∙ h.2.rest) ∙ sym (ap lists_in h.2.said) ∙ ap (λ (x : AstKey). lists_at w x.1) n.2
+      ap (λ (a : Ast). a.list_features) (sym same ∙ h.2.rest) ∙ sym (ap lists_by h.2.said) ∙ ap (λ (x : AstKey). lists_at w x.1) n.2
 
   pub is_reading : IsReadingOf w (reading_of enabled asts)
   is_reading k depth least =

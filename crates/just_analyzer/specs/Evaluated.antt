@@ -1,6 +1,6 @@
 -- What is evaluated of a module that is compiled.
 use Rattle.std.specs.Prelude.{◌≡◌, List}
-use Rattle.just_module_declarations.specs.Evaluated.{AreLabels, overridden_in}
+use Rattle.just_analyzer.specs.Checked.{AreLabels, overridden_in}
 use Rattle.just_invoke.specs.declared.justfile.Justfile.{Justfile, out-Justfile}
 use Rattle.just_module_contents.specs.Constants.{Evaluated, IsEvaluated}
 use Rattle.just_module_contents.specs.Contents.{Contents}

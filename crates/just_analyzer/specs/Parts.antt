@@ -12,9 +12,9 @@ use Rattle.just_module_headers.specs.declared.joined.Joined.{Joined}
 use Rattle.just_analyzer.specs.Analysis.{HasDefault, IsOf}
 use Rattle.just_analyzer.specs.Labelled.{by_name, notes_in, slot, with_labels}
 use Rattle.just_analyzer.specs.Justfiles.{Made}
-use Rattle.just_module_declarations.specs.Noted.{notes_of_place}
+use Rattle.just_analyzer.specs.Noted.{notes_of_place}
 use Rattle.just_analyzer.specs.Variables.{HasVariables}
-use Rattle.just_module_declarations.specs.declared.checking.Checked.{Checked}
+use Rattle.just_analyzer.specs.declared.groups.Checked.{Checked}
 use Rattle.just_analyzer.specs.declared.making.Surroundings.{Surroundings}
 use Rattle.just_names.specs.Texts.{Text}
 use Rattle.just_module_contents.specs.declared.labels.Label.{Label}

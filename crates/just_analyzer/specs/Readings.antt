@@ -1,5 +1,6 @@
 -- What the files of a source map say, as the modules that they belong to see it.
 use Rattle.std.specs.Prelude.{◌≡◌, false, ℕ, List, [], map, Option, None, Some}
+use Rattle.just_module_contents.specs.Named.{lists_by}
 use Rattle.just_parts.specs.Asts.{root_ast_key}
 use Rattle.just_paths.specs.Clean.{folder_of}
 use Rattle.just_names.specs.Texts.{Text}
@@ -7,7 +8,7 @@ use Rattle.just_paths.specs.declared.modulepath.Modulepath.{Modulepath}
 use Rattle.just_parts.specs.Evaluator.{Evaluator}
 use Rattle.just_parts.specs.Layers.{Given}
 use Rattle.just_parts.specs.Located.{with_depth}
-use Rattle.just_parts.specs.Items.{Ast, Item}
+use Rattle.just_parts.specs.Items.{Item}
 use Rattle.just_ast_expressions.specs.declared.list_use.ListUse.{ListUse}
 use Rattle.just_loader.specs.Keys.{FileKey, IsLeastFileDepth, ast_key, items_at}
 use Rattle.just_loader.specs.Loaded.{with_path}
@@ -20,12 +21,8 @@ abbrev pub items_read : World → FileKey → ℕ → List Item
 items_read w k depth = map (λ i. with_depth depth (with_path w (folder_of k.node) i)) (enabled_items w.answers.enabled (items_at w k.node))
 
 -- where the file at a path needs lists
-abbrev pub lists_in : Option Ast → List ListUse
-lists_in None = []
-lists_in (Some ast) = ast.list_features
-
 abbrev pub lists_at : World → Text → List ListUse
-lists_at w f = lists_in (ast_of w f)
+lists_at w f = lists_by (ast_of w f)
 
 -- Each file is read under the path of its module and its own, at the least depth of that key.
 abbrev pub IsReadingOf : World → Reading → Type 0

@@ -22,7 +22,7 @@ use Rattle.just_module_headers.specs.Files.{asts_in, keys_in}
 use Rattle.just_analyzer.specs.Labelled.{by_name, notes_in, slot, with_labels}
 use Rattle.just_analyzer.specs.Justfiles.{Made}
 use Rattle.just_analyzer.specs.declared.compiling.Gathered.{Gathered}
-use Rattle.just_module_declarations.specs.Noted.{notes_of_place}
+use Rattle.just_analyzer.specs.Noted.{notes_of_place}
 use Rattle.just_analyzer.specs.Variables.{HasVariables}
 use Rattle.just_module_contents.specs.Groups.{BreaksContents, KeepsContents}
 use Rattle.just_module_contents.specs.Kept.{kept_recipes}
@@ -63,6 +63,15 @@ pub record CanCompile (enabled : Item → Bool) (files : Files) (joined : Joined
   pub apart : IsOnce (targets joined.modules.items p)
   pub labels : length (labels_of_place enabled files joined p) ≡ length (targets joined.modules.items p)
   pub different : AreDifferent (texts_of_names (names_of_place enabled files joined p))
+
+-- Files, their joins and what is compiled so far fit together at a place: each has room for as many, the module there can be compiled, and those in it are compiled.
+pub record FitsFiles (enabled : Item → Bool) (files : Files) (joined : Joined) (p : ℕ) (slots : List (Option Justfile)) : Type 0 where
+  pub keys : length files.keys.items ≡ length files.asts.items
+  pub files_room : length joined.files.items ≡ length files.asts.items
+  pub modules_room : length joined.modules.items ≡ length files.asts.items
+  pub room : length slots ≡ length files.asts.items
+  pub ready : CanCompile enabled files joined p
+  pub inner : (js : List Justfile) × (map Some js ≡ map (slot slots) (targets joined.modules.items p))
 
 -- What the module at a place is compiled to, from the justfiles of the modules in it; it has no label yet.
 pub record IsCompiledAt (given : Given) (files : Files) (joined : Joined) (loaded : List Text) (p : ℕ) (inner : List Justfile) (made : Made) (j : Justfile) : Type 0 where

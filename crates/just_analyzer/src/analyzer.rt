@@ -5,17 +5,19 @@ ghost use Rattle.std.specs.HashMap.{get, spare};
 ghost use Rattle.just_parts.specs.Asts.{same_ast_key};
 ghost use Rattle.just_module_headers.specs.Analyzable.{AreAnalyzable};
 ghost use Rattle.just_analyzer.specs.Analyzed.{AnalyzesAt, AreInserted, NamesAnalyzed};
-ghost use Rattle.just_parts.specs.Layers.{given_of};
+ghost use Rattle.just_parts.specs.Layers.{given_by};
 
 use crate::compiling::{Gathered, compile_in_order};
 use crate::inner::{labelled, take_at};
 use just_data::{Sequence, Shared, Text};
 use just_invoke::{Justfile, Recipes};
 use just_module_contents::Label;
-use just_module_headers::files::{file_rows, place_files, place_of};
+use just_module_headers::files::Files;
 use just_module_headers::joined::arrange;
 use just_module_headers::module_names::check_module_names;
-use just_parts::layers::{Ast, Config, Error, Evaluation, Name, Number, StringLiteral, Syntax};
+use just_parts::layers::{
+    Ast, Config, Error, Evaluation, Given, Name, Number, StringLiteral, Syntax,
+};
 use just_paths::Modulepath;
 use std::alloc::{AllocError, Global};
 use std::collections::HashMap;
@@ -36,39 +38,28 @@ fn literals<'src>(
 
 // The justfile of the module of a key, under a label, and what it and the modules in it add.
 fn analyze_modules<'src, S: Syntax, E: Evaluation>(
-    alloc: Global,
+    given: &Given<S, E>,
     asts: &HashMap<(Modulepath, Text), Ast<'src>>,
-    config: &Config,
-    syntax: &S,
-    evaluation: &E,
     loaded: &Shared<Sequence<Text>>,
     module_path: &Modulepath,
     root: &str,
     label: Label<'src>,
 ) -> Result<(Justfile<'src>, Gathered<'src>), Error<'src>>
     requires held { IsSome (get same_ast_key asts.now (module_path.now, root.now)) }
-    requires asts { AreAnalyzable (S.answers syntax.now).enabled (get same_ast_key asts.now) }
+    requires asts { AreAnalyzable (S.answers given.now.syntax.now).enabled (get same_ast_key asts.now) }
     requires label { label.doc_expression ≡ None }
-    ensures analyzed { let given = given_of (S.answers syntax.now) (E.answers evaluation.now) config.now.overrides in
+    ensures analyzed { let given = given_by S.answers E.answers given.now in
         IfOk result (AnalyzesAt given asts.now loaded.now module_path.now root.now label.entry) }
-    ensures named { let given = given_of (S.answers syntax.now) (E.answers evaluation.now) config.now.overrides in
+    ensures named { let given = given_by S.answers E.answers given.now in
         IfErr result (NamesAnalyzed given asts.now module_path.now root.now label.entry) }
 {
-    let files = place_files(alloc, asts)?;
-    let rows = file_rows(alloc, &files, syntax)?;
-    let place = place_of(alloc, &files, module_path, root)?;
+    let alloc = given.alloc;
+    let files = Files::new(alloc, asts)?;
+    let rows = files.rows(alloc, given.syntax)?;
+    let place = files.place_of(alloc, module_path, root)?;
     let (joined, order) = arrange(alloc, &rows, place)?;
-    check_module_names(alloc, &files, syntax, &joined, order.as_slice())?;
-    let (mut slots, gathered) = compile_in_order(
-        alloc,
-        &files,
-        syntax,
-        evaluation,
-        config,
-        &joined,
-        loaded,
-        order.as_slice(),
-    )?;
+    check_module_names(alloc, &files, given.syntax, &joined, order.as_slice())?;
+    let (mut slots, gathered) = compile_in_order(given, &files, &joined, loaded, order.as_slice())?;
     let justfile = take_at(&mut slots, place);
     Ok((labelled(justfile, label), gathered))
 }
@@ -134,6 +125,12 @@ impl Analyzer {
             IfErr result (NamesAnalyzed given asts.now module_path.now root.now top) }
         ensures refused { OnErr result (AreAsBefore overrides.old overrides.new) }
     {
+        let given = Given {
+            alloc,
+            syntax,
+            evaluation,
+            config,
+        };
         let groups = literals(alloc, groups)?;
         let label = Label {
             name,
@@ -142,17 +139,7 @@ impl Analyzer {
             groups,
             private,
         };
-        let analyzed = analyze_modules(
-            alloc,
-            asts,
-            config,
-            syntax,
-            evaluation,
-            loaded,
-            module_path,
-            root,
-            label,
-        )?;
+        let analyzed = analyze_modules(&given, asts, loaded, module_path, root, label)?;
         let (justfile, gathered) = analyzed;
         let Gathered {
             recipes,

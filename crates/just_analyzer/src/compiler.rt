@@ -1,6 +1,6 @@
-ghost use Rattle.std.specs.Prelude.{◌≡◌, option_to_list, IfOk, IfErr};
+ghost use Rattle.std.specs.Prelude.{◌≡◌};
 ghost use Rattle.just_paths.specs.Clean.{IsClean};
-ghost use Rattle.just_loader.specs.ModuleFile.{TellsSeveral, module_files};
+ghost use Rattle.just_loader.specs.ModuleFile.{FindsModuleFile};
 ghost use Rattle.just_loader.specs.Reached.{world_of};
 ghost use Rattle.just_parts.specs.Layers.{override_at};
 ghost use Rattle.just_analyzer.specs.Compiled.{Compiles};
@@ -28,8 +28,7 @@ impl Compiler {
         module: &Name<'src>,
         path: Option<&str>,
     ) -> Result<Option<Text>, Error<'src>>
-        ensures found { IfOk result (λ file. option_to_list file ≡ module_files sources.now parent.now «module».now path.entry) }
-        ensures error { IfErr result (TellsSeveral parent.now «module».now (module_files sources.now parent.now «module».now path.entry)) }
+        ensures { FindsModuleFile sources.now parent.now «module».now path.entry result }
     {
         just_loader::find_module_file(alloc, sources, parent, module, path)
     }

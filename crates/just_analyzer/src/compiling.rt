@@ -8,25 +8,25 @@ ghost use Rattle.just_graph.specs.Steps.{IsOnce};
 ghost use Rattle.just_errors.specs.Causes.{Reports};
 ghost use Rattle.just_invoke.specs.declared.justfile.Justfile.{Justfile};
 ghost use Rattle.just_analyzer.specs.Labelled.{slot};
-ghost use Rattle.just_parts.specs.Layers.{given_of};
+ghost use Rattle.just_parts.specs.Layers.{given_by};
 ghost use Rattle.just_module_contents.specs.Definitions.{contents_in, recipes_in};
 ghost use Rattle.just_module_contents.specs.Resolved.{AreNew, HasPriors, unresolved_numbers};
 ghost use Rattle.just_module_headers.specs.OfPlaces.{recipes_of_place};
 ghost use Rattle.just_module_recipes.specs.Broken.{BreaksRecipes};
 ghost use Rattle.just_analyzer.specs.Parts.{AreSurroundings, IsAnalyzedFrom};
-ghost use Rattle.just_analyzer.specs.Steps.{BreaksInOrder, BreaksPlace, CanCompile, CanCompileAll, CompilesAt, HaveCompiledAll, made_in};
+ghost use Rattle.just_analyzer.specs.Steps.{BreaksInOrder, BreaksPlace, CanCompileAll, CompilesAt, FitsFiles, HaveCompiledAll, made_in};
 
+use crate::groups::{Checked, add_recipes, check_files};
 use crate::inner::take_inner;
 use crate::making::{Surroundings, make_justfile};
+use crate::notes::notes_at;
 use just_data::{Sequence, Shared, Text};
 use just_invoke::{Justfile, Recipes};
 use just_module_contents::Label;
-use just_module_declarations::{Checked, check_files, notes_at};
-use just_module_headers::files::{Files, ast_at};
+use just_module_headers::files::Files;
 use just_module_headers::joined::Joined;
-use just_module_recipes::add_recipes;
 use just_module_variables::Constants;
-use just_parts::layers::{Ast, Config, Error, Evaluation, Number, Syntax};
+use just_parts::layers::{Ast, Error, Evaluation, Given, Number, Syntax};
 use std::alloc::{AllocError, Global};
 
 /// What modules that are compiled add.
@@ -39,33 +39,32 @@ pub struct Gathered<'src> {
 }
 
 // What the module whose own file stands at a place has besides its recipes: it takes the modules in it, under these labels.
-fn surroundings_at<'a, 'src, S: Syntax>(
-    alloc: Global,
+fn surroundings_at<'a, 'src, S: Syntax, E: Evaluation>(
+    given: &Given<S, E>,
     files: &Files<'src, 'a>,
-    syntax: &S,
     joined: &Joined,
     loaded: &Shared<Sequence<Text>>,
     place: usize,
     labels: &[Label<'src>],
     slots: &mut Vec<Option<Justfile<'src>>>,
 ) -> Result<Surroundings<'src>, AllocError>
-    requires keys { length files.now.keys.items ≡ length files.now.asts.items }
-    requires files { length joined.now.files.items ≡ length files.now.asts.items }
-    requires modules { length joined.now.modules.items ≡ length files.now.asts.items }
-    requires room { length slots.old.items ≡ length files.now.asts.items }
-    requires ready { CanCompile (S.answers syntax.now).enabled files.now joined.now place }
-    requires inner { (js : List Justfile) × (map Some js ≡ map (slot slots.old.items) (targets joined.now.modules.items place)) }
+    requires fits { FitsFiles (S.answers given.now.syntax.now).enabled files.now joined.now place slots.old.items }
     requires labels { length labels.now ≡ length (targets joined.now.modules.items place) }
-    ensures made { let enabled = (S.answers syntax.now).enabled in
+    ensures made { let enabled = (S.answers given.now.syntax.now).enabled in
         IfOk result (AreSurroundings enabled files.now joined.now loaded.now place labels.now slots.old.items) }
     ensures others { let inner = targets joined.now.modules.items place in
         OnOk result ((q : ℕ) → (Contains inner q → ⊥) → slot slots.new.items q ≡ slot slots.old.items q) }
     ensures room { OnOk result (length slots.new.items ≡ length slots.old.items) }
 {
-    let source = Text::from_str(alloc, files.keys[place].1.as_str())?;
+    let source = Text::from_str(given.alloc, files.keys[place].1.as_str())?;
     let loaded = loaded.clone()?;
-    let notes = notes_at(alloc, files, syntax, joined.files[place].as_slice())?;
-    let modules = take_inner(alloc, slots, joined.modules[place].as_slice(), labels)?;
+    let notes = notes_at(
+        given.alloc,
+        files,
+        given.syntax,
+        joined.files[place].as_slice(),
+    )?;
+    let modules = take_inner(given.alloc, slots, joined.modules[place].as_slice(), labels)?;
     Ok(Surroundings {
         loaded,
         modules,
@@ -125,51 +124,41 @@ fn analyze_checked<'b, 'src, S: Syntax>(
 
 // Compiles the module whose own file stands at a place, from those in it.
 fn compile_place<'a, 'src, S: Syntax, E: Evaluation>(
-    alloc: Global,
+    given: &Given<S, E>,
     files: &Files<'src, 'a>,
-    syntax: &S,
-    evaluation: &E,
-    config: &Config,
     joined: &Joined,
     loaded: &Shared<Sequence<Text>>,
     place: usize,
     slots: &mut Vec<Option<Justfile<'src>>>,
     gathered: &mut Gathered<'src>,
 ) -> Result<(), Error<'src>>
-    requires keys { length files.now.keys.items ≡ length files.now.asts.items }
-    requires files { length joined.now.files.items ≡ length files.now.asts.items }
-    requires modules { length joined.now.modules.items ≡ length files.now.asts.items }
-    requires room { length slots.old.items ≡ length files.now.asts.items }
-    requires ready { CanCompile (S.answers syntax.now).enabled files.now joined.now place }
-    requires inner { (js : List Justfile) × (map Some js ≡ map (slot slots.old.items) (targets joined.now.modules.items place)) }
-    requires apart { AreNew gathered.old.recipes (recipes_of_place (S.answers syntax.now).enabled files.now joined.now place) }
-    ensures compiled { let given = given_of (S.answers syntax.now) (E.answers evaluation.now) config.now.overrides in
+    requires fits { FitsFiles (S.answers given.now.syntax.now).enabled files.now joined.now place slots.old.items }
+    requires apart { AreNew gathered.old.recipes (recipes_of_place (S.answers given.now.syntax.now).enabled files.now joined.now place) }
+    ensures compiled { let given = given_by S.answers E.answers given.now in
         OnOk result (CompilesAt given files.now joined.now loaded.now place slots.old slots.new gathered.old gathered.new) }
-    ensures named { let given = given_of (S.answers syntax.now) (E.answers evaluation.now) config.now.overrides in
+    ensures named { let given = given_by S.answers E.answers given.now in
         IfErr result (Reports (BreaksPlace given files.now joined.now place)) }
 {
     let row = joined.files[place].as_slice();
-    let ast = ast_at(files, place);
-    let checked = check_files(
-        alloc,
-        files,
-        syntax,
-        evaluation,
-        config,
-        &ast.module_path,
-        row,
-    )?;
+    let ast = files.ast_at(place);
+    let checked = check_files(given, files, &ast.module_path, row)?;
     let surroundings = surroundings_at(
-        alloc,
+        given,
         files,
-        syntax,
         joined,
         loaded,
         place,
         checked.labels.as_slice(),
         slots,
     )?;
-    let justfile = analyze_checked(alloc, ast, syntax, checked, surroundings, gathered)?;
+    let justfile = analyze_checked(
+        given.alloc,
+        ast,
+        given.syntax,
+        checked,
+        surroundings,
+        gathered,
+    )?;
     slots[place] = Some(justfile);
     Ok(())
 }
@@ -188,33 +177,27 @@ fn no_slots<'src>(alloc: Global, count: usize) -> Result<Vec<Option<Justfile<'sr
 /// Compiles the modules whose own files stand at the places of an order: the justfiles of those that stand in no other,
 /// without a name, and what all add, one module after another.
 pub fn compile_in_order<'a, 'src, S: Syntax, E: Evaluation>(
-    alloc: Global,
+    given: &Given<S, E>,
     files: &Files<'src, 'a>,
-    syntax: &S,
-    evaluation: &E,
-    config: &Config,
     joined: &Joined,
     loaded: &Shared<Sequence<Text>>,
     order: &[usize],
 ) -> Result<(Vec<Option<Justfile<'src>>>, Gathered<'src>), Error<'src>>
-    requires { CanCompileAll (S.answers syntax.now).enabled files.now joined.now order.now }
-    ensures compiled { let given = given_of (S.answers syntax.now) (E.answers evaluation.now) config.now.overrides in
+    requires { CanCompileAll (S.answers given.now.syntax.now).enabled files.now joined.now order.now }
+    ensures compiled { let given = given_by S.answers E.answers given.now in
         IfOk result (HaveCompiledAll given files.now joined.now loaded.now order.now) }
-    ensures named { let given = given_of (S.answers syntax.now) (E.answers evaluation.now) config.now.overrides in
+    ensures named { let given = given_by S.answers E.answers given.now in
         IfErr result (Reports (BreaksInOrder given files.now joined.now order.now)) }
 {
-    let mut slots = no_slots(alloc, files.asts.len())?;
+    let mut slots = no_slots(given.alloc, files.asts.len())?;
     let mut gathered = Gathered {
-        recipes: Recipes::new(alloc),
-        overridden: Vec::new(alloc),
+        recipes: Recipes::new(given.alloc),
+        overridden: Vec::new(given.alloc),
     };
     for place in order {
         compile_place(
-            alloc,
+            given,
             files,
-            syntax,
-            evaluation,
-            config,
             joined,
             loaded,
             *place,

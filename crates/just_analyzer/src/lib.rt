@@ -6,8 +6,10 @@ pub mod analyzer;
 pub mod compilation;
 pub mod compiler;
 mod compiling;
+mod groups;
 mod inner;
 mod making;
+mod notes;
 mod paths;
 
 /// Tables: values under their keys, in byte order.

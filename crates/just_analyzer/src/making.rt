@@ -12,7 +12,7 @@ ghost use Rattle.just_module_contents.specs.Recipes.{names_of};
 use just_data::{Sequence, Shared, Text};
 use just_invoke::{Justfile, RecipeKey};
 use just_module_contents::Notes;
-use just_module_contents::definitions::{Definitions, recipe_at};
+use just_module_contents::definitions::Definitions;
 use just_module_variables::Variables;
 use just_parts::layers::{Ast, Name, Number, Settings};
 use just_table::Table;
@@ -29,7 +29,7 @@ fn recipe_keys<'a, 'src>(
 {
     let mut keys = Table::new(alloc);
     for place in 0..definitions.recipes.len() {
-        let recipe = recipe_at(definitions, place);
+        let recipe = definitions.recipe_at(place);
         let key = RecipeKey {
             name: recipe.name.copied(),
             number: recipe.number,

@@ -15,6 +15,8 @@ mod told;
 mod words;
 
 pub use entries::write_entries;
+pub use just_bench_evaluation::PlainEvaluation;
+pub use just_bench_syntax::PlainSyntax;
 pub use program_error::ProgramError;
 pub use reading::{parse, root_source};
 pub use recorder::Recorder;

@@ -1,5 +1,5 @@
 -- What settings come to.
-use Rattle.std.specs.Prelude.{false, List, [], ◌∷◌, map, Option, None, Some}
+use Rattle.std.specs.Prelude.{List, [], ◌∷◌, map, Option, Some}
 use Rattle.std.specs.Option.{option_and_then, option_map}
 use Rattle.just_names.specs.Texts.{Text}
 use Rattle.just_parts.specs.Evaluator.{Functions, Values}
@@ -9,26 +9,8 @@ use Rattle.just_ast_definitions.specs.declared.setting.Set.{Set}
 use Rattle.just_ast_definitions.specs.declared.setting.Setting.{Setting}
 use Rattle.just_ast_definitions.specs.declared.setting.Setting.TheVariants as setting
 use Rattle.just_ast_expressions.specs.declared.settings.Settings.{Settings}
+use Rattle.just_ast_expressions.specs.Settings.{default_settings}
 use Rattle.just_bench_evaluation.specs.Values.{Outcome, all_of, one_text, value_of}
-
--- no setting is on
-abbrev pub default_settings : Settings
-default_settings = record {
-  allow_duplicate_recipes = false;
-  allow_duplicate_variables = false;
-  default_script = false;
-  export = false;
-  ignore_comments = false;
-  lazy = false;
-  lists = false;
-  no_cd = false;
-  no_exit_message = false;
-  positional_arguments = false;
-  quiet = false;
-  script_interpreter = None;
-  shell = None;
-  unstable = false;
-}
 
 -- What is set, where expressions come to these values.
 module _ (value : Expression → Outcome) where

@@ -4,13 +4,14 @@ use Rattle.std.specs.Prelude.{if◌then◌else◌, ◌==◌, codes}
 use Rattle.std.specs.List.{slice_get}
 use Rattle.std.specs.Option.{option_map}
 use Rattle.std.specs.Str.{bytes_eq}
-use Rattle.std.proofs.lemmas.Bool.{false≢true}
+use Rattle.std.proofs.lemmas.Bool.{false≢true, cases_Bool}
 use Rattle.std.proofs.lemmas.Bool.Decides.{Decides-eqb}
 use Rattle.std.proofs.lemmas.Option.{none-some, same_Some, slice_get_within, slice_get_cases, slice_get_past}
 use Rattle.std.proofs.lemmas.List.{drop_all}
 use Rattle.std.proofs.lemmas.Slice.Eq.{bytes_eq-Decides}
 use Rattle.just_names.specs.Token.{Place, lexeme}
 use Rattle.just_names.specs.declared.name.Name.{Name}
+use Rattle.just_names.specs.Name.{text_if_named}
 use Rattle.just_ast_definitions.specs.declared.assignment.Assignment.{Assignment}
 use Rattle.just_ast_expressions.specs.declared.expression.Expression.{Expression}
 use Rattle.just_ast_definitions.specs.declared.function_definition.FunctionDefinition.{FunctionDefinition}
@@ -57,10 +58,6 @@ kind_of (Some l) = Some l.kind
 abbrev text_of : Option Lexeme → List ℕ
 text_of None = []
 text_of (Some l) = lexeme l.token
-
-abbrev name_text : Option Name → List ℕ
-name_text None = []
-name_text (Some name) = lexeme name.token
 
 -- the rest of a heading begins so, before a parameter or at the `:`
 abbrev starts : Kind → Bool
@@ -149,10 +146,6 @@ no_start kind.Star h = absurd (false≢true (sym h))
 no_start kind.Plus h = absurd (false≢true (sym h))
 no_start _ h = (refl, refl, refl, refl)
 
-true_or_false : (b : Bool) → (b ≡ true) ⊎ (b ≡ false)
-true_or_false true = inl refl
-true_or_false false = inr refl
-
 -- what is chosen is there
 chosen : {A : Type 0} (b : Bool) (o : Option A) (x : A) → (if b then o else None) ≡ Some x → (b ≡ true) × (o ≡ Some x)
 chosen true o x h = (refl, h)
@@ -189,7 +182,7 @@ named : (o : Option Lexeme) (name : Name) → name_there o ≡ Some name → (ki
 named None name h = absurd (none-some name h)
 named (Some l) name h =
     let c = chosen (is_name l.kind) (Some (record { token = l.token })) name h in
-    (ap (λ k. Some k) (name_is l.kind c.0), ap name_text c.1)
+    (ap (λ k. Some k) (name_is l.kind c.0), ap text_if_named c.1)
 
 quoted : (o : Option Lexeme) (place : Place) → quoted_there o ≡ Some place → kind_of o ≡ Some kind.Quoted
 quoted None place h = absurd (none-some place h)
@@ -395,7 +388,7 @@ module _ (all : List Lexeme) where
       rw (there, n.1, n.2, n.3) refl
 
   starting : (at : ℕ) (l : Lexeme) (rest : List Lexeme) (found : List Parameter × ℕ) → slice_get all at ≡ Some l → heading.parameters_from all at 0 (l ∷ rest) ≡ Some found → starts l.kind ≡ true
-  starting at l rest found there h = elim (true_or_false (starts l.kind)) [
+  starting at l rest found there h = elim (cases_Bool (starts l.kind)) [
     | inl so ↦ so
     | inr other ↦
         let none : heading.parameters_from all at 0 (l ∷ rest) ≡ None = rw ((no_start l.kind other).0, no_parameter at l there other) refl in
@@ -424,7 +417,7 @@ module _ (all : List Lexeme) where
   after_name l f is other = ap (heading.parameters_from all 1 0) f.dropped ∙ rw (is, alone l f.there is other) refl
 
   parameters_go_on : (found : List Parameter × ℕ) → heading.parameters all 1 ≡ Some found → second ≡ Some kind.Name → goes_on third ≡ true
-  parameters_go_on found h name = elim (true_or_false (stands is_equals all 2)) [
+  parameters_go_on found h name = elim (cases_Bool (stands is_equals all 2)) [
     | inl equals ↦ ap goes_on (standing is_equals kind.Equals equals_is (slice_get all 2) equals)
     | inr other ↦
         let before = parameters_begin 1 found h in

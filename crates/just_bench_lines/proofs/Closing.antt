@@ -1,36 +1,29 @@
 -- Looking for the end of an interpolation, byte after byte.
-use Rattle.std.proofs.Common.{suc, ◌≡◌, ℕ, ◌+◌, ◌<◌, ◌≤◌, sym, ◌∙◌, ap, refl, subst, List, [], ◌∷◌, length, drop, get_or, Bool, true, false, arith, add-one, Option, Some, None}
+use Rattle.std.proofs.Common.{suc, ◌≡◌, ℕ, ◌+◌, ◌<◌, ◌≤◌, sym, ◌∙◌, ap, refl, subst, List, [], ◌∷◌, length, drop, get_or, Bool, true, false, arith, Option, Some, None}
 use Rattle.std.specs.Prelude.{IfSome, if◌then◌else◌, ◌&&◌, ◌==◌, not}
 use Rattle.std.specs.Option.{option_map}
-use Rattle.std.proofs.Math.Seq.{drop-cons}
 use Rattle.std.proofs.lemmas.List.{drop_all}
+use Rattle.std.proofs.Math.Bool.{and-false}
+use Rattle.just_bench_expressions.proofs.Lexing.{at_front}
 use Rattle.just_bench_lines.specs.Body.{close_at, close_from, closes, closes_twice, in_quotes}
 use Rattle.just_bench_lines.proofs.Bounds.{close_found}
-
--- what stands at a place
-front : (bytes : List ℕ) (at : ℕ) → at < length bytes → drop at bytes ≡ get_or bytes at 0 ∷ drop (at + 1) bytes
-front bytes at within = drop-cons bytes at 0 within ∙ ap (λ m. get_or bytes at 0 ∷ drop m bytes) (sym (add-one at))
-
-nothing : (b : Bool) → (b && false) ≡ false
-nothing true = refl
-nothing false = refl
 
 pub closes_last : (bytes : List ℕ) (at : ℕ) → at + 1 ≡ length bytes → false ≡ closes_twice (drop at bytes)
 closes_last bytes at last =
     let end : drop (at + 1) bytes ≡ [] = drop_all (at + 1) bytes (omega (arith, last)) in
-    sym (ap closes_twice (front bytes at (omega (arith, last))) ∙ ap (λ rest. get_or bytes at 0 == 125 && closes rest) end ∙ nothing (get_or bytes at 0 == 125))
+    sym (ap closes_twice (at_front bytes at (omega (arith, last))) ∙ ap (λ rest. get_or bytes at 0 == 125 && closes rest) end ∙ and-false (get_or bytes at 0 == 125))
 
 pub closes_other : (bytes : List ℕ) (at : ℕ) → at < length bytes → (get_or bytes at 0 ≡ 125 → ⊥) → false ≡ closes_twice (drop at bytes)
 closes_other bytes at within differs =
     let is : (get_or bytes at 0 == 125) ≡ false = grind (arith, differs) in
-    sym (ap closes_twice (front bytes at within) ∙ ap (λ b. b && closes (drop (at + 1) bytes)) is)
+    sym (ap closes_twice (at_front bytes at within) ∙ ap (λ b. b && closes (drop (at + 1) bytes)) is)
 
 pub closes_next : (bytes : List ℕ) (at : ℕ) → at + 1 < length bytes → get_or bytes at 0 ≡ 125 → (get_or bytes (at + 1) 0 == 125) ≡ closes_twice (drop at bytes)
 closes_next bytes at within same =
     let is : (get_or bytes at 0 == 125) ≡ true = grind (arith, same) in
-    sym (ap closes_twice (front bytes at (omega (arith, within))) ∙ ap (λ b. b && closes (drop (at + 1) bytes)) is ∙ ap closes (front bytes (at + 1) within))
+    sym (ap closes_twice (at_front bytes at (omega (arith, within))) ∙ ap (λ b. b && closes (drop (at + 1) bytes)) is ∙ ap closes (at_front bytes (at + 1) within))
 
--- nothing was found before a place
+-- and-false was found before a place
 pub record Closing (bytes : List ℕ) (at : ℕ) (quoted : Bool) : Type 0 where
   pub is : close_at bytes ≡ option_map (λ n. at + n) (close_from quoted (drop at bytes))
 
@@ -49,8 +42,8 @@ onward at (Some n) = ap Some (omega arith)
 at_one : (bytes : List ℕ) (at : ℕ) (quoted next b : Bool) → at < length bytes → next ≡ in_quotes quoted (get_or bytes at 0) → (not next && closes_twice (drop at bytes)) ≡ b
     → close_from quoted (drop at bytes) ≡ (if b then Some 0 else option_map suc (close_from next (drop (at + 1) bytes)))
 at_one bytes at quoted next b within goes is =
-    let found : (not (in_quotes quoted (get_or bytes at 0)) && closes_twice (get_or bytes at 0 ∷ drop (at + 1) bytes)) ≡ b = ap (λ q. not q && closes_twice (get_or bytes at 0 ∷ drop (at + 1) bytes)) (sym goes) ∙ ap (λ bs. not next && closes_twice bs) (sym (front bytes at within)) ∙ is in
-    ap (close_from quoted) (front bytes at within)
+    let found : (not (in_quotes quoted (get_or bytes at 0)) && closes_twice (get_or bytes at 0 ∷ drop (at + 1) bytes)) ≡ b = ap (λ q. not q && closes_twice (get_or bytes at 0 ∷ drop (at + 1) bytes)) (sym goes) ∙ ap (λ bs. not next && closes_twice bs) (sym (at_front bytes at within)) ∙ is in
+    ap (close_from quoted) (at_front bytes at within)
     ∙ ap (λ c. if c then Some 0 else option_map suc (close_from (in_quotes quoted (get_or bytes at 0)) (drop (at + 1) bytes))) found
     ∙ ap (λ q. if b then Some 0 else option_map suc (close_from q (drop (at + 1) bytes))) (sym goes)
 
@@ -63,7 +56,7 @@ pub closing_quoted : (bytes : List ℕ) (at : ℕ) (quoted next : Bool) → Clos
 closing_quoted bytes at quoted next so_far within goes is = step bytes at quoted next so_far within goes (ap (λ q. not q && closes_twice (drop at bytes)) is)
 
 pub closing_other : (bytes : List ℕ) (at : ℕ) (quoted next : Bool) → Closing bytes at quoted → at < length bytes → next ≡ in_quotes quoted (get_or bytes at 0) → closes_twice (drop at bytes) ≡ false → Closing bytes (at + 1) next
-closing_other bytes at quoted next so_far within goes is = step bytes at quoted next so_far within goes (ap (λ c. not next && c) is ∙ nothing (not next))
+closing_other bytes at quoted next so_far within goes is = step bytes at quoted next so_far within goes (ap (λ c. not next && c) is ∙ and-false (not next))
 
 pub closing_here : (bytes : List ℕ) (at : ℕ) (quoted next : Bool) → Closing bytes at quoted → at < length bytes → next ≡ in_quotes quoted (get_or bytes at 0) → next ≡ false → closes_twice (drop at bytes) ≡ true → Some at ≡ close_at bytes
 closing_here bytes at quoted next so_far within goes outside is =

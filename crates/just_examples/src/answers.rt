@@ -1,16 +1,17 @@
 //! What is answered to the questions of a case.
-ghost use Rattle.std.specs.Prelude.{IfOk};
-ghost use Rattle.just_paths.specs.Clean.{IsClean};
-ghost use Rattle.just_invoke.specs.Closed.{IsRooted};
+ghost use Rattle.std.specs.Prelude.{IfOk, IsSome};
+ghost use Rattle.std.specs.HashMap.{get};
+ghost use Rattle.just_analyzer.specs.Words.{IsClean, IsRooted, root_ast_key, same_ast_key};
 
+use crate::find::answer_find;
 use just_analyzer::layers::{Config, Error};
 use just_analyzer::{Compilation, Compiler, Sources, is_clean};
 use just_bench::bundle::read_sources;
-use just_bench_evaluation::PlainEvaluation;
-use just_bench_syntax::PlainSyntax;
+use just_bench::{PlainEvaluation, PlainSyntax};
 use just_examples_answers::compiled::add_compiled;
+use just_examples_answers::held::{add_justfile, add_recipes};
 use just_examples_answers::variables::add_variable;
-use just_examples_answers::{answer_text, read_pairs};
+use just_examples_answers::{add_items, answer_text, read_pairs};
 use just_examples_format::asked::{Asked, read_asked};
 use just_examples_format::faults::add_fault;
 use std::alloc::{AllocError, Global};
@@ -24,13 +25,42 @@ fn compile<'src>(
     root: &str,
 ) -> Result<Compilation<'src>, Error<'src>>
     requires { IsClean root.now }
-    ensures { IfOk result (λ c. IsRooted c.justfile c.recipes) }
+    ensures rooted { IfOk result (λ c. IsRooted c.justfile c.recipes) }
+    ensures root_ast { IfOk result (λ c. IsSome (get same_ast_key c.asts (root_ast_key c.root))) }
 {
     Compiler::compile(alloc, config, syntax, &PlainEvaluation, sources, root)
 }
 
-// Adds what the files of a source map are compiled to and what words do, or what a variable of the root's module refers to
-// and which variables it needs.
+// Adds what is asked of a compilation: what it has and what words do, what a variable of the root's module refers to and which
+// variables it needs, or what a call gives.
+fn add_compilation(
+    text: &mut String,
+    alloc: Global,
+    compilation: &Compilation,
+    kind: &str,
+    asked: &Asked,
+) -> Result<(), AllocError>
+    requires rooted { IsRooted compilation.now.justfile compilation.now.recipes }
+    requires root_ast { IsSome (get same_ast_key compilation.now.asts (root_ast_key compilation.now.root)) }
+{
+    let Compilation {
+        asts,
+        justfile,
+        recipes,
+        overrides,
+        ..
+    } = compilation;
+    let word = asked.first_word();
+    match kind {
+        "just" => add_compiled(justfile, recipes, overrides, asts.len(), alloc, asked, text),
+        "variable" => add_variable(alloc, justfile, overrides, word, text),
+        "Compilation::root_ast" => add_items(text, compilation.root_ast().items.as_slice()),
+        "Justfile::name" | "Justfile::is_submodule" => add_justfile(justfile, kind, text),
+        _ => add_recipes(justfile, recipes, kind, word, text),
+    }
+}
+
+// Adds what is asked of what the files of a source map are compiled to, or the fault.
 fn add_sources(
     text: &mut String,
     alloc: Global,
@@ -45,24 +75,12 @@ fn add_sources(
     let pairs = read_pairs(alloc, asked.conflicts.as_str())?;
     let syntax = PlainSyntax::with_conflicts(pairs.as_slice());
     match compile(alloc, sources, &syntax, &asked.config, root) {
-        Ok(compilation) => {
-            let Compilation {
-                asts,
-                justfile,
-                recipes,
-                overrides,
-                ..
-            } = &compilation;
-            match kind {
-                "variable" => add_variable(alloc, justfile, overrides, asked.first_word(), text),
-                _ => add_compiled(justfile, recipes, overrides, asts.len(), alloc, asked, text),
-            }
-        }
+        Ok(compilation) => add_compilation(text, alloc, &compilation, kind, asked),
         Err(error) => add_fault(text, &error),
     }
 }
 
-// Answers a line `$ just` or `$ variable` over a bundle. The first word of the second is a name.
+// Answers what is asked of what a bundle is compiled to. Where a variable or a recipe is asked of, the first word is its name.
 fn answer_compiled(
     alloc: Global,
     bundle: &str,
@@ -82,8 +100,18 @@ fn answer_compiled(
 pub fn answer(alloc: Global, bundle: &str, question: &str) -> Result<Option<String>, AllocError> {
     let (kind, rest) = question.split_once(' ').unwrap_or((question, ""));
     match kind {
-        "just" | "variable" => Ok(Some(answer_compiled(alloc, bundle, kind, rest)?)),
+        "just"
+        | "variable"
+        | "Compilation::root_ast"
+        | "Justfile::name"
+        | "Justfile::is_submodule"
+        | "Recipes::len"
+        | "Recipes::is_empty"
+        | "Recipes::get"
+        | "Recipes::place_of" => Ok(Some(answer_compiled(alloc, bundle, kind, rest)?)),
+        "find" => Ok(Some(answer_find(alloc, bundle, rest)?)),
         "parse" | "read" | "conflicts" => Ok(Some(answer_text(alloc, kind, rest)?)),
-        _ => just_examples_answers::answer(alloc, bundle, kind, rest),
+        "copy" | "file" => just_examples_answers::answer(alloc, kind, rest),
+        _ => just_examples_calls::answer(alloc, kind, rest),
     }
 }

@@ -3,6 +3,7 @@
 
 mod answers;
 mod cases;
+mod find;
 
 use crate::cases::differences;
 use anyhow::{Context, Result, ensure};

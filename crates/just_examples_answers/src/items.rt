@@ -53,8 +53,8 @@ fn add_item(text: &mut String, item: &Item) -> Result<(), AllocError> {
     }
 }
 
-// Adds a line of all items.
-fn add_items(text: &mut String, items: &[Item]) -> Result<(), AllocError> {
+/// Adds a line of all items.
+pub fn add_items(text: &mut String, items: &[Item]) -> Result<(), AllocError> {
     text.push_str("items")?;
     for (place, item) in items.iter().enumerate() {
         text.push_str(before(place))?;

@@ -6,11 +6,11 @@ mod answers;
 mod bundles;
 pub mod compiled;
 mod copies;
+pub mod held;
 mod items;
-mod paths;
 mod readings;
 mod runs;
 pub mod variables;
 
 pub use answers::answer;
-pub use items::{answer_text, read_pairs};
+pub use items::{add_items, answer_text, read_pairs};

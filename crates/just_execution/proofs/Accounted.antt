@@ -3,7 +3,8 @@ use Rattle.std.proofs.Common.{◌≡◌, ◌⊎◌, ℕ, zero, suc, ◌<◌, ◌
 use Rattle.std.specs.List.{All, slice_get}
 use Rattle.std.proofs.lemmas.Bool.{cases_Bool, cond-true, cond-false}
 use Rattle.std.proofs.lemmas.List.{append-nil}
-use Rattle.std.proofs.lemmas.List.Elements.{All-head, All-tail, All-nil, All-cons, All-weaker, All-map}
+use Rattle.std.proofs.lemmas.List.Elements.{All-head, All-tail, All-cons, All-weaker, All-map}
+use Rattle.just_graph.proofs.Members.{In, in_left, in_right}
 use Rattle.just_paths.specs.declared.modulepath.Modulepath.{Modulepath}
 use Rattle.just_recipe.specs.declared.dependency.Dependency.{Dependency}
 use Rattle.just_errors.specs.declared.halt.Halt.{Halt}
@@ -15,15 +16,15 @@ use Rattle.just_parts.specs.Host.{Answer, Executed, executed}
 use Rattle.just_parts.specs.Steps.{Kept, executed_in, Question, Steps, Give, and_then, Took}
 use Rattle.just_parts.proofs.StepLemmas.{took-split}
 use Rattle.just_execution.specs.declared.pair.Pair.{Pair}
-use Rattle.just_execution.specs.Account.{Asked, OnceTables, Empty, Asks, Runs, own, executions, In, AreIn, AreNamed, Complete, counts, HasAccount, Tells, of_recipe, at_path}
+use Rattle.just_execution.specs.Account.{Asked, OnceTables, Empty, Asks, Runs, own, executions, AreIn, AreNamed, Complete, counts, HasAccount, Tells, of_recipe, at_path}
 use Rattle.just_execution.specs.Firsts.{has}
 use Rattle.just_execution.specs.Leaves.{begin_steps, recipe_steps, leaves_of}
 use Rattle.just_execution.specs.declared.task.Task.{Task}
 use Rattle.just_execution.specs.Pairs.{OnceTable, same_pair, place_of, task_of, prior_dependencies, subsequent_dependencies, AllBelow}
 use Rattle.just_recipe.specs.Recipes.{IsOrdered}
 use Rattle.just_execution.specs.Walking.{Leaves, State, counted, all_steps, opened, fresh_steps, block_steps, ran, ran_steps, visit_steps, walk_steps}
-use Rattle.just_execution.proofs.Joined.{with_priors, asks, join, still-new, In-left, In-right, add-zero, none-in, none-below}
-use Rattle.just_execution.proofs.Places.{priors-before, subsequents-before}
+use Rattle.just_execution.proofs.Joined.{with_priors, asks, join, still-new, add-zero, none-in, none-below}
+use Rattle.just_execution.proofs.Places.{priors-before, subsequents-before, All-unmap}
 use Rattle.just_execution.proofs.Standing.{Stands, Walked, Accounts, IsFresh, Blocks, ok-is, ok-not, err-is, memory-not, gained-none, gave, broke, stands-then, stands-low, accounts-then, accounts-broke, count-split, full-here, stands-asked, stands-opened, fresh-of, fresh-broke, block-broke, block-none, block-ran, ask-broke, priors-broke, visit-broke, visit-ran}
 
 -- what steps for tasks keep: nothing is executed, and they come to what is named
@@ -45,10 +46,6 @@ pub record AreAccounted (recipes : List (Recipe Dependency)) (leaves : Leaves) (
   pub execute : (t : Task) (old new : Kept) (r : Result (Unit {0}) Halt) → Took p (leaves.execute t) old new r → GivesExecuted recipes t old new r
 
 -- tasks that are named stand where what they are named by stands
-All-unmap : {X Y : Type 0} (P : X → Type 0) (f : Y → X) (ys : List Y) → All P (map f ys) → All (λ y. P (f y)) ys
-All-unmap P f [] h = All-nil (λ y. P (f y))
-All-unmap P f (y ∷ ys) h = All-cons (λ y. P (f y)) y ys (All-head P (f y) (map f ys) h) (All-unmap P f ys (All-tail P (f y) (map f ys) h))
-
 named-below : (recipes : List (Recipe Dependency)) (k : ℕ) (ds : List Dependency) (ts : List Task) → AllBelow k (map (task_of recipes) ds) → AreNamed recipes ds ts → AllBelow k ts
 named-below recipes k ds ts h n =
     let low : ℕ → Type 0 = λ m. m < k in
@@ -173,7 +170,7 @@ module _ (recipes : List (Recipe Dependency)) (leaves : Leaves) (p : Question �
                   let (u, c) = all-at n walk tops ps (before ++ with_priors t ps ∷ []) done t.pair.recipe (counted s) mid next (Ok now) l low stands second in
                   let w : Walked recipes done ps (counted s) now u = c.whole now refl in
                   let member : In (with_priors t ps) ((before ++ with_priors t ps ∷ []) ++ asks u) =
-                  In-left (with_priors t ps) (before ++ with_priors t ps ∷ []) (asks u) (In-right (with_priors t ps) before (with_priors t ps ∷ []) (inl refl)) in
+                  in_left (with_priors t ps) (before ++ with_priors t ps ∷ []) (asks u) (in_right (with_priors t ps) before (with_priors t ps ∷ []) (inl refl)) in
                   let unbegun : has same_pair (done ++ own u) t.pair ≡ false = still-new done (own u) t.pair m c.low in
                   elim (took-split p (block_steps leaves (walk_steps leaves n) t now.calls) (λ calls. Give (ran now t calls)) next new r last) [
                     | inl (calls, end, gave_it, third, rest) ↦

@@ -16,6 +16,7 @@ use Rattle.just_execution.specs.Pairs.{AllBelow, put, table_of}
 use Rattle.just_execution.specs.Walking.{Leaves, State, add_at, counted, opened, fresh_steps, ran}
 use Rattle.just_execution.proofs.FrameLemmas.{opened-left}
 use Rattle.just_execution.proofs.WeightLemmas.{block-lighter, taken-lighter}
+use Rattle.just_execution.proofs.Joined.{length-add}
 
 pub add-set : (ns : List ℕ) (i d a : ℕ) → i < length ns → set ns i (get_or ns i d + a) ≡ add_at ns i a
 add-set [] i d a h = absurd (omega arith)
@@ -96,11 +97,6 @@ not-opened old [] none = record {
   sound = λ modules recipes callables sound. sound;
   lighter = λ t below. taken-lighter (2 ^ 64) old.frames.items (Block t);
 }
-
-pub length-add : (ns : List ℕ) (i a : ℕ) → length (add_at ns i a) ≡ length ns
-length-add [] i a = refl
-length-add (n ∷ ns) zero a = refl
-length-add (n ∷ ns) (suc i) a = ap suc (length-add ns i a)
 
 -- a call that is counted leaves the run sound
 pub counted-sound : (P : Task → Type 0) (old new : Course) → state_of new ≡ counted (state_of old) → new.frames.items ≡ old.frames.items → IsSound P old → IsSound P new

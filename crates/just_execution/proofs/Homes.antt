@@ -5,7 +5,7 @@ use Rattle.std.proofs.lemmas.Bool.{cases_Bool}
 use Rattle.std.specs.List.{All, Contains, list_any, slice_get}
 use Rattle.std.proofs.lemmas.List.Elements.{All-cons, All-contains, All-contains_itself, All-drop, All-head, All-nil, All-tail, All-take, All-weaker}
 use Rattle.just_graph.specs.Steps.{Reached, from_start, from_member}
-use Rattle.just_graph.proofs.Members.{contained, in_map, is_in}
+use Rattle.just_graph.proofs.Members.{contained, in_map, is_in, the_one}
 use Rattle.just_ast_definitions.specs.declared.attribute.NamedAttribute.{NamedAttribute}
 use Rattle.just_ast_expressions.specs.declared.expression.Expression.{Expression}
 use Rattle.just_ast_definitions.specs.Parameter.{is_name, is_option, is_singular}
@@ -33,10 +33,6 @@ reached-from : {R : ℕ → ℕ → Type 0} (first second : List ℕ) → ((a : 
 reached-from first second h b (from_start c) = h b c
 reached-from first second h b (from_member {a = a} r on s) = from_member (reached-from first second h a r) refl s
 
-alone : (a b : ℕ) → Contains (a ∷ []) b → a ≡ b
-alone a b (zero, h, e) = e
-alone a b (suc k, h, e) = absurd (omega arith)
-
 -- what runs before a recipe, or after it, is among what it depends on
 part-needed : (part : Recipe Dependency → List Dependency) → ((r : Recipe Dependency) (P : Dependency → Type 0) → All P r.dependencies → All P (part r)) →
     (rs : List (Recipe Dependency)) (k : ℕ) → All (Contains (at_place (λ r. r.dependencies) rs k)) (at_place part rs k)
@@ -51,7 +47,7 @@ module _ (modules : Modules) (rs : List (Recipe Dependency)) where
       (λ t c. record {
         place = All-contains (λ (t : Task). t.pair.recipe < length rs) ts t below c;
         home = λ place recipe led at. home place recipe (reached-from (places (t ∷ [])) (places ts)
-            (λ a d. from_start (subst (Contains (places ts)) (alone t.pair.recipe a d) (contained _ _ (in_map (λ (t : Task). t.pair.recipe) t ts (is_in t ts c))))) place led) at;
+            (λ a d. from_start (subst (Contains (places ts)) (the_one t.pair.recipe a d) (contained _ _ (in_map (λ (t : Task). t.pair.recipe) t ts (is_in t ts c))))) place led) at;
       }) ts (All-contains_itself ts)
 
   module _ (t : Task) (callable : IsCallable modules rs t) where
@@ -63,7 +59,7 @@ module _ (modules : Modules) (rs : List (Recipe Dependency)) where
     next-home : (u : Task) → DependsOn rs t.pair.recipe u.pair.recipe → AreHome modules rs (u ∷ [])
     next-home u step = λ place recipe led at. callable.home place recipe
         (reached-from (places (u ∷ [])) (places (t ∷ []))
-        (λ a c. from_member (from_start (0, omega arith, refl)) refl (subst (DependsOn rs t.pair.recipe) (alone u.pair.recipe a c) step)) place led) at
+        (λ a c. from_member (from_start (0, omega arith, refl)) refl (subst (DependsOn rs t.pair.recipe) (the_one u.pair.recipe a c) step)) place led) at
 
     all-callable : (ds : List Dependency) → All (Contains (needed rs t.pair.recipe)) ds → AllBelow (length rs) (map (task_of rs) ds) → All (IsCallable modules rs) (map (task_of rs) ds)
     all-callable [] some below = All-nil (IsCallable modules rs)

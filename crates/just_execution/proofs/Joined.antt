@@ -6,6 +6,7 @@ use Rattle.std.proofs.lemmas.List.{append-nil}
 use Rattle.std.proofs.lemmas.Grind.{flat_map-append}
 use Rattle.std.proofs.lemmas.List.Elements.{All-weaker, All-append, All-cons, All-nil}
 use Rattle.std.proofs.lemmas.Bool.{or_left, or_right, or_cases, true≢false, false_from_ne_true}
+use Rattle.just_graph.proofs.Members.{In, in_left, in_right}
 use Rattle.just_recipe.specs.declared.dependency.Dependency.{Dependency}
 use Rattle.just_recipe.specs.declared.recipe.Recipe.{Recipe}
 use Rattle.just_parts.specs.Host.{Executed}
@@ -13,7 +14,7 @@ use Rattle.just_execution.specs.declared.pair.Pair.{Pair}
 use Rattle.just_execution.specs.Firsts.{has}
 use Rattle.just_execution.specs.declared.task.Task.{Task}
 use Rattle.just_execution.specs.Pairs.{same_pair, prior_dependencies}
-use Rattle.just_execution.specs.Account.{Asked, OnceTables, Empty, Asks, Runs, own, begun, executions, In, AreIn, known, pairs_asked, AreNamed, Fits, Complete, prior_count, asked_count, if_any, counts_below, IsFullBelow}
+use Rattle.just_execution.specs.Account.{Asked, OnceTables, Empty, Asks, Runs, own, begun, executions, AreIn, known, pairs_asked, AreNamed, Fits, Complete, prior_count, asked_count, if_any, counts_below, IsFullBelow}
 use Rattle.just_execution.specs.Walking.{add_at}
 use Rattle.just_execution.proofs.Keeps.{has-append}
 use Rattle.just_execution.proofs.Pairs.{pair-exact}
@@ -141,21 +142,12 @@ pub executions-append : (rs : List (Recipe Dependency)) (xs ys : List Task) → 
 executions-append rs xs ys = flat_map-append _ xs ys
 
 -- what is known grows with what was asked
-pub In-left : {A : Type 0} (x : A) (xs ys : List A) → In x xs → In x (xs ++ ys)
-In-left x [] ys h = absurd h
-In-left x (z ∷ xs) ys (inl h) = inl h
-In-left x (z ∷ xs) ys (inr h) = inr (In-left x xs ys h)
-
-pub In-right : {A : Type 0} (x : A) (xs ys : List A) → In x ys → In x (xs ++ ys)
-In-right x [] ys h = h
-In-right x (z ∷ xs) ys h = inr (In-right x xs ys h)
-
 pub known-append : (tops : List Task) (a b : List Asked) → known tops (a ++ b) ≡ known tops a ++ flat_map (λ (a : Asked). a.priors) b
 known-append tops a b = ap (λ x. tops ++ x) (flat_map-append (λ (a : Asked). a.priors) a b)
     ∙ sym (append_assoc tops (flat_map (λ (a : Asked). a.priors) a) (flat_map (λ (a : Asked). a.priors) b))
 
 pub known-more : (tops : List Task) (a b : List Asked) (t : Task) → In t (known tops a) → In t (known tops (a ++ b))
-known-more tops a b t h = subst (λ x. In t x) (sym (known-append tops a b)) (In-left t (known tops a) (flat_map (λ (a : Asked). a.priors) b) h)
+known-more tops a b t h = subst (λ x. In t x) (sym (known-append tops a b)) (in_left t (known tops a) (flat_map (λ (a : Asked). a.priors) b) h)
 
 All-In : {A : Type 0} → (qs xs : List A) → ((q : A) → In q qs → In q xs) → All (λ (q : A). In q xs) qs
 All-In {A} [] xs h = All-nil (λ (q : A). In q xs)
@@ -164,10 +156,10 @@ All-In {A} (q ∷ qs) xs h = All-cons (λ (q : A). In q xs) q qs (h q (inl refl)
 -- the priors of a task just asked are known
 pub known-priors : (tops : List Task) (asked : List Asked) (t : Task) (ps : List Task) → All (λ (q : Task). In q (known tops (asked ++ with_priors t ps ∷ []))) ps
 known-priors tops asked t ps = All-In ps (known tops (asked ++ with_priors t ps ∷ [])) (λ q i.
-    subst (λ x. In q x) (sym (known-append tops asked (with_priors t ps ∷ []))) (In-right q (known tops asked) (ps ++ []) (In-left q ps [] i)))
+    subst (λ x. In q x) (sym (known-append tops asked (with_priors t ps ∷ []))) (in_right q (known tops asked) (ps ++ []) (in_left q ps [] i)))
 
 pub known-all : (tops : List Task) → All (λ (q : Task). In q (known tops [])) tops
-known-all tops = All-In tops (known tops []) (λ q i. In-left q tops [] i)
+known-all tops = All-In tops (known tops []) (λ q i. in_left q tops [] i)
 
 -- how many may be asked
 length-append : {A : Type 0} (xs ys : List A) → length (xs ++ ys) ≡ length xs + length ys

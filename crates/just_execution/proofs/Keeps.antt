@@ -1,5 +1,5 @@
 -- Going through a list and keeping what was not seen before.
-use Rattle.std.proofs.Common.{◌≡◌, ◌⊎◌, Bool, true, false, ◌||◌, List, [], ◌∷◌, ◌++◌, refl, sym, ◌∙◌, ap}
+use Rattle.std.proofs.Common.{◌≡◌, Bool, true, false, ◌||◌, List, [], ◌∷◌, ◌++◌, refl, sym, ◌∙◌, ap}
 use Rattle.std.proofs.lemmas.Bool.{true≢false}
 use Rattle.just_execution.specs.Firsts.{has}
 
@@ -48,8 +48,3 @@ has-two same s x y z = has-append same (s ++ (x ∷ [])) (y ∷ []) z ∙ ap (λ
 
 pub has-twice : {A : Type 0} (same : A → A → Bool) (s : List A) (x y z : A) → x ≡ y → has same (s ++ (x ∷ [])) z ≡ has same ((s ++ (y ∷ [])) ++ (x ∷ [])) z
 has-twice same s x y z h = rw (← h) (has-append same s (x ∷ []) z ∙ twice (has same s z) (same x z) ∙ sym (has-two same s x x z))
-
--- x is a member
-abbrev pub In : {A : Type 0} → A → List A → Type 0
-In x [] = ⊥
-In x (y ∷ ys) = (x ≡ y) ⊎ In x ys

@@ -3,10 +3,11 @@ use Rattle.std.proofs.Common.{◌≡◌, ℕ, zero, suc, ◌<◌, ◌≤◌, Boo
 use Rattle.std.specs.Prelude.{flat_map}
 use Rattle.std.proofs.lemmas.List.{append-nil, map-append}
 use Rattle.std.proofs.lemmas.Bool.{cases_Bool, or_cases, or_left, or_right, cond-true, cond-false, true≢false, false_from_ne_true}
+use Rattle.just_graph.proofs.Members.{In}
 use Rattle.just_execution.specs.Firsts.{has, without_key, firsts_by}
 use Rattle.just_execution.specs.Expansion.{Part, Ask, Block, same_part, part_key, expansion}
 use Rattle.just_execution.proofs.Walks.{blocks, walk, walks}
-use Rattle.just_execution.proofs.Keeps.{Exact, In, has-append, or_false, absorbed, regroup, swapped, has-two, has-twice}
+use Rattle.just_execution.proofs.Keeps.{Exact, has-append, or_false, absorbed, regroup, swapped, has-two, has-twice}
 use Rattle.just_execution.proofs.Ranks.{Below, part-exact, below-in, flat-from, ex-rank, ex-within, ex-both}
 use Rattle.just_execution.proofs.Ranks.{blocks-append}
 

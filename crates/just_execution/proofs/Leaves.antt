@@ -1,16 +1,17 @@
 -- The tasks that recipes name stand at lower places.
-use Rattle.std.proofs.Common.{ℕ, zero, suc, List, [], ◌∷◌, Option, None, Ok, refl, subst}
+use Rattle.std.proofs.Common.{◌≡◌, ℕ, zero, suc, List, [], ◌∷◌, Option, None, Result, Ok, map, refl, subst}
 use Rattle.just_recipe.specs.declared.dependency.Dependency.{Dependency}
 use Rattle.just_recipe.specs.declared.recipe.Recipe.{Recipe}
 use Rattle.just_parts.specs.Evaluation.{Inquiry}
 use Rattle.just_parts.specs.Host.{Answer}
-use Rattle.just_parts.specs.Steps.{Question, both, kept_by}
+use Rattle.just_errors.specs.declared.halt.Halt.{Halt}
+use Rattle.just_parts.specs.Steps.{Give, Question, both, kept_by}
 use Rattle.just_parts.proofs.StepLemmas.{took-gives}
 use Rattle.just_execution.specs.Expansion.{Part, Ask, Block}
 use Rattle.just_execution.specs.Leaves.{AsksAlone, ask_steps, follow_steps, leaves_of}
 use Rattle.just_execution.specs.Lower.{IsLower}
 use Rattle.just_execution.specs.declared.task.Task.{Task}
-use Rattle.just_execution.specs.Pairs.{AllBelow}
+use Rattle.just_execution.specs.Pairs.{AllBelow, prior_dependencies, subsequent_dependencies, task_of}
 use Rattle.just_recipe.specs.Recipes.{IsOrdered}
 use Rattle.just_execution.specs.Run.{subsequents_by, parts, Each, IsEvenPart, IsEven}
 use Rattle.just_execution.proofs.Places.{priors-before, subsequents-before}
@@ -20,6 +21,15 @@ leaves-lower recipes ordered = record {
   priors = λ t ps g. subst (AllBelow t.pair.recipe) g (priors-before recipes t.pair ordered);
   subsequents = λ t ts g. subst (AllBelow t.pair.recipe) g (subsequents-before recipes t.pair ordered);
 }
+
+-- what was asked for the dependencies of a task is what its parts ask
+pub asked-priors : (e : Inquiry → Option Answer) (rs : List (Recipe Dependency)) (t : Task) (ds : List Dependency) (before later : List Inquiry) (result : Result (List Task) Halt) →
+    ds ≡ prior_dependencies rs t.pair.recipe → AsksAlone e (Give (map (task_of rs) ds)) before later result → AsksAlone e (ask_steps rs t) before later result
+asked-priors e rs t ds before later result is took = subst (λ xs. AsksAlone e (Give (map (task_of rs) xs)) before later result) is took
+
+pub asked-subsequents : (e : Inquiry → Option Answer) (rs : List (Recipe Dependency)) (t : Task) (ds : List Dependency) (before later : List Inquiry) (result : Result (List Task) Halt) →
+    ds ≡ subsequent_dependencies rs t.pair.recipe → AsksAlone e (Give (map (task_of rs) ds)) before later result → AsksAlone e (follow_steps rs t) before later result
+asked-subsequents e rs t ds before later result is took = subst (λ xs. AsksAlone e (Give (map (task_of rs) xs)) before later result) is took
 
 -- what a task was asked for and answered leads to lower places
 pub asked-below : (recipes : List (Recipe Dependency)) → IsOrdered recipes → (e : Inquiry → Option Answer) (t : Task) (before later : List Inquiry) (ps : List Task) → AsksAlone e (ask_steps recipes t) before later (Ok ps) → AllBelow t.pair.recipe ps

@@ -16,7 +16,8 @@ use Rattle.just_execution.specs.Pairs.{place_of, at_place, empty_groups, pair_of
 use Rattle.just_recipe.specs.Recipes.{numbers, needs, IsOrdered, AreOrderedAfter, find_number, IsPlaceOf, IsIndex}
 use Rattle.just_execution.proofs.RecipeLemmas.{numbers-append, length-numbers, once}
 
-All-unmap : {X Y : Type 0} (P : X → Type 0) (f : Y → X) (ys : List Y) → All P (map f ys) → All (λ y. P (f y)) ys
+-- what holds of each element of a mapped list
+pub All-unmap : {X Y : Type 0} (P : X → Type 0) (f : Y → X) (ys : List Y) → All P (map f ys) → All (λ y. P (f y)) ys
 All-unmap P f [] h = All-nil (λ y. P (f y))
 All-unmap P f (y ∷ ys) h = All-cons (λ y. P (f y)) y ys (All-head P (f y) (map f ys) h) (All-unmap P f ys (All-tail P (f y) (map f ys) h))
 

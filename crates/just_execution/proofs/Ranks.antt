@@ -2,9 +2,9 @@
 use Rattle.std.proofs.Common.{◌≡◌, ℕ, zero, suc, ◌<◌, ◌≤◌, Bool, true, false, ◌||◌, List, [], ◌∷◌, ◌++◌, refl, sym, ◌∙◌, ap, subst, inl, inr, ◌⊎◌, arith}
 use Rattle.std.specs.Prelude.{flat_map}
 use Rattle.std.proofs.lemmas.Bool.{or_cases, or_left, or_right, true≢false}
+use Rattle.just_graph.proofs.Members.{In}
 use Rattle.just_execution.specs.Firsts.{has}
 use Rattle.just_execution.specs.Expansion.{Part, Ask, Block, same_part, expansion}
-use Rattle.just_execution.proofs.Keeps.{In}
 use Rattle.just_execution.proofs.Walks.{blocks}
 use Rattle.just_execution.proofs.Keeps.{Exact, has-append}
 

@@ -4,6 +4,7 @@ use Rattle.std.specs.List.{All}
 use Rattle.std.proofs.lemmas.Bool.{cases_Bool, cond-true, cond-false}
 use Rattle.std.proofs.lemmas.List.{append-nil}
 use Rattle.std.proofs.lemmas.List.Elements.{All-head, All-tail, All-nil, All-cons, All-weaker}
+use Rattle.just_graph.proofs.Members.{In}
 use Rattle.just_recipe.specs.declared.dependency.Dependency.{Dependency}
 use Rattle.just_errors.specs.declared.halt.Halt.{Halt}
 use Rattle.just_errors.specs.declared.halt.Halt.TheVariants.{Memory, Exhausted}
@@ -11,7 +12,7 @@ use Rattle.just_recipe.specs.declared.recipe.Recipe.{Recipe}
 use Rattle.just_parts.specs.Host.{Answer}
 use Rattle.just_parts.specs.Steps.{Kept, executed_in, Question, Steps, Give, Fail, and_then, Took}
 use Rattle.just_execution.specs.declared.pair.Pair.{Pair}
-use Rattle.just_execution.specs.Account.{Asked, OnceTables, Empty, Asks, Runs, own, begun, executions, In, AreIn, known, AreNamed, AskFits, RunFits, Fits, Complete, prior_count, asked_count, counts_below, counts, IsFullBelow, IsFull}
+use Rattle.just_execution.specs.Account.{Asked, OnceTables, Empty, Asks, Runs, own, begun, executions, AreIn, known, AreNamed, AskFits, RunFits, Fits, Complete, prior_count, asked_count, counts_below, counts, IsFullBelow, IsFull}
 use Rattle.just_execution.specs.Firsts.{has}
 use Rattle.just_execution.specs.declared.task.Task.{Task}
 use Rattle.just_execution.specs.Pairs.{OnceTable, put, same_pair, prior_dependencies, subsequent_dependencies}

@@ -1,6 +1,7 @@
 -- What happened in a run: a tree of once tables.
 use Rattle.std.specs.Prelude.{◌≡◌, ◌≤◌, ◌^◌, ℕ, ◌+◌, true, false, List, [], ◌∷◌, ◌++◌, length, map, flat_map, ◌⊎◌, Option, Some, None, Result, Ok, Err}
 use Rattle.std.specs.List.{All, slice_get}
+use Rattle.just_graph.specs.Members.{In}
 use Rattle.just_paths.specs.declared.modulepath.Modulepath.{Modulepath}
 use Rattle.just_parts.specs.Steps.{Kept, executed_in}
 use Rattle.just_recipe.specs.declared.dependency.Dependency.{Dependency}
@@ -47,11 +48,6 @@ of_recipe t (Some recipe) = at_path t.pair.groups recipe.recipe_path
 
 abbrev pub executions : List (Recipe Dependency) → List Task → List Executed
 executions recipes ts = flat_map (λ (t : Task). of_recipe t (slice_get recipes t.pair.recipe)) ts
-
--- x is a member
-abbrev pub In : {A : Type 0} → A → List A → Type 0
-In x [] = ⊥
-In x (y ∷ ys) = (x ≡ y) ⊎ In x ys
 
 -- the pair of each task is among some pairs
 abbrev pub AreIn : List Pair → List Task → Type 0

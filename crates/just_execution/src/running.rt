@@ -1,13 +1,14 @@
 //! The run of tasks: each pair once under a table, after its priors.
-ghost use Rattle.std.specs.Prelude.{◌<◌, length, OnOk};
-ghost use Rattle.std.specs.List.{All};
+ghost use Rattle.std.specs.Prelude.{◌<◌, OnOk, length, map};
+ghost use Rattle.std.specs.List.{All, Contains};
 ghost use Rattle.just_parts.specs.Host.{KeepsPromises};
-ghost use Rattle.just_parts.specs.Steps.{kept_by};
+ghost use Rattle.just_parts.specs.Steps.{Give, kept_by};
 ghost use Rattle.just_execution.specs.Frames.{Blocks, Calls, Finishes, IsLighter, IsOpen, IsSound, Leads, items_of};
 ghost use Rattle.just_execution.specs.Homes.{AreHome, IsCallable, IsHomeAt};
-ghost use Rattle.just_execution.specs.Leaves.{AsksAlone, Executes, ask_steps, follow_steps};
-ghost use Rattle.just_execution.specs.Pairs.{AllBelow};
-ghost use Rattle.just_recipe.specs.Recipes.{IsOrdered, IsResolved};
+ghost use Rattle.just_execution.specs.Leaves.{AsksAlone, Executes};
+ghost use Rattle.just_execution.specs.Pairs.{AllBelow, task_of};
+ghost use Rattle.just_recipe.specs.Recipes.{IsOrdered, IsResolved, numbers};
+ghost use Rattle.just_recipe.specs.declared.dependency.Dependency.{Dependency};
 ghost use Rattle.just_execution.specs.Reports.{IsAsExpected, IsRun, Starts};
 
 use crate::course::{Course, count_call, push_calls};
@@ -16,6 +17,7 @@ use crate::naming::name_all;
 use crate::recipes::Recipes;
 use crate::scopes::{ModuleScope, Scopes, module_of};
 use crate::task::Task;
+use just_parts::Dependency;
 use just_parts::layers::{Evaluation, Halt, Host};
 use std::alloc::Global;
 
@@ -26,40 +28,22 @@ pub struct Report {
     pub calls: Vec<u64>,
 }
 
-// The priors of a task; nothing is asked for them yet.
+// The tasks of some of the dependencies of a task; nothing is asked for them yet.
 fn ask<'src, E: Evaluation>(
     alloc: Global,
     recipes: &Recipes<'src>,
     _module: &ModuleScope<'_, 'src>,
     _evaluation: &mut E,
-    task: &Task,
+    _task: &Task,
+    dependencies: &[Dependency<'src>],
 ) -> Result<Vec<Task>, Halt<'src>>
-    requires place { task.now.pair.recipe < length recipes.now }
-    requires home { IsHomeAt _module.now recipes.now task.now.pair.recipe }
-    requires resolved { All IsResolved recipes.now }
+    requires home { IsHomeAt _module.now recipes.now _task.now.pair.recipe }
+    requires held { All (λ (d : Dependency). Contains (numbers recipes.now) d.recipe.0) dependencies.now }
     ensures keeps { KeepsPromises (E.promised _evaluation.old) (E.promised _evaluation.new) }
-    ensures took { let took = AsksAlone (E.promised _evaluation.old) (ask_steps recipes.now task.now) in
+    ensures took { let took = AsksAlone (E.promised _evaluation.old) (Give (map (task_of recipes.now) dependencies.now)) in
         took (E.inquiries _evaluation.old) (E.inquiries _evaluation.new) (items_of result) }
 {
-    Ok(name_all(alloc, recipes, recipes.priors(task.pair.recipe))?)
-}
-
-// The subsequents of a task; nothing is asked for them yet.
-fn follow<'src, E: Evaluation>(
-    alloc: Global,
-    recipes: &Recipes<'src>,
-    _module: &ModuleScope<'_, 'src>,
-    _evaluation: &mut E,
-    task: &Task,
-) -> Result<Vec<Task>, Halt<'src>>
-    requires place { task.now.pair.recipe < length recipes.now }
-    requires home { IsHomeAt _module.now recipes.now task.now.pair.recipe }
-    requires resolved { All IsResolved recipes.now }
-    ensures keeps { KeepsPromises (E.promised _evaluation.old) (E.promised _evaluation.new) }
-    ensures took { let took = AsksAlone (E.promised _evaluation.old) (follow_steps recipes.now task.now) in
-        took (E.inquiries _evaluation.old) (E.inquiries _evaluation.new) (items_of result) }
-{
-    Ok(name_all(alloc, recipes, recipes.subsequents(task.pair.recipe))?)
+    Ok(name_all(alloc, recipes, dependencies)?)
 }
 
 // The beginning of a task; it has no body yet.
@@ -108,7 +92,8 @@ fn call_task<'src, E: Evaluation>(
         return Ok(());
     }
     let module = module_of(scopes, recipes.at(task.pair.recipe));
-    let priors = ask(alloc, recipes, module, evaluation, &task)?;
+    let dependencies = recipes.priors(task.pair.recipe);
+    let priors = ask(alloc, recipes, module, evaluation, &task, dependencies)?;
     run.frames.push(Frame::Block(task))?;
     push_calls(&mut run.frames, priors)?;
     Ok(())
@@ -138,7 +123,8 @@ fn run_block<'src, E: Evaluation, H: Host>(
 {
     let module = module_of(scopes, recipes.at(task.pair.recipe));
     execute(recipes, module, evaluation, host, &task)?;
-    let subsequents = follow(alloc, recipes, module, evaluation, &task)?;
+    let dependencies = recipes.subsequents(task.pair.recipe);
+    let subsequents = ask(alloc, recipes, module, evaluation, &task, dependencies)?;
     run.current.table.insert(task.pair)?;
     run.open(alloc, subsequents)?;
     Ok(())

@@ -1,25 +1,24 @@
 -- What a filter keeps of a list of numbers: those that meet the test, each once, and in their order.
 use Rattle.std.proofs.Common.{◌≡◌, cond, ℕ, zero, suc, ◌<◌, Bool, true, List, [], ◌∷◌, take, length, slice_index, ◌∙◌, ◌↔◌, inl, inr, refl, sym, ap, subst, arith}
-use Rattle.std.proofs.lemmas.Bool.{false≢true}
+use Rattle.std.proofs.lemmas.Bool.{false≢true, cases_Bool}
 use Rattle.std.proofs.lemmas.List.{get_or_default}
 use Rattle.std.specs.List.{filter, Contains}
 use Rattle.just_graph.specs.Steps.{IsOnce}
 use Rattle.just_graph.proofs.Members.{In, contained, is_in}
-use Rattle.just_graph.proofs.Last.{bool_cases}
 use Rattle.just_graph.proofs.Leveling.{Once, is_once}
 
 module _ (p : ℕ → Bool) where
   in_filter : (x : ℕ) (xs : List ℕ) → In x xs → p x ≡ true → In x (filter p xs)
   in_filter x [] h t = absurd h
   in_filter x (y ∷ ys) (inl e) t = subst (λ b. In x (cond b (y ∷ filter p ys) (filter p ys))) (sym (ap p (sym e) ∙ t)) (inl e)
-  in_filter x (y ∷ ys) (inr h) t = elim (bool_cases (p y)) [
+  in_filter x (y ∷ ys) (inr h) t = elim (cases_Bool (p y)) [
     | inl u ↦ subst (λ b. In x (cond b (y ∷ filter p ys) (filter p ys))) (sym u) (inr (in_filter x ys h t))
     | inr u ↦ subst (λ b. In x (cond b (y ∷ filter p ys) (filter p ys))) (sym u) (in_filter x ys h t)
   ]
 
   from_filter : (x : ℕ) (xs : List ℕ) → In x (filter p xs) → In x xs × (p x ≡ true)
   from_filter x [] h = absurd h
-  from_filter x (y ∷ ys) h = elim (bool_cases (p y)) [
+  from_filter x (y ∷ ys) h = elim (cases_Bool (p y)) [
     | inl u ↦ elim (subst (λ b. In x (cond b (y ∷ filter p ys) (filter p ys))) u h) [
       | inl e ↦ (inl e, ap p e ∙ u)
       | inr i ↦ let r = from_filter x ys i in (inr r.0, r.1)
@@ -35,7 +34,7 @@ module _ (p : ℕ → Bool) where
 
   filter_apart : (xs : List ℕ) → Once xs → Once (filter p xs)
   filter_apart [] o = tt
-  filter_apart (x ∷ xs) o = elim (bool_cases (p x)) [
+  filter_apart (x ∷ xs) o = elim (cases_Bool (p x)) [
     | inl u ↦ subst (λ b. Once (cond b (x ∷ filter p xs) (filter p xs))) (sym u) (λ i. o.0 (from_filter x xs i).0, filter_apart xs o.1)
     | inr u ↦ subst (λ b. Once (cond b (x ∷ filter p xs) (filter p xs))) (sym u) (filter_apart xs o.1)
   ]
@@ -56,7 +55,7 @@ module _ (p : ℕ → Bool) where
 
   place : (xs : List ℕ) (k : ℕ) → k < length (filter p xs) → At xs (filter p xs) k
   place [] k h = absurd (omega arith)
-  place (x ∷ xs) k h = elim (bool_cases (p x)) [
+  place (x ∷ xs) k h = elim (cases_Bool (p x)) [
     | inl u ↦ subst (λ b. At (x ∷ xs) (cond b (x ∷ filter p xs) (filter p xs)) k) (sym u) (kept (place xs) k (subst (λ b. k < length (cond b (x ∷ filter p xs) (filter p xs))) u h))
     | inr u ↦
         let r = place xs k (subst (λ b. k < length (cond b (x ∷ filter p xs) (filter p xs))) u h) in

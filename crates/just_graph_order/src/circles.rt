@@ -9,7 +9,7 @@ ghost use Rattle.just_graph_order.specs.Came.{CameBy};
 ghost use Rattle.just_graph_order.specs.Finished.{Closed};
 ghost use Rattle.just_graph_order.specs.Through.{IsSolid, Reads};
 
-use crate::rows::{add, row};
+use just_graph::rows::{add, row};
 use std::alloc::{AllocError, Global};
 use std::collections::HashSet;
 

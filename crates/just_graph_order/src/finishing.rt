@@ -6,7 +6,7 @@ ghost use Rattle.just_graph.specs.Found.{is_seen};
 ghost use Rattle.just_graph.specs.Graph.{HasEdge, IsGraph};
 ghost use Rattle.just_graph_order.specs.Finished.{Finishing, IsFinished};
 
-use crate::rows::row;
+use just_graph::rows::row;
 use std::alloc::{AllocError, Global};
 
 // The place of the first target from `from` on that isn't seen, or the row's length.

@@ -7,7 +7,6 @@
 
 mod circles;
 mod finishing;
-mod rows;
 mod through;
 
 pub use through::order_through;

@@ -1,14 +1,8 @@
 -- How a module is called.
-use Rattle.std.specs.Prelude.{ℕ, List, [], Option, Some, None}
-use Rattle.just_names.specs.Token.{lexeme}
-use Rattle.just_names.specs.declared.name.Name.{Name}
+use Rattle.std.specs.Prelude.{ℕ, List}
+use Rattle.just_names.specs.Name.{text_if_named}
 use Rattle.just_invoke.specs.declared.justfile.Justfile.{Justfile, out-Justfile}
-
--- the text of a name; the empty text where there is none
-abbrev pub text_of_name : Option Name → List ℕ
-text_of_name None = []
-text_of_name (Some name) = lexeme name.token
 
 -- the name of a module, the empty text of the root's
 abbrev pub module_name : Justfile → List ℕ
-module_name justfile = text_of_name (out-Justfile justfile).name
+module_name justfile = text_if_named (out-Justfile justfile).name

@@ -1,11 +1,10 @@
 -- One more text under a number.
-use Rattle.std.proofs.Common.{◌≡◌, ◌≢◌, ℕ, zero, suc, false, List, [], ◌∷◌, ◌++◌, map, length, Option, Some, None, ◌⊎◌, inl, inr, refl, sym, ap, subst, ◌∙◌, arith}
+use Rattle.std.proofs.Common.{◌≡◌, ℕ, zero, suc, false, List, [], ◌∷◌, ◌++◌, map, length, Option, Some, None, ◌⊎◌, inl, inr, refl, sym, ap, subst, ◌∙◌, arith}
 use Rattle.std.specs.List.{Contains, slice_get}
 use Rattle.std.proofs.lemmas.Option.{slice_get_read, slice_get_within}
 use Rattle.std.specs.Str.{bytes_eq}
-use Rattle.std.proofs.lemmas.Bool.{cases_lt, false_from_ne_true}
+use Rattle.std.proofs.lemmas.Bool.{cases_lt}
 use Rattle.std.proofs.lemmas.List.{map-append, length-map}
-use Rattle.std.proofs.lemmas.Slice.Eq.{bytes_eq-Decides}
 use Rattle.std.specs.HashMap.{get}
 pub use Rattle.just_graph.proofs.Told.{at_least as read_at, get_old as get_more, get_last}
 pub use Rattle.just_graph.proofs.Index.{got_in as got, map_get, none_some, some_same}
@@ -17,6 +16,7 @@ use Rattle.just_loader.specs.declared.sources.SourceFile.{SourceFile}
 use Rattle.just_loader.specs.declared.found.Found.{Found}
 use Rattle.just_loader.specs.Numbering.{IsNumbering, IsFile, IsFirstAt, IsNamed, HaveFirst, AreFound, paths_of, texts_of}
 use Rattle.just_names.proofs.SameTexts.{same_or_not}
+use Rattle.just_names.proofs.Indexing.{texts_apart}
 
 pub get_cases : {A : Type 0} (xs : List A) (x y : A) (i : ℕ) → slice_get (xs ++ x ∷ []) i ≡ Some y → (slice_get xs i ≡ Some y) ⊎ ((i ≡ length xs) × (x ≡ y))
 get_cases [] x y zero e = inr (refl, cc)
@@ -37,9 +37,6 @@ placed xs x c = (c.0, slice_get_read xs (length xs) c.0 x refl c.1 (sym c.2))
 pub once : (texts : List (List ℕ)) (numbers : List ℕ → Option ℕ) → IsNumbering texts numbers → AreApart texts
 once texts numbers n i j t e f = some_same (sym ((n t i).0 e) ∙ (n t j).0 f)
 
-differ : (a b : List ℕ) → a ≢ b → bytes_eq a b ≡ false
-differ a b ne = false_from_ne_true (bytes_eq a b) (λ t. ne ((bytes_eq-Decides a b).0 t))
-
 pub numbering_more : (texts more : List (List ℕ)) (old new : List ℕ → Option ℕ) (t : List ℕ) → IsNumbering texts old → old t ≡ None → new t ≡ Some (length texts) → ((q : List ℕ) → bytes_eq t q ≡ false → new q ≡ old q)
     → more ≡ texts ++ t ∷ [] → IsNumbering more new
 numbering_more texts more old new t n none here others is q i = elim (same_or_not t q) [
@@ -53,10 +50,10 @@ numbering_more texts more old new t n none here others is q i = elim (same_or_no
   )
   | inr ne ↦ (
     (λ got. elim (get_cases texts t q i (ap (λ xs. slice_get xs i) (sym is) ∙ got)) [
-      | inl before ↦ others q (differ t q ne) ∙ (n q i).0 before
+      | inl before ↦ others q (texts_apart t q ne) ∙ (n q i).0 before
       | inr last ↦ absurd (ne last.1)
     ]),
-    (λ at. ap (λ xs. slice_get xs i) is ∙ get_more texts (t ∷ []) i q ((n q i).1 (sym (others q (differ t q ne)) ∙ at))),
+    (λ at. ap (λ xs. slice_get xs i) is ∙ get_more texts (t ∷ []) i q ((n q i).1 (sym (others q (texts_apart t q ne)) ∙ at))),
   )
 ]
 
@@ -93,12 +90,12 @@ numbers_more texts more old new t h none here others is = record {
             | inr last ↦ omega (arith, last.0, place)
           ],
         )
-    | inr ne ↦ first_more texts (t ∷ []) q i (h.first q i (sym (others q (differ t q ne)) ∙ e))
+    | inr ne ↦ first_more texts (t ∷ []) q i (h.first q i (sym (others q (texts_apart t q ne)) ∙ e))
   ]);
   each = λ q k e. elim (same_or_not t q) [
     | inl same ↦ (length texts, ap new (sym same) ∙ here)
     | inr ne ↦ elim (get_cases texts t q k (ap (λ xs. slice_get xs k) (sym is) ∙ e)) [
-      | inl before ↦ let r = h.each q k before in (r.0, others q (differ t q ne) ∙ r.1)
+      | inl before ↦ let r = h.each q k before in (r.0, others q (texts_apart t q ne) ∙ r.1)
       | inr last ↦ absurd (ne last.1)
     ]
   ];

@@ -1,5 +1,5 @@
 -- The files of a module.
-use Rattle.std.specs.Prelude.{◌≡◌, ◌<◌, ◌⊎◌, ◌==◌, ◌||◌, Bool, false, List, [], ◌∷◌, ◌++◌, map, length, Option, None, Some, is_some, option_map, unwrap_or, codes, if◌then◌else◌}
+use Rattle.std.specs.Prelude.{◌≡◌, ◌<◌, ◌⊎◌, ◌==◌, ◌||◌, Bool, false, List, [], ◌∷◌, ◌++◌, map, length, Option, None, Some, Result, IfErr, IfOk, is_some, option_map, option_to_list, unwrap_or, codes, if◌then◌else◌}
 use Rattle.std.specs.Borrow.{Bor}
 use Rattle.std.specs.List.{filter}
 use Rattle.std.specs.Map.{keys_of}
@@ -66,3 +66,8 @@ module_files files parent name path = candidates files parent (text_of_name name
 -- there are several, all of which are told; or memory is refused
 abbrev pub TellsSeveral : Text → Name → List Text → Error → Type 0
 TellsSeveral parent name found e = (e ≡ error.Memory) ⊎ ((1 < length found) × (e ≡ error.Load (load.AmbiguousModuleFile name (map (relative parent) found))))
+
+-- The file of a module is found, or none, where there is one candidate at most; of several all are told.
+pub record FindsModuleFile (files : Files) (parent : Text) (name : Name) (path : Option (Bor Text)) (result : Result (Option Text) Error) : Type 0 where
+  pub found : IfOk result (λ file. option_to_list file ≡ module_files files parent name path)
+  pub error : IfErr result (TellsSeveral parent name (module_files files parent name path))

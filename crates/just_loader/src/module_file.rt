@@ -1,6 +1,6 @@
 ghost use Rattle.std.specs.Prelude.{◌≡◌, [], Some, None, map, string_bytes, option_map, option_to_list, IfOk, IfErr};
 ghost use Rattle.just_names.specs.Texts.{texts};
-ghost use Rattle.just_loader.specs.ModuleFile.{after, slashed, relative, is_module_name, file_at, candidates, module_files, TellsSeveral};
+ghost use Rattle.just_loader.specs.ModuleFile.{after, slashed, relative, is_module_name, file_at, candidates, FindsModuleFile, TellsSeveral};
 
 use crate::sources::Sources;
 use just_data::{Sequence, Text};
@@ -141,8 +141,7 @@ pub fn find_module_file<'src>(
     module: &Name<'src>,
     path: Option<&str>,
 ) -> Result<Option<Text>, Error<'src>>
-    ensures found { IfOk result (λ file. option_to_list file ≡ module_files sources.now parent.now «module».now path.entry) }
-    ensures error { IfErr result (TellsSeveral parent.now «module».now (module_files sources.now parent.now «module».now path.entry)) }
+    ensures { FindsModuleFile sources.now parent.now «module».now path.entry result }
 {
     let found = match path {
         Some(path) => find_at_path(alloc, sources, parent, path)?,

@@ -1,5 +1,5 @@
 -- What is kept of a list, and what holds of it.
-use Rattle.std.proofs.Common.{◌≡◌, ◌<◌, ◌≤◌, ℕ, zero, suc, ◌+◌, Bool, true, false, not, ◌||◌, List, [], ◌∷◌, ◌++◌, map, length, get_or, drop, Some, refl, sym, ap, subst, ◌∙◌, arith, inl, inr}
+use Rattle.std.proofs.Common.{◌≡◌, ◌<◌, ◌≤◌, ℕ, zero, suc, ◌+◌, Bool, true, false, not, ◌||◌, List, [], ◌∷◌, ◌++◌, map, length, drop, Some, refl, sym, ap, subst, ◌∙◌, arith, inl, inr}
 use Rattle.std.specs.Prelude.{if◌then◌else◌}
 use Rattle.std.specs.List.{All, Contains, list_any, slice_get}
 use Rattle.std.proofs.lemmas.Bool.{cases_lt, eq-eqb, false≢true, lt-ltb}
@@ -10,7 +10,7 @@ use Rattle.std.proofs.lemmas.Option.{get_or_from_slice_get, slice_get_within}
 use Rattle.std.proofs.lemmas.Slice.Eq.{bytes_eq-Decides}
 use Rattle.just_graph.specs.Steps.{IsOnce}
 use Rattle.just_graph.proofs.Leveling.{Once, is_once}
-use Rattle.just_graph.proofs.Members.{In, contained, from_map, in_map, is_in}
+use Rattle.just_graph.proofs.Members.{In, contained, from_map, in_map, is_in, all_in}
 use Rattle.just_names.specs.Texts.{Text}
 use Rattle.just_recipe.specs.declared.dependency.UnresolvedDependency.{UnresolvedDependency}
 use Rattle.just_recipe.specs.declared.recipe.Recipe.{Recipe}
@@ -158,9 +158,6 @@ pub kept_in : (rs : List (Recipe UnresolvedDependency)) (r : Recipe UnresolvedDe
 kept_in rs = left_in claim_of_recipe rs rs
 
 -- what holds of all holds of those
-all_in : {A : Type 0} (P : A → Type 0) (xs : List A) → ((x : A) → In x xs → P x) → All P xs
-all_in P xs f = λ k d h. f (get_or xs k d) (is_in (get_or xs k d) xs (Contains-get_or xs k d h))
-
 pub kept_all : (P : Recipe UnresolvedDependency → Type 0) (rs : List (Recipe UnresolvedDependency)) → All P rs → All P (kept_recipes rs)
 kept_all P rs all = all_in P (kept_recipes rs) (λ r h. All-contains P rs r all (contained r rs (kept_in rs r h)))
 

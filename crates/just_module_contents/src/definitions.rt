@@ -1,7 +1,4 @@
-ghost use Rattle.std.specs.Prelude.{◌≡◌, ◌<◌, IfOk, Some, length, slice_get};
-ghost use Rattle.just_module_contents.specs.Contents.{function_names, signatures};
-ghost use Rattle.just_module_contents.specs.Recipes.{recipes_of, recipe_at};
-ghost use Rattle.just_module_contents.specs.Definitions.{functions_in, lists_in, recipes_in, sets_in, variables_in};
+//! What the files of a module say of it.
 
 use crate::enabled::is_enabled;
 use crate::labels::doc_of;
@@ -33,8 +30,9 @@ pub struct Definitions<'src, 'a> {
 }
 
 impl<'a, 'src> Definitions<'src, 'a> {
-    ghost use Rattle.std.specs.Prelude.{◌++◌, [], OnOk, option_to_list};
-    ghost use Rattle.just_module_contents.specs.Contents.{no_contents, with_lists, with_module};
+    ghost use Rattle.std.specs.Prelude.{◌≡◌, ◌++◌, ◌<◌, [], IfOk, OnOk, Some, length, option_to_list, slice_get};
+    ghost use Rattle.just_module_contents.specs.Contents.{function_names, no_contents, signatures, with_lists, with_module};
+    ghost use Rattle.just_module_contents.specs.Recipes.{recipe_at, recipes_of};
     ghost use Rattle.just_module_contents.specs.Definitions.{contents_in, docs_in, functions_in, lists_in, recipes_in, sets_in, variables_in};
     ghost use Rattle.just_module_contents.specs.Named.{function_by, name_by, set_by, unexported_by, variable_by};
     ghost use Rattle.just_module_contents.specs.Labels.{doc_by, doc_of};
@@ -113,82 +111,64 @@ impl<'a, 'src> Definitions<'src, 'a> {
         }
         Ok(())
     }
-}
 
-// The recipe that is lent at a place.
-fn lent_at<'b, 'a, 'src>(
-    definitions: &'b Definitions<'src, 'a>,
-    place: usize,
-) -> &'b UnresolvedRecipe<'src>
-    requires { place < length definitions.now.recipes.items }
-    ensures { slice_get (recipes_in definitions.now) place ≡ Some result.now }
-{
-    &*definitions.recipes[place]
-}
-
-/// The recipe at a place.
-pub fn recipe_at<'b, 'a, 'src>(
-    definitions: &'b Definitions<'src, 'a>,
-    place: usize,
-) -> &'b UnresolvedRecipe<'src>
-    requires { place < length definitions.now.recipes.items }
-    ensures recipe { slice_get (recipes_in definitions.now) place ≡ Some result.now }
-    ensures there { result.now ≡ recipe_at (recipes_in definitions.now) place }
-{
-    lent_at(definitions, place)
-}
-
-/// The function at a place.
-pub fn function_at<'b, 'a, 'src>(
-    definitions: &'b Definitions<'src, 'a>,
-    place: usize,
-) -> &'b FunctionDefinition<'src>
-    requires { place < length definitions.now.functions.items }
-    ensures { slice_get (functions_in definitions.now) place ≡ Some result.now }
-{
-    &*definitions.functions[place]
-}
-
-/// What is set at a place.
-pub fn set_at<'b, 'a, 'src>(definitions: &'b Definitions<'src, 'a>, place: usize) -> &'b Set<'src>
-    requires { place < length definitions.now.sets.items }
-    ensures { slice_get (sets_in definitions.now) place ≡ Some result.now }
-{
-    &*definitions.sets[place]
-}
-
-/// The variable at a place.
-pub fn variable_at<'b, 'a, 'src>(
-    definitions: &'b Definitions<'src, 'a>,
-    place: usize,
-) -> &'b Assignment<'src>
-    requires { place < length definitions.now.variables.items }
-    ensures { slice_get (variables_in definitions.now) place ≡ Some result.now }
-{
-    &*definitions.variables[place]
-}
-
-/// What needs lists at a place.
-pub fn list_at<'b, 'a, 'src>(
-    definitions: &'b Definitions<'src, 'a>,
-    place: usize,
-) -> &'b ListUse<'src>
-    requires { place < length definitions.now.lists.items }
-    ensures { slice_get (lists_in definitions.now) place ≡ Some result.now }
-{
-    &*definitions.lists[place]
-}
-
-/// The names of the functions.
-pub fn function_names<'a, 'src>(
-    alloc: Global,
-    definitions: &Definitions<'src, 'a>,
-) -> Result<Vec<Name<'src>>, AllocError>
-    ensures { IfOk result (λ names. names.items ≡ function_names (signatures (functions_in definitions.now))) }
-{
-    let mut names = Vec::new(alloc);
-    for place in 0..definitions.functions.len() {
-        names.push(function_at(definitions, place).name.copied())?;
+    // The recipe that is lent at a place.
+    fn lent_at(&self, place: usize) -> &UnresolvedRecipe<'src>
+        requires { place < length self.now.recipes.items }
+        ensures { slice_get (recipes_in self.now) place ≡ Some result.now }
+    {
+        &*self.recipes[place]
     }
-    Ok(names)
+
+    /// The recipe at a place.
+    pub fn recipe_at(&self, place: usize) -> &UnresolvedRecipe<'src>
+        requires { place < length self.now.recipes.items }
+        ensures recipe { slice_get (recipes_in self.now) place ≡ Some result.now }
+        ensures there { result.now ≡ recipe_at (recipes_in self.now) place }
+    {
+        self.lent_at(place)
+    }
+
+    /// The function at a place.
+    pub fn function_at(&self, place: usize) -> &FunctionDefinition<'src>
+        requires { place < length self.now.functions.items }
+        ensures { slice_get (functions_in self.now) place ≡ Some result.now }
+    {
+        &*self.functions[place]
+    }
+
+    /// What is set at a place.
+    pub fn set_at(&self, place: usize) -> &Set<'src>
+        requires { place < length self.now.sets.items }
+        ensures { slice_get (sets_in self.now) place ≡ Some result.now }
+    {
+        &*self.sets[place]
+    }
+
+    /// The variable at a place.
+    pub fn variable_at(&self, place: usize) -> &Assignment<'src>
+        requires { place < length self.now.variables.items }
+        ensures { slice_get (variables_in self.now) place ≡ Some result.now }
+    {
+        &*self.variables[place]
+    }
+
+    /// What needs lists at a place.
+    pub fn list_at(&self, place: usize) -> &ListUse<'src>
+        requires { place < length self.now.lists.items }
+        ensures { slice_get (lists_in self.now) place ≡ Some result.now }
+    {
+        &*self.lists[place]
+    }
+
+    /// The names of the functions.
+    pub fn function_names(&self, alloc: Global) -> Result<Vec<Name<'src>>, AllocError>
+        ensures { IfOk result (λ names. names.items ≡ function_names (signatures (functions_in self.now))) }
+    {
+        let mut names = Vec::new(alloc);
+        for place in 0..self.functions.len() {
+            names.push(self.function_at(place).name.copied())?;
+        }
+        Ok(names)
+    }
 }

@@ -7,7 +7,7 @@ ghost use Rattle.just_module_contents.specs.Definitions.{recipes_in, variables_i
 ghost use Rattle.just_module_contents.specs.Kept.{IsBestIndex, IsBestSoFar, claim_of_recipe, claim_of_variable, is_outdone, kept_recipes, kept_variables, stays};
 ghost use Rattle.just_module_contents.specs.Recipes.{lent};
 
-use crate::definitions::{Definitions, recipe_at, variable_at};
+use crate::definitions::Definitions;
 use just_data::BorrowedText;
 use just_parts::UnresolvedRecipe;
 use just_parts::layers::Assignment;
@@ -81,7 +81,7 @@ fn recipe_claims<'a, 'src>(
 {
     let mut claims = Vec::with_capacity(alloc, definitions.recipes.len())?;
     for place in 0..definitions.recipes.len() {
-        let recipe = recipe_at(definitions, place);
+        let recipe = definitions.recipe_at(place);
         claims.push(Claim {
             name: BorrowedText::new(recipe.name.lexeme()),
             depth: recipe.file_depth,
@@ -118,7 +118,7 @@ fn variable_claims<'a, 'src>(
 {
     let mut claims = Vec::with_capacity(alloc, definitions.variables.len())?;
     for place in 0..definitions.variables.len() {
-        let variable = variable_at(definitions, place);
+        let variable = definitions.variable_at(place);
         claims.push(Claim {
             name: BorrowedText::new(variable.name.lexeme()),
             depth: variable.file_depth,

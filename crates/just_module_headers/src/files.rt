@@ -34,29 +34,6 @@ pub struct Rows {
     pub modules: Vec<Vec<usize>>,
 }
 
-/// Gives each file a place.
-pub fn place_files<'a, 'src>(
-    alloc: Global,
-    asts: &'a HashMap<(Modulepath, Text), Ast<'src>>,
-) -> Result<Files<'src, 'a>, AllocError>
-    ensures { IfOk result (ArePlaced asts.now.entries) }
-{
-    let mut keys = Vec::with_capacity(alloc, asts.len())?;
-    let mut lent = Vec::with_capacity(alloc, asts.len())?;
-    let mut places = HashMap::new(alloc);
-    for (key, ast) in asts {
-        let file = Text::from_str(alloc, key.1.as_str())?;
-        places.insert((key.0.clone()?, file), keys.len())?;
-        keys.push(key)?;
-        lent.push(ast)?;
-    }
-    Ok(Files {
-        keys,
-        asts: lent,
-        places,
-    })
-}
-
 // The key to which an item of a module's file leads: that of a module where `inside` is set, else that of an import.
 fn key_of_item<'src>(
     alloc: Global,
@@ -113,60 +90,81 @@ fn row<'src, S: Syntax>(
     Ok(row)
 }
 
-/// What the file at a place says.
-pub fn ast_at<'b, 'a, 'src>(files: &'b Files<'src, 'a>, place: usize) -> &'b Ast<'src>
-    requires { place < length files.now.asts.items }
-    ensures { slice_get (asts_in files.now) place ≡ Some result.now }
-{
-    &*files.asts[place]
-}
-
-// The rows of all files.
-fn rows_of<'a, 'src, S: Syntax>(
-    alloc: Global,
-    files: &Files<'src, 'a>,
-    syntax: &S,
-    inside: bool,
-) -> Result<Vec<Vec<usize>>, AllocError>
-    requires { (p : ℕ) → HoldsAll (get same_ast_key files.now.places) (led_from inside (S.answers syntax.now).enabled (asts_in files.now) p) }
-    ensures { IfOk result (λ rows. AreRowsOf inside (S.answers syntax.now).enabled files.now rows.items) }
-{
-    let mut rows = Vec::new(alloc);
-    for place in 0..files.asts.len() {
-        let ast = ast_at(files, place);
-        rows.push(row(alloc, ast, syntax, &files.places, inside)?)?;
+impl<'src, 'a> Files<'src, 'a> {
+    /// Gives each file a place.
+    pub fn new(
+        alloc: Global,
+        asts: &'a HashMap<(Modulepath, Text), Ast<'src>>,
+    ) -> Result<Files<'src, 'a>, AllocError>
+        ensures { IfOk result (ArePlaced asts.now.entries) }
+    {
+        let mut keys = Vec::with_capacity(alloc, asts.len())?;
+        let mut lent = Vec::with_capacity(alloc, asts.len())?;
+        let mut places = HashMap::new(alloc);
+        for (key, ast) in asts {
+            let file = Text::from_str(alloc, key.1.as_str())?;
+            places.insert((key.0.clone()?, file), keys.len())?;
+            keys.push(key)?;
+            lent.push(ast)?;
+        }
+        Ok(Files {
+            keys,
+            asts: lent,
+            places,
+        })
     }
-    Ok(rows)
-}
 
-/// What each file imports and which modules it declares, by places.
-pub fn file_rows<'a, 'src, S: Syntax>(
-    alloc: Global,
-    files: &Files<'src, 'a>,
-    syntax: &S,
-) -> Result<Rows, AllocError>
-    requires { HoldsEach (S.answers syntax.now).enabled files.now }
-    ensures { IfOk result (AreRows (S.answers syntax.now).enabled files.now) }
-{
-    Ok(Rows {
-        imports: rows_of(alloc, files, syntax, false)?,
-        modules: rows_of(alloc, files, syntax, true)?,
-    })
-}
+    /// What the file at a place says.
+    pub fn ast_at(&self, place: usize) -> &Ast<'src>
+        requires { place < length self.now.asts.items }
+        ensures { slice_get (asts_in self.now) place ≡ Some result.now }
+    {
+        &*self.asts[place]
+    }
 
-/// The place of the file of a key that is held.
-pub fn place_of<'a, 'src>(
-    alloc: Global,
-    files: &Files<'src, 'a>,
-    module_path: &Modulepath,
-    file: &str,
-) -> Result<usize, AllocError>
-    requires { IsSome (get same_ast_key files.now.places (module_path.now, file.now)) }
-    ensures { IfOk result (λ place. get same_ast_key files.now.places (module_path.now, file.now) ≡ Some place) }
-{
-    let key = (module_path.clone()?, Text::from_str(alloc, file)?);
-    let Some(place) = files.places.get(&key) else {
-        unreachable!()
-    };
-    Ok(*place)
+    // The rows of all files.
+    fn rows_of<S: Syntax>(
+        &self,
+        alloc: Global,
+        syntax: &S,
+        inside: bool,
+    ) -> Result<Vec<Vec<usize>>, AllocError>
+        requires { (p : ℕ) → HoldsAll (get same_ast_key self.now.places) (led_from inside (S.answers syntax.now).enabled (asts_in self.now) p) }
+        ensures { IfOk result (λ rows. AreRowsOf inside (S.answers syntax.now).enabled self.now rows.items) }
+    {
+        let mut rows = Vec::new(alloc);
+        for place in 0..self.asts.len() {
+            let ast = self.ast_at(place);
+            rows.push(row(alloc, ast, syntax, &self.places, inside)?)?;
+        }
+        Ok(rows)
+    }
+
+    /// What each file imports and which modules it declares, by places.
+    pub fn rows<S: Syntax>(&self, alloc: Global, syntax: &S) -> Result<Rows, AllocError>
+        requires { HoldsEach (S.answers syntax.now).enabled self.now }
+        ensures { IfOk result (AreRows (S.answers syntax.now).enabled self.now) }
+    {
+        Ok(Rows {
+            imports: self.rows_of(alloc, syntax, false)?,
+            modules: self.rows_of(alloc, syntax, true)?,
+        })
+    }
+
+    /// The place of the file of a key that is held.
+    pub fn place_of(
+        &self,
+        alloc: Global,
+        module_path: &Modulepath,
+        file: &str,
+    ) -> Result<usize, AllocError>
+        requires { IsSome (get same_ast_key self.now.places (module_path.now, file.now)) }
+        ensures { IfOk result (λ place. get same_ast_key self.now.places (module_path.now, file.now) ≡ Some place) }
+    {
+        let key = (module_path.clone()?, Text::from_str(alloc, file)?);
+        let Some(place) = self.places.get(&key) else {
+            unreachable!()
+        };
+        Ok(*place)
+    }
 }

@@ -9,7 +9,7 @@ ghost use Rattle.just_module_contents.specs.Definitions.{functions_in};
 ghost use Rattle.just_module_contents.specs.Rules.{Functions, RepeatsParameter};
 
 use just_data::BorrowedText;
-use just_module_contents::definitions::{Definitions, function_at, function_names};
+use just_module_contents::definitions::Definitions;
 use just_module_contents::redefinition::told;
 use just_names::repeated_name;
 use just_parts::layers::error::Definition;
@@ -62,7 +62,7 @@ fn check_different<'a, 'src>(
     ensures kept { OnOk result (AreDifferent (texts_of_names (function_names (signatures (functions_in definitions.now))))) }
     ensures named { IfErr result (Reports (Functions (signatures (functions_in definitions.now)))) }
 {
-    let names = function_names(alloc, definitions)?;
+    let names = definitions.function_names(alloc)?;
     match repeated_name(alloc, names.as_slice())? {
         None => Ok(()),
         Some((first, second)) => Err(Error::Compile(told(
@@ -84,7 +84,7 @@ pub fn check_functions<'a, 'src>(
 {
     check_different(alloc, definitions)?;
     for place in 0..definitions.functions.len() {
-        check_function(alloc, function_at(definitions, place))?;
+        check_function(alloc, definitions.function_at(place))?;
     }
     Ok(())
 }

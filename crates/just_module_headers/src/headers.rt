@@ -9,7 +9,7 @@ ghost use Rattle.just_module_contents.specs.Rules.{Headers, Modules, Parameters,
 
 use crate::settings::check_sets;
 use just_data::BorrowedText;
-use just_module_contents::definitions::{Definitions, recipe_at};
+use just_module_contents::definitions::Definitions;
 use just_module_contents::redefinition::redefinition;
 use just_names::{index_names, repeated_name};
 use just_parts::layers::error::Definition;
@@ -71,7 +71,7 @@ fn check_defaults_at<'a, 'src>(
     ensures kept { OnOk result (NoneFollows (recipe_at (recipes_in definitions.now) place).parameters) }
     ensures named { IfErr result (Reports (Parameters (recipes_in definitions.now))) }
 {
-    let parameters = recipe_at(definitions, place).parameters.as_slice();
+    let parameters = definitions.recipe_at(place).parameters.as_slice();
     match needed_after_default(parameters) {
         None => Ok(()),
         Some(at) => {
@@ -96,7 +96,7 @@ fn check_names_at<'a, 'src>(
     ensures kept { OnOk result (AreDifferent (parameter_names (recipe_at (recipes_in definitions.now) place))) }
     ensures named { IfErr result (Reports (Parameters (recipes_in definitions.now))) }
 {
-    let recipe = recipe_at(definitions, place);
+    let recipe = definitions.recipe_at(place);
     let parameters = recipe.parameters.as_slice();
     let names = parameter_names(alloc, parameters)?;
     match index_names(alloc, names.as_slice())? {

@@ -8,7 +8,7 @@ ghost use Rattle.just_module_contents.specs.Named.{name_by, said_from};
 ghost use Rattle.just_module_contents.specs.Said.{said};
 ghost use Rattle.just_module_headers.specs.OfPlaces.{HaveFiles, HaveNames, RepeatsNames};
 
-use crate::files::{Files, ast_at};
+use crate::files::Files;
 use crate::headers::check_modules;
 use crate::joined::Joined;
 use just_module_contents::is_enabled;
@@ -51,7 +51,7 @@ pub fn module_names<'a, 'src, S: Syntax>(
 {
     let mut names = Vec::new(alloc);
     for place in places {
-        push_names(ast_at(files, *place).items.as_slice(), syntax, &mut names)?;
+        push_names(files.ast_at(*place).items.as_slice(), syntax, &mut names)?;
     }
     Ok(names)
 }

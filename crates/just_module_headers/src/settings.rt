@@ -10,7 +10,7 @@ ghost use Rattle.just_module_contents.specs.Rules.{SetTwice, Sets};
 ghost use Rattle.just_module_contents.specs.Settings.{are_incompatible, excludes, setting_names, stands_in};
 
 use just_data::{BorrowedText, Text};
-use just_module_contents::definitions::{Definitions, set_at};
+use just_module_contents::definitions::Definitions;
 use just_parts::layers::{CompileError, CompileErrorKind, Error, Keyword, Syntax};
 use std::alloc::Global;
 use std::collections::HashMap;
@@ -26,7 +26,7 @@ fn index_sets<'a, 'src>(
 {
     let mut index = HashMap::new(alloc);
     for place in 0..definitions.sets.len() {
-        let name = &set_at(definitions, place).name;
+        let name = &definitions.set_at(place).name;
         let text = Text::from_str(alloc, name.lexeme())?;
         match index.insert(text, place)? {
             None => continue,
@@ -35,7 +35,7 @@ fn index_sets<'a, 'src>(
                     token: name.token.copied(),
                     kind: CompileErrorKind::DuplicateSet {
                         setting: BorrowedText::new(name.lexeme()),
-                        first: set_at(definitions, before).name.line(),
+                        first: definitions.set_at(before).name.line(),
                     },
                 }));
             }
@@ -67,8 +67,8 @@ fn check_pair<'a, 'src, S: Syntax>(
     ensures kept { OnOk result (excludes (S.answers syntax.now).conflicts (sets_in definitions.now) second first ≡ false) }
     ensures named { IfErr result (Reports (Sets (S.answers syntax.now).conflicts (sets_in definitions.now))) }
 {
-    let earlier = set_at(definitions, first);
-    let name = &set_at(definitions, second).name;
+    let earlier = definitions.set_at(first);
+    let name = &definitions.set_at(second).name;
     let excluded = syntax.conflicts(alloc, &earlier.value)?;
     if !stands_in(name.lexeme(), excluded.as_slice()) {
         return Ok(());
@@ -97,7 +97,7 @@ fn check_beside<'a, 'src, S: Syntax>(
     ensures kept { OnOk result ((i : ℕ) → i < place → are_incompatible (S.answers syntax.now).conflicts (sets_in definitions.now) i place ≡ false) }
     ensures named { IfErr result (Reports (Sets (S.answers syntax.now).conflicts (sets_in definitions.now))) }
 {
-    let excluded = syntax.conflicts(alloc, &set_at(definitions, place).value)?;
+    let excluded = syntax.conflicts(alloc, &definitions.set_at(place).value)?;
     for keyword in excluded.as_slice() {
         match index.get(&keyword.lexeme) {
             None => continue,

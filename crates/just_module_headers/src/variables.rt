@@ -10,7 +10,7 @@ ghost use Rattle.just_module_contents.specs.Settings.{allows_variables, is_allow
 
 use crate::functions::check_functions;
 use just_data::BorrowedText;
-use just_module_contents::definitions::{Definitions, set_at, variable_at};
+use just_module_contents::definitions::Definitions;
 use just_names::{index_last, repeated_name, texts_of};
 use just_parts::layers::{CompileError, CompileErrorKind, Error, Name, Set, Setting};
 use std::alloc::{AllocError, Global};
@@ -30,7 +30,7 @@ fn allows_variables<'a, 'src>(definitions: &Definitions<'src, 'a>) -> bool
     ensures { result ≡ allows_variables (sets_in definitions.now) }
 {
     for place in 0..definitions.sets.len() {
-        if is_allowing(set_at(definitions, place)) {
+        if is_allowing(definitions.set_at(place)) {
             return true;
         }
     }
@@ -46,7 +46,7 @@ fn variable_names<'a, 'src>(
 {
     let mut names = Vec::new(alloc);
     for place in 0..definitions.variables.len() {
-        names.push(variable_at(definitions, place).name.copied())?;
+        names.push(definitions.variable_at(place).name.copied())?;
     }
     Ok(names)
 }

@@ -7,7 +7,8 @@ use Rattle.std.specs.declared.vec.Vec.{Vec}
 use Rattle.std.specs.declared.alloc.Global.{Global}
 use Rattle.just_names.specs.Token.{Place}
 use Rattle.just_graph.specs.Graph.{HasEdge, targets}
-use Rattle.just_graph.specs.Steps.{Leads, by_step, by_steps, IsCircle}
+use Rattle.just_graph.specs.Steps.{Leads, by_step, IsCircle}
+use Rattle.just_graph.proofs.Walks.{then_step}
 use Rattle.just_recipe.specs.declared.dependency.UnresolvedDependency.{UnresolvedDependency}
 use Rattle.just_recipe.specs.declared.recipe.Recipe.{Recipe}
 use Rattle.just_names.specs.Index.{AreDifferent}
@@ -15,10 +16,6 @@ use Rattle.just_module_contents.specs.Recipes.{name_of, recipe_at, names_of, Dep
 use Rattle.just_module_contents.specs.Rows.{IsTokenOn}
 use Rattle.just_module_contents.specs.Rules.{IsCircleOf, IsDependencyOn}
 use Rattle.just_module_contents.proofs.RecipePlaces.{one_place}
-
-pub leads_more : {R : ℕ → ℕ → Type 0} {a b c : ℕ} → Leads R a b → R b c → Leads R a c
-leads_more (by_step r) s = by_steps r (by_step s)
-leads_more (by_steps r rs) s = by_steps r (leads_more rs s)
 
 module _ (rs : List (Recipe UnresolvedDependency)) (different : AreDifferent (names_of rs)) where
   -- a step between names is one between the recipes of these names
@@ -33,7 +30,7 @@ module _ (rs : List (Recipe UnresolvedDependency)) (different : AreDifferent (na
   walk_leads ns walk (suc k) i j h ki ei kj ej =
       let s : DependsOn rs (get_or ns (suc k) []) (get_or ns (suc k + 1) []) = walk (suc k) h in
       let at : name_of (recipe_at rs s.from) ≡ get_or ns (k + 1) [] = s.dependent_is ∙ ap (λ m. get_or ns m []) (sym (add-one k)) in
-      leads_more
+      then_step
       (walk_leads ns walk k i s.from (omega arith) ki ei s.step.dependent at)
       (step_of s.from j _ _ s.step.dependent s.dependent_is kj ej s)
 

@@ -12,7 +12,7 @@ ghost use Rattle.just_module_contents.specs.Rules.{Bodies, Lists, Redefined, Sta
 
 use crate::shells::check_shells;
 use just_data::BorrowedText;
-use just_module_contents::definitions::{Definitions, function_names, list_at, recipe_at};
+use just_module_contents::definitions::Definitions;
 use just_module_contents::redefinition::redefinition;
 use just_names::{index_last, repeated_below, texts_of};
 use just_parts::layers::error::Definition;
@@ -27,7 +27,7 @@ fn function_texts<'a, 'src>(
 ) -> Result<Vec<BorrowedText<'src>>, AllocError>
     ensures { IfOk result (λ names. names.items ≡ function_texts (contents_in definitions.now)) }
 {
-    let names = function_names(alloc, definitions)?;
+    let names = definitions.function_names(alloc)?;
     texts_of(alloc, names.as_slice())
 }
 
@@ -55,7 +55,7 @@ fn check_uses<'a, 'src>(
     let names = function_texts(alloc, definitions)?;
     let index = index_last(alloc, names.as_slice())?;
     for place in 0..definitions.lists.len() {
-        let used = list_at(definitions, place);
+        let used = definitions.list_at(place);
         if stands_for(names.as_slice(), &index, used) {
             continue;
         }
@@ -78,7 +78,7 @@ fn defined_names<'a, 'src>(
 {
     let mut names = texts_of(alloc, definitions.modules.as_slice())?;
     for place in 0..definitions.recipes.len() {
-        names.push(BorrowedText::new(recipe_at(definitions, place).name.lexeme()))?;
+        names.push(BorrowedText::new(definitions.recipe_at(place).name.lexeme()))?;
     }
     Ok(names)
 }
@@ -95,7 +95,7 @@ fn defined_at<'b, 'a, 'src>(
     if place < modules {
         return (Definition::Module, &definitions.modules[place]);
     }
-    let recipe = recipe_at(definitions, place - modules);
+    let recipe = definitions.recipe_at(place - modules);
     (Definition::Recipe, &recipe.name)
 }
 
@@ -147,7 +147,7 @@ fn recipe_names<'a, 'src>(
 {
     let mut names = Vec::new(alloc);
     for place in 0..definitions.recipes.len() {
-        names.push(BorrowedText::new(recipe_at(definitions, place).name.lexeme()))?;
+        names.push(BorrowedText::new(definitions.recipe_at(place).name.lexeme()))?;
     }
     Ok(names)
 }

@@ -9,7 +9,7 @@ ghost use Rattle.just_module_contents.specs.Named.{recipes_by};
 
 use crate::marked::marked_place;
 use just_execution::Recipes;
-use just_module_contents::definitions::{Definitions, recipe_at};
+use just_module_contents::definitions::Definitions;
 use just_parts::UnresolvedRecipe;
 use just_parts::layers::{Ast, Error, Number, Syntax};
 use std::alloc::{AllocError, Global};
@@ -34,7 +34,7 @@ fn better<'a, 'src>(own: &Definitions<'src, 'a>, best: Option<usize>, place: usi
     match best {
         None => place,
         Some(best) => {
-            if comes_before(recipe_at(own, place), recipe_at(own, best)) {
+            if comes_before(own.recipe_at(place), own.recipe_at(best)) {
                 place
             } else {
                 best
@@ -50,7 +50,7 @@ fn default_place<'a, 'src>(own: &Definitions<'src, 'a>, resolved: &Recipes<'src>
 {
     let mut best = None;
     for place in 0..own.recipes.len() {
-        if resolved.get(recipe_at(own, place).number).is_none() {
+        if resolved.get(own.recipe_at(place).number).is_none() {
             continue;
         }
         best = Some(better(own, best, place));
@@ -72,7 +72,7 @@ fn own_default<'src, S: Syntax>(
     own.add(ast.items.as_slice(), syntax)?;
     match default_place(&own, resolved) {
         None => Ok(None),
-        Some(place) => Ok(Some(recipe_at(&own, place).number)),
+        Some(place) => Ok(Some(own.recipe_at(place).number)),
     }
 }
 
@@ -90,7 +90,7 @@ pub fn default_of<'a, 'src, S: Syntax>(
     ensures named { IfErr result (Reports (Defaults (recipes_in kept.now))) }
 {
     match marked_place(kept)? {
-        Some(place) => Ok(Some(recipe_at(kept, place).number)),
+        Some(place) => Ok(Some(kept.recipe_at(place).number)),
         None => Ok(own_default(alloc, ast, syntax, resolved)?),
     }
 }

@@ -5,7 +5,7 @@ ghost use Rattle.just_module_contents.specs.Resolved.{linked, Resolves};
 ghost use Rattle.just_recipe.specs.declared.dependency.UnresolvedDependency.{UnresolvedDependency};
 
 use just_data::Sequence;
-use just_module_contents::definitions::{Definitions, recipe_at};
+use just_module_contents::definitions::Definitions;
 use just_parts::layers::UnresolvedDependency;
 use just_parts::{Dependency, Recipe, UnresolvedRecipe};
 use just_paths::Modulepath;
@@ -26,7 +26,7 @@ fn link<'a, 'src>(
     for at in 0..places.len() {
         made.push(Dependency {
             path: dependencies[at].recipe.clone()?,
-            recipe: recipe_at(definitions, places[at]).number,
+            recipe: definitions.recipe_at(places[at]).number,
         })?;
     }
     Ok(Sequence::from_vec(made))

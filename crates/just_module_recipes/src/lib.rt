@@ -1,5 +1,5 @@
 //! The recipes of one module: the rules of their bodies, of what they depend on and of the default, and what they are
-//! resolved to, added to the recipes of the other modules.
+//! resolved to.
 #![tactic(auto)]
 
 mod bodies;
@@ -7,7 +7,8 @@ mod chosen;
 mod dependencies;
 mod marked;
 mod recipe_order;
-mod recipes;
 mod shells;
 
-pub use recipes::add_recipes;
+pub use bodies::{check_bodies, index_recipes};
+pub use chosen::default_of;
+pub use recipe_order::{order_recipes, resolve_in_order};

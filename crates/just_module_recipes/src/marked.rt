@@ -7,7 +7,7 @@ ghost use Rattle.just_module_contents.specs.Definitions.{recipes_in};
 ghost use Rattle.just_module_contents.specs.Recipes.{recipe_at};
 
 use just_data::BorrowedText;
-use just_module_contents::definitions::{Definitions, recipe_at};
+use just_module_contents::definitions::Definitions;
 use just_parts::UnresolvedRecipe;
 use just_parts::layers::{Attribute, CompileError, CompileErrorKind, Error, NamedAttribute};
 
@@ -51,8 +51,8 @@ fn duplicate<'a, 'src>(
     requires second_marked { is_marked (recipe_at (recipes_in definitions.now) second) ≡ true }
     ensures { Defaults (recipes_in definitions.now) (Broken result.token result.kind) }
 {
-    let one = recipe_at(definitions, first);
-    let other = recipe_at(definitions, second);
+    let one = definitions.recipe_at(first);
+    let other = definitions.recipe_at(second);
     let later = if is_later(one, other) { other } else { one };
     CompileError {
         token: later.name.token.copied(),
@@ -73,7 +73,7 @@ pub fn marked_place<'a, 'src>(
 {
     let mut marked = None;
     for place in 0..definitions.recipes.len() {
-        if !is_marked(recipe_at(definitions, place)) {
+        if !is_marked(definitions.recipe_at(place)) {
             continue;
         }
         if let Some(first) = marked {

@@ -18,7 +18,7 @@ use crate::dependencies::resolve;
 use just_data::{BorrowedText, Sequence};
 use just_execution::Recipes;
 use just_graph::{all_nodes, order};
-use just_module_contents::definitions::{Definitions, recipe_at};
+use just_module_contents::definitions::Definitions;
 use just_parts::layers::{CompileError, CompileErrorKind, Error, Namepath, Settings, Token};
 use just_paths::Modulepath;
 use std::alloc::{AllocError, Global};
@@ -51,7 +51,7 @@ fn target<'a, 'src>(
     ensures target { IfOk result (IsTarget (recipes_in definitions.now) (get_or (dependency_paths (recipe_at (recipes_in definitions.now) place)) at [])) }
     ensures named { IfErr result (Reports (Dependencies settings.now.lists (recipes_in definitions.now))) }
 {
-    let recipe = recipe_at(definitions, place);
+    let recipe = definitions.recipe_at(place);
     let dependency = &recipe.dependencies.as_slice()[at];
     let Some(found) = place_of_path(index, &dependency.recipe) else {
         return Err(Error::Compile(CompileError {
@@ -62,7 +62,7 @@ fn target<'a, 'src>(
             },
         }));
     };
-    let named = recipe_at(definitions, found);
+    let named = definitions.recipe_at(found);
     let min = named.min_arguments();
     if min == 0 {
         return Ok(found);
@@ -92,7 +92,7 @@ fn row<'a, 'src>(
     ensures named { IfErr result (Reports (Dependencies settings.now.lists (recipes_in definitions.now))) }
 {
     let mut row = Vec::new(alloc);
-    for at in 0..recipe_at(definitions, place).dependencies.len() {
+    for at in 0..definitions.recipe_at(place).dependencies.len() {
         row.push(target(definitions, index, settings, place, at)?)?;
     }
     Ok(row)
@@ -127,7 +127,7 @@ fn names_at<'a, 'src>(
 {
     let mut names = Sequence::new(alloc);
     for place in places {
-        names.push(BorrowedText::new(recipe_at(definitions, *place).name.lexeme()))?;
+        names.push(BorrowedText::new(definitions.recipe_at(*place).name.lexeme()))?;
     }
     Ok(names)
 }
@@ -144,7 +144,7 @@ fn dependency_token<'a, 'src>(
     requires place { Contains row.now place }
     ensures { IsTokenOn (recipes_in definitions.now) dependent place result }
 {
-    let dependencies = recipe_at(definitions, dependent).dependencies.as_slice();
+    let dependencies = definitions.recipe_at(dependent).dependencies.as_slice();
     for at in 0..row.len() {
         if row[at] == place {
             return dependencies[at].recipe.last.token.copied();
@@ -179,7 +179,7 @@ fn ordered<'a, 'src>(
         Ok(order) => Ok(order),
         Err(circle) => {
             let closing = circle[circle.len() - 2];
-            let last = recipe_at(definitions, closing);
+            let last = definitions.recipe_at(closing);
             let names = names_at(alloc, definitions, circle.as_slice())?;
             Err(Error::Compile(CompileError {
                 token: dependency_token(
@@ -215,7 +215,7 @@ pub fn resolve_in_order<'a, 'src>(
     let mut recipes = Recipes::new(alloc);
     for n in 0..order.len() {
         let place = order[n];
-        let recipe = recipe_at(definitions, place);
+        let recipe = definitions.recipe_at(place);
         let resolved = resolve(alloc, definitions, recipe, row_at(rows, place), module_path)?;
         recipes.push(resolved)?;
     }

@@ -6,7 +6,7 @@ ghost use Rattle.just_module_contents.specs.Definitions.{recipes_in};
 ghost use Rattle.just_module_contents.specs.Shells.{FirstLine, Lines, ScriptAttribute, ShellRecipe, Shells, ends_group, is_of_scripts};
 
 use just_data::BorrowedText;
-use just_module_contents::definitions::{Definitions, recipe_at};
+use just_module_contents::definitions::Definitions;
 use just_names::Token;
 use just_parts::UnresolvedRecipe;
 use just_parts::layers::{
@@ -145,7 +145,7 @@ pub fn check_shells<'a, 'src, S: Syntax>(
     ensures named { IfErr result (Reports (Shells (S.answers syntax.now) settings.now (recipes_in definitions.now))) }
 {
     for place in 0..definitions.recipes.len() {
-        check_shell(alloc, syntax, recipe_at(definitions, place), settings)?;
+        check_shell(alloc, syntax, definitions.recipe_at(place), settings)?;
     }
     Ok(())
 }

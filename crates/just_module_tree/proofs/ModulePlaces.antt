@@ -1,11 +1,12 @@
 -- The module whose own file stands at a place.
-use Rattle.std.proofs.Common.{◌≡◌, ◌<◌, ℕ, zero, suc, nat_eq, Bool, true, false, List, [], ◌∷◌, ◌++◌, map, take, length, get_or, slice_index, Some, refl, sym, ap, subst, ◌∙◌, arith, inl, inr}
+use Rattle.std.proofs.Common.{◌≡◌, ◌<◌, ℕ, zero, suc, nat_eq, Bool, List, [], ◌∷◌, ◌++◌, map, take, length, get_or, slice_index, Some, refl, sym, ap, subst, ◌∙◌, arith, inl, inr}
 use Rattle.std.specs.Prelude.{flat_map}
 use Rattle.std.specs.List.{Contains}
 use Rattle.std.specs.Map.{keys_of, lookup}
 use Rattle.std.specs.Option.{option_map, unwrap_or}
-use Rattle.std.proofs.lemmas.Bool.{eq-eqb, eqb-true, false_from_ne_true}
+use Rattle.std.proofs.lemmas.Bool.{eq-eqb, eqb-true}
 use Rattle.std.proofs.lemmas.List.{map-append}
+use Rattle.std.specs.Cmp.{both_ways}
 use Rattle.just_graph.specs.Graph.{HasEdge, targets}
 use Rattle.just_graph.specs.Levels.{AreLevels}
 use Rattle.just_graph.specs.Steps.{ListsStepsFirst, in_take}
@@ -24,10 +25,6 @@ use Rattle.just_module_headers.specs.declared.files.Rows.{Rows}
 use Rattle.just_module_headers.specs.declared.joined.Joined.{Joined}
 use Rattle.just_module_headers.proofs.FilePlaces.{import_inside, imports_here, modules_here, one_place, says}
 use Rattle.just_module_headers.proofs.Joining.{in_row}
-
-same_bools : (a b : Bool) → (a ≡ true → b ≡ true) → (b ≡ true → a ≡ true) → a ≡ b
-same_bools true b f g = sym (f refl)
-same_bools false b f g = sym (false_from_ne_true b (λ t. let wrong : false ≡ true = g t in cc))
 
 -- lists that are mapped, part by part
 flat_keys : {A B C : Type 0} (f : ℕ → C) (g : B → C) (T : ℕ → List ℕ) (S : A → List B) (h : ℕ → A) (xs : List ℕ) → ((x : ℕ) → In x xs → map f (T x) ≡ map g (S (h x))) → map f (flat_map T xs) ≡ map g (flat_map S (map h xs))
@@ -79,7 +76,7 @@ module _ (enabled : Item → Bool) (entries : List (AstKey × Ast)) (d : AstKey)
   key_at p = get_or (keys_of entries) p d
 
   pub agree : (a b : ℕ) → a < n → b < n → same_ast_key (key_at a) (key_at b) ≡ nat_eq a b
-  agree a b h l = same_bools (same_ast_key (key_at a) (key_at b)) (nat_eq a b)
+  agree a b h l = both_ways (same_ast_key (key_at a) (key_at b)) (nat_eq a b)
       (λ t. eq-eqb a b (one_place enabled entries d files placed rows are paths a b h l ((key_same (key_at a) (key_at b)).0 t)))
       (λ t. (key_same (key_at a) (key_at b)).1 (ap key_at (eqb-true a b t)))
 

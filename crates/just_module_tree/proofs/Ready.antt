@@ -12,16 +12,16 @@ use Rattle.just_graph.specs.Graph.{HasEdge, targets}
 use Rattle.just_graph.specs.Steps.{Reached, from_member, from_start}
 use Rattle.just_graph.proofs.Members.{In, contained, from_flat, is_in}
 use Rattle.just_parts.specs.Asts.{AstKey, same_ast_key}
-use Rattle.just_parts.specs.Bare.{bare_function, bare_function_parameter, bare_item}
+use Rattle.just_parts.specs.Bare.{bare_function, bare_item}
 use Rattle.just_parts.specs.Located.{located_assignment, located_item}
 use Rattle.just_parts.specs.Items.{Ast, Item}
+use Rattle.just_parts.proofs.Barer.{bare_parameters}
 use Rattle.just_ast_items.specs.declared.item.Item.TheVariants as item
 use Rattle.just_recipe.specs.declared.dependency.UnresolvedDependency.{UnresolvedDependency}
 use Rattle.just_names.specs.declared.name.Name.{Name}
 use Rattle.just_paths.specs.declared.modulepath.Modulepath.{Modulepath}
 use Rattle.just_recipe.specs.declared.recipe.Recipe.{Recipe}
 use Rattle.just_ast_definitions.specs.declared.function_definition.FunctionDefinition.{FunctionDefinition}
-use Rattle.just_ast_definitions.specs.declared.function_definition.FunctionParameter.{FunctionParameter}
 use Rattle.just_module_headers.specs.Files.{ArePlaced, AreRows, asts_in}
 use Rattle.just_module_headers.specs.Joined.{AreJoined, IsJoined}
 use Rattle.just_module_contents.specs.Named.{function_by, lists_by, lists_from, name_by, said_from, recipes_by, recipes_from, set_by, unexported_by, variable_by}
@@ -82,10 +82,6 @@ set_located (item.Setting s) = refl
 set_located _ = refl
 
 -- a function without numbers has none to lose
-bare_parameters : (ps : List FunctionParameter) → map bare_function_parameter (map bare_function_parameter ps) ≡ map bare_function_parameter ps
-bare_parameters [] = refl
-bare_parameters (p ∷ ps) = ap (λ (qs : List FunctionParameter). bare_function_parameter p ∷ qs) (bare_parameters ps)
-
 function_bare : (f : FunctionDefinition) → bare_function (bare_function f) ≡ bare_function f
 function_bare f = λ i. record f { parameters = bare_parameters f.parameters i }
 

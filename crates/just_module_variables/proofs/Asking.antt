@@ -31,15 +31,13 @@ use Rattle.just_ast_references.specs.References.{references}
 use Rattle.just_ast_references.proofs.Renumbering.{keeps_references, numbers_stay}
 use Rattle.just_table.specs.Entries.{find}
 use Rattle.just_parts.specs.Misnaming.{Misnames}
+use Rattle.just_parts.proofs.Barer.{bare_parameters}
 use Rattle.just_name_resolution.proofs.Placed.{the_value}
+use Rattle.just_name_resolution.proofs.Alike.{some_found, find_changed}
 use Rattle.just_module_variables.specs.Variables.{AreVariables, known_with_numbers}
 use Rattle.just_module_variables.proofs.Judging.{bare_is, bare_of}
 use Rattle.just_module_variables.proofs.Similar.{AreSimilar, changed_similar, defined_changed, misnames_same, needs_similar, order_of_similar, range_changed, read_in_similar, reads_on_similar, similar_changed, similar_then}
-use Rattle.just_module_variables.proofs.Substituted.{changed_again, changed_same, find_changed, found_changed}
-
-pub bare_parameters : (ps : List FunctionParameter) → map bare_function_parameter (map bare_function_parameter ps) ≡ map bare_function_parameter ps
-bare_parameters [] = refl
-bare_parameters (p ∷ ps) = ap (λ (qs : List FunctionParameter). bare_function_parameter p ∷ qs) (bare_parameters ps)
+use Rattle.just_module_variables.proofs.Substituted.{changed_again, changed_same}
 
 hides_bare : (ps : List FunctionParameter) (name : Text) → hides (map bare_function_parameter ps) name ≡ hides ps name
 hides_bare [] name = refl
@@ -181,7 +179,7 @@ module _ (answers : SyntaxAnswers) (m : Contents) where
         λ i name. at name i
 
     found_numbered : (name : Text) (a : Assignment) → find name vs ≡ Some a → (b : Assignment) × (find name variables ≡ Some b) × (numbered_assignment numbered b ≡ a)
-    found_numbered name a found = found_changed (numbered_assignment numbered) name variables a (ap (find name) (sym is.assignments_are) ∙ found)
+    found_numbered name a found = some_found (numbered_assignment numbered) name variables a (ap (find name) (sym is.assignments_are) ∙ found)
 
     pub tables_apart : HaveNumbersApart numbered → HaveNumbersApart tables
     tables_apart apart x y a b is_a is_b same =

@@ -7,7 +7,7 @@ use Rattle.std.specs.declared.vec.Vec.{Vec}
 use Rattle.std.proofs.lemmas.Bool.{false≢true}
 use Rattle.std.proofs.lemmas.Option.{slice_get_within}
 use Rattle.std.proofs.lemmas.Map.Entries.{length-keys_of}
-use Rattle.just_graph.proofs.Index.{some_same}
+use Rattle.just_graph.proofs.Index.{some_same, some_at}
 use Rattle.just_graph.specs.Graph.{HasEdge, IsGraph}
 use Rattle.just_names.specs.Index.{AreDifferent, name_at}
 use Rattle.just_names.specs.Texts.{Text}
@@ -22,7 +22,7 @@ use Rattle.just_parts.specs.Reading.{Reads, ReadsOn, at_once, through}
 use Rattle.just_name_resolution.specs.Scopes.{Scoped, body_scoped, scoped, value_scoped}
 use Rattle.just_module_variables.specs.Steps.{AreRowsOf, functions_of, nodes_of, rows_of, solid_of, variables_of}
 use Rattle.just_module_variables.proofs.Edges.{ToFunction, ToVariable, has_function, has_variable, node_at, node_of_function, node_of_variable, nodes_long, passing_function, row_of, solid_inside, solid_variable, targets_are}
-use Rattle.just_name_resolution.proofs.Placed.{at_place, entry_at, entry_found, found_at, found_there, key_at, the_value}
+use Rattle.just_name_resolution.proofs.Placed.{entry_at, entry_found, found_at, found_there, key_at, the_value}
 
 -- what is read is a variable
 pub reads_variable : {m : Known} {hidden : Text → Bool} {e : Expression} {name : Text} → Reads m hidden e name → IsSome (find name m.assignments)
@@ -41,7 +41,7 @@ module _ (m : Known) (variables : AreDifferent (variables_of m)) (functions : Ar
   -- the variable at a place
   pub variable_at : (a : ℕ) → a < length m.assignments → (v : Assignment) × (find (name_at (variables_of m) a) m.assignments ≡ Some v) × (slice_get (nodes_of m) a ≡ Some (value_scoped v))
   variable_at a h =
-      let e = at_place m.assignments a h in
+      let e = some_at m.assignments a h in
       let k = key_at m.assignments a e.0 e.1 in
       (e.0.1, ap (λ n. find n m.assignments) k.1 ∙ entry_at m.assignments variables a e.0.0 e.0.1 e.1, node_of_variable m a e.0.0 e.0.1 e.1)
 
@@ -72,7 +72,7 @@ module _ (m : Known) (variables : AreDifferent (variables_of m)) (functions : Ar
     function_at : (s : Scoped) (b : ℕ) (t : ToFunction rows.function (length m.assignments) s b) → (f : FunctionDefinition) × (find t.name m.functions ≡ Some f) × (slice_get (nodes_of m) b ≡ Some (body_scoped f))
     function_at s b t =
         let there = found_there (functions_of m) rows.function rows.functions t.name t.at t.place in
-        let e = at_place m.functions t.at (omega (arith, there.0, length-keys_of m.functions)) in
+        let e = some_at m.functions t.at (omega (arith, there.0, length-keys_of m.functions)) in
         let k = key_at m.functions t.at e.0 e.1 in
         let name : t.name ≡ e.0.0 = sym there.1 ∙ k.1 in
         (e.0.1, ap (λ n. find n m.functions) name ∙ entry_at m.functions functions t.at e.0.0 e.0.1 e.1, subst (λ x. slice_get (nodes_of m) x ≡ Some (body_scoped e.0.1)) (sym t.is) (node_of_function m t.at e.0.0 e.0.1 e.1))

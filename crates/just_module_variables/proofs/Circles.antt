@@ -9,7 +9,8 @@ use Rattle.std.proofs.lemmas.Map.Entries.{length-keys_of}
 use Rattle.just_errors.specs.Causes.{Broken}
 use Rattle.just_errors.specs.declared.error.CompileErrorKind.TheVariants as kind
 use Rattle.just_graph.specs.Graph.{HasEdge}
-use Rattle.just_graph.specs.Steps.{IsCircle, Leads, by_step, by_steps}
+use Rattle.just_graph.specs.Steps.{IsCircle, Leads, by_step}
+use Rattle.just_graph.proofs.Walks.{then_step}
 use Rattle.just_names.specs.Index.{AreDifferent, name_at}
 use Rattle.just_names.specs.Texts.{Text}
 use Rattle.just_names.specs.Token.{Place}
@@ -22,10 +23,6 @@ use Rattle.just_parts.specs.Reading.{ReadsOn}
 use Rattle.just_module_variables.specs.Steps.{AreRowsOf, IsCircleAt, functions_of, names_of, rows_of, solid_of, variables_of}
 use Rattle.just_module_variables.proofs.Between.{from_reads, place_of, reads_variable, to_reads}
 use Rattle.just_module_variables.proofs.Edges.{solid_inside}
-
-leads_more : {R : ℕ → ℕ → Type 0} {a b c : ℕ} → Leads R a b → R b c → Leads R a c
-leads_more (by_step r) s = by_steps r (by_step s)
-leads_more (by_steps r rs) s = by_steps r (leads_more rs s)
 
 module _ (m : Known) (variables : AreDifferent (variables_of m)) (functions : AreDifferent (functions_of m)) (g : List (Vec ℕ Global)) (rows : AreRowsOf m (rows_of g)) where
   -- what reads is a variable
@@ -45,7 +42,7 @@ module _ (m : Known) (variables : AreDifferent (variables_of m)) (functions : Ar
       let r : ReadsOn m (get_or ns (suc k) []) (get_or ns (suc k + 1) []) = walk (suc k) h in
       let b = reader_there _ _ r in
       let at : name_at (variables_of m) b.0 ≡ get_or ns (k + 1) [] = b.2 ∙ ap (λ n. get_or ns n []) (sym (add-one k)) in
-      leads_more (walk_leads ns walk k i b.0 (omega arith) ki ei b.1 at) (step_of b.0 j _ _ b.1 b.2 kj ej r)
+      then_step (walk_leads ns walk k i b.0 (omega arith) ki ei b.1 at) (step_of b.0 j _ _ b.1 b.2 kj ej r)
 
   -- a circle of names leads from the place of its first back to it
   pub circle_leads : (variable : Text) (ns : List Text) → IsCircleOf m variable ns → (i : ℕ) × (i < length m.assignments) × Leads (graph.Reads (HasEdge g) (solid_of m)) i i

@@ -2,8 +2,9 @@
 use Rattle.std.proofs.Common.{◌≡◌, ◌∙◌, Bool, List, [], ◌∷◌, ◌++◌, Option, None, Some, ap, refl, subst, sym, inl, inr}
 use Rattle.std.specs.List.{Contains}
 use Rattle.std.specs.Option.{option_to_list}
-use Rattle.std.proofs.lemmas.List.Elements.{Contains-append_cases, Contains-append_left, Contains-append_right}
+use Rattle.std.proofs.lemmas.List.Elements.{Contains-append_cases, Contains-append_left, Contains-append_right, Contains-push}
 use Rattle.std.proofs.lemmas.Option.{same_Some}
+use Rattle.just_graph.proofs.Members.{the_one}
 use Rattle.just_errors.specs.Causes.{Broken, Cause, Keeps, Reports}
 use Rattle.just_errors.specs.declared.error.Error.{Error}
 use Rattle.just_errors.specs.declared.error.Error.TheVariants as error
@@ -11,7 +12,7 @@ use Rattle.just_errors.proofs.Lifts.{reports_by}
 use Rattle.just_module_contents.specs.Constants.{Docs, doc_fault, in_doc, value_among}
 use Rattle.just_module_contents.specs.Contents.{Contents}
 use Rattle.just_names.specs.Texts.{Text}
-use Rattle.just_name_resolution.proofs.Looking.{is_the_one, not_in_none, the_one}
+use Rattle.just_name_resolution.proofs.Looking.{not_in_none}
 use Rattle.just_module_contents.specs.declared.labels.Label.{Label}
 use Rattle.just_parts.specs.Evaluator.{Evaluator, FaultsAt, Values}
 use Rattle.just_parts.specs.Known.{Known, none_hidden}
@@ -43,7 +44,7 @@ module _ (value : Expression → Option (List Text)) where
 -- the docs of labels
 option_said : (o : Option Expression) (e : Expression) → o ≡ Some e → Contains (option_to_list o) e
 option_said None e is = cc
-option_said (Some d) e is = subst (Contains (d ∷ [])) (same_Some d e is) (is_the_one d)
+option_said (Some d) e is = subst (Contains (d ∷ [])) (same_Some d e is) (Contains-push [] d)
 
 said_option : (o : Option Expression) (e : Expression) → Contains (option_to_list o) e → o ≡ Some e
 said_option None e there = absurd (not_in_none e there)
@@ -59,7 +60,7 @@ doc_there (l ∷ labels) label e there is = elim (Contains-append_cases (l ∷ [
 pub doc_of_label : (labels : List Label) (e : Expression) → Contains (doc_expressions labels) e → (label : Label) × Contains labels label × (label.doc_expression ≡ Some e)
 doc_of_label [] e there = absurd (not_in_none e there)
 doc_of_label (l ∷ labels) e there = elim (Contains-append_cases (option_to_list l.doc_expression) (doc_expressions labels) e there) [
-  | inl it ↦ (l, Contains-append_left (l ∷ []) labels l (is_the_one l), said_option l.doc_expression e it)
+  | inl it ↦ (l, Contains-append_left (l ∷ []) labels l (Contains-push [] l), said_option l.doc_expression e it)
   | inr more ↦ let found = doc_of_label labels e more in (found.0, Contains-append_right (l ∷ []) labels found.0 found.1, found.2)
 ]
 

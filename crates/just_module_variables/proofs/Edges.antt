@@ -8,7 +8,7 @@ use Rattle.std.specs.declared.vec.Vec.{Vec}
 use Rattle.std.proofs.lemmas.Bool.{cases_lt, false≢true}
 use Rattle.std.proofs.lemmas.List.{get_or-append_right, get_or-replicate, get_or_append_left, get_or_past, length-append, length-map, length-replicate}
 use Rattle.std.proofs.lemmas.Map.Entries.{length-values_of}
-use Rattle.just_graph.proofs.Index.{map_get, some_same}
+use Rattle.just_graph.proofs.Index.{map_get, some_same, some_at}
 use Rattle.just_graph.proofs.Members.{In, contained, from_flat, in_flat, is_in}
 use Rattle.just_graph.specs.Building.{targets_past}
 use Rattle.just_graph.specs.Graph.{HasEdge, targets}
@@ -20,7 +20,7 @@ use Rattle.just_parts.specs.Known.{Known}
 use Rattle.just_parts.specs.Reading.{mentions}
 use Rattle.just_name_resolution.specs.Scopes.{Scoped, body_scoped, value_scoped}
 use Rattle.just_module_variables.specs.Steps.{AreRowsOf, nodes_of, rows_of, solid_of, target_of, targets_of}
-use Rattle.just_name_resolution.proofs.Placed.{at_left, at_place, at_right}
+use Rattle.just_name_resolution.proofs.Placed.{at_left, at_right}
 
 -- it mentions a variable that is found at the place
 pub record ToVariable (variable : Text → Option ℕ) (s : Scoped) (b : ℕ) : Type 0 where
@@ -146,6 +146,6 @@ module _ (m : Known) where
     -- what has an edge is a node
     pub node_at : (a b : ℕ) → HasEdge g a b → (s : Scoped) × (slice_get (nodes_of m) a ≡ Some s)
     node_at a b e = elim (cases_lt a (length g)) [
-      | inl l ↦ at_place (nodes_of m) a (omega (arith, nodes_long))
+      | inl l ↦ some_at (nodes_of m) a (omega (arith, nodes_long))
       | inr l ↦ let c : Contains [] b = subst (λ xs. Contains xs b) (targets_past g a (omega arith)) e in absurd (omega (arith, c.1))
     ]

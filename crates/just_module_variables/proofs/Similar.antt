@@ -18,9 +18,8 @@ use Rattle.just_ast_references.specs.References.{references}
 use Rattle.just_ast_references.specs.declared.references.Reference.{Reference}
 use Rattle.just_table.specs.Entries.{find}
 use Rattle.just_parts.specs.Misnaming.{Misnames, MisnamesAt, argument_count, undefined_function, undefined_variable}
-use Rattle.just_name_resolution.proofs.Alike.{changed}
+use Rattle.just_name_resolution.proofs.Alike.{changed, some_found, find_changed}
 use Rattle.just_name_resolution.proofs.Placed.{the_value}
-use Rattle.just_module_variables.proofs.Substituted.{find_changed, found_changed}
 
 -- Whatever the first tables have under a name, the second have too, with the same calls and variables, and functions with parameters of the same names.
 pub record AreSimilar (vs bs : List (Text × Assignment)) (fs gs : List (Text × FunctionDefinition)) : Type 0 where
@@ -94,9 +93,9 @@ module _ (f : Assignment → Assignment) (g : FunctionDefinition → FunctionDef
 
   pub changed_similar : AreSimilar (changed f vs) vs (changed g fs) fs
   changed_similar = record {
-    variable = λ name b is. let a = found_changed f name vs b is in (a.0, a.1, sym (value a.0) ∙ ap (λ (x : Assignment). references x.value) a.2);
+    variable = λ name b is. let a = some_found f name vs b is in (a.0, a.1, sym (value a.0) ∙ ap (λ (x : Assignment). references x.value) a.2);
     function = λ name y is.
-        let x = found_changed g name fs y is in
+        let x = some_found g name fs y is in
         (x.0, x.1, sym (hidden x.0) ∙ ap (λ (z : FunctionDefinition). hides z.parameters) x.2, sym (body x.0) ∙ ap (λ (z : FunctionDefinition). references z.body) x.2);
   }
 

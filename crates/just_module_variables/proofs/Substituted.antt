@@ -1,17 +1,14 @@
 -- Tables that are made of values, and tables whose values are changed.
-use Rattle.std.proofs.Common.{◌≡◌, ◌∙◌, Bool, true, false, cond, List, [], ◌∷◌, Option, None, Some, refl, sym, ap, subst}
+use Rattle.std.proofs.Common.{◌≡◌, ◌∙◌, List, [], ◌∷◌, refl, sym, ap, subst}
 use Rattle.std.specs.Cmp.Lexicographic.{nat_list_cmp_total, slice_cmp}
 use Rattle.std.specs.List.{AllByRecursion}
 use Rattle.std.specs.List.Sorted.{IsStrictlySortedBy}
 use Rattle.std.specs.Map.{keys_of}
-use Rattle.std.specs.Option.{option_map}
 use Rattle.std.specs.Ordering.{match_ordering, nat_cmp, ordering_reverse}
-use Rattle.std.specs.Str.{bytes_eq}
 use Rattle.std.specs.declared.cmp.Ordering.{Ordering}
 use Rattle.std.specs.declared.cmp.Ordering.TheVariants.{Equal, Greater, Less}
-use Rattle.std.proofs.lemmas.Option.{same_Some}
 use Rattle.just_names.specs.Texts.{Text}
-use Rattle.just_table.specs.Entries.{IsSorted, find, put, put_all}
+use Rattle.just_table.specs.Entries.{IsSorted, put, put_all}
 use Rattle.just_name_resolution.proofs.Alike.{changed}
 
 module _ {V : Type 0} where
@@ -51,22 +48,6 @@ module _ {V : Type 0} where
   made_sorted key vs = all_sorted key [] vs tt
 
 module _ {V W : Type 0} (f : V → W) where
-  -- what is found in a changed table
-  pub find_changed : (k : Text) (es : List (Text × V)) → find k (changed f es) ≡ option_map f (find k es)
-  find_changed k [] = refl
-  find_changed k (e ∷ es) = by_test (bytes_eq k e.0) (find_changed k es)
-    where
-      by_test : (b : Bool) → find k (changed f es) ≡ option_map f (find k es) → cond b (Some (f e.1)) (find k (changed f es)) ≡ option_map f (cond b (Some e.1) (find k es))
-      by_test true rest = refl
-      by_test false rest = rest
-
-  some_of : (o : Option V) (y : W) → option_map f o ≡ Some y → (x : V) × (o ≡ Some x) × (f x ≡ y)
-  some_of None y e = cc
-  some_of (Some x) y e = (x, refl, same_Some _ _ e)
-
-  pub found_changed : (k : Text) (es : List (Text × V)) (y : W) → find k (changed f es) ≡ Some y → (x : V) × (find k es ≡ Some x) × (f x ≡ y)
-  found_changed k es y e = some_of (find k es) y (sym (find_changed k es) ∙ e)
-
   keys_changed : (es : List (Text × V)) → keys_of (changed f es) ≡ keys_of es
   keys_changed [] = refl
   keys_changed (e ∷ es) = ap (λ (ks : List Text). e.0 ∷ ks) (keys_changed es)

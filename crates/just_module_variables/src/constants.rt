@@ -11,7 +11,7 @@ ghost use Rattle.just_module_contents.specs.Definitions.{contents_in, sets_in};
 ghost use Rattle.just_module_contents.specs.Recipes.{lent};
 ghost use Rattle.just_parts.specs.Evaluator.{FaultsAt, bare_set, functions_by_name, values_of};
 ghost use Rattle.just_parts.specs.Known.{none_hidden};
-ghost use Rattle.just_parts.specs.Layers.{given_of, layers_at, override_at};
+ghost use Rattle.just_parts.specs.Layers.{given_by, layers_at, override_at};
 ghost use Rattle.just_parts.specs.Needs.{HaveNumbersApart};
 ghost use Rattle.just_ast_expressions.specs.declared.expression.Expression.{Expression};
 ghost use Rattle.just_name_resolution.specs.Lent.{known_in};
@@ -21,10 +21,10 @@ use crate::expressions::{constant_expressions, settings_expressions};
 use crate::overrides::{by_number, overrides_of};
 use crate::variables::Variables;
 use just_data::{Text, copied};
-use just_module_contents::definitions::{Definitions, set_at};
+use just_module_contents::definitions::Definitions;
 use just_name_resolution::{Known, check_expression, needed_references};
 use just_parts::layers::{
-    Config, Error, Evaluation, Expression, Number, Scope, Set, Setting, Settings, Syntax,
+    Error, Evaluation, Expression, Given, Number, Scope, Set, Setting, Settings, Syntax,
 };
 use just_paths::Modulepath;
 use std::alloc::{AllocError, Global};
@@ -50,7 +50,7 @@ fn copied_sets<'a, 'src>(
 {
     let mut sets = Vec::with_capacity(alloc, definitions.sets.len())?;
     for place in 0..definitions.sets.len() {
-        sets.push(copied(set_at(definitions, place))?)?;
+        sets.push(copied(definitions.set_at(place))?)?;
     }
     Ok(sets)
 }
@@ -70,7 +70,7 @@ fn sets_lists<'a, 'src>(definitions: &Definitions<'src, 'a>) -> bool
     ensures { result ≡ rule.sets_lists (sets_in definitions.now) }
 {
     for place in 0..definitions.sets.len() {
-        if is_lists(&set_at(definitions, place).value) {
+        if is_lists(&definitions.set_at(place).value) {
             return true;
         }
     }
@@ -122,38 +122,36 @@ fn settings_of<'a, 'src, E: Evaluation>(
 /// Evaluates what the settings, docs, helps and patterns of the module at a path need, and then its settings, with what the
 /// configuration overrides. An error names a fault of the evaluation, or what is at fault with a name in a setting.
 pub fn evaluate_constants<'k, 'a, 'src, S: Syntax, E: Evaluation>(
-    alloc: Global,
+    given: &Given<'k, S, E>,
     definitions: &Definitions<'src, 'a>,
     variables: &'k Variables<'src>,
-    syntax: &'k S,
-    evaluation: &E,
-    config: &Config,
     path: &Modulepath,
 ) -> Result<Constants<'src>, Error<'src>>
-    requires variables { AreVariablesOf (S.answers syntax.now) (contents_in definitions.now) variables.now }
-    requires apart { HaveNumbersApart (known_with_numbers (S.answers syntax.now) (contents_in definitions.now)) }
-    ensures kept { let given = given_of (S.answers syntax.now) (E.answers evaluation.now) config.now.overrides in
+    requires variables { AreVariablesOf (S.answers given.now.syntax.now) (contents_in definitions.now) variables.now }
+    requires apart { HaveNumbersApart (known_with_numbers (S.answers given.now.syntax.now) (contents_in definitions.now)) }
+    ensures kept { let given = given_by S.answers E.answers given.now in
         IfOk result (λ _. Keeps (rule.Constants (layers_at given path.now) (contents_in definitions.now))) }
-    ensures evaluated { let given = given_of (S.answers syntax.now) (E.answers evaluation.now) config.now.overrides in
+    ensures evaluated { let given = given_by S.answers E.answers given.now in
         IfOk result (λ it. rule.IsEvaluated (layers_at given path.now) (contents_in definitions.now) (evaluated_in it)) }
     ensures covered { IfOk result (λ it. CoversAll variables.now (values_of it.scope) (rule.constant_expressions (contents_in definitions.now))) }
-    ensures overridden { let found = overridden_among (override_at config.now.overrides path.now) (contents_in definitions.now) in
+    ensures overridden { let found = overridden_among (override_at given.now.config.now.overrides path.now) (contents_in definitions.now) in
         IfOk result (λ it. it.overridden.items ≡ found) }
-    ensures named { let given = given_of (S.answers syntax.now) (E.answers evaluation.now) config.now.overrides in
+    ensures named { let given = given_by S.answers E.answers given.now in
         IfErr result (Reports (rule.Constants (layers_at given path.now) (contents_in definitions.now))) }
 {
+    let alloc = given.alloc;
     let known = Known {
         assignments: &variables.assignments,
         functions: &variables.functions,
-        syntax,
+        syntax: given.syntax,
     };
     let settings = settings_expressions(alloc, definitions)?;
     check_expressions(alloc, &known, &settings)?;
-    let overridden = overrides_of(alloc, &variables.assignments, config, path)?;
+    let overridden = overrides_of(alloc, &variables.assignments, given.config, path)?;
     let overrides = by_number(alloc, overridden.as_slice())?;
     let expressions = constant_expressions(alloc, definitions)?;
     let references = needed_references(alloc, &known, &overrides, &expressions)?;
-    let scope = evaluation.assignments_const(
+    let scope = given.evaluation.assignments_const(
         alloc,
         &variables.assignments,
         &variables.functions,
@@ -162,7 +160,7 @@ pub fn evaluate_constants<'k, 'a, 'src, S: Syntax, E: Evaluation>(
         &references,
         sets_lists(definitions),
     )?;
-    let settings = settings_of(alloc, definitions, variables, &scope, evaluation)?;
+    let settings = settings_of(alloc, definitions, variables, &scope, given.evaluation)?;
     Ok(Constants {
         scope,
         settings,

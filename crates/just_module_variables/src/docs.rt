@@ -14,7 +14,7 @@ use just_data::{Text, copied};
 use just_module_contents::Label;
 use just_module_contents::definitions::Definitions;
 use just_name_resolution::{Known, check_expression};
-use just_parts::layers::{Error, Evaluation, Expression, Scope, Syntax, joined};
+use just_parts::layers::{Error, Evaluation, Expression, Given, Scope, Syntax, joined};
 use std::alloc::{AllocError, Global};
 use std::collections::HashSet;
 
@@ -30,18 +30,16 @@ fn doc_of_value(alloc: Global, value: &[Text]) -> Result<Option<Text>, AllocErro
 
 // A label with the doc evaluated.
 fn documented<'k, 'src, S: Syntax, E: Evaluation>(
-    alloc: Global,
+    given: &Given<'k, S, E>,
     label: &Label<'src>,
     variables: &'k Variables<'src>,
     constants: &Scope<'src>,
-    syntax: &'k S,
-    evaluation: &E,
 ) -> Result<Label<'src>, Error<'src>>
     requires { CoversDoc variables.now (values_of constants.now) label.now }
-    ensures kept { IfOk result (λ _. KeepsDoc (S.answers syntax.now) variables.now label.now) }
-    ensures label { IfOk result (IsDocumented (value_by (E.answers evaluation.now) variables.now (values_of constants.now)) label.now) }
-    ensures named { let value = value_by (E.answers evaluation.now) variables.now (values_of constants.now) in
-        IfErr result (Reports (DocFault (known_by (S.answers syntax.now) variables.now) value label.now.doc_expression)) }
+    ensures kept { IfOk result (λ _. KeepsDoc (S.answers given.now.syntax.now) variables.now label.now) }
+    ensures label { IfOk result (IsDocumented (value_by (E.answers given.now.evaluation.now) variables.now (values_of constants.now)) label.now) }
+    ensures named { let value = value_by (E.answers given.now.evaluation.now) variables.now (values_of constants.now) in
+        IfErr result (Reports (DocFault (known_by (S.answers given.now.syntax.now) variables.now) value label.now.doc_expression)) }
 {
     let mut made = copied(label)?;
     let Some(expression) = &label.doc_expression else {
@@ -50,43 +48,43 @@ fn documented<'k, 'src, S: Syntax, E: Evaluation>(
     let known = Known {
         assignments: &variables.assignments,
         functions: &variables.functions,
-        syntax,
+        syntax: given.syntax,
     };
-    let hidden = HashSet::new(alloc);
-    check_expression(alloc, &known, &hidden, expression)?;
-    let value = evaluation.value_const(
-        alloc,
+    let hidden = HashSet::new(given.alloc);
+    check_expression(given.alloc, &known, &hidden, expression)?;
+    let value = given.evaluation.value_const(
+        given.alloc,
         constants,
         &variables.assignments,
         &variables.functions,
         expression,
     )?;
-    made.doc = doc_of_value(alloc, value.as_slice())?;
+    made.doc = doc_of_value(given.alloc, value.as_slice())?;
     Ok(made)
 }
 
 /// The labels of the modules that a module declares, with their docs evaluated among its constants. An error names a fault
 /// of the evaluation, or what is at fault with a name in a doc.
 pub fn document<'k, 'a, 'src, S: Syntax, E: Evaluation>(
-    alloc: Global,
+    given: &Given<'k, S, E>,
     definitions: &Definitions<'src, 'a>,
     labels: &[Label<'src>],
     variables: &'k Variables<'src>,
     constants: &Scope<'src>,
-    syntax: &'k S,
-    evaluation: &E,
 ) -> Result<Vec<Label<'src>>, Error<'src>>
     requires docs { docs_in definitions.now ≡ doc_expressions labels.now }
-    requires variables { AreVariablesOf (S.answers syntax.now) (contents_in definitions.now) variables.now }
+    requires variables { AreVariablesOf (S.answers given.now.syntax.now) (contents_in definitions.now) variables.now }
     requires covered { CoversAll variables.now (values_of constants.now) (docs_in definitions.now) }
-    ensures kept { IfOk result (λ _. Keeps (Docs (S.answers syntax.now) (E.answers evaluation.now) (contents_in definitions.now) (values_of constants.now))) }
+    ensures kept { let docs = Docs (S.answers given.now.syntax.now) (E.answers given.now.evaluation.now) in
+        IfOk result (λ _. Keeps (docs (contents_in definitions.now) (values_of constants.now))) }
     ensures labels { let m = contents_in definitions.now in
-        IfOk result (λ made. AreDocumentedIn (E.answers evaluation.now) m (values_of constants.now) labels.now made.items) }
-    ensures named { IfErr result (Reports (Docs (S.answers syntax.now) (E.answers evaluation.now) (contents_in definitions.now) (values_of constants.now))) }
+        IfOk result (λ made. AreDocumentedIn (E.answers given.now.evaluation.now) m (values_of constants.now) labels.now made.items) }
+    ensures named { let docs = Docs (S.answers given.now.syntax.now) (E.answers given.now.evaluation.now) in
+        IfErr result (Reports (docs (contents_in definitions.now) (values_of constants.now))) }
 {
-    let mut made = Vec::with_capacity(alloc, labels.len())?;
+    let mut made = Vec::with_capacity(given.alloc, labels.len())?;
     for label in labels {
-        made.push(documented(alloc, label, variables, constants, syntax, evaluation)?)?;
+        made.push(documented(given, label, variables, constants)?)?;
     }
     Ok(made)
 }

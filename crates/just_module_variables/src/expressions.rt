@@ -6,7 +6,7 @@ ghost use Rattle.just_module_contents.specs.Definitions.{contents_in, recipes_in
 ghost use Rattle.just_module_contents.specs.Recipes.{lent};
 ghost use Rattle.just_parts.specs.Evaluator.{interpreter_expressions, setting_expressions};
 
-use just_module_contents::definitions::{Definitions, recipe_at, set_at};
+use just_module_contents::definitions::Definitions;
 use just_parts::UnresolvedRecipe;
 use just_parts::layers::{ArgumentProperty, Attribute, Expression, Interpreter, Setting};
 use std::alloc::{AllocError, Global};
@@ -78,7 +78,7 @@ pub fn settings_expressions<'b, 'a, 'src>(
 {
     let mut found = Vec::new(alloc);
     for place in 0..definitions.sets.len() {
-        push_setting(&set_at(definitions, place).value, &mut found)?;
+        push_setting(&definitions.set_at(place).value, &mut found)?;
     }
     Ok(found)
 }
@@ -104,7 +104,7 @@ fn push_recipes<'b, 'a, 'src>(
     ensures { OnOk result (lent found.new.items ≡ lent found.old.items ++ flat_map recipe_expressions (recipes_in definitions.now)) }
 {
     for place in 0..definitions.recipes.len() {
-        push_recipe(recipe_at(definitions, place), found)?;
+        push_recipe(definitions.recipe_at(place), found)?;
     }
     Ok(())
 }

@@ -16,6 +16,5 @@ mod variables;
 pub use constants::{Constants, evaluate_constants};
 pub use docs::document;
 pub use numbering::parameter_numbers;
-pub use resolving::resolve_assignments;
 pub use variable_resolver::VariableResolver;
 pub use variables::{Variables, resolve_variables};

@@ -1,36 +1,30 @@
-//! The variables and functions of a module, resolved.
+//! The variables and functions of a module once more, with the numbers of what names in them mean.
 
-ghost use Rattle.std.specs.Prelude.{◌≡◌, ◌<◌, Some, length, map, slice_get, IfErr, IfOk, OnErr, OnOk};
+ghost use Rattle.std.specs.Prelude.{◌≡◌, ◌<◌, Some, length, map, slice_get, IfOk};
 ghost use Rattle.std.specs.List.{All};
 ghost use Rattle.std.specs.Map.{values_of};
-ghost use Rattle.just_errors.specs.Causes.{Keeps, Reports};
 ghost use Rattle.just_module_variables.specs.Numbering.{assignments_here, functions_here};
-ghost use Rattle.just_module_variables.specs.Resolved.{ResolvesTo};
 ghost use Rattle.just_table.specs.Entries.{IsSorted};
-ghost use Rattle.just_parts.specs.Known.{known};
-ghost use Rattle.just_parts.specs.Misnaming.{Expressions};
 
-use crate::numbering::{numbered_assignment, numbered_function, variable_numbers};
-use crate::ordering::order_assignments;
+use crate::numbering::{numbered_assignment, numbered_function};
 use just_data::BorrowedText;
 use just_name_resolution::{Known, Numbers};
-use just_parts::layers::{Assignment, Error, FunctionDefinition, Name, Number, Syntax};
+use just_parts::layers::{Assignment, FunctionDefinition, Name, Number, Syntax};
 use just_table::Table;
 use std::alloc::{AllocError, Global};
 use std::collections::HashMap;
-use std::mem::replace;
 
 // What names stand for in a module, and the numbers of its variables.
 #[derive(Drop)]
-struct Numbering<'a, 'src, S> {
+pub(crate) struct Numbering<'a, 'src, S> {
     // what names stand for
-    known: Known<'a, 'src, S>,
+    pub known: Known<'a, 'src, S>,
     // the numbers of the variables, by their names
-    bindings: HashMap<BorrowedText<'src>, Number>,
+    pub bindings: HashMap<BorrowedText<'src>, Number>,
 }
 
 // The names of variables, in the order of a table.
-fn names_of<'src>(
+pub(crate) fn names_of<'src>(
     alloc: Global,
     assignments: &Table<'src, Assignment<'src>>,
 ) -> Result<Vec<Name<'src>>, AllocError>
@@ -44,7 +38,7 @@ fn names_of<'src>(
 }
 
 // The names at places.
-fn names_at<'src>(
+pub(crate) fn names_at<'src>(
     alloc: Global,
     names: &[Name<'src>],
     places: &[usize],
@@ -61,7 +55,7 @@ fn names_at<'src>(
 
 impl<'a, 'src, S: Syntax> Numbering<'a, 'src, S> {
     // The variables again, with the numbers of what the names in their values mean.
-    fn numbered_assignments(
+    pub fn numbered_assignments(
         &self,
         alloc: Global,
     ) -> Result<Table<'src, Assignment<'src>>, AllocError>
@@ -82,7 +76,7 @@ impl<'a, 'src, S: Syntax> Numbering<'a, 'src, S> {
     }
 
     // The functions again, with the numbers of what the names in their bodies mean.
-    fn numbered_functions(
+    pub fn numbered_functions(
         &self,
         alloc: Global,
     ) -> Result<Table<'src, FunctionDefinition<'src>>, AllocError>
@@ -96,38 +90,4 @@ impl<'a, 'src, S: Syntax> Numbering<'a, 'src, S> {
         }
         Table::from_values(alloc, made)
     }
-}
-
-/// Checks the names in the values of the variables and in the bodies of the functions of a module, gives each name there
-/// the number of what it means, and answers the numbers of the variables and the order of their evaluation. An error
-/// names a variable or a function that is not there or is given a wrong number of arguments, or variables that read one
-/// another in a circle. After a refusal both tables are as they were.
-pub fn resolve_assignments<'src, S: Syntax>(
-    alloc: Global,
-    assignments: &mut Table<'src, Assignment<'src>>,
-    functions: &mut Table<'src, FunctionDefinition<'src>>,
-    syntax: &S,
-) -> Result<(HashMap<BorrowedText<'src>, Number>, Vec<Name<'src>>), Error<'src>>
-    ensures kept { OnOk result (Keeps (Expressions (known (S.answers syntax.now) assignments.old functions.old))) }
-    ensures resolved { IfOk result (λ made. ResolvesTo (known (S.answers syntax.now) assignments.old functions.old) made assignments.new functions.new) }
-    ensures named { IfErr result (Reports (Expressions (known (S.answers syntax.now) assignments.old functions.old))) }
-    ensures refused_assignments { OnErr result (assignments.new ≡ assignments.old) }
-    ensures refused_functions { OnErr result (functions.new ≡ functions.old) }
-{
-    let known = Known {
-        assignments: &*assignments,
-        functions: &*functions,
-        syntax,
-    };
-    let places = order_assignments(alloc, &known)?;
-    let names = names_of(alloc, known.assignments)?;
-    let order = names_at(alloc, names.as_slice(), places.as_slice())?;
-    let bindings = variable_numbers(alloc, known.assignments)?;
-    let numbering = Numbering { known, bindings };
-    let numbered_assignments = numbering.numbered_assignments(alloc)?;
-    let numbered_functions = numbering.numbered_functions(alloc)?;
-    let Numbering { bindings, .. } = numbering;
-    drop(replace(assignments, numbered_assignments));
-    drop(replace(functions, numbered_functions));
-    Ok((bindings, order))
 }

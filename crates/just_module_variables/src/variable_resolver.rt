@@ -12,8 +12,9 @@ ghost use Rattle.just_parts.specs.Known.{hides, known};
 ghost use Rattle.just_parts.specs.Misnaming.{Expressions, Misnames, MisnamesCall};
 ghost use Rattle.just_parts.specs.Reading.{Reads};
 
-use crate::numbering::parameter_numbers;
-use crate::resolving::resolve_assignments;
+use crate::numbering::{parameter_numbers, variable_numbers};
+use crate::ordering::order_assignments;
+use crate::resolving::{Numbering, names_at, names_of};
 use just_data::{BorrowedText, Text};
 use just_name_resolution::{Known, Numbers, check_call, check_expression, hidden_names, numbered};
 use just_parts::layers::{
@@ -22,6 +23,7 @@ use just_parts::layers::{
 use just_table::Table;
 use std::alloc::{AllocError, Global};
 use std::collections::{HashMap, HashSet};
+use std::mem::replace;
 
 /// Resolves the names in the expressions of a module: checks that each means something, gives each variable the number of
 /// what it means, and tells which variables an expression needs.
@@ -52,7 +54,22 @@ impl<'a, 'src, S: Syntax> VariableResolver<'a, 'src, S> {
         ensures refused_assignments { OnErr result (assignments.new ≡ assignments.old) }
         ensures refused_functions { OnErr result (functions.new ≡ functions.old) }
     {
-        resolve_assignments(alloc, assignments, functions, syntax)
+        let known = Known {
+            assignments: &*assignments,
+            functions: &*functions,
+            syntax,
+        };
+        let places = order_assignments(alloc, &known)?;
+        let names = names_of(alloc, known.assignments)?;
+        let order = names_at(alloc, names.as_slice(), places.as_slice())?;
+        let bindings = variable_numbers(alloc, known.assignments)?;
+        let numbering = Numbering { known, bindings };
+        let numbered_assignments = numbering.numbered_assignments(alloc)?;
+        let numbered_functions = numbering.numbered_functions(alloc)?;
+        let Numbering { bindings, .. } = numbering;
+        drop(replace(assignments, numbered_assignments));
+        drop(replace(functions, numbered_functions));
+        Ok((bindings, order))
     }
 
     /// A resolver of the names in a module: its variables and functions, each under its name, the numbers of the variables,

@@ -9,9 +9,9 @@ ghost use Rattle.just_module_contents.specs.Known.{functions_under, known_of};
 ghost use Rattle.just_module_variables.specs.Variables.{AreVariablesOf};
 ghost use Rattle.just_parts.specs.Misnaming.{Expressions};
 
-use crate::resolving::resolve_assignments;
+use crate::variable_resolver::VariableResolver;
 use just_data::{Sequence, copied};
-use just_module_contents::definitions::{Definitions, function_at, variable_at};
+use just_module_contents::definitions::Definitions;
 use just_module_contents::kept::keep_variables;
 use just_parts::layers::{Assignment, Error, FunctionDefinition, Name, Syntax};
 use just_table::Table;
@@ -38,7 +38,7 @@ fn function_table<'a, 'src>(
 {
     let mut functions = Table::new(alloc);
     for place in 0..definitions.functions.len() {
-        functions.insert(function_at(definitions, place).clone()?)?;
+        functions.insert(definitions.function_at(place).clone()?)?;
     }
     Ok(functions)
 }
@@ -52,7 +52,7 @@ fn variable_table<'a, 'src>(
 {
     let mut variables = Table::new(alloc);
     for place in 0..definitions.variables.len() {
-        variables.insert(copied(variable_at(definitions, place))?)?;
+        variables.insert(copied(definitions.variable_at(place))?)?;
     }
     Ok(variables)
 }
@@ -71,7 +71,12 @@ pub fn resolve_variables<'a, 'src, S: Syntax>(
     let kept = keep_variables(alloc, definitions)?;
     let mut assignments = variable_table(alloc, &kept)?;
     let mut functions = function_table(alloc, definitions)?;
-    let resolved = resolve_assignments(alloc, &mut assignments, &mut functions, syntax)?;
+    let resolved = VariableResolver::resolve_assignments(
+        alloc,
+        &mut assignments,
+        &mut functions,
+        syntax,
+    )?;
     let (_, order) = resolved;
     Ok(Variables {
         assignments,

@@ -13,7 +13,7 @@ use Rattle.std.proofs.lemmas.Option.{get_or_from_slice_get}
 use Rattle.just_errors.specs.Causes.{Cause, Broken}
 use Rattle.just_errors.specs.declared.error.CompileErrorKind.TheVariants as kind
 use Rattle.just_errors.specs.declared.wording.ArgumentRange.{ArgumentRange}
-use Rattle.just_graph.proofs.Index.{some_same}
+use Rattle.just_graph.proofs.Index.{some_same, some_at}
 use Rattle.just_names.specs.Texts.{Text}
 use Rattle.just_names.specs.Name.{text_of_name}
 use Rattle.just_names.specs.declared.name.Name.{Name}
@@ -28,7 +28,7 @@ use Rattle.just_table.specs.Entries.{find, put, put_all}
 use Rattle.just_parts.specs.Known.{Known, defines, hides, known, none_hidden, range_of, range_with}
 use Rattle.just_parts.specs.Misnaming.{Expressions, IsCircleOf, Misnames, MisnamesAt, argument_count, circular_variables, in_body, in_value, undefined_function, undefined_variable}
 use Rattle.just_parts.specs.Reading.{IsEvaluationOrder, Reads, ReadsOn, at_once, through}
-use Rattle.just_name_resolution.proofs.Placed.{at_place, the_value}
+use Rattle.just_name_resolution.proofs.Placed.{the_value}
 
 abbrev pub parameter_names : FunctionDefinition → List Name
 parameter_names f = map (λ (p : FunctionParameter). p.name) f.parameters
@@ -175,7 +175,7 @@ module _ {V W : Type 0} (f : V → W) where
       let xs = values_of es in
       let c : Contains (map f xs) y = subst (λ (ys : List W). Contains ys y) (values_changed es) there in
       let h : c.0 < length xs = omega (arith, c.1, length-map xs f) in
-      let x = at_place xs c.0 h in
+      let x = some_at xs c.0 h in
       let is : get_or xs c.0 x.0 ≡ x.0 = get_or_from_slice_get xs c.0 x.0 x.0 x.1 in
       (x.0, (c.0, h, is), ap f (sym is) ∙ (sym (get_or-map f xs c.0 x.0 y h) ∙ c.2))
 

@@ -1,11 +1,12 @@
 -- What is said is looked at, one after the other.
-use Rattle.std.proofs.Common.{◌≡◌, ℕ, zero, suc, ◌+◌, ◌≤◌, Bool, true, false, cond, List, [], ◌∷◌, ◌++◌, length, Some, if◌then◌else◌, refl, sym, ◌∙◌, ap, subst, arith, inl, inr, ◌⊎◌, length-append, append_assoc, map}
+use Rattle.std.proofs.Common.{◌≡◌, ℕ, ◌+◌, ◌≤◌, Bool, true, false, cond, List, [], ◌∷◌, ◌++◌, length, Some, if◌then◌else◌, refl, sym, ◌∙◌, ap, subst, arith, inl, inr, ◌⊎◌, length-append, append_assoc, map}
 use Rattle.std.specs.List.{Contains}
 use Rattle.std.specs.Str.{bytes_eq}
 use Rattle.std.proofs.lemmas.List.{append-nil}
-use Rattle.std.proofs.lemmas.List.Elements.{Contains-append_cases, Contains-append_left, Contains-append_right}
+use Rattle.std.proofs.lemmas.List.Elements.{Contains-append_cases, Contains-append_left, Contains-append_right, Contains-push}
 use Rattle.std.proofs.lemmas.Slice.Eq.{bytes_eq-Decides}
 use Rattle.std.proofs.lemmas.Option.{same_Some}
+use Rattle.just_graph.proofs.Members.{the_one}
 use Rattle.just_names.specs.Texts.{Text}
 use Rattle.just_names.specs.declared.number.Number.{Number}
 use Rattle.just_parts.specs.Needs.{same_number}
@@ -19,13 +20,6 @@ use Rattle.just_ast_references.specs.declared.references.Reference.{Reference}
 use Rattle.just_table.specs.Entries.{find}
 use Rattle.just_parts.specs.Known.{Known}
 use Rattle.just_name_resolution.specs.Scopes.{Scoped, body_scoped, value_scoped}
-
-pub the_one : {A : Type 0} (x y : A) → Contains (x ∷ []) y → x ≡ y
-the_one x y (zero, h, e) = e
-the_one x y (suc k, h, e) = absurd (omega arith)
-
-pub is_the_one : {A : Type 0} (x : A) → Contains (x ∷ []) x
-is_the_one x = (0, omega arith, refl)
 
 pub not_in_none : {A : Type 0} (x : A) → Contains [] x → ⊥
 not_in_none x (k, h, e) = omega arith
@@ -94,7 +88,7 @@ module _ (m : Known) (overridden : Number → Bool) (hidden : Text → Bool) whe
     said = Names name ∷ []
 
     says : Says m hidden said name a
-    says = record { among = is_the_one (Names name); shown = shown; is = is }
+    says = record { among = Contains-push [] (Names name); shown = shown; is = is }
 
     at_most_one : (b : Bool) (more : List Scoped) → more ≡ (if b then [] else value_scoped a ∷ []) → length more ≤ 1
     at_most_one true more e = let none : length more ≡ 0 = ap length e in omega arith
@@ -130,7 +124,7 @@ module _ (m : Known) (overridden : Number → Bool) (hidden : Text → Bool) whe
                   number = same;
                   waits = λ on.
                       let value : more ≡ value_scoped a ∷ [] = which ∙ ap (λ b. if b then [] else value_scoped a ∷ []) (ap overridden same ∙ on) in
-                      subst (λ ss. Contains ss (value_scoped a)) (sym waits) (Contains-append_right f.waiting more (value_scoped a) (subst (λ ss. Contains ss (value_scoped a)) (sym value) (is_the_one (value_scoped a))));
+                      subst (λ ss. Contains ss (value_scoped a)) (sym waits) (Contains-append_right f.waiting more (value_scoped a) (subst (λ ss. Contains ss (value_scoped a)) (sym value) (Contains-push [] (value_scoped a))));
                 })
           ];
           new_function = λ x d found h. inl (sym (function x) ∙ h);
@@ -165,11 +159,11 @@ module _ (m : Known) (overridden : Number → Bool) (hidden : Text → Bool) whe
           | inr same ↦
               let whose : name ≡ x = (bytes_eq-Decides name x).0 same in
               let one : d ≡ e = same_Some _ _ (sym is ∙ (ap (λ y. find y m.functions) whose ∙ found)) in
-              inr (subst (λ ss. Contains ss (body_scoped e)) (sym waits) (Contains-append_right f.waiting (body_scoped d ∷ []) (body_scoped e) (subst (λ c. Contains (body_scoped d ∷ []) (body_scoped c)) one (is_the_one (body_scoped d)))))
+              inr (subst (λ ss. Contains ss (body_scoped e)) (sym waits) (Contains-append_right f.waiting (body_scoped d ∷ []) (body_scoped e) (subst (λ c. Contains (body_scoped d ∷ []) (body_scoped c)) one (Contains-push [] (body_scoped d)))))
         ];
         new_waiting = λ s c. elim (Contains-append_cases f.waiting (body_scoped d ∷ []) s (subst (λ ss. Contains ss s) waits c)) [
           | inl was ↦ inl was
-          | inr there ↦ inr (subst (LeadsOn m overridden hidden (Calls name k ∷ [])) (the_one (body_scoped d) s there) (to_body (record { arguments = k; among = is_the_one (Calls name k); is = is })))
+          | inr there ↦ inr (subst (LeadsOn m overridden hidden (Calls name k ∷ [])) (the_one (body_scoped d) s there) (to_body (record { arguments = k; among = Contains-push [] (Calls name k); is = is })))
         ];
         less =
             let one : functions_left m g.function + 1 ≤ functions_left m f.function = one_function_fewer m f.function g.function keeps name d is new own in

@@ -21,12 +21,6 @@ use Rattle.just_names.specs.Index.{AreDifferent, IsIndex, IsLast, name_at}
 use Rattle.just_names.specs.Texts.{Text}
 use Rattle.just_table.specs.Entries.{IsSorted, find}
 
--- there is an element at each place
-pub at_place : {A : Type 0} (xs : List A) (i : ℕ) → i < length xs → (x : A) × (slice_get xs i ≡ Some x)
-at_place [] i h = absurd (omega arith)
-at_place (x ∷ xs) zero h = (x, refl)
-at_place (x ∷ xs) (suc i) h = at_place xs i (omega arith)
-
 pub at_left : {A : Type 0} (xs ys : List A) (i : ℕ) (x : A) → slice_get xs i ≡ Some x → slice_get (xs ++ ys) i ≡ Some x
 at_left [] ys i x e = cc
 at_left (y ∷ xs) ys zero x e = e

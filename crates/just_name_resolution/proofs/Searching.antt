@@ -3,13 +3,14 @@ use Rattle.std.proofs.Common.{◌≡◌, ◌↔◌, ◌+◌, ◌<◌, Bool, true
 use Rattle.std.specs.List.{Contains}
 use Rattle.std.specs.Option.{is_some, option_map_or}
 use Rattle.std.proofs.lemmas.Bool.{false≢true}
-use Rattle.std.proofs.lemmas.List.Elements.{Contains-append_cases, Contains-append_left, Contains-append_right}
+use Rattle.std.proofs.lemmas.List.Elements.{Contains-append_cases, Contains-append_left, Contains-append_right, Contains-push}
 use Rattle.std.proofs.lemmas.Option.{same_Some}
+use Rattle.just_graph.proofs.Members.{the_one}
 use Rattle.just_names.specs.Texts.{Text}
 use Rattle.just_names.specs.declared.number.Number.{Number}
 use Rattle.just_parts.specs.Needs.{Gains, GainsAll, HaveNumbersApart, IsClosed, IsNumberIn, Needs, onward, overridden_by, same_number, starts}
 use Rattle.just_name_resolution.specs.Search.{Found, IsCovered, IsDone, IsReadFrom, LeadsOn, Looks, Says, Searches, to_body, to_value, unfound}
-use Rattle.just_name_resolution.proofs.Looking.{added, is_the_one, kept, not_in_none, the_one}
+use Rattle.just_name_resolution.proofs.Looking.{added, kept, not_in_none}
 use Rattle.just_name_resolution.proofs.Sets.{number_itself, one_number}
 use Rattle.just_ast_definitions.specs.declared.assignment.Assignment.{Assignment}
 use Rattle.just_ast_expressions.specs.declared.expression.Expression.{Expression}
@@ -43,7 +44,7 @@ module _ (m : Known) (overridden : Number → Bool) (firsts : List Scoped) (old 
     waits_still t c = subst (λ ss. Contains ss t) (sym pops) (Contains-append_left popped.waiting (s ∷ []) t c)
 
     waited : Contains f.waiting s
-    waited = subst (λ ss. Contains ss s) (sym pops) (Contains-append_right popped.waiting (s ∷ []) s (is_the_one s))
+    waited = subst (λ ss. Contains ss s) (sym pops) (Contains-append_right popped.waiting (s ∷ []) s (Contains-push [] s))
 
     done_now : IsDone m g s
     done_now = record { numbers = looks.numbers; functions = looks.functions }

@@ -1,10 +1,11 @@
 -- What is needed from where a search starts, by whatever tells that.
-use Rattle.std.proofs.Common.{◌≡◌, Bool, true, false, ◌||◌, List, [], ◌∷◌, map, ap, refl, sym, ◌∙◌, subst, inl, inr}
+use Rattle.std.proofs.Common.{◌≡◌, Bool, false, ◌||◌, List, [], ◌∷◌, map, ap, refl, sym, ◌∙◌, subst, inl, inr}
 use Rattle.std.specs.Borrow.{Bor}
 use Rattle.std.specs.HashSet.{contains}
 use Rattle.std.specs.List.{Contains}
 use Rattle.std.proofs.lemmas.Bool.{false≢true}
-use Rattle.std.proofs.lemmas.List.Elements.{Contains-append_cases, Contains-append_left, Contains-append_right}
+use Rattle.std.proofs.lemmas.List.Elements.{Contains-append_cases, Contains-append_left, Contains-append_right, Contains-push}
+use Rattle.just_graph.proofs.Members.{the_one}
 use Rattle.just_names.specs.Texts.{Text}
 use Rattle.just_names.specs.declared.number.Number.{Number}
 use Rattle.just_parts.specs.Known.{Known, none_hidden}
@@ -12,7 +13,7 @@ use Rattle.just_parts.specs.Needs.{AreNeededBy, Gains, GainsAll, IsNumberIn, Nee
 use Rattle.just_parts.specs.Reading.{IsReadIn, Reads}
 use Rattle.just_name_resolution.specs.Search.{IsReadFrom, Searches, found_in, scoped_of}
 use Rattle.just_name_resolution.specs.declared.needs.Search.{Search}
-use Rattle.just_name_resolution.proofs.Looking.{is_the_one, not_in_none, the_one}
+use Rattle.just_name_resolution.proofs.Looking.{not_in_none}
 use Rattle.just_name_resolution.proofs.Searching.{search_gains, search_gains_all}
 use Rattle.just_ast_expressions.specs.declared.expression.Expression.{Expression}
 use Rattle.just_name_resolution.specs.Scopes.{Scoped, scoped}
@@ -21,14 +22,14 @@ module _ {A B : Type 0} (f : A → B) where
   pub has_image : (xs : List A) (x : A) → Contains xs x → Contains (map f xs) (f x)
   has_image [] x c = absurd (not_in_none x c)
   has_image (y ∷ ys) x c = elim (Contains-append_cases (y ∷ []) ys x c) [
-    | inl it ↦ Contains-append_left (f y ∷ []) (map f ys) (f x) (subst (λ z. Contains (f y ∷ []) (f z)) (the_one y x it) (is_the_one (f y)))
+    | inl it ↦ Contains-append_left (f y ∷ []) (map f ys) (f x) (subst (λ z. Contains (f y ∷ []) (f z)) (the_one y x it) (Contains-push [] (f y)))
     | inr there ↦ Contains-append_right (f y ∷ []) (map f ys) (f x) (has_image ys x there)
   ]
 
   pub is_image : (xs : List A) (z : B) → Contains (map f xs) z → (x : A) × Contains xs x × (f x ≡ z)
   is_image [] z c = absurd (not_in_none z c)
   is_image (y ∷ ys) z c = elim (Contains-append_cases (f y ∷ []) (map f ys) z c) [
-    | inl it ↦ (y, Contains-append_left (y ∷ []) ys y (is_the_one y), the_one (f y) z it)
+    | inl it ↦ (y, Contains-append_left (y ∷ []) ys y (Contains-push [] y), the_one (f y) z it)
     | inr there ↦ let i = is_image ys z there in (i.0, Contains-append_right (y ∷ []) ys i.0 i.1, i.2)
   ]
 
@@ -47,7 +48,7 @@ module _ (m : Known) where
   from_one hidden e name r = subst (λ (s : Scoped). Reads m s.hidden s.expression name) (sym (the_one (scoped hidden e) r.from r.there)) r.reads
 
   pub to_one : (hidden : Text → Bool) (e : Expression) (name : Text) → Reads m hidden e name → IsReadFrom m (scoped hidden e ∷ []) name
-  to_one hidden e name r = record { from = scoped hidden e; there = is_the_one (scoped hidden e); reads = r }
+  to_one hidden e name r = record { from = scoped hidden e; there = Contains-push [] (scoped hidden e); reads = r }
 
   pub from_all : (es : List Expression) (name : Text) → IsReadFrom m (map (scoped none_hidden) es) name → IsReadIn m es name
   from_all es name r =

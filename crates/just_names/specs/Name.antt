@@ -8,6 +8,11 @@ use Rattle.just_names.specs.declared.name.Namepath.{Namepath}
 abbrev pub text_of_name : Name → List ℕ
 text_of_name name = lexeme name.token
 
+-- the same where there may be none: the empty text then
+abbrev pub text_if_named : Option Name → List ℕ
+text_if_named None = []
+text_if_named (Some name) = text_of_name name
+
 -- the names of a path, first to last
 abbrev pub names_of_path : Namepath → List Name
 names_of_path path = path.front ++ path.last ∷ []

@@ -4,6 +4,7 @@ pub mod ast;
 pub mod config;
 pub mod context;
 pub mod evaluation;
+pub mod given;
 pub mod host;
 pub mod output;
 pub mod syntax;
@@ -13,6 +14,7 @@ pub use ast::{Ast, Item};
 pub use config::Config;
 pub use context::Context;
 pub use evaluation::Evaluation;
+pub use given::Given;
 pub use host::{Entry, Groups, Host};
 pub use just_ast_definitions::{
     ArgumentAttribute, ArgumentProperty, Assignment, Attribute, CacheAttribute,

@@ -1,14 +1,11 @@
 //! The program, over a reader and two writers.
 ghost use Rattle.std.specs.Prelude.{◌≡◌, ◌≢◌, ◌<◌, [], slice_get, IsNone, IfOk, IfSome};
-ghost use Rattle.just_paths.specs.Clean.{IsClean};
-ghost use Rattle.just_invoke.specs.Closed.{IsRooted};
+ghost use Rattle.just_analyzer.specs.Words.{IsClean, IsRooted};
 
 use just_analyzer::layers::{Config, Error};
 use just_analyzer::{Compilation, Compiler, Sources, is_clean};
 use just_bench::bundle::{read_sources, read_text};
-use just_bench::{ProgramError, run_and_write, tell, tell_usage};
-use just_bench_evaluation::PlainEvaluation;
-use just_bench_syntax::PlainSyntax;
+use just_bench::{PlainEvaluation, PlainSyntax, ProgramError, run_and_write, tell, tell_usage};
 use std::alloc::Global;
 use std::io::{Read, Write};
 

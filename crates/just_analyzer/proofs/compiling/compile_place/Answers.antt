@@ -22,74 +22,74 @@ use Rattle.just_analyzer.proofs.Makings.{is_of_same}
 use Rattle.just_module_recipes.specs.Broken.{BreaksRecipes}
 use Rattle.just_analyzer.proofs.Placed.{breaks_place, breaks_recipes, contents_are, evaluated_to, keeps_place, labels_many, variables_resolved}
 use Rattle.just_analyzer.proofs.compiling.compile_place.Goals as goal
-use Rattle.just_parts.specs.Layers.{given_of, layers_at}
+use Rattle.just_parts.specs.Layers.{given_by, layers_at}
 
 pub check_files-requires-clause-places : goal.check_files-requires-clause-places
 check_files-requires-clause-places g c =
-    let row = row_lent c.args.joined.now.files.items c.args.place c.index.result.now c.as_slice-row.result.now (omega (arith, c.requires.ready.there, c.requires.files)) c.index.ensures c.as_slice-row.ensures.value in
-    subst (λ (xs : List ℕ). All (λ q. q < length c.args.files.now.asts.items) xs) (sym row) c.requires.ready.files_there
+    let row = row_lent c.args.joined.now.files.items c.args.place c.index.result.now c.as_slice-row.result.now (omega (arith, c.requires.fits.ready.there, c.requires.fits.files_room)) c.index.ensures c.as_slice-row.ensures.value in
+    subst (λ (xs : List ℕ). All (λ q. q < length c.args.files.now.asts.items) xs) (sym row) c.requires.fits.ready.files_there
 
 pub check_files-requires-clause-modules : goal.check_files-requires-clause-modules
 check_files-requires-clause-modules g c =
-    let row = row_lent c.args.joined.now.files.items c.args.place c.index.result.now c.as_slice-row.result.now (omega (arith, c.requires.ready.there, c.requires.files)) c.index.ensures c.as_slice-row.ensures.value in
-    subst (λ (xs : List ℕ). AreDifferent (texts_of_names (said_from name_by (g.S.Syntax.answers c.args.syntax.now).enabled (asts_in c.args.files.now) xs))) (sym row) c.requires.ready.different
+    let row = row_lent c.args.joined.now.files.items c.args.place c.index.result.now c.as_slice-row.result.now (omega (arith, c.requires.fits.ready.there, c.requires.fits.files_room)) c.index.ensures c.as_slice-row.ensures.value in
+    subst (λ (xs : List ℕ). AreDifferent (texts_of_names (said_from name_by (g.S.Syntax.answers c.args.given.now.syntax.now).enabled (asts_in c.args.files.now) xs))) (sym row) c.requires.fits.ready.different
 
 pub check_files-requires-clause-numbers : goal.check_files-requires-clause-numbers
 check_files-requires-clause-numbers g c =
-    let row = row_lent c.args.joined.now.files.items c.args.place c.index.result.now c.as_slice-row.result.now (omega (arith, c.requires.ready.there, c.requires.files)) c.index.ensures c.as_slice-row.ensures.value in
-    subst (λ (xs : List ℕ). IsOnce (assignment_numbers (said_from variable_by (g.S.Syntax.answers c.args.syntax.now).enabled (asts_in c.args.files.now) xs))) (sym row) c.requires.ready.variables
+    let row = row_lent c.args.joined.now.files.items c.args.place c.index.result.now c.as_slice-row.result.now (omega (arith, c.requires.fits.ready.there, c.requires.fits.files_room)) c.index.ensures c.as_slice-row.ensures.value in
+    subst (λ (xs : List ℕ). IsOnce (assignment_numbers (said_from variable_by (g.S.Syntax.answers c.args.given.now.syntax.now).enabled (asts_in c.args.files.now) xs))) (sym row) c.requires.fits.ready.variables
 
 pub returns-in_err-checked-clause-named : goal.returns-in_err-checked-clause-named
 returns-in_err-checked-clause-named g c =
-    let row = row_lent c.args.joined.now.files.items c.args.place c.index.result.now c.as_slice-row.result.now (omega (arith, c.requires.ready.there, c.requires.files)) c.index.ensures c.as_slice-row.ensures.value in
-    let here = contents_from (g.S.Syntax.answers c.args.syntax.now).enabled (asts_in c.args.files.now) c.as_slice-row.result.now in
-    let layers = layers_at (given_of (g.S.Syntax.answers c.args.syntax.now) (g.E.Evaluation.answers c.args.evaluation.now) c.args.config.now.overrides) c.ast_at-ast.result.now.module_path in
+    let row = row_lent c.args.joined.now.files.items c.args.place c.index.result.now c.as_slice-row.result.now (omega (arith, c.requires.fits.ready.there, c.requires.fits.files_room)) c.index.ensures c.as_slice-row.ensures.value in
+    let here = contents_from (g.S.Syntax.answers c.args.given.now.syntax.now).enabled (asts_in c.args.files.now) c.as_slice-row.result.now in
+    let layers = layers_at (given_by g.S.Syntax.answers g.E.Evaluation.answers c.args.given.now) c.ast_at-ast.result.now.module_path in
     IfErr-weaker c.from_residual.result (Reports (BreaksContents layers here)) _
-    (reports_by _ _ (breaks_place (given_of (g.S.Syntax.answers c.args.syntax.now) (g.E.Evaluation.answers c.args.evaluation.now) c.args.config.now.overrides) c.args.files.now c.args.joined.now c.args.place c.as_slice-row.result.now row c.ast_at-ast.result.now c.ast_at-ast.ensures)) (search rules)
+    (reports_by _ _ (breaks_place (given_by g.S.Syntax.answers g.E.Evaluation.answers c.args.given.now) c.args.files.now c.args.joined.now c.args.place c.as_slice-row.result.now row c.ast_at-ast.result.now c.ast_at-ast.ensures)) (search rules)
 
 pub surroundings_at-requires-clause-labels : goal.surroundings_at-requires-clause-labels
 surroundings_at-requires-clause-labels g c =
-    let row = row_lent c.args.joined.now.files.items c.args.place c.index.result.now c.as_slice-row.result.now (omega (arith, c.requires.ready.there, c.requires.files)) c.index.ensures c.as_slice-row.ensures.value in
-    ap length c.as_slice.ensures.value ∙ labels_many (given_of (g.S.Syntax.answers c.args.syntax.now) (g.E.Evaluation.answers c.args.evaluation.now) c.args.config.now.overrides) c.args.files.now c.args.joined.now c.args.place c.as_slice-row.result.now row c.ast_at-ast.result.now c.ast_at-ast.ensures c.in_ok-checked.checked c.in_ok-checked.ensures.checked c.in_ok-checked.ensures.kept ∙ c.requires.ready.labels
+    let row = row_lent c.args.joined.now.files.items c.args.place c.index.result.now c.as_slice-row.result.now (omega (arith, c.requires.fits.ready.there, c.requires.fits.files_room)) c.index.ensures c.as_slice-row.ensures.value in
+    ap length c.as_slice.ensures.value ∙ labels_many (given_by g.S.Syntax.answers g.E.Evaluation.answers c.args.given.now) c.args.files.now c.args.joined.now c.args.place c.as_slice-row.result.now row c.ast_at-ast.result.now c.ast_at-ast.ensures c.in_ok-checked.checked c.in_ok-checked.ensures.checked c.in_ok-checked.ensures.kept ∙ c.requires.fits.ready.labels
 
 pub analyze_checked-requires-clause-once : goal.analyze_checked-requires-clause-once
 analyze_checked-requires-clause-once g c =
-    let row = row_lent c.args.joined.now.files.items c.args.place c.index.result.now c.as_slice-row.result.now (omega (arith, c.requires.ready.there, c.requires.files)) c.index.ensures c.as_slice-row.ensures.value in
-    subst (λ (m : Contents). IsOnce (unresolved_numbers m.recipes)) (sym (contents_are (given_of (g.S.Syntax.answers c.args.syntax.now) (g.E.Evaluation.answers c.args.evaluation.now) c.args.config.now.overrides) c.args.files.now c.args.joined.now c.args.place c.as_slice-row.result.now row c.ast_at-ast.result.now c.ast_at-ast.ensures c.in_ok-checked.checked c.in_ok-checked.ensures.checked c.in_ok-checked.ensures.kept)) c.requires.ready.numbers
+    let row = row_lent c.args.joined.now.files.items c.args.place c.index.result.now c.as_slice-row.result.now (omega (arith, c.requires.fits.ready.there, c.requires.fits.files_room)) c.index.ensures c.as_slice-row.ensures.value in
+    subst (λ (m : Contents). IsOnce (unresolved_numbers m.recipes)) (sym (contents_are (given_by g.S.Syntax.answers g.E.Evaluation.answers c.args.given.now) c.args.files.now c.args.joined.now c.args.place c.as_slice-row.result.now row c.ast_at-ast.result.now c.ast_at-ast.ensures c.in_ok-checked.checked c.in_ok-checked.ensures.checked c.in_ok-checked.ensures.kept)) c.requires.fits.ready.numbers
 
 pub analyze_checked-requires-clause-priors : goal.analyze_checked-requires-clause-priors
 analyze_checked-requires-clause-priors g c =
-    let row = row_lent c.args.joined.now.files.items c.args.place c.index.result.now c.as_slice-row.result.now (omega (arith, c.requires.ready.there, c.requires.files)) c.index.ensures c.as_slice-row.ensures.value in
-    subst (λ (m : Contents). All HasPriors m.recipes) (sym (contents_are (given_of (g.S.Syntax.answers c.args.syntax.now) (g.E.Evaluation.answers c.args.evaluation.now) c.args.config.now.overrides) c.args.files.now c.args.joined.now c.args.place c.as_slice-row.result.now row c.ast_at-ast.result.now c.ast_at-ast.ensures c.in_ok-checked.checked c.in_ok-checked.ensures.checked c.in_ok-checked.ensures.kept)) c.requires.ready.priors
+    let row = row_lent c.args.joined.now.files.items c.args.place c.index.result.now c.as_slice-row.result.now (omega (arith, c.requires.fits.ready.there, c.requires.fits.files_room)) c.index.ensures c.as_slice-row.ensures.value in
+    subst (λ (m : Contents). All HasPriors m.recipes) (sym (contents_are (given_by g.S.Syntax.answers g.E.Evaluation.answers c.args.given.now) c.args.files.now c.args.joined.now c.args.place c.as_slice-row.result.now row c.ast_at-ast.result.now c.ast_at-ast.ensures c.in_ok-checked.checked c.in_ok-checked.ensures.checked c.in_ok-checked.ensures.kept)) c.requires.fits.ready.priors
 
 pub analyze_checked-requires-clause-apart : goal.analyze_checked-requires-clause-apart
 analyze_checked-requires-clause-apart g c =
-    let row = row_lent c.args.joined.now.files.items c.args.place c.index.result.now c.as_slice-row.result.now (omega (arith, c.requires.ready.there, c.requires.files)) c.index.ensures c.as_slice-row.ensures.value in
-    λ n a b. c.requires.apart n a (subst (λ (m : Contents). Contains (unresolved_numbers m.recipes) n) (contents_are (given_of (g.S.Syntax.answers c.args.syntax.now) (g.E.Evaluation.answers c.args.evaluation.now) c.args.config.now.overrides) c.args.files.now c.args.joined.now c.args.place c.as_slice-row.result.now row c.ast_at-ast.result.now c.ast_at-ast.ensures c.in_ok-checked.checked c.in_ok-checked.ensures.checked c.in_ok-checked.ensures.kept) b)
+    let row = row_lent c.args.joined.now.files.items c.args.place c.index.result.now c.as_slice-row.result.now (omega (arith, c.requires.fits.ready.there, c.requires.fits.files_room)) c.index.ensures c.as_slice-row.ensures.value in
+    λ n a b. c.requires.apart n a (subst (λ (m : Contents). Contains (unresolved_numbers m.recipes) n) (contents_are (given_by g.S.Syntax.answers g.E.Evaluation.answers c.args.given.now) c.args.files.now c.args.joined.now c.args.place c.as_slice-row.result.now row c.ast_at-ast.result.now c.ast_at-ast.ensures c.in_ok-checked.checked c.in_ok-checked.ensures.checked c.in_ok-checked.ensures.kept) b)
 
 pub analyze_checked-requires-clause-variables : goal.analyze_checked-requires-clause-variables
 analyze_checked-requires-clause-variables g c =
-    let row = row_lent c.args.joined.now.files.items c.args.place c.index.result.now c.as_slice-row.result.now (omega (arith, c.requires.ready.there, c.requires.files)) c.index.ensures c.as_slice-row.ensures.value in
-    variables_resolved (given_of (g.S.Syntax.answers c.args.syntax.now) (g.E.Evaluation.answers c.args.evaluation.now) c.args.config.now.overrides) c.args.files.now c.args.joined.now c.args.place c.as_slice-row.result.now row c.ast_at-ast.result.now c.ast_at-ast.ensures c.in_ok-checked.checked c.in_ok-checked.ensures.checked c.in_ok-checked.ensures.kept
+    let row = row_lent c.args.joined.now.files.items c.args.place c.index.result.now c.as_slice-row.result.now (omega (arith, c.requires.fits.ready.there, c.requires.fits.files_room)) c.index.ensures c.as_slice-row.ensures.value in
+    variables_resolved (given_by g.S.Syntax.answers g.E.Evaluation.answers c.args.given.now) c.args.files.now c.args.joined.now c.args.place c.as_slice-row.result.now row c.ast_at-ast.result.now c.ast_at-ast.ensures c.in_ok-checked.checked c.in_ok-checked.ensures.checked c.in_ok-checked.ensures.kept
 
 pub returns-in_err-justfile-clause-named : goal.returns-in_err-justfile-clause-named
 returns-in_err-justfile-clause-named g c =
-    let row = row_lent c.args.joined.now.files.items c.args.place c.index.result.now c.as_slice-row.result.now (omega (arith, c.requires.ready.there, c.requires.files)) c.index.ensures c.as_slice-row.ensures.value in
-    IfErr-weaker c.from_residual-in_err-justfile.result (Reports (BreaksRecipes (g.S.Syntax.answers c.args.syntax.now) c.in_ok-checked.checked.constants.settings (contents_in c.in_ok-checked.checked.definitions))) _
-    (reports_by _ _ (breaks_recipes (given_of (g.S.Syntax.answers c.args.syntax.now) (g.E.Evaluation.answers c.args.evaluation.now) c.args.config.now.overrides) c.args.files.now c.args.joined.now c.args.place c.as_slice-row.result.now row c.ast_at-ast.result.now c.ast_at-ast.ensures c.in_ok-checked.checked c.in_ok-checked.ensures.checked c.in_ok-checked.ensures.kept)) (search rules)
+    let row = row_lent c.args.joined.now.files.items c.args.place c.index.result.now c.as_slice-row.result.now (omega (arith, c.requires.fits.ready.there, c.requires.fits.files_room)) c.index.ensures c.as_slice-row.ensures.value in
+    IfErr-weaker c.from_residual-in_err-justfile.result (Reports (BreaksRecipes (g.S.Syntax.answers c.args.given.now.syntax.now) c.in_ok-checked.checked.constants.settings (contents_in c.in_ok-checked.checked.definitions))) _
+    (reports_by _ _ (breaks_recipes (given_by g.S.Syntax.answers g.E.Evaluation.answers c.args.given.now) c.args.files.now c.args.joined.now c.args.place c.as_slice-row.result.now row c.ast_at-ast.result.now c.ast_at-ast.ensures c.in_ok-checked.checked c.in_ok-checked.ensures.checked c.in_ok-checked.ensures.kept)) (search rules)
 
 pub returns-clause-compiled : goal.returns-clause-compiled
 returns-clause-compiled g c =
-    let row = row_lent c.args.joined.now.files.items c.args.place c.index.result.now c.as_slice-row.result.now (omega (arith, c.requires.ready.there, c.requires.files)) c.index.ensures c.as_slice-row.ensures.value in
-    let enabled = (g.S.Syntax.answers c.args.syntax.now).enabled in
+    let row = row_lent c.args.joined.now.files.items c.args.place c.index.result.now c.as_slice-row.result.now (omega (arith, c.requires.fits.ready.there, c.requires.fits.files_room)) c.index.ensures c.as_slice-row.ensures.value in
+    let enabled = (g.S.Syntax.answers c.args.given.now.syntax.now).enabled in
     let own = c.ast_at-ast.result.now in
     let checked = c.in_ok-checked.checked in
     let around = c.in_ok-surroundings.surroundings in
     let there = c.in_ok-surroundings.ensures.made in
     let justfile = c.in_ok-justfile.justfile in
     let analyzed = c.in_ok-justfile.ensures.analyzed in
-    let room : c.args.place < length c.surroundings_at.new.slots.items = omega (arith, c.in_ok-surroundings.ensures.room, c.requires.room, c.requires.ready.there) in
-    let m = contents_are (given_of (g.S.Syntax.answers c.args.syntax.now) (g.E.Evaluation.answers c.args.evaluation.now) c.args.config.now.overrides) c.args.files.now c.args.joined.now c.args.place c.as_slice-row.result.now row c.ast_at-ast.result.now c.ast_at-ast.ensures c.in_ok-checked.checked c.in_ok-checked.ensures.checked c.in_ok-checked.ensures.kept in
+    let room : c.args.place < length c.surroundings_at.new.slots.items = omega (arith, c.in_ok-surroundings.ensures.room, c.requires.fits.room, c.requires.fits.ready.there) in
+    let m = contents_are (given_by g.S.Syntax.answers g.E.Evaluation.answers c.args.given.now) c.args.files.now c.args.joined.now c.args.place c.as_slice-row.result.now row c.ast_at-ast.result.now c.ast_at-ast.ensures c.in_ok-checked.checked c.in_ok-checked.ensures.checked c.in_ok-checked.ensures.kept in
     record {
       made = record { recipes = analyzed.added.made; overridden = checked.constants.overridden.items };
       justfile = justfile;
@@ -100,10 +100,10 @@ returns-clause-compiled g c =
         own_said = c.ast_at-ast.ensures;
         key = there.key;
         key_is = there.key_is;
-        kept = keeps_place (given_of (g.S.Syntax.answers c.args.syntax.now) (g.E.Evaluation.answers c.args.evaluation.now) c.args.config.now.overrides) c.args.files.now c.args.joined.now c.args.place c.as_slice-row.result.now row c.ast_at-ast.result.now c.ast_at-ast.ensures c.in_ok-checked.checked c.in_ok-checked.ensures.checked c.in_ok-checked.ensures.kept analyzed.kept;
+        kept = keeps_place (given_by g.S.Syntax.answers g.E.Evaluation.answers c.args.given.now) c.args.files.now c.args.joined.now c.args.place c.as_slice-row.result.now row c.ast_at-ast.result.now c.ast_at-ast.ensures c.in_ok-checked.checked c.in_ok-checked.ensures.checked c.in_ok-checked.ensures.kept analyzed.kept;
         labels = checked.labels.items;
-        evaluated = evaluated_to (given_of (g.S.Syntax.answers c.args.syntax.now) (g.E.Evaluation.answers c.args.evaluation.now) c.args.config.now.overrides) c.args.files.now c.args.joined.now c.args.place c.as_slice-row.result.now row c.ast_at-ast.result.now c.ast_at-ast.ensures c.in_ok-checked.checked c.in_ok-checked.ensures.checked c.in_ok-checked.ensures.kept justfile analyzed.settings;
-        variables = subst (λ n. HasVariables (g.S.Syntax.answers c.args.syntax.now) n justfile) m analyzed.variables;
+        evaluated = evaluated_to (given_by g.S.Syntax.answers g.E.Evaluation.answers c.args.given.now) c.args.files.now c.args.joined.now c.args.place c.as_slice-row.result.now row c.ast_at-ast.result.now c.ast_at-ast.ensures c.in_ok-checked.checked c.in_ok-checked.ensures.checked c.in_ok-checked.ensures.kept justfile analyzed.settings;
+        variables = subst (λ n. HasVariables (g.S.Syntax.answers c.args.given.now.syntax.now) n justfile) m analyzed.variables;
         resolved = subst (λ (n : Contents). AreResolved (kept_recipes n.recipes) own.module_path analyzed.added.made) m analyzed.added.resolved;
         default = subst (λ n. HasDefault n (recipes_by enabled (Some own)) justfile) m analyzed.default;
         fields = is_of_same (contents_in checked.definitions) _ own around.loaded c.args.loaded.now around.source there.key.1 justfile m there.loaded_are there.source_is analyzed.fields;

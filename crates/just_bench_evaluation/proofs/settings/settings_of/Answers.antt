@@ -2,9 +2,10 @@ use Rattle.std.proofs.Common.{◌≡◌, sym, ◌∙◌, ap, subst, arith, rules
 use Rattle.std.specs.Option.{option_and_then}
 use Rattle.std.proofs.lemmas.List.{drop_all}
 use Rattle.std.proofs.lemmas.Result.{IfErr-weaker}
+use Rattle.just_ast_expressions.specs.Settings.{default_settings}
 use Rattle.just_parts.specs.Evaluator.{FaultsAt, functions_by_name, values_of}
 use Rattle.just_ast_definitions.specs.declared.setting.Set.{Set}
-use Rattle.just_bench_evaluation.specs.Settings.{default_settings, setting_with, settings_with}
+use Rattle.just_bench_evaluation.specs.Settings.{setting_with, settings_with}
 use Rattle.just_bench_evaluation.specs.Values.{none_bound, value_of}
 use Rattle.just_bench_evaluation.proofs.BareSets.{bare_sets}
 use Rattle.just_bench_evaluation.proofs.Called.{bare_with}

@@ -1,6 +1,7 @@
 use Rattle.std.proofs.Common.{◌≡◌, drop}
+use Rattle.just_ast_expressions.specs.Settings.{default_settings}
 use Rattle.just_parts.specs.Evaluator.{functions_by_name, values_of}
-use Rattle.just_bench_evaluation.specs.Settings.{default_settings, settings_with}
+use Rattle.just_bench_evaluation.specs.Settings.{settings_with}
 use Rattle.just_bench_evaluation.specs.Values.{value_of}
 use Rattle.just_bench_evaluation.proofs.settings.settings_of.Given as goal
 

@@ -2,13 +2,12 @@ use Rattle.std.proofs.Common.{◌≡◌, ◌<◌, ◌≤◌, ◌∙◌, Bor, [],
 use Rattle.std.specs.List.{slice_get}
 use Rattle.std.proofs.lemmas.List.{map-append}
 use Rattle.std.proofs.lemmas.Option.{slice_get_read}
-use Rattle.just_graph.proofs.Index.{map_get}
+use Rattle.just_graph.proofs.Index.{map_get, some_at}
 use Rattle.just_recipe.specs.declared.dependency.UnresolvedDependency.{UnresolvedDependency}
 use Rattle.just_recipe.specs.declared.recipe.Recipe.{Recipe}
 use Rattle.just_module_contents.specs.Definitions.{recipes_in}
 use Rattle.just_module_contents.specs.Kept.{claim_of_recipe, stays}
 use Rattle.just_module_contents.specs.Recipes.{lent}
-use Rattle.just_module_contents.proofs.Mapping.{some_at}
 use Rattle.just_module_contents.proofs.Keeping.{keeps_all, keeps_more, keeps_same}
 use Rattle.just_module_contents.proofs.RecipePlaces.{length-lent}
 use Rattle.just_module_contents.proofs.kept.kept_recipes.Goals as goal

@@ -1,0 +1,15 @@
+-- The words that the clauses of a caller name, in one place.
+pub use Rattle.just_names.specs.Texts.{texts}
+pub use Rattle.just_paths.specs.Clean.{IsClean}
+pub use Rattle.just_errors.specs.Causes.{Cause, Keeps, Reports}
+pub use Rattle.just_parts.specs.Asts.{root_ast_key, same_ast_key}
+pub use Rattle.just_parts.specs.Host.{Answer, KeepsPromises}
+pub use Rattle.just_parts.specs.Layers.{override_at}
+pub use Rattle.just_parts.specs.Steps.{kept_by}
+pub use Rattle.just_loader.specs.ModuleFile.{module_files}
+pub use Rattle.just_loader.specs.Reached.{world_of}
+pub use Rattle.just_invoke.specs.Closed.{IsClosed, IsHeld, IsRooted}
+pub use Rattle.just_invoke.specs.Outcome.{IsExpected, IsOutcome}
+pub use Rattle.just_invoke.specs.Split.{IsFault, IsSplit, invoked_of}
+pub use Rattle.just_analyzer.specs.Analyzed.{Analyzes, AreAsBefore, NamesAnalyzed}
+pub use Rattle.just_analyzer.specs.Compiled.{Compiles}

@@ -1,0 +1,131 @@
+//! Calls of recipes: of the first of a text.
+use crate::halves;
+use just_bench::parse;
+use just_bench_syntax::PlainSyntax;
+use just_data::Sequence;
+use just_examples_format::faults::add_fault;
+use just_parts::layers::{Ast, Error, Item, Number, Settings};
+use just_parts::{Dependency, Recipe, UnresolvedRecipe};
+use just_paths::Modulepath;
+use std::alloc::{AllocError, Global};
+
+// The settings whose names stand in some words, of the two that a call of a recipe reads.
+fn settings_of(words: &str) -> Settings {
+    let mut settings = Settings::default();
+    settings.lists = words.contains("lists");
+    settings.default_script = words.contains("default_script");
+    settings
+}
+
+// What a recipe depends on, each with its place as the number of the recipe.
+fn numbered<'src>(
+    alloc: Global,
+    recipe: &UnresolvedRecipe<'src>,
+) -> Result<Sequence<Dependency<'src>>, AllocError> {
+    let mut dependencies = Sequence::new(alloc);
+    let mut number = 0u64;
+    for dependency in recipe.dependencies.as_slice() {
+        let path = dependency.recipe.clone()?;
+        let recipe = Number(number);
+        dependencies.push(Dependency { path, recipe })?;
+        number = number.saturating_add(1);
+    }
+    Ok(dependencies)
+}
+
+// The recipe, resolved in the module `m`.
+fn resolved<'src>(
+    alloc: Global,
+    recipe: &UnresolvedRecipe<'src>,
+) -> Result<Recipe<'src>, AllocError> {
+    let dependencies = numbered(alloc, recipe)?;
+    let module_path = Modulepath::root(alloc).join("m")?;
+    let recipe_path = module_path.join(recipe.name.lexeme())?;
+    recipe.resolved(alloc, dependencies, module_path, recipe_path)
+}
+
+// Adds the line of some dependencies.
+fn add_dependencies(
+    call: &str,
+    dependencies: &[Dependency],
+    text: &mut String,
+) -> Result<(), AllocError> {
+    text.push_str(call)?;
+    for dependency in dependencies {
+        let Number(number) = dependency.recipe;
+        write!(text, " {}#{number}", dependency.path)?;
+    }
+    text.push('\n')
+}
+
+// Adds what a call of a resolved recipe gives. It answers whether there is such a call.
+fn add_resolved(call: &str, recipe: &Recipe, text: &mut String) -> Result<bool, AllocError> {
+    if recipe.module_path.is_none() || recipe.recipe_path.is_none() {
+        return Ok(false);
+    }
+    if recipe.priors > recipe.dependencies.len() {
+        return Ok(false);
+    }
+    match call {
+        "resolved" => add_dependencies(call, recipe.dependencies.as_slice(), text)?,
+        "priors" => add_dependencies(call, recipe.priors(), text)?,
+        "subsequents" => add_dependencies(call, recipe.subsequents(), text)?,
+        "module_path" => writeln!(text, "module_path {}", recipe.module_path())?,
+        "recipe_path" => writeln!(text, "recipe_path {}", recipe.recipe_path())?,
+        _ => return Ok(false),
+    }
+    Ok(true)
+}
+
+// Adds what a call of a recipe gives. It answers whether there is such a call.
+fn add_recipe(
+    alloc: Global,
+    call: &str,
+    settings: &Settings,
+    recipe: &UnresolvedRecipe,
+    text: &mut String,
+) -> Result<bool, AllocError> {
+    match call {
+        "min_arguments" => writeln!(text, "min_arguments {}", recipe.min_arguments())?,
+        "max_arguments" => writeln!(text, "max_arguments {}", recipe.max_arguments(settings))?,
+        "argument_range" => {
+            let range = recipe.argument_range(settings);
+            let takes_two = range.contains(2);
+            writeln!(text, "argument_range {} {}\n{range}", range.min, range.max)?;
+            writeln!(text, "takes two {takes_two}")?;
+        }
+        "is_script" => writeln!(text, "is_script {}", recipe.is_script(settings))?,
+        _ => return add_resolved(call, &resolved(alloc, recipe)?, text),
+    }
+    Ok(true)
+}
+
+// The first recipe of what a text says.
+pub(crate) fn first_recipe<'ast, 'src>(
+    ast: &'ast Ast<'src>,
+) -> Option<&'ast UnresolvedRecipe<'src>> {
+    match ast.items.get(0) {
+        Some(Item::Recipe(recipe)) => Some(recipe),
+        _ => None,
+    }
+}
+
+/// Answers what a call of a text's first recipe gives, where it is resolved in the module `m`. The settings that are on stand
+/// before a ` | `.
+pub fn answer_recipe(alloc: Global, call: &str, rest: &str) -> Result<Option<String>, AllocError> {
+    let (words, text) = halves(rest);
+    let settings = settings_of(words);
+    let mut answer = String::new(alloc);
+    match parse(alloc, &PlainSyntax::new(), text) {
+        Ok(ast) => match first_recipe(&ast) {
+            Some(recipe) => {
+                if !add_recipe(alloc, call, &settings, recipe, &mut answer)? {
+                    return Ok(None);
+                }
+            }
+            None => return Ok(None),
+        },
+        Err(error) => add_fault(&mut answer, &error)?,
+    }
+    Ok(Some(answer))
+}

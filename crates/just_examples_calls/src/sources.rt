@@ -1,0 +1,67 @@
+//! Calls of sources. The root is `/justfile`.
+use crate::halves;
+use crate::names::recipe_names;
+use just_bench::root_source;
+use just_examples_format::faults::add_fault;
+use just_examples_format::lists::add_list;
+use just_parts::Source;
+use just_parts::layers::Error;
+use just_paths::is_clean;
+use std::alloc::{AllocError, Global};
+
+// Adds how a file came in, a line for each part.
+fn add_source(alloc: Global, source: &Source, text: &mut String) -> Result<(), AllocError> {
+    let (path, folder) = (&source.path, &source.working_directory);
+    writeln!(
+        text,
+        "depth {}\npath {path}\nfolder {folder}",
+        source.file_depth
+    )?;
+    text.push_str("files")?;
+    add_list(text, source.file_path.to_sequence(alloc)?.as_slice())?;
+    text.push_str("\noffsets")?;
+    add_list(text, source.import_offsets.to_sequence(alloc)?.as_slice())?;
+    match &source.namepath {
+        Some(path) => writeln!(text, "\nmodule {path}"),
+        None => text.push_str("\nno module\n"),
+    }
+}
+
+// The file at a path that the root imports at an offset. Where a depth stands behind the offset, the root has it.
+fn imported<'src>(alloc: Global, path: &str, given: &str) -> Result<Source<'src>, Error<'src>> {
+    let (offset, depth) = given.split_once(' ').unwrap_or((given, ""));
+    let mut source = root_source(alloc)?;
+    source.file_depth = depth.parse::<u64>().unwrap_or(0);
+    source.import(alloc, path, offset.parse::<usize>().unwrap_or(0))
+}
+
+// The file at a path of the module of a text's last recipe, which stands in those of the recipes before it. A path that is not
+// clean has no module, and a text without recipes names none: then it is the root.
+fn declared<'src>(alloc: Global, path: &str, text: &'src str) -> Result<Source<'src>, Error<'src>> {
+    let names = recipe_names(alloc, text)?;
+    let mut source = root_source(alloc)?;
+    for name in &names {
+        if !is_clean(path) {
+            return Ok(source);
+        }
+        source = source.module(alloc, name, path)?;
+    }
+    Ok(source)
+}
+
+/// Answers how a file came in: the root, a file that is imported at a path and an offset, and a file of a module.
+pub fn answer_source(alloc: Global, call: &str, rest: &str) -> Result<Option<String>, AllocError> {
+    let (path, given) = halves(rest);
+    let made = match call {
+        "root" => root_source(alloc),
+        "import" => imported(alloc, path, given),
+        "module" => declared(alloc, path, given),
+        _ => return Ok(None),
+    };
+    let mut text = String::new(alloc);
+    match made {
+        Ok(source) => add_source(alloc, &source, &mut text)?,
+        Err(error) => add_fault(&mut text, &error)?,
+    }
+    Ok(Some(text))
+}

@@ -1,4 +1,0 @@
-pub mod Adding
-pub mod Docs
-pub mod Grounds
-pub mod NumbersApart
