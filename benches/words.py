@@ -1,0 +1,115 @@
+#!/usr/bin/env python3
+"""Looks for words that the documents have and the tree has not, and for words that the specifications define twice.
+
+    python3 benches/words.py               words in backticks of README.md, CONTRIBUTING.md and docs/ that stand nowhere
+                                           in crates/, crates.txt or benches/: one line FILE:LINE: WORD each, status 1
+    python3 benches/words.py --doubled     words that more than one file of specs/ defines, each with its files
+
+Of what stands in backticks only identifiers in the form of code are looked for: with an underscore, with a capital before
+small letters, or a part of a path (`Compiler::compile`). What is not built yet is left out: a line that has a dagger or says
+`comes with`, with the list below it, and what stands under such a heading or in such a column; so is a column that is headed
+`Original`, and each block of code. Of a word that is there, it does not ask whether it is what the text says of it.
+"""
+import re
+import sys
+from collections import defaultdict
+from pathlib import Path
+
+TOP = Path(__file__).resolve().parent.parent
+WORD = re.compile(r"[A-Za-z_][A-Za-z0-9_]*")
+SPAN = re.compile(r"(`+)(.+?)\1")
+TO_COME = re.compile("†|comes? with|come with")
+
+# Words that the tree need not have, each with what it is.
+ALLOWED = {
+    "JUST_UNSTABLE",  # a variable of the environment that `just` reads, told as left out
+    "Regex", "regex",  # the toolchain's, told as what a pattern will hold
+}
+
+
+def documents():
+    return [TOP / "README.md", TOP / "CONTRIBUTING.md", *sorted((TOP / "docs").glob("*.md"))]
+
+
+def words_of_tree():
+    """Each word that a file of the tree has, in its text or in its path."""
+    words = set()
+    for path in [TOP / "crates.txt", *(TOP / "crates").rglob("*"), *(TOP / "benches").rglob("*")]:
+        if "out" in path.parts:
+            continue
+        words.update(WORD.findall(str(path.relative_to(TOP))))
+        if path.is_file() and path.name != "words.py":
+            words.update(WORD.findall(path.read_text(errors="ignore")))
+    return words
+
+
+def is_code(word, text):
+    """Whether a word has the form of code, or is a part of a path."""
+    capitals = re.search("^[A-Z].*[a-z]", word)
+    path = re.search(rf"::{word}\b|\b{word}::", text)
+    return len(word.strip("_")) > 1 and bool("_" in word.strip("_") or capitals or path)
+
+
+def cells_told(line, columns):
+    """A line of a table without these columns."""
+    return " | ".join(cell for i, cell in enumerate(line.split(" | ")) if i not in columns)
+
+
+def told_lines(lines):
+    """The lines that tell of what is there, each with its number, without the columns that tell of what is not."""
+    heading, columns, above, fenced = "", None, None, False
+    for number, line in enumerate(lines, 1):
+        fenced ^= line.startswith("```")
+        heading = line if line.startswith("#") else heading
+        if not line.startswith("|"):
+            columns = None
+        elif columns is None:
+            columns = [i for i, cell in enumerate(line.split(" | ")) if "†" in cell or "Original" in cell]
+        told = cells_told(line, columns or [])
+        indent = len(line) - len(line.lstrip()) + (line.lstrip()[:2] == "- ")
+        if line.strip() and above is not None and indent <= above:
+            above = None
+        if TO_COME.search(told) and not line.startswith("|"):
+            above = indent
+        is_block = fenced or (line.startswith("    ") and not line.lstrip()[:2] == "- ")
+        if above is None and not is_block and not TO_COME.search(heading + told):
+            yield number, told
+
+
+def missing():
+    """The words of the documents that the tree has not."""
+    tree, found = words_of_tree() | ALLOWED, []
+    for path in documents():
+        lines = path.read_text().splitlines() if path.is_file() else []
+        for number, line in told_lines(lines):
+            for _, text in SPAN.findall(line):
+                words = dict.fromkeys(word for word in WORD.findall(text) if is_code(word, text))
+                found += [f"{path.relative_to(TOP)}:{number}: {word}" for word in words if word not in tree]
+    return found
+
+
+def doubled():
+    """The words that more than one file of the specifications defines, each with its files, and how many words there are."""
+    defined = re.compile(r"^(?:\w+ )*pub (?:\w+ )*?([\w\-«»]+) *[:({]", re.MULTILINE)
+    files = defaultdict(set)
+    for path in sorted((TOP / "crates").glob("*/specs/**/*.antt")):
+        for word in defined.findall(path.read_text()):
+            files[word].add(str(path.relative_to(TOP / "crates")))
+    return {word: sorted(at) for word, at in sorted(files.items()) if len(at) > 1}, len(files)
+
+
+def main(arguments):
+    if arguments == ["--doubled"]:
+        twice, count = doubled()
+        for word, files in twice.items():
+            print(f"{word}: {', '.join(files)}")
+        print(f"{len(twice)} of {count} words")
+        return 0
+    found = missing()
+    for line in found:
+        print(line)
+    return 1 if found else 0
+
+
+if __name__ == "__main__":
+    sys.exit(main(sys.argv[1:]))
