@@ -19,9 +19,9 @@ abbrev pub is_singular : ParameterKind → Bool
 is_singular Singular = true
 is_singular _ = false
 
--- a name alone, without a mark, a default and an option
+-- a name alone, without a mark, a default, a value and an option
 abbrev pub is_name : Parameter → Bool
-is_name parameter = (is_singular parameter.kind && not (is_some parameter.default)) && not (is_option parameter)
+is_name parameter = (is_singular parameter.kind && not (is_some parameter.default)) && (not (is_some parameter.value) && not (is_option parameter))
 
 abbrev needs_word : ParameterKind → Bool
 needs_word Singular = true

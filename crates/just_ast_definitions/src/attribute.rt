@@ -1,7 +1,8 @@
 //! Attributes of recipes and modules.
-use just_ast_expressions::{Interpreter, Pattern, Signal, StringLiteral};
+use just_ast_expressions::{Interpreter, Signal, StringLiteral};
 use just_data::{Exact, Sequence, Text};
 use just_names::Name;
+use just_patterns::Pattern;
 
 /// A property of an `arg` attribute, as `help='..'`.
 #[derive(Clone, PartialEq, Eq, Drop)]

@@ -1,6 +1,7 @@
 //! What a source text says in attributes, settings, variables, functions, parameters and body lines.
 #![tactic(auto)]
 
+pub mod alias;
 pub mod assignment;
 pub mod attribute;
 pub mod function_definition;
@@ -8,6 +9,7 @@ pub mod line;
 pub mod parameter;
 pub mod setting;
 
+pub use alias::Alias;
 pub use assignment::Assignment;
 pub use attribute::{ArgumentAttribute, ArgumentProperty, CacheAttribute, EnvironmentAttribute};
 pub use function_definition::{FunctionDefinition, FunctionParameter};

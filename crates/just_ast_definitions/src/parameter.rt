@@ -4,9 +4,10 @@ ghost use Rattle.std.specs.List.{list_any};
 ghost use Rattle.just_ast_definitions.specs.declared.parameter.Parameter.{Parameter};
 ghost use Rattle.just_ast_definitions.specs.Parameter.{is_name, is_option, is_required, is_variadic};
 
-use just_ast_expressions::{Expression, Pattern};
+use just_ast_expressions::Expression;
 use just_data::{Exact, Text};
 use just_names::{Name, Number};
+use just_patterns::Pattern;
 use std::alloc::AllocError;
 
 /// How many words a parameter takes.
@@ -64,14 +65,14 @@ impl<'src> Parameter<'src> {
         self.long.is_some() || self.short.is_some()
     }
 
-    /// Whether it is a name alone: it takes one word by its place, and has no default.
+    /// Whether it is a name alone: it takes one word by its place, and has no default and no value.
     pub fn is_name(&self) -> bool
         ensures { result ≡ is_name self.now }
     {
         if !matches!(self.kind, ParameterKind::Singular) || self.default.is_some() {
             return false;
         }
-        !self.is_option()
+        self.value.is_none() && !self.is_option()
     }
 
     /// Whether its group may not be empty: it has no default, takes at least one word, and is no flag.

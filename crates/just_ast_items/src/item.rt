@@ -1,5 +1,5 @@
 //! The definitions of a source text.
-use just_ast_definitions::{Assignment, FunctionDefinition, NamedAttribute, Set};
+use just_ast_definitions::{Alias, Assignment, FunctionDefinition, NamedAttribute, Set};
 use just_ast_expressions::StringLiteral;
 use just_data::{Exact, Sequence, Text};
 use just_names::{Name, Token};
@@ -7,6 +7,8 @@ use just_names::{Name, Token};
 /// A definition of a source text, whose recipes are `R`. A grammar leaves the absolute path of a file out.
 #[derive(Clone, Drop)]
 pub enum Item<'src, R> {
+    /// Another name for a recipe or a module.
+    Alias(Alias<'src>),
     /// A variable.
     Assignment(Assignment<'src>),
     /// What stands after a `#`.

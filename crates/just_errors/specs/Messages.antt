@@ -50,6 +50,7 @@ kind_name kind.ExtraLeadingWhitespace = codes "ExtraLeadingWhitespace"
 kind_name (kind.InvalidShellRecipeAttribute recipe attribute) = codes "InvalidShellRecipeAttribute"
 kind_name (kind.UnknownDependency recipe unknown) = codes "UnknownDependency"
 kind_name (kind.CircularRecipeDependency recipe circle) = codes "CircularRecipeDependency"
+kind_name kind.ArgumentPatternRegex = codes "ArgumentPatternRegex"
 kind_name (kind.DependencyArgumentCountMismatch dependency found least most) = codes "DependencyArgumentCountMismatch"
 kind_name (kind.DuplicateDefault recipe) = codes "DuplicateDefault"
 
@@ -129,6 +130,7 @@ kind_text kind.ExtraLeadingWhitespace = codes "The line has extra leading whites
 kind_text (kind.InvalidShellRecipeAttribute recipe attribute) = codes "Recipe `" ++ (recipe ++ (codes "` has attribute `" ++ (attribute ++ codes "`, which only a script may have")))
 kind_text (kind.UnknownDependency recipe unknown) = codes "Recipe `" ++ (recipe ++ (codes "` has unknown dependency `" ++ (path_text unknown ++ codes "`")))
 kind_text (kind.CircularRecipeDependency recipe circle) = circle_text recipe circle
+kind_text kind.ArgumentPatternRegex = codes "Failed to parse argument pattern"
 kind_text (kind.DependencyArgumentCountMismatch dependency found least most) =
     codes "Dependency `" ++ (path_text dependency ++ (codes "` got " ++ (arguments_text found ++ (codes " but takes " ++ takes_text least most))))
 kind_text (kind.DuplicateDefault recipe) = codes "Recipe `" ++ (recipe ++ codes "` has attribute `default`, as another recipe of its module has")

@@ -199,6 +199,8 @@ pub enum CompileErrorKind<'src> {
         recipe: BorrowedText<'src>,
         circle: Sequence<BorrowedText<'src>>,
     },
+    /// What is to be the pattern of a parameter is none, or is past the size or the nesting that regular expressions have.
+    ArgumentPatternRegex,
     /// A recipe is depended on with fewer or more arguments than it takes.
     DependencyArgumentCountMismatch {
         dependency: Namepath<'src>,
@@ -243,6 +245,7 @@ impl<'src> CompileErrorKind<'src> {
             CompileErrorKind::InvalidShellRecipeAttribute { .. } => "InvalidShellRecipeAttribute",
             CompileErrorKind::UnknownDependency { .. } => "UnknownDependency",
             CompileErrorKind::CircularRecipeDependency { .. } => "CircularRecipeDependency",
+            CompileErrorKind::ArgumentPatternRegex => "ArgumentPatternRegex",
             CompileErrorKind::DependencyArgumentCountMismatch { .. } => {
                 "DependencyArgumentCountMismatch"
             }
@@ -426,6 +429,9 @@ impl<'src> fmt::Display for CompileErrorKind<'src> {
             CompileErrorKind::CircularRecipeDependency { recipe, circle } => {
                 write_circle(f, recipe, circle.as_slice())
             }
+            CompileErrorKind::ArgumentPatternRegex => f.write_str(
+                "Failed to parse argument pattern",
+            ),
             CompileErrorKind::DependencyArgumentCountMismatch {
                 dependency,
                 found,

@@ -17,13 +17,13 @@ pub use evaluation::Evaluation;
 pub use given::Given;
 pub use host::{Entry, Groups, Host};
 pub use just_ast_definitions::{
-    ArgumentAttribute, ArgumentProperty, Assignment, Attribute, CacheAttribute,
+    Alias, ArgumentAttribute, ArgumentProperty, Assignment, Attribute, CacheAttribute,
     EnvironmentAttribute, Fragment, FunctionDefinition, FunctionParameter, Line, NamedAttribute,
     Parameter, ParameterKind, Set, Setting,
 };
 pub use just_ast_expressions::{
-    Binding, ConditionalOperator, Expression, Interpreter, Keyword, ListUse, Pattern, Scope,
-    Settings, Shape, Sigil, Signal, StringLiteral, UnstableFeature, Warning,
+    Binding, ConditionalOperator, Expression, Interpreter, Keyword, ListUse, Scope, Settings,
+    Shape, Sigil, Signal, StringLiteral, UnstableFeature, Warning,
 };
 pub use just_ast_items::Edge;
 pub use just_errors::{
@@ -31,7 +31,8 @@ pub use just_errors::{
     RunError, SourceError, error,
 };
 pub use just_names::{Exhausted, ListFeature, Name, Namepath, Number, Numerator, Token};
-pub use just_recipe::UnresolvedDependency;
+pub use just_patterns::Pattern;
+pub use just_recipe::{DependencyArgument, UnresolvedDependency};
 pub use output::{Output, WriteFailed};
 pub use syntax::Syntax;
 pub use value::joined;

@@ -1,6 +1,10 @@
 -- Recipes as a list, each after those that it depends on.
 use Rattle.std.specs.Prelude.{◌≡◌, ◌≤◌, ℕ, ◌<◌, ◌==◌, List, [], ◌∷◌, ◌++◌, map, length, Option, Some, IsSome, slice_index, find}
 use Rattle.std.specs.List.{All, Contains}
+use Rattle.just_ast_definitions.specs.Parameter.{least_arguments}
+use Rattle.just_errors.specs.declared.error.InvocationError.{InvocationError}
+use Rattle.just_errors.specs.declared.error.InvocationError.TheVariants as invocation
+use Rattle.just_names.specs.Name.{text_of_name}
 use Rattle.just_recipe.specs.declared.dependency.Dependency.{Dependency}
 use Rattle.just_recipe.specs.declared.recipe.Recipe.{Recipe}
 
@@ -44,3 +48,8 @@ IsIndex recipes place_of = (k : ℕ) → k < length recipes → place_of (slice_
 pub record IsResolved (recipe : Recipe Dependency) : Type 0 where
   pub path : IsSome recipe.recipe_path
   pub priors : recipe.priors ≤ length recipe.dependencies
+
+module _ {D : Type 0} where
+  -- A recipe takes so many arguments at least, so that it cannot be run without words.
+  pub data CannotBeDefault (recipe : Recipe D) : InvocationError → Type 0 where
+    requires_arguments : {least : ℕ} → least_arguments recipe.parameters ≡ least → 0 < least → CannotBeDefault recipe (invocation.DefaultRecipeRequiresArguments (text_of_name recipe.name) least)

@@ -2,7 +2,8 @@
 #![tactic(auto)]
 
 mod dependency;
+mod grouping;
 mod recipe;
 
-pub use dependency::{Dependency, UnresolvedDependency};
+pub use dependency::{Dependency, DependencyArgument, UnresolvedDependency};
 pub use recipe::{Recipe, UnresolvedRecipe};

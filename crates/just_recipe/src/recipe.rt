@@ -1,14 +1,15 @@
 //! Recipes, as a text says them and resolved.
-ghost use Rattle.std.specs.Prelude.{◌≡◌, ◌≤◌, length, take, drop, count_by, IsSome, Some};
+ghost use Rattle.std.specs.Prelude.{◌≡◌, ◌≤◌, length, take, drop, count_by, IfErr, IsSome, OnOk, Some};
 ghost use Rattle.std.specs.List.{list_any};
+ghost use Rattle.just_recipe.specs.Recipes.{CannotBeDefault};
 ghost use Rattle.just_recipe.specs.Script.{is_shell};
 ghost use Rattle.just_ast_definitions.specs.Parameter.{is_required, least_arguments, most_arguments};
 
 use crate::dependency::{Dependency, UnresolvedDependency};
 use just_ast_definitions::{Attribute, Line, NamedAttribute, Parameter, any_variadic};
 use just_ast_expressions::Settings;
-use just_data::{Chain, Exact, Sequence, Text};
-use just_errors::ArgumentRange;
+use just_data::{BorrowedText, Chain, Exact, Sequence, Text};
+use just_errors::{ArgumentRange, InvocationError};
 use just_names::{Name, Number};
 use just_paths::Modulepath;
 use std::alloc::{AllocError, Global};
@@ -72,6 +73,21 @@ impl<'src, D> Recipe<'src, D> {
         } else {
             self.parameters.len()
         }
+    }
+
+    /// Refuses a recipe that takes arguments, and so cannot be run without words.
+    pub fn check_can_be_default_recipe(&self) -> Result<(), InvocationError<'src>>
+        ensures can { OnOk result (least_arguments self.now.parameters ≡ 0) }
+        ensures cannot { IfErr result (λ e. CannotBeDefault self.now e) }
+    {
+        let min_arguments = self.min_arguments();
+        if min_arguments == 0 {
+            return Ok(());
+        }
+        Err(InvocationError::DefaultRecipeRequiresArguments {
+            recipe: BorrowedText::new(self.name.lexeme()),
+            min_arguments,
+        })
     }
 
     /// How many arguments it takes under the settings of what depends on it.

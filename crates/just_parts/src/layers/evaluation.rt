@@ -10,6 +10,7 @@ ghost use Rattle.just_parts.specs.Host.{Answer};
 ghost use Rattle.just_parts.specs.Known.{sources};
 ghost use Rattle.just_parts.specs.Needs.{IsClosed, has_number, same_number};
 ghost use Rattle.just_parts.specs.Reading.{IsEvaluationOrder};
+ghost use Rattle.just_parts.specs.Told.{IsPlaceIn, IsPlaceInOne, IsToldIn, assigned_values};
 ghost use Rattle.just_ast_references.specs.Numbers.{bare};
 
 use just_ast_definitions::{Assignment, FunctionDefinition, Set};
@@ -53,7 +54,8 @@ pub trait Evaluation {
         ensures binds { let wanted = wanted_by assignments.now functions.now (get same_number overrides.now) (contains same_number references.now) lists in
             IfOk result (Binds assignments.now wanted) }
         ensures refused { let wanted = wanted_by assignments.now functions.now (get same_number overrides.now) (contains same_number references.now) lists in
-            IfErr result (FaultsAt ((answers self.now).constants wanted)) };
+            IfErr result (FaultsAt ((answers self.now).constants wanted)) }
+        ensures told { IfErr result (IsToldIn (IsPlaceInOne functions.now (assigned_values assignments.now))) };
 
     /// The value of an expression among constants. Where it has none a fault is told.
     fn value_const<'src>(
@@ -68,7 +70,8 @@ pub trait Evaluation {
         ensures value { let among = (answers self.now).value (functions_by_name functions.now) (values_of constants.now) in
             IfOk result (λ value. among (bare expression.now) ≡ Some value) }
         ensures refused { let among = (answers self.now).value (functions_by_name functions.now) (values_of constants.now) in
-            IfErr result (FaultsAt (among (bare expression.now))) };
+            IfErr result (FaultsAt (among (bare expression.now))) }
+        ensures told { IfErr result (IsToldIn (IsPlaceIn functions.now expression.now)) };
 
     /// The settings of a module that sets these, and has the others by default. Where one has no value a fault is told.
     fn sets<'src>(
@@ -83,5 +86,6 @@ pub trait Evaluation {
         ensures settings { let among = (answers self.now).settings (functions_by_name functions.now) (values_of constants.now) in
             IfOk result (λ made. among (map bare_set sets.now) ≡ Some made) }
         ensures refused { let among = (answers self.now).settings (functions_by_name functions.now) (values_of constants.now) in
-            IfErr result (FaultsAt (among (map bare_set sets.now))) };
+            IfErr result (FaultsAt (among (map bare_set sets.now))) }
+        ensures told { IfErr result (IsToldIn (IsPlaceInOne functions.now (flat_map set_expressions sets.now))) };
 }
