@@ -25,24 +25,29 @@ use Rattle.just_ast_expressions.specs.declared.string_literal.StringLiteral.{Str
 use Rattle.just_bench_expressions.specs.declared.lexer.Kind.{Kind}
 use Rattle.just_bench_expressions.specs.declared.lexer.Kind.TheVariants as kind
 use Rattle.just_bench_expressions.specs.declared.lexer.Lexeme.{Lexeme}
+use Rattle.just_bench_lines.specs.declared.alias.AliasLine.{AliasLine}
 use Rattle.just_bench_lines.specs.declared.attributes.Mark.{Mark}
 use Rattle.just_bench_lines.specs.declared.heading.Heading.{Heading}
 use Rattle.just_bench_lines.specs.declared.meaning.Declaration.{Declaration}
 use Rattle.just_bench_lines.specs.declared.meaning.Meaning.TheVariants as meanings
 use Rattle.just_bench_lines.specs.declared.meaning.Statement.{Statement}
 use Rattle.just_bench_lines.specs.declared.meaning.Statement.TheVariants as statements
+use Rattle.just_bench_lines.specs.Alias.{alias_by, alias_line, with_target}
 use Rattle.just_bench_lines.specs.Attributes.{attribute, attribute_of}
 use Rattle.just_bench_lines.specs.Definitions as definitions
 use Rattle.just_bench_lines.specs.Heading as heading
 use Rattle.just_bench_lines.specs.Meaning as meaning
+use Rattle.just_bench_lines.specs.Parts.{parts, parts_from}
+use Rattle.just_bench_lines.specs.Path.{path}
 use Rattle.just_bench_lines.specs.Places.{is_assign, is_at_sign, is_bracket_open, is_colon, is_equals, is_name, is_paren_open, is_plus, is_question, is_quoted, is_star}
-use Rattle.just_bench_lines.specs.Places.{is_word, literal, literal_at, name_at, name_there, quoted_at, quoted_there, stands, stands_there, word_at}
+use Rattle.just_bench_lines.specs.Places.{adjoins, is_word, literal, literal_at, name_at, name_there, quoted_at, quoted_there, stands, stands_there, word_at}
 use Rattle.just_bench_lines.proofs.Fronts.{Front, front}
 
 -- the kinds of lines
 pub data Sort : Type 0 where
   a_module : Sort
   a_mark : Sort
+  an_alias : Sort
   an_import : Sort
   a_setting : Sort
   an_unexport : Sort
@@ -79,7 +84,8 @@ by_word w =
     else (if bytes_eq w (codes "import") then an_import
     else (if bytes_eq w (codes "set") then a_setting
     else (if bytes_eq w (codes "unexport") then an_unexport
-    else a_variable)))
+    else (if bytes_eq w (codes "alias") then an_alias
+    else a_variable))))
 
 -- by the second lexeme and the third
 abbrev by_second : Option Kind → Option Kind → List ℕ → Sort
@@ -203,7 +209,11 @@ ended all at h = ap kind_of (slice_get_past all at (omega (arith, (Decides-eqb a
 optional_is : (all : List Lexeme) → meaning.is_optional all ≡ true → kind_of (slice_get all 1) ≡ Some kind.Question
 optional_is [] h = absurd (false≢true h)
 optional_is (word ∷ []) h = absurd (false≢true h)
-optional_is (word ∷ l ∷ rest) h = ap (λ k. Some k) (question_is l.kind (both (is_question l.kind) (l.token.offset == word.token.offset + word.token.length) h))
+optional_is (word ∷ l ∷ rest) h = ap (λ k. Some k) (question_is l.kind (both (is_question l.kind) (adjoins word l) h))
+
+-- parameters up to a `:`
+abbrev parameters_from : List Lexeme → ℕ → ℕ → List Lexeme → Option (List Parameter × ℕ)
+parameters_from = parts_from false is_colon heading.parameter
 
 -- the parameter that a name alone is
 abbrev plain_parameter : Lexeme → Parameter
@@ -297,6 +307,17 @@ module _ (all : List Lexeme) where
       let c = chosen (stands is_bracket_open all 0) (attribute_of all (name_at all 1)) m h in
       ap (λ k. by_first k (named_sort all)) (standing is_bracket_open kind.BracketOpen bracket_is (slice_get all 0) c.0)
 
+  alias_second : (name : Option Name) (a : AliasLine) → name ≡ name_at all 1 → alias_by all name ≡ Some a → named_sort all ≡ by_word word
+  alias_second None a is h = absurd (none-some a h)
+  alias_second (Some name) a is h =
+      let c = chosen (stands is_assign all 2) (with_target all name (path all 3)) a h in
+      by_name second third word false (named (slice_get all 1) name (sym is)).0 (ap goes_on (standing is_assign kind.Assign assign_is (slice_get all 2) c.0))
+
+  pub alias_sort : (a : AliasLine) → alias_line all ≡ Some a → sort all ≡ an_alias
+  alias_sort a h =
+      let c = chosen (word_at (codes "alias") all 0) (alias_by all (name_at all 1)) a h in
+      by_text all (codes "alias") c.0 (alias_second (name_at all 1) a refl c.1)
+
   set_third : (b c d : Bool) (t : Option Bool) (value : Bool) → (length all == 2) ≡ b → stands is_assign all 2 ≡ d
       → (if b then Some true else (if c then (if d then t else None) else None)) ≡ Some value → goes_on third ≡ false
   set_third true c d t value two assign h = ap goes_on (two_long two)
@@ -387,22 +408,22 @@ module _ (all : List Lexeme) where
       let n = no_start l.kind h in
       rw (there, n.1, n.2, n.3) refl
 
-  starting : (at : ℕ) (l : Lexeme) (rest : List Lexeme) (found : List Parameter × ℕ) → slice_get all at ≡ Some l → heading.parameters_from all at 0 (l ∷ rest) ≡ Some found → starts l.kind ≡ true
+  starting : (at : ℕ) (l : Lexeme) (rest : List Lexeme) (found : List Parameter × ℕ) → slice_get all at ≡ Some l → parameters_from all at 0 (l ∷ rest) ≡ Some found → starts l.kind ≡ true
   starting at l rest found there h = elim (cases_Bool (starts l.kind)) [
     | inl so ↦ so
     | inr other ↦
-        let none : heading.parameters_from all at 0 (l ∷ rest) ≡ None = rw ((no_start l.kind other).0, no_parameter at l there other) refl in
+        let none : parameters_from all at 0 (l ∷ rest) ≡ None = rw ((no_start l.kind other).0, no_parameter at l there other) refl in
         absurd (none-some found (sym none ∙ h))
   ]
 
   -- what the parameters of a heading begin with
   parameters_begin : (at : ℕ) (found : List Parameter × ℕ) → heading.parameters all at ≡ Some found → (l : Lexeme) × (slice_get all at ≡ Some l) × (starts l.kind ≡ true)
-  unfolding heading.parameters
+  unfolding parts
   parameters_begin at found h = elim ((slice_get_cases all at).1) [
     | inl here ↦
         let f = front all at here.1 in
-        (f.0, f.1.there, starting at f.0 (drop (at + 1) all) found f.1.there (sym (ap (heading.parameters_from all at 0) f.1.dropped) ∙ h))
-    | inr past ↦ absurd (none-some found (sym (ap (heading.parameters_from all at 0) (drop_all at all past.0)) ∙ h))
+        (f.0, f.1.there, starting at f.0 (drop (at + 1) all) found f.1.there (sym (ap (parameters_from all at 0) f.1.dropped) ∙ h))
+    | inr past ↦ absurd (none-some found (sym (ap (parameters_from all at 0) (drop_all at all past.0)) ∙ h))
   ]
 
   -- a name alone is a parameter
@@ -413,8 +434,8 @@ module _ (all : List Lexeme) where
 
   after_name : (l : Lexeme) → Front all 1 l → l.kind ≡ kind.Name → stands is_equals all 2 ≡ false
       → heading.parameters all 1 ≡ option_map {U = List Parameter × ℕ} (λ more. (plain_parameter l ∷ more.0, more.1)) (heading.parameters all 2)
-  unfolding heading.parameters
-  after_name l f is other = ap (heading.parameters_from all 1 0) f.dropped ∙ rw (is, alone l f.there is other) refl
+  unfolding parts
+  after_name l f is other = ap (parameters_from all 1 0) f.dropped ∙ rw (is, alone l f.there is other) refl
 
   parameters_go_on : (found : List Parameter × ℕ) → heading.parameters all 1 ≡ Some found → second ≡ Some kind.Name → goes_on third ≡ true
   parameters_go_on found h name = elim (cases_Bool (stands is_equals all 2)) [
@@ -497,6 +518,9 @@ module _ (all : List Lexeme) where
   no_mark : (sort all ≡ a_mark → ⊥) → attribute all ≡ None
   no_mark other = absent (attribute all) (λ m is. other (mark_sort all m is))
 
+  no_alias : (sort all ≡ an_alias → ⊥) → alias_line all ≡ None
+  no_alias other = absent (alias_line all) (λ a is. other (alias_sort all a is))
+
   no_item : is_item (sort all) ≡ false → meaning.statement all ≡ None
   no_item other = absent (meaning.statement all) (λ s is. false≢true (sym other ∙ item_sort s is))
 
@@ -510,17 +534,24 @@ module _ (all : List Lexeme) where
       let told = mark_sort all m is in
       rw (no_module (λ other. cc), is) refl
 
+  pub aliases_told : (a : AliasLine) → alias_line all ≡ Some a → meaning.sorted all ≡ meanings.Aliases a
+  unfolding meaning.sorted
+  aliases_told a is =
+      let told = alias_sort all a is in
+      rw (no_module (λ other. cc), no_mark (λ other. cc), is) refl
+
   pub statements_told : (s : Statement) → meaning.statement all ≡ Some s → meaning.sorted all ≡ meanings.States s
   unfolding meaning.sorted
   statements_told s is =
       let told = item_sort s is in
-      rw (no_module (λ other. false≢true (sym (ap is_item other) ∙ told)), no_mark (λ other. false≢true (sym (ap is_item other) ∙ told)), is) refl
+      let not : (k : Sort) → is_item k ≡ false → sort all ≡ k → ⊥ = λ k is other. false≢true (sym is ∙ sym (ap is_item other) ∙ told) in
+      rw (no_module (not a_module refl), no_mark (not a_mark refl), no_alias (not an_alias refl), is) refl
 
   pub headings_told : (h : Heading) → heading.heading all ≡ Some h → meaning.sorted all ≡ meanings.Begins h
   unfolding meaning.sorted
   headings_told h is =
       let told = heading_sort all h is in
-      rw (no_module (λ other. cc), no_mark (λ other. cc), no_item (ap is_item told), is) refl
+      rw (no_module (λ other. cc), no_mark (λ other. cc), no_alias (λ other. cc), no_item (ap is_item told), is) refl
 
   -- and within the items without attributes
   no_import : (sort all ≡ an_import → ⊥) → meaning.import all ≡ None

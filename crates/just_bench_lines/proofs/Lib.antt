@@ -3,10 +3,10 @@ pub mod Bounds
 pub mod Chars
 pub mod Closing
 pub mod Fronts
-pub mod Heads
 pub mod Joined
 pub mod Listed
 pub mod Marks
-pub mod Names
+pub mod Parts
+pub mod Paths
 pub mod Programs
 pub mod Props

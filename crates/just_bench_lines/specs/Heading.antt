@@ -1,6 +1,5 @@
 -- The line that a recipe begins with.
-use Rattle.std.specs.Prelude.{zero, suc, ℕ, ◌+◌, ◌-◌, ◌==◌, Bool, false, if◌then◌else◌, List, [], ◌∷◌, ◌++◌, length, drop, Option, Some, None}
-use Rattle.std.specs.Option.{option_map}
+use Rattle.std.specs.Prelude.{ℕ, ◌+◌, ◌==◌, Bool, false, if◌then◌else◌, List, [], ◌∷◌, ◌++◌, length, Option, Some, None}
 use Rattle.just_names.specs.Token.{lexeme}
 use Rattle.just_names.specs.declared.name.Name.{Name}
 use Rattle.just_names.specs.Number.{no_number}
@@ -8,11 +7,14 @@ use Rattle.just_ast_expressions.specs.declared.expression.Expression.{Expression
 use Rattle.just_ast_definitions.specs.declared.parameter.Parameter.{Parameter}
 use Rattle.just_ast_definitions.specs.declared.parameter.ParameterKind.{ParameterKind}
 use Rattle.just_ast_definitions.specs.declared.parameter.ParameterKind.TheVariants as parameter_kind
+use Rattle.just_recipe.specs.declared.dependency.UnresolvedDependency.{UnresolvedDependency}
 use Rattle.just_bench_expressions.specs.declared.expressions.Found.{Found}
 use Rattle.just_bench_expressions.specs.declared.lexer.Lexeme.{Lexeme}
 use Rattle.just_bench_expressions.specs.Expressions.{expression}
 use Rattle.just_bench_lines.specs.declared.heading.Heading.{Heading}
-use Rattle.just_bench_lines.specs.Places.{name_at, stands, is_and, is_at_sign, is_colon, is_equals, is_name, is_plus, is_star}
+use Rattle.just_bench_lines.specs.Dependencies.{dependency_list}
+use Rattle.just_bench_lines.specs.Parts.{parts}
+use Rattle.just_bench_lines.specs.Places.{name_at, stands, is_at_sign, is_colon, is_equals, is_plus, is_star}
 
 -- what is written before the name of a parameter
 abbrev pub mark : ParameterKind → List ℕ
@@ -66,48 +68,24 @@ parameter all at =
     else (if stands is_plus all at then named_parameter all (at + 1) parameter_kind.Plus
     else named_parameter all at parameter_kind.Singular)
 
--- a parameter before others, which begin after the lexemes that it takes
-abbrev pub before_others : ℕ → Option (Parameter × ℕ) → (ℕ → Option (List Parameter × ℕ)) → Option (List Parameter × ℕ)
-before_others at None others = None
-before_others at (Some found) others = option_map {U = List Parameter × ℕ} (λ more. (found.0 ∷ more.0, more.1)) (others (found.1 - (at + 1)))
-
--- the parameters up to a `:`, and its place, where so many lexemes at the front belong to the parameter before
-abbrev pub parameters_from : List Lexeme → ℕ → ℕ → List Lexeme → Option (List Parameter × ℕ)
-parameters_from all at skip [] = None
-parameters_from all at (suc skip) (l ∷ rest) = parameters_from all (at + 1) skip rest
-parameters_from all at zero (l ∷ rest) =
-    if is_colon l.kind then Some ([], at)
-    else before_others at (parameter all at) (λ skip. parameters_from all (at + 1) skip rest)
-
-unfoldable pub parameters : List Lexeme → ℕ → Option (List Parameter × ℕ)
-parameters all start = parameters_from all start 0 (drop start all)
-
--- the names at the front
-abbrev pub names_of : List Lexeme → List Name
-names_of [] = []
-names_of (l ∷ rest) = if is_name l.kind then record { token = l.token } ∷ names_of rest else []
-
--- the names from a place on, and the place after them
-unfoldable pub names : List Lexeme → ℕ → List Name
-names all start = names_of (drop start all)
-
-unfoldable pub after_names : List Lexeme → ℕ → ℕ
-after_names all start = start + length (names_of (drop start all))
+-- the parameters up to a `:`, and its place
+abbrev pub parameters : List Lexeme → ℕ → Option (List Parameter × ℕ)
+parameters = parts false is_colon parameter
 
 -- those that run after it end the line
-abbrev pub with_subsequents : List Lexeme → List Name → List Name → ℕ → Option (List Name × List Name)
-with_subsequents all priors subsequents end = if end == length all then Some (priors, subsequents) else None
+abbrev pub with_subsequents : List Lexeme → List UnresolvedDependency → Option (List UnresolvedDependency × ℕ) → Option (List UnresolvedDependency × List UnresolvedDependency)
+with_subsequents all priors None = None
+with_subsequents all priors (Some found) = if found.1 == length all then Some (priors, found.0) else None
 
 -- after those that run before it stands nothing, or `&&` and those that run after it
-abbrev pub with_priors : List Lexeme → List Name → ℕ → Option (List Name × List Name)
-with_priors all priors end =
-    if end == length all then Some (priors, [])
-    else (if stands is_and all end then with_subsequents all priors (names all (end + 1)) (after_names all (end + 1)) else None)
+abbrev pub with_priors : List Lexeme → Option (List UnresolvedDependency × ℕ) → Option (List UnresolvedDependency × List UnresolvedDependency)
+with_priors all None = None
+with_priors all (Some found) = if found.1 == length all then Some (found.0, []) else with_subsequents all found.0 (dependency_list all (found.1 + 1))
 
-unfoldable pub dependencies : List Lexeme → ℕ → Option (List Name × List Name)
-dependencies all start = with_priors all (names all start) (after_names all start)
+unfoldable pub dependencies : List Lexeme → ℕ → Option (List UnresolvedDependency × List UnresolvedDependency)
+dependencies all start = with_priors all (dependency_list all start)
 
-abbrev pub with_dependencies : Bool → Name → List Parameter → Option (List Name × List Name) → Option Heading
+abbrev pub with_dependencies : Bool → Name → List Parameter → Option (List UnresolvedDependency × List UnresolvedDependency) → Option Heading
 with_dependencies quiet name parameters None = None
 with_dependencies quiet name parameters (Some all) = Some (record { quiet = quiet; name = name; parameters = parameters; priors = all.0; subsequents = all.1 })
 

@@ -1,6 +1,10 @@
+pub mod Alias
 pub mod Attributes
 pub mod Body
 pub mod Definitions
+pub mod Dependencies
 pub mod Heading
 pub mod Meaning
+pub mod Parts
+pub mod Path
 pub mod Places

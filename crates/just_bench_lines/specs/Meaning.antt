@@ -14,16 +14,17 @@ use Rattle.just_bench_lines.specs.declared.meaning.Meaning.TheVariants as meanin
 use Rattle.just_bench_lines.specs.declared.meaning.Said.{Said}
 use Rattle.just_bench_lines.specs.declared.meaning.Statement.{Statement}
 use Rattle.just_bench_lines.specs.declared.meaning.Statement.TheVariants as statements
+use Rattle.just_bench_lines.specs.Alias.{alias_line}
 use Rattle.just_bench_lines.specs.Attributes.{attribute}
 use Rattle.just_bench_lines.specs.Definitions as definitions
 use Rattle.just_bench_lines.specs.Heading.{heading}
-use Rattle.just_bench_lines.specs.Places.{literal_at, name_at, stands, word_at, is_assign, is_question}
+use Rattle.just_bench_lines.specs.Places.{adjoins, literal_at, name_at, stands, word_at, is_assign, is_question}
 
 -- `?` stands right after the first word
 abbrev pub is_optional : List Lexeme → Bool
 is_optional [] = false
 is_optional (word ∷ []) = false
-is_optional (word ∷ l ∷ rest) = if is_question l.kind then l.token.offset == word.token.offset + word.token.length else false
+is_optional (word ∷ l ∷ rest) = if is_question l.kind then adjoins word l else false
 
 abbrev pub after_word : Bool → ℕ
 after_word optional = if optional then 2 else 1
@@ -84,8 +85,9 @@ unfoldable pub sorted : List Lexeme → Meaning
 sorted all =
     or_bad (or_else (option_map meaning.Declares (module_line all))
     (or_else (option_map meaning.Marks (attribute all))
+    (or_else (option_map meaning.Aliases (alias_line all))
     (or_else (option_map meaning.States (statement all))
-    (option_map meaning.Begins (heading all)))))
+    (option_map meaning.Begins (heading all))))))
 
 -- the place after the bracket that an attribute begins with, or after that of what a setting is set to
 abbrev pub after_bracket : List Lexeme → ℕ

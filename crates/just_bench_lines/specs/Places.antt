@@ -1,5 +1,5 @@
 -- What stands at a place among lexemes.
-use Rattle.std.specs.Prelude.{ℕ, ◌<◌, ◌≤◌, length, Bool, true, false, if◌then◌else◌, List, Option, Some, None}
+use Rattle.std.specs.Prelude.{ℕ, ◌+◌, ◌==◌, ◌<◌, ◌≤◌, length, Bool, true, false, if◌then◌else◌, List, Option, Some, None}
 use Rattle.std.specs.List.{slice_get}
 use Rattle.std.specs.Option.{option_map}
 use Rattle.std.specs.Str.{bytes_eq}
@@ -90,6 +90,10 @@ is_mark kind.ParenOpen = is_paren_open
 is_mark kind.ParenClose = is_paren_close
 is_mark kind.BracketOpen = is_bracket_open
 is_mark kind.BracketClose = is_bracket_close
+
+-- the second lexeme stands right after the first
+abbrev pub adjoins : Lexeme → Lexeme → Bool
+adjoins first second = second.token.offset == first.token.offset + first.token.length
 
 -- a lexeme of such a kind
 abbrev pub stands_there : (Kind → Bool) → Option Lexeme → Bool

@@ -1,16 +1,18 @@
 //! The line that a recipe begins with.
-ghost use Rattle.std.specs.Prelude.{◌≡◌, ◌<◌, ◌≤◌, length, IfOk, IfSome};
+ghost use Rattle.std.specs.Prelude.{◌≡◌, ◌<◌, ◌+◌, length, IfOk, IfSome};
 ghost use Rattle.just_bench_lines.specs.Places.{GoesOn};
 ghost use Rattle.just_bench_lines.specs.Heading as spec;
 
+use crate::dependencies::read_dependency_list;
 use crate::places::{mark_at, name_at};
 use just_ast_definitions::{Parameter, ParameterKind};
 use just_ast_expressions::Expression;
 use just_bench_expressions::expressions::{Found, read_operand};
-use just_bench_expressions::lexer::{Kind, Lexeme};
+use just_bench_expressions::lexer::Kind;
 use just_bench_expressions::spelling::Spelling;
 use just_data::{Sequence, Text};
 use just_names::{Name, Number};
+use just_recipe::UnresolvedDependency;
 use std::alloc::{AllocError, Global};
 
 /// The line that a recipe begins with.
@@ -23,9 +25,9 @@ pub struct Heading<'src> {
     /// Its parameters, without numbers.
     pub parameters: Sequence<Parameter<'src>>,
     /// What stands before `&&`, in order.
-    pub priors: Sequence<Name<'src>>,
+    pub priors: Sequence<UnresolvedDependency<'src>>,
     /// What stands after `&&`, in order.
-    pub subsequents: Sequence<Name<'src>>,
+    pub subsequents: Sequence<UnresolvedDependency<'src>>,
 }
 
 // What is written before the name of a parameter of this kind.
@@ -129,7 +131,7 @@ fn read_parameter<'src>(
 }
 
 // The parameters from a place to a `:`, and the place of that.
-#[tactic(auto, using(crate::proofs::Heads::heads_start, crate::proofs::Heads::heads_push, crate::proofs::Heads::heads_end, crate::proofs::Heads::heads_fail, crate::proofs::Heads::heads_past))]
+#[tactic(auto, using(crate::proofs::Parts::parts_start, crate::proofs::Parts::parts_push, crate::proofs::Parts::parts_stop, crate::proofs::Parts::parts_fail, crate::proofs::Parts::parts_cut))]
 fn read_parameters<'src>(
     spelling: &Spelling<'src>,
     start: usize,
@@ -155,49 +157,31 @@ fn read_parameters<'src>(
     Ok(None)
 }
 
-// The names from a place on, as far as names stand there, and the place after them.
-#[tactic(auto, using(crate::proofs::Names::named_start, crate::proofs::Names::named_all, crate::proofs::Names::named_end))]
-fn read_names<'src>(
-    alloc: Global,
-    lexemes: &[Lexeme<'src>],
-    start: usize,
-) -> Result<(Sequence<Name<'src>>, usize), AllocError>
-    requires { start ≤ length lexemes.now }
-    ensures names { IfOk result (λ read. read.0 ≡ spec.names lexemes.now start) }
-    ensures end { IfOk result (λ read. read.1 ≡ spec.after_names lexemes.now start) }
-    ensures within { IfOk result (λ read. read.1 ≤ length lexemes.now) }
-{
-    let mut names = Sequence::new(alloc);
-    let mut at = start;
-    while let Some(name) = name_at(lexemes, at) {
-        names.push(name)?;
-        at += 1;
-    }
-    Ok((names, at))
-}
+// What runs before a recipe, and what runs after it.
+type BothSides<'src> = (
+    Sequence<UnresolvedDependency<'src>>,
+    Sequence<UnresolvedDependency<'src>>,
+);
 
-// What runs before a recipe and after it, from the place after the `:` on.
+// What runs before a recipe and after it, from the `:` at a place on.
 #[tactic(auto, unfolding(crate::specs::Heading::dependencies))]
 fn read_dependencies<'src>(
-    alloc: Global,
-    lexemes: &[Lexeme<'src>],
-    start: usize,
-) -> Result<Option<(Sequence<Name<'src>>, Sequence<Name<'src>>)>, AllocError>
-    requires { start ≤ length lexemes.now }
-    ensures { IfOk result (λ found. found ≡ spec.dependencies lexemes.now start) }
+    spelling: &Spelling<'src>,
+    colon: usize,
+) -> Result<Option<BothSides<'src>>, AllocError>
+    requires { colon < length spelling.now }
+    ensures { IfOk result (λ found. found ≡ spec.dependencies spelling.now (colon + 1)) }
 {
-    let (priors, end) = read_names(alloc, lexemes, start)?;
-    if end == lexemes.len() {
-        return Ok(Some((priors, Sequence::new(alloc))));
-    }
-    if !mark_at(lexemes, end, Kind::And) {
+    let size = spelling.as_slice().len();
+    let Some((priors, end)) = read_dependency_list(spelling, colon + 1)? else {
         return Ok(None);
+    };
+    if end == size {
+        return Ok(Some((priors, Sequence::new(spelling.alloc()))));
     }
-    let (subsequents, end) = read_names(alloc, lexemes, end + 1)?;
-    if end == lexemes.len() {
-        Ok(Some((priors, subsequents)))
-    } else {
-        Ok(None)
+    match read_dependency_list(spelling, end + 1)? {
+        Some((subsequents, end)) if end == size => Ok(Some((priors, subsequents))),
+        _ => Ok(None),
     }
 }
 
@@ -214,7 +198,7 @@ fn after_name<'src>(
     let Some((parameters, end)) = read_parameters(spelling, at)? else {
         return Ok(None);
     };
-    match read_dependencies(spelling.alloc(), spelling.as_slice(), end + 1)? {
+    match read_dependencies(spelling, end)? {
         None => Ok(None),
         Some((priors, subsequents)) => Ok(Some(Heading {
             quiet,

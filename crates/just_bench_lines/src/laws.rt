@@ -8,12 +8,14 @@ ghost use Rattle.just_ast_definitions.specs.declared.setting.Set.{Set};
 ghost use Rattle.just_bench_expressions.specs.declared.lexer.Lexeme.{Lexeme};
 ghost use Rattle.just_bench_expressions.specs.Lexemes.{IsQuoted, between_quotes};
 ghost use Rattle.just_bench_expressions.specs.Lines.{lines_of};
+ghost use Rattle.just_bench_lines.specs.declared.alias.AliasLine.{AliasLine};
 ghost use Rattle.just_bench_lines.specs.declared.attributes.Mark.{Mark};
 ghost use Rattle.just_bench_lines.specs.declared.heading.Heading.{Heading};
 ghost use Rattle.just_bench_lines.specs.declared.meaning.Declaration.{Declaration};
 ghost use Rattle.just_bench_lines.specs.declared.meaning.Meaning.TheVariants as meaning;
 ghost use Rattle.just_bench_lines.specs.declared.meaning.Statement.{Statement};
 ghost use Rattle.just_bench_lines.specs.declared.meaning.Statement.TheVariants as item;
+ghost use Rattle.just_bench_lines.specs.Alias.{alias_line};
 ghost use Rattle.just_bench_lines.specs.Attributes.{attribute};
 ghost use Rattle.just_bench_lines.specs.Definitions as definitions;
 ghost use Rattle.just_bench_lines.specs.Heading.{heading};
@@ -31,11 +33,12 @@ pub fn quotes_joined(text: &str)
     ensures { 39 ∷ between_quotes text.now ++ 39 ∷ [] ≡ text.now }
 {}
 
-/// No line is of two kinds: what reads as a module, as an attribute, as an item without attributes or as the heading of
-/// a recipe is told as that. So recipes may be called `import` and `mod`. The call does nothing.
+/// No line is of two kinds: what reads as a module, as an attribute, as an alias, as an item without attributes or as the
+/// heading of a recipe is told as that. So recipes may be called `import` and `mod`. The call does nothing.
 pub fn lines_told_apart()
     ensures modules { (all : List Lexeme) (d : Declaration) → module_line all ≡ Some d → sorted all ≡ meaning.Declares d }
     ensures attributes { (all : List Lexeme) (m : Mark) → attribute all ≡ Some m → sorted all ≡ meaning.Marks m }
+    ensures aliases { (all : List Lexeme) (a : AliasLine) → alias_line all ≡ Some a → sorted all ≡ meaning.Aliases a }
     ensures statements { (all : List Lexeme) (s : Statement) → statement all ≡ Some s → sorted all ≡ meaning.States s }
     ensures headings { (all : List Lexeme) (h : Heading) → heading all ≡ Some h → sorted all ≡ meaning.Begins h }
 {}

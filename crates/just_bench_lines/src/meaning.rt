@@ -5,10 +5,11 @@ ghost use Rattle.just_bench_expressions.specs.Lexemes.{HasQuotes};
 ghost use Rattle.just_bench_expressions.specs.Lines.{IsLineOf};
 ghost use Rattle.just_bench_lines.specs.Meaning as spec;
 
+use crate::alias::{AliasLine, read_alias};
 use crate::attributes::{Mark, read_attribute};
 use crate::definitions::{read_assignment, read_function, read_set, read_unexport};
 use crate::heading::{Heading, read_heading};
-use crate::places::{literal_at, mark_at, name_at, word_at};
+use crate::places::{adjoins, literal_at, mark_at, name_at, word_at};
 use just_ast_definitions::{Assignment, FunctionDefinition, Set};
 use just_ast_expressions::{ListUse, StringLiteral};
 use just_bench_expressions::features::list_features;
@@ -34,6 +35,8 @@ pub enum Meaning<'src> {
     Begins(Heading<'src>),
     /// A file is a module.
     Declares(Declaration<'src>),
+    /// Another name for what a path leads to.
+    Aliases(AliasLine<'src>),
     /// An item that takes no attributes.
     States(Statement<'src>),
 }
@@ -80,14 +83,7 @@ pub struct Said<'src> {
 fn is_optional<'src>(lexemes: &[Lexeme<'src>]) -> bool
     ensures { result ≡ spec.is_optional lexemes.now }
 {
-    if !mark_at(lexemes, 1, Kind::Question) {
-        return false;
-    }
-    let (word, question) = (&lexemes[0].token, &lexemes[1].token);
-    match question.offset().checked_sub(word.offset()) {
-        None => false,
-        Some(distance) => distance == word.length(),
-    }
+    mark_at(lexemes, 1, Kind::Question) && adjoins(&lexemes[0], &lexemes[1])
 }
 
 // The place after the first word, and after a `?` that belongs to it.
@@ -197,6 +193,9 @@ fn read_lexemes<'src>(spelling: &Spelling<'src>) -> Result<Meaning<'src>, AllocE
     }
     if let Some(mark) = read_attribute(spelling)? {
         return Ok(Meaning::Marks(mark));
+    }
+    if let Some(alias) = read_alias(spelling)? {
+        return Ok(Meaning::Aliases(alias));
     }
     if let Some(statement) = read_statement(spelling)? {
         return Ok(Meaning::States(statement));

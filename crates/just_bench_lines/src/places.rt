@@ -11,6 +11,17 @@ use just_data::Text;
 use just_names::{Name, Token};
 use std::alloc::{AllocError, Global};
 
+/// Whether the second of two lexemes stands right after the first.
+pub fn adjoins<'src>(first: &Lexeme<'src>, second: &Lexeme<'src>) -> bool
+    ensures { result ≡ spec.adjoins first.now second.now }
+{
+    let (before, after) = (&first.token, &second.token);
+    match after.offset().checked_sub(before.offset()) {
+        None => false,
+        Some(distance) => distance == before.length(),
+    }
+}
+
 /// The name at a place.
 pub fn name_at<'src>(lexemes: &[Lexeme<'src>], at: usize) -> Option<Name<'src>>
     ensures is { result ≡ spec.name_at lexemes.now at }

@@ -96,7 +96,12 @@ bad_line path text all number line token whole told within is token_is =
 pub line_refuses : (pairs : List (Keyword × Keyword)) (path text : List ℕ) (given : ℕ) (e : Error) → RefusesLine path text e (given + spends path text) → Refuses (answers pairs) path text given e
 line_refuses pairs path text given error.Exhausted h = h
 line_refuses pairs path text given error.Memory h = tt
-line_refuses pairs path text given (error.Compile e) h = (ap (λ r. option_map ast_of (result_ok r)) h.told, h.kind)
+line_refuses pairs path text given (error.Compile e) h = record {
+  says_nothing = ap (λ r. option_map ast_of (result_ok r)) h.told;
+  kind = h.kind;
+  path = ap (λ (t : Place). t.path) h.whole;
+  src = ap (λ (t : Place). t.src) h.whole;
+}
 line_refuses pairs path text given (error.Load e) h = absurd h
 line_refuses pairs path text given (error.Invocation e) h = absurd h
 line_refuses pairs path text given (error.Run e) h = absurd h

@@ -5,7 +5,7 @@ use Rattle.std.specs.List.{All, Contains}
 use Rattle.std.specs.Option.{option_map}
 use Rattle.std.specs.Str.{bytes_eq}
 use Rattle.std.proofs.lemmas.Bool.{or_cases}
-use Rattle.std.proofs.lemmas.List.{length-append, length-map}
+use Rattle.std.proofs.lemmas.List.{length-append}
 use Rattle.std.proofs.lemmas.List.Elements.{Contains-append_right}
 use Rattle.std.proofs.lemmas.Slice.Eq.{bytes_eq-Decides}
 use Rattle.just_names.specs.Token.{lexeme}
@@ -28,6 +28,7 @@ use Rattle.just_bench_expressions.specs.Expressions.{expression}
 use Rattle.just_bench_lines.specs.declared.attributes.Options.{Options}
 use Rattle.just_bench_lines.specs.declared.heading.Heading.{Heading}
 use Rattle.just_bench_lines.specs.Heading as heading
+use Rattle.just_bench_lines.specs.Parts.{before_others, parts, parts_from}
 use Rattle.just_bench_syntax.specs.Proper.{IsProper}
 use Rattle.just_bench_lines.specs.Places.{name_at, stands, is_at_sign, is_colon, is_equals, is_plus, is_star}
 use Rattle.just_bench_syntax.specs.Recipe as recipe
@@ -36,6 +37,10 @@ use Rattle.just_bench_syntax.specs.Recipe as recipe
 pub either : {A : Type 0} (P : A → Type 0) (b : Bool) (x y : A) → P x → P y → P (if b then x else y)
 either P true x y p q = p
 either P false x y p q = q
+
+-- parameters up to a `:`
+abbrev parameters_from : List Lexeme → ℕ → ℕ → List Lexeme → Option (List Parameter × ℕ)
+parameters_from = parts_from false is_colon heading.parameter
 
 -- a parameter without a number, of which nothing is evaluated
 abbrev pub IsFresh : Parameter → Type 0
@@ -79,19 +84,19 @@ and_fresh : (p : Parameter) (more : Option (List Parameter × ℕ)) → IsFresh 
 and_fresh p None one many = tt
 and_fresh p (Some more) one many = (one, many)
 
-before_fresh : (at : ℕ) (found : Option (Parameter × ℕ)) (others : ℕ → Option (List Parameter × ℕ)) → OneFresh found → ((n : ℕ) → ManyFresh (others n)) → ManyFresh (heading.before_others at found others)
+before_fresh : (at : ℕ) (found : Option (Parameter × ℕ)) (others : ℕ → Option (List Parameter × ℕ)) → OneFresh found → ((n : ℕ) → ManyFresh (others n)) → ManyFresh (before_others at found others)
 before_fresh at None others one many = tt
 before_fresh at (Some found) others one many = and_fresh found.0 (others (found.1 - (at + 1))) one (many (found.1 - (at + 1)))
 
-from_fresh : (all : List Lexeme) (at skip : ℕ) (rest : List Lexeme) → ManyFresh (heading.parameters_from all at skip rest)
+from_fresh : (all : List Lexeme) (at skip : ℕ) (rest : List Lexeme) → ManyFresh (parameters_from all at skip rest)
 from_fresh all at skip [] = tt
 from_fresh all at (suc skip) (l ∷ rest) = from_fresh all (at + 1) skip rest
 from_fresh all at zero (l ∷ rest) =
-    either ManyFresh (is_colon l.kind) (Some ([], at)) (heading.before_others at (heading.parameter all at) (λ skip. heading.parameters_from all (at + 1) skip rest))
-    tt (before_fresh at (heading.parameter all at) (λ skip. heading.parameters_from all (at + 1) skip rest) (parameter_fresh all at) (λ skip. from_fresh all (at + 1) skip rest))
+    either ManyFresh (is_colon l.kind) (Some ([], at)) (before_others at (heading.parameter all at) (λ skip. parameters_from all (at + 1) skip rest))
+    tt (before_fresh at (heading.parameter all at) (λ skip. parameters_from all (at + 1) skip rest) (parameter_fresh all at) (λ skip. from_fresh all (at + 1) skip rest))
 
 parameters_fresh : (all : List Lexeme) (start : ℕ) → ManyFresh (heading.parameters all start)
-unfolding heading.parameters
+unfolding parts
 parameters_fresh all start = from_fresh all start 0 (drop start all)
 
 -- a heading of such parameters
@@ -99,7 +104,7 @@ abbrev pub HeadingFresh : Option Heading → Type 0
 HeadingFresh None = Unit {0}
 HeadingFresh (Some h) = AreFresh h.parameters
 
-dependencies_fresh : (quiet : Bool) (name : Name) (ps : List Parameter) (d : Option (List Name × List Name)) → AreFresh ps → HeadingFresh (heading.with_dependencies quiet name ps d)
+dependencies_fresh : (quiet : Bool) (name : Name) (ps : List Parameter) (d : Option (List UnresolvedDependency × List UnresolvedDependency)) → AreFresh ps → HeadingFresh (heading.with_dependencies quiet name ps d)
 dependencies_fresh quiet name ps None fresh = tt
 dependencies_fresh quiet name ps (Some d) fresh = fresh
 
@@ -193,7 +198,7 @@ made_proper : (h : Heading) (attributes : List (NamedAttribute Expression)) (opt
     → All (λ (n : NamedAttribute Expression). IsSaid options n.attribute) attributes → IsProper (item.Recipe (recipe.made_of h attributes options))
 made_proper h attributes options fresh fits said = record {
   bare = ap (λ ps. item.Recipe (record (recipe.made_of h attributes options) { parameters = ps })) (bare_of (map (recipe.with_options options) h.parameters) (options_fresh options h.parameters fresh));
-  priors = rw (length-append (map recipe.dependency h.priors) (map recipe.dependency h.subsequents), length-map h.priors recipe.dependency) (omega arith);
+  priors = rw (length-append h.priors h.subsequents) (omega arith);
   attributes = record {
     parameters = plain_of (map (recipe.with_options options) h.parameters) (options_fresh options h.parameters fresh);
     attributes = λ k d within. said_named h.parameters options (get_or attributes k d).attribute fits (said k d within);

@@ -27,6 +27,7 @@ use Rattle.just_bench_expressions.specs.Lexemes.{is_blank, lexemes}
 use Rattle.just_bench_expressions.specs.Lines.{lines_of}
 use Rattle.just_bench_lines.specs.declared.attributes.Mark.{Mark}
 use Rattle.just_bench_lines.specs.declared.attributes.Options.{Options}
+use Rattle.just_bench_lines.specs.declared.alias.AliasLine.{AliasLine}
 use Rattle.just_bench_lines.specs.declared.body.BodyLine.{BodyLine}
 use Rattle.just_bench_lines.specs.declared.heading.Heading.{Heading}
 use Rattle.just_bench_syntax.specs.declared.items.Items.{Items}
@@ -37,6 +38,7 @@ use Rattle.just_bench_lines.specs.declared.meaning.Meaning.TheVariants as meanin
 use Rattle.just_bench_lines.specs.declared.meaning.Said.{Said}
 use Rattle.just_bench_lines.specs.declared.meaning.Statement.{Statement}
 use Rattle.just_bench_lines.specs.declared.meaning.Statement.TheVariants as statements
+use Rattle.just_bench_lines.specs.Alias.{alias_line}
 use Rattle.just_bench_lines.specs.Attributes.{attribute as attribute_line}
 use Rattle.just_bench_lines.specs.Body.{body_line, indent}
 use Rattle.just_bench_lines.specs.Definitions as definitions
@@ -76,6 +78,10 @@ declared_fine (Some d) = tt
 marked_fine : (m : Option Mark) → MarkSaid m → MaybeFine (option_map meaning.Marks m)
 marked_fine None p = tt
 marked_fine (Some m) p = p
+
+alias_fine : (a : Option AliasLine) → MaybeFine (option_map meaning.Aliases a)
+alias_fine None = tt
+alias_fine (Some a) = tt
 
 begun_fine : (h : Option Heading) → HeadingFresh h → MaybeFine (option_map meaning.Begins h)
 begun_fine None p = tt
@@ -200,8 +206,9 @@ unfolding said.sorted
 sorted_fine all = bad_fine _
     (or_fine (option_map meaning.Declares (said.module_line all)) _ (declared_fine (said.module_line all))
     (or_fine (option_map meaning.Marks (attribute_line all)) _ (marked_fine (attribute_line all) (mark_said all))
+    (or_fine (option_map meaning.Aliases (alias_line all)) _ (alias_fine (alias_line all))
     (or_fine (option_map meaning.States (said.statement all)) _ (stated_fine (said.statement all) (statement_proper all))
-    (begun_fine (heading all) (heading_fresh all)))))
+    (begun_fine (heading all) (heading_fresh all))))))
 
 lexemes_fine : (found : Option (List Lexeme)) → IsFine (said.or_plain (said.sharp_by found)).meaning
 lexemes_fine None = tt
@@ -309,6 +316,7 @@ meaning_steady path text line meaning.Indented r steady fine = dropped_steady pa
 meaning_steady path text line (meaning.Marks m) r steady fine = mark_steady r line.number m steady fine
 meaning_steady path text line (meaning.Begins h) r steady fine = recipe_steady r (recipe h r.attributes r.options) steady (recipe_proper h r.attributes r.options fine steady.said)
 meaning_steady path text line (meaning.Declares d) r steady fine = module_steady r d steady
+meaning_steady path text line (meaning.Aliases a) r steady fine = tt
 meaning_steady path text line (meaning.States s) r steady fine = item_steady r (items.item_of s) steady fine
 
 onward_steady : {B : Type 0} (P : B → Type 0) (r : Result Reading ℕ) (more : Reading → Result B ℕ) → Goes r → ((x : Reading) → IsSteady x → IfOk (more x) P) → IfOk (items.onward r more) P

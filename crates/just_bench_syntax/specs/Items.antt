@@ -129,6 +129,7 @@ with_meaning path text line meaning.Indented reading = with_body path text line 
 with_meaning path text line (meaning.Marks mark) reading = Ok (with_mark reading line.number mark)
 with_meaning path text line (meaning.Begins h) reading = with_recipe reading h
 with_meaning path text line (meaning.Declares declared) reading = with_module reading declared
+with_meaning path text line (meaning.Aliases it) reading = Err line.number
 with_meaning path text line (meaning.States it) reading = with_item reading (item_of it)
 
 -- for what follows

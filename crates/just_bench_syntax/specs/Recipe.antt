@@ -3,7 +3,6 @@ use Rattle.std.specs.Prelude.{ℕ, ◌||◌, Bool, true, false, if◌then◌else
 use Rattle.std.specs.List.{find, list_any}
 use Rattle.std.specs.Str.{bytes_eq}
 use Rattle.just_names.specs.Token.{lexeme}
-use Rattle.just_names.specs.declared.name.Name.{Name}
 use Rattle.just_names.specs.Number.{no_number}
 use Rattle.just_recipe.specs.declared.dependency.UnresolvedDependency.{UnresolvedDependency}
 use Rattle.just_recipe.specs.declared.recipe.Recipe.{Recipe}
@@ -36,10 +35,6 @@ given (Some o) p = record p { long = o.long; short = o.short; flag = o.flag }
 abbrev pub with_options : List Options → Parameter → Parameter
 with_options options p = given (options_of options (lexeme p.name.token)) p
 
--- a dependency on a recipe of the same module
-abbrev pub dependency : Name → UnresolvedDependency
-dependency name = record { recipe = record { front = []; last = name } }
-
 -- the attribute `private`
 abbrev pub is_private_mark : Attribute Expression → Bool
 is_private_mark attribute.Private = true
@@ -53,7 +48,7 @@ abbrev pub made_of : Heading → List (NamedAttribute Expression) → List Optio
 made_of h attributes options = record {
   attributes = attributes;
   body = [];
-  dependencies = map dependency h.priors ++ map dependency h.subsequents;
+  dependencies = h.priors ++ h.subsequents;
   doc = None;
   file_depth = 0;
   import_offsets = [];

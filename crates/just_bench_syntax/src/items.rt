@@ -285,6 +285,8 @@ fn add_meaning<'src>(
         Meaning::Marks(mark) => Ok(Ok(add_mark(reading, line.number, mark)?)),
         Meaning::Begins(heading) => add_recipe(alloc, reading, heading),
         Meaning::Declares(declaration) => add_module(alloc, reading, declaration),
+        // Aliases are not compiled yet.
+        Meaning::Aliases(_) => Ok(Err(line.number)),
         Meaning::States(statement) => add_item(reading, statement),
     }
 }

@@ -1,5 +1,5 @@
 //! The recipe that a heading begins.
-ghost use Rattle.std.specs.Prelude.{◌≡◌, ◌++◌, map, OnOk, IfOk};
+ghost use Rattle.std.specs.Prelude.{◌≡◌, map, OnOk, IfOk};
 ghost use Rattle.std.specs.List.{list_all, list_any};
 ghost use Rattle.std.specs.Option.{option_copied};
 ghost use Rattle.just_bench_syntax.specs.Recipe as spec;
@@ -9,8 +9,7 @@ use just_bench_lines::attributes::Options;
 use just_bench_lines::definitions::is_private;
 use just_bench_lines::heading::Heading;
 use just_data::{Chain, Sequence};
-use just_names::{Name, Namepath, Number};
-use just_parts::layers::UnresolvedDependency;
+use just_names::Number;
 use just_parts::{Recipe, UnresolvedRecipe};
 use std::alloc::{AllocError, Global};
 
@@ -75,26 +74,6 @@ fn give_all<'src>(
     Ok(())
 }
 
-// Puts the dependencies of these names at the end.
-fn add_dependencies<'src>(
-    alloc: Global,
-    names: &[Name<'src>],
-    made: &mut Vec<UnresolvedDependency<'src>>,
-) -> Result<(), AllocError>
-    ensures { OnOk result (made.new.items ≡ made.old.items ++ map spec.dependency names.now) }
-{
-    made.reserve_exact(names.len())?;
-    for name in names {
-        made.push(UnresolvedDependency {
-            recipe: Namepath {
-                front: Sequence::new(alloc),
-                last: name.copied(),
-            },
-        })?;
-    }
-    Ok(())
-}
-
 // Whether one of them is `private`.
 fn says_private<'src>(attributes: &[NamedAttribute<'src>]) -> bool
     ensures { result ≡ list_any spec.says_private attributes.now }
@@ -127,21 +106,21 @@ pub fn make_recipe<'src>(
     }
     let mut parameters = parameters.into_vec();
     give_all(&mut parameters, options)?;
-    let mut dependencies = Vec::new(alloc);
-    add_dependencies(alloc, priors.as_slice(), &mut dependencies)?;
-    add_dependencies(alloc, subsequents.as_slice(), &mut dependencies)?;
+    let count = priors.len();
+    let mut dependencies = priors;
+    dependencies.append(subsequents)?;
     let private = is_private(&name) || says_private(attributes.as_slice());
     Ok(Some(Recipe {
         attributes,
         body: Sequence::new(alloc),
-        dependencies: Sequence::from_vec(dependencies),
+        dependencies,
         doc: None,
         file_depth: 0,
         import_offsets: Chain::new(),
         name,
         number: Number(0),
         parameters: Sequence::from_vec(parameters),
-        priors: priors.len(),
+        priors: count,
         private,
         quiet,
         shebang: false,
