@@ -4,7 +4,9 @@ pub mod BareSets
 pub mod Branches
 pub mod Called
 pub mod Ended
+pub mod Interpreted
 pub mod Measure
+pub mod Places
 pub mod Read
 pub mod Scoped
 pub mod Settled

@@ -4,7 +4,10 @@ use Rattle.std.specs.Option.{option_map}
 use Rattle.just_errors.specs.declared.error.CompileErrorKind.TheVariants as kind
 use Rattle.just_errors.specs.declared.error.Error.{Error}
 use Rattle.just_errors.specs.declared.error.Error.TheVariants as error
+use Rattle.just_ast_definitions.specs.declared.function_definition.FunctionDefinition.{FunctionDefinition}
+use Rattle.just_names.specs.declared.name.Name.{Name}
 use Rattle.just_parts.specs.Evaluator.{FaultsAt, Values, values_of}
+use Rattle.just_parts.specs.Told.{IsPlaceIn, IsToldIn}
 use Rattle.just_names.specs.Texts.{Text}
 use Rattle.just_names.specs.Name.{text_of_name}
 use Rattle.just_names.specs.Token.{Place}
@@ -34,7 +37,12 @@ IsToldAt place message (error.Load e) = ⊥
 IsToldAt place message (error.Invocation e) = ⊥
 IsToldAt place message (error.Run e) = ⊥
 
--- A result tells an outcome: the value, or a fault where there is none; want of memory aside.
-abbrev pub Tells : {A : Type 0} → Option A → Result A Error → Type 0
-Tells outcome (Ok value) = outcome ≡ Some value
-Tells outcome (Err e) = FaultsAt outcome e
+-- A result tells an outcome: the value, or a fault at one of these places where there is none; want of memory aside.
+abbrev pub Tells : {A : Type 0} → Option A → (Place → Type 0) → Result A Error → Type 0
+Tells outcome places (Ok value) = outcome ≡ Some value
+Tells outcome places (Err e) = FaultsAt outcome e × IsToldIn places e
+
+-- a place of a call: that of its name, or one of the body that is called
+pub data IsPlaceOfCall (functions : List (Text × FunctionDefinition)) (name : Name) (place : Place) : Type 0 where
+  at_call : place ≡ name.token → IsPlaceOfCall functions name place
+  in_called : {f : FunctionDefinition} → find (text_of_name name) functions ≡ Some f → IsPlaceIn functions f.body place → IsPlaceOfCall functions name place

@@ -9,6 +9,7 @@ ghost use Rattle.just_parts.specs.Evaluator.{Binds, FaultsAt, functions_by_name,
 ghost use Rattle.just_parts.specs.Known.{sources};
 ghost use Rattle.just_parts.specs.Needs.{same_number};
 ghost use Rattle.just_parts.specs.Reading.{IsEvaluationOrder};
+ghost use Rattle.just_parts.specs.Told.{IsPlaceIn, IsPlaceInOne, IsToldIn, assigned_values};
 ghost use Rattle.just_table.specs.Entries.{IsKeyed, IsSorted};
 ghost use Rattle.just_bench_evaluation.specs.Constants as spec;
 ghost use Rattle.just_bench_evaluation.specs.Constants.{Adds};
@@ -32,7 +33,7 @@ fn value_of<'src>(
     assignment: &Assignment<'src>,
 ) -> Result<Sequence<Text>, Error<'src>>
     ensures { let value = value.value_of (functions_by_name functions.now) (table_values constants.now) assignment.now.value in
-        Tells (spec.overridden_or (get same_number overrides.now assignment.now.number) value) result }
+        Tells (spec.overridden_or (get same_number overrides.now assignment.now.number) value) (IsPlaceIn functions.now assignment.now.value) result }
 {
     match overrides.get(&assignment.number) {
         Some(text) => Ok(one(alloc, text)?),
@@ -62,6 +63,7 @@ fn add_constant<'src>(
     ensures keyed { OnOk result (IsKeyed constant_name constants.old → IsKeyed constant_name constants.new) }
     ensures refused { let wanted = wanted_by assignments.now functions.now (get same_number overrides.now) (contains same_number references.now) false in
         IfErr result (FaultsAt (spec.demanded wanted (table_values constants.old) (text_of_name name.now))) }
+    ensures told { IfErr result (IsToldIn (IsPlaceInOne functions.now (assigned_values assignments.now))) }
 {
     let Some(assignment) = assignments.get(name.lexeme()) else {
         return Ok(());
@@ -121,6 +123,7 @@ pub fn constants_of<'src>(
     ensures refused { (lists : Bool) →
         let wanted = wanted_by assignments.now functions.now (get same_number overrides.now) (contains same_number references.now) lists in
         IfErr result (FaultsAt (spec.constants_of wanted)) }
+    ensures told { IfErr result (IsToldIn (IsPlaceInOne functions.now (assigned_values assignments.now))) }
 {
     let mut constants = Table::new(alloc);
     for name in order {

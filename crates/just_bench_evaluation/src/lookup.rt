@@ -3,6 +3,7 @@ ghost use Rattle.std.specs.Prelude.{◌≡◌, List, None};
 ghost use Rattle.std.specs.Option.{option_copied};
 ghost use Rattle.just_names.specs.Texts as path;
 ghost use Rattle.just_parts.specs.Evaluator.{FaultsAt, values_of};
+ghost use Rattle.just_parts.specs.Told.{IsToldIn, nowhere};
 ghost use Rattle.just_bench_evaluation.specs.Lookup.{IsToldAt, constant_values};
 ghost use Rattle.just_bench_evaluation.specs.Values.{bound};
 
@@ -89,6 +90,7 @@ pub fn argument_of<'a, 'src>(
 pub fn fault<'src>(alloc: Global, token: &Token<'src>, message: &str) -> Error<'src>
     ensures none { FaultsAt {A = List path.Text} None result }
     ensures told { IsToldAt token.now message.now result }
+    ensures place { IsToldIn (λ place. place ≡ token.now) result }
 {
     match Text::from_str(alloc, message) {
         Ok(message) => Error::Compile(CompileError {
@@ -101,7 +103,8 @@ pub fn fault<'src>(alloc: Global, token: &Token<'src>, message: &str) -> Error<'
 
 /// What is told of an expression that the grammar does not have. It has no name: the place is an empty text.
 pub fn fault_nowhere<'src>(alloc: Global) -> Error<'src>
-    ensures { FaultsAt {A = List path.Text} None result }
+    ensures none { FaultsAt {A = List path.Text} None result }
+    ensures place { IsToldIn (λ place. place ≡ nowhere) result }
 {
     let token = Token::new(0, 0, 0, 0, BorrowedText::new(""), BorrowedText::new(""));
     fault(

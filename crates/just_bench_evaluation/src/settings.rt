@@ -1,6 +1,7 @@
 //! What settings come to.
-ghost use Rattle.std.specs.Prelude.{◌≡◌, IfOk, IfErr, OnOk, Some, map};
-ghost use Rattle.just_parts.specs.Evaluator.{FaultsAt, bare_set, functions_by_name, values_of};
+ghost use Rattle.std.specs.Prelude.{◌≡◌, IfOk, IfErr, OnOk, Some, flat_map, map};
+ghost use Rattle.just_parts.specs.Evaluator.{FaultsAt, bare_set, functions_by_name, interpreter_expressions, set_expressions, setting_expressions, values_of};
+ghost use Rattle.just_parts.specs.Told.{IsPlaceIn, IsPlaceInOne, IsToldIn};
 ghost use Rattle.just_bench_evaluation.specs.Lookup.{Tells};
 ghost use Rattle.just_bench_evaluation.specs.Settings as spec;
 ghost use Rattle.just_bench_evaluation.specs.Values as value;
@@ -22,7 +23,7 @@ fn text<'src>(
     expression: &Expression<'src>,
 ) -> Result<Text, Error<'src>>
     ensures { let values = value.value_of (functions_by_name functions.now) (values_of constants.now) in
-        Tells (spec.text_with values expression.now) result }
+        Tells (spec.text_with values expression.now) (IsPlaceIn functions.now expression.now) result }
 {
     let value = evaluate_among(alloc, functions, Constants::Listed(constants), expression)?;
     Ok(joined(alloc, value.as_slice())?)
@@ -36,7 +37,7 @@ fn texts<'src>(
     expressions: &[Expression<'src>],
 ) -> Result<Sequence<Text>, Error<'src>>
     ensures { let values = value.value_of (functions_by_name functions.now) (values_of constants.now) in
-        Tells (value.all_of (map (spec.text_with values) expressions.now)) result }
+        Tells (value.all_of (map (spec.text_with values) expressions.now)) (IsPlaceInOne functions.now expressions.now) result }
 {
     let mut texts = Sequence::new(alloc);
     for expression in expressions {
@@ -54,7 +55,7 @@ fn interpreter<'src>(
     interpreter: &Interpreter<Expression<'src>>,
 ) -> Result<Interpreter<Text>, Error<'src>>
     ensures { let values = value.value_of (functions_by_name functions.now) (values_of constants.now) in
-        Tells (spec.interpreter_with values interpreter.now) result }
+        Tells (spec.interpreter_with values interpreter.now) (IsPlaceInOne functions.now (interpreter_expressions interpreter.now)) result }
 {
     let command = text(alloc, functions, constants, &interpreter.command)?;
     let arguments = texts(
@@ -78,6 +79,7 @@ fn set<'src>(
         OnOk result (spec.setting_with values setting.now settings.old ≡ Some settings.new) }
     ensures refused { let values = value.value_of (functions_by_name functions.now) (values_of constants.now) in
         IfErr result (FaultsAt (spec.setting_with values setting.now settings.old)) }
+    ensures told { IfErr result (IsToldIn (IsPlaceInOne functions.now (setting_expressions setting.now))) }
 {
     match setting {
         Setting::AllowDuplicateRecipes(on) => settings.allow_duplicate_recipes = *on,
@@ -113,6 +115,7 @@ pub fn settings_of<'src>(
     ensures settings { let among = spec.settings_of (functions_by_name functions.now) (values_of constants.now) in
         IfOk result (λ made. among (map bare_set sets.now) ≡ Some made) }
     ensures refused { IfErr result (FaultsAt (spec.settings_of (functions_by_name functions.now) (values_of constants.now) (map bare_set sets.now))) }
+    ensures told { IfErr result (IsToldIn (IsPlaceInOne functions.now (flat_map set_expressions sets.now))) }
 {
     let mut settings = Settings::default();
     for one in sets {

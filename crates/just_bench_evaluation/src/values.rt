@@ -2,9 +2,10 @@
 ghost use Rattle.std.specs.Prelude.{◌≡◌, [], ◌∷◌, Some, map, IfOk, IfErr};
 ghost use Rattle.just_names.specs.Name.{text_of_name};
 ghost use Rattle.just_parts.specs.Evaluator.{FaultsAt, functions_by_name, values_of};
+ghost use Rattle.just_parts.specs.Told.{IsPlaceIn, IsPlaceInOne, IsToldIn};
 ghost use Rattle.just_ast_references.specs.Numbers.{bare};
 ghost use Rattle.just_bench_evaluation.specs.Among.{all_among, call_among, value_among, variable_among};
-ghost use Rattle.just_bench_evaluation.specs.Lookup.{Tells, constant_values};
+ghost use Rattle.just_bench_evaluation.specs.Lookup.{IsPlaceOfCall, Tells, constant_values};
 ghost use Rattle.just_bench_evaluation.specs.Values as spec;
 
 use crate::lookup::{Constants, argument_of, fault, fault_nowhere};
@@ -72,7 +73,7 @@ fn variable<'a, 'src>(
     among: &Among<'a, 'src>,
     name: &Name<'src>,
 ) -> Result<Sequence<Text>, Error<'src>>
-    ensures { Tells (variable_among among.now (text_of_name name.now)) result }
+    ensures { Tells (variable_among among.now (text_of_name name.now)) (λ place. place ≡ name.now.token) result }
 {
     if let Some(value) = argument_of(among.parameters, among.arguments, name.lexeme()) {
         return Ok(value.clone()?);
@@ -92,6 +93,7 @@ fn evaluate_all<'a, 'src>(
 ) -> Result<Vec<Sequence<Text>>, Error<'src>>
     ensures values { IfOk result (λ values. all_among among.now expressions.now ≡ Some values.items) }
     ensures refused { IfErr result (FaultsAt (all_among among.now expressions.now)) }
+    ensures told { IfErr result (IsToldIn (IsPlaceInOne among.now.functions.now expressions.now)) }
 {
     let mut values = Vec::new(alloc);
     for expression in expressions {
@@ -109,7 +111,7 @@ fn call<'a, 'src>(
     name: &Name<'src>,
     arguments: &[Sequence<Text>],
 ) -> Result<Sequence<Text>, Error<'src>>
-    ensures { Tells (call_among among.now (text_of_name name.now) arguments.now) result }
+    ensures { Tells (call_among among.now (text_of_name name.now) arguments.now) (IsPlaceOfCall among.now.functions.now name.now) result }
 {
     let Some(function) = among.functions.get(name.lexeme()) else {
         return Err(fault(alloc, &name.token, "The function has no value here"));
@@ -141,7 +143,7 @@ pub fn evaluate<'a, 'src>(
     among: &Among<'a, 'src>,
     expression: &Expression<'src>,
 ) -> Result<Sequence<Text>, Error<'src>>
-    ensures { Tells (value_among among.now expression.now) result }
+    ensures { Tells (value_among among.now expression.now) (IsPlaceIn among.now.functions.now expression.now) result }
 {
     match expression.shape.get() {
         Shape::StringLiteral { cooked } => Ok(one(alloc, cooked)?),
@@ -180,7 +182,8 @@ pub fn evaluate_among<'a, 'src>(
     constants: Constants<'a, 'src>,
     expression: &Expression<'src>,
 ) -> Result<Sequence<Text>, Error<'src>>
-    ensures { Tells (spec.value_of (functions_by_name functions.now) (constant_values constants.entry) expression.now) result }
+    ensures { let value = spec.value_of (functions_by_name functions.now) (constant_values constants.entry) expression.now in
+        Tells value (IsPlaceIn functions.now expression.now) result }
 {
     let parameters = Vec::new(alloc);
     let arguments = Vec::new(alloc);
@@ -203,6 +206,7 @@ pub fn value_of<'src>(
 ) -> Result<Sequence<Text>, Error<'src>>
     ensures value { IfOk result (λ value. spec.value_of (functions_by_name functions.now) (values_of constants.now) (bare expression.now) ≡ Some value) }
     ensures refused { IfErr result (FaultsAt (spec.value_of (functions_by_name functions.now) (values_of constants.now) (bare expression.now))) }
+    ensures told { IfErr result (IsToldIn (IsPlaceIn functions.now expression.now)) }
 {
     evaluate_among(alloc, functions, Constants::Listed(constants), expression)
 }

@@ -16,12 +16,12 @@ use Rattle.just_graph.proofs.MappedUnfolding.{firsts_mapped, unfolds_mapped}
 use Rattle.just_graph.proofs.Members.{In, contained, is_in, in_map, from_map}
 use Rattle.just_parts.specs.Asts.{AstKey}
 use Rattle.just_names.specs.Texts.{Text}
-use Rattle.just_parts.specs.Syntax.{AreRising, PriorsAreDependencies, numbers}
+use Rattle.just_parts.specs.Syntax.{AreRising, numbers}
 use Rattle.just_parts.specs.Items.{Ast}
 use Rattle.just_loader.specs.Keys.{AreFirstFiles, FileNode, FileStep, ast_key, steps_of}
 use Rattle.just_loader.specs.Loaded.{IsAstOf, IsLoaded, at_first}
 use Rattle.just_loader.specs.Placed.{at_first_places, file_at, file_node, key_at, name_at, text_step}
-use Rattle.just_loader.specs.Loading.{AreParsed, KeepsPriors}
+use Rattle.just_loader.specs.Loading.{AreParsed, KeepsLaws}
 use Rattle.just_loader.specs.Parsed.{AreHeld, relative_at}
 use Rattle.just_loader.specs.Reached.{World, relative_to_root}
 use Rattle.just_loader.specs.Scanned.{IsScan}
@@ -83,9 +83,9 @@ module _ (w : World) (scan : Scan) (is : IsScan w scan) where
 
 -- what is loaded, from what is scanned, unfolded, parsed and held
 pub is_loaded : (w : World) (scan : Scan) → IsScan w scan → (us : List Unfolded) (whole : IsWhole scan.rows.items us) (asts : List Ast) → AreParsed w scan whole.first.0 asts
-    → (high : ℕ) → AreRising 0 (flat_map (λ (ast : Ast). numbers ast.items) asts) high → All KeepsPriors asts
+    → (high : ℕ) → AreRising 0 (flat_map (λ (ast : Ast). numbers ast.items) asts) high → All (KeepsLaws w.answers) asts
     → (table : AstKey → Option Ast) → AreHeld scan us asts table → (loaded : List Text) → loaded ≡ map (relative_at scan) (at_first_places (places_of us)) → IsLoaded w table loaded
-is_loaded w scan is us whole asts parsed high rising priors table held loaded paths =
+is_loaded w scan is us whole asts parsed high rising laws table held loaded paths =
     let ns = whole.first.0 in
     let told : map unfolded_key us ≡ map key ns = told_same (steps scan.rows.items) us ns whole.first.2 in
     let listed : (n : Node) → In n ns → Contains (map (file_node scan) ns) (file_node scan n) = λ n i. contained (file_node scan n) (map (file_node scan) ns) (in_map (file_node scan) n ns i) in
@@ -118,7 +118,9 @@ is_loaded w scan is us whole asts parsed high rising priors table held loaded pa
           let n = get_map key ns r.0 (unfolded_key r.1) (ap (λ ks. slice_get ks r.0) (sym told) ∙ map_get unfolded_key us r.0 r.1 r.2) in
           (file_node scan n.0, listed n.0 (is_in n.0 ns (got ns r.0 n.0 n.1)), ap (λ (x : Key). key_at scan x.path x.node) n.2 ∙ r.4);
       numbers = are_told_apart scan us asts table held high rising;
-      priors = held_each scan us asts table held (λ (ast : Ast). All PriorsAreDependencies ast.items) priors;
+      priors = λ k ast e. (held_each scan us asts table held (KeepsLaws w.answers) laws k ast e).priors;
+      attributes = λ k ast e. (held_each scan us asts table held (KeepsLaws w.answers) laws k ast e).attributes;
+      constants = λ k ast e. (held_each scan us asts table held (KeepsLaws w.answers) laws k ast e).constants;
       loaded_is = paths ∙ relative_paths w scan is (places_of us) inside ∙ sym (map-map (relative_to_root w) (file_at scan) (at_first_places (places_of us)))
           ∙ ap (map (relative_to_root w)) (first_mapped (file_at scan) (λ a. a < length scan.files.items) (files_apart w scan is) (places_of us) inside ∙ ap at_first files);
     }

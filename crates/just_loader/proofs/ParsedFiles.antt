@@ -9,11 +9,11 @@ use Rattle.std.proofs.lemmas.Option.{slice_get_read}
 use Rattle.just_graph.specs.declared.unfolding.Step.{Step}
 use Rattle.just_parts.specs.Bare.{bare_ast, bare_item}
 use Rattle.just_paths.specs.Clean.{folder_of}
-use Rattle.just_parts.specs.Syntax.{SyntaxAnswers, PriorsAreDependencies, Refuses}
+use Rattle.just_parts.specs.Syntax.{AttributesNameParameters, SyntaxAnswers, PriorsAreDependencies, Refuses}
 use Rattle.just_parts.specs.Items.{Ast, Item}
 use Rattle.just_errors.specs.declared.error.Error.{Error}
 use Rattle.just_errors.specs.declared.error.Error.TheVariants as error
-use Rattle.just_parts.proofs.Edges.{same_priors}
+use Rattle.just_parts.proofs.Edges.{same_attributes, same_priors}
 use Rattle.just_loader.specs.Keys.{spends_at}
 use Rattle.just_loader.specs.Loaded.{path_of_link, with_path}
 use Rattle.just_loader.specs.Placed.{file_at}
@@ -30,6 +30,11 @@ use Rattle.just_loader.proofs.Scans.{links_bare}
 pub priors_kept : (w : World) (folder : List ℕ) (items : List Item) → All PriorsAreDependencies items → All PriorsAreDependencies (map (with_path w folder) items)
 priors_kept w folder items all =
     All-map PriorsAreDependencies (with_path w folder) items (All-weaker PriorsAreDependencies (λ x. PriorsAreDependencies (with_path w folder x)) (λ x p. same_priors (path_of_link (link w folder x)) x p) items all)
+
+-- nor are its attributes others
+pub attributes_kept : (w : World) (folder : List ℕ) (items : List Item) → All AttributesNameParameters items → All AttributesNameParameters (map (with_path w folder) items)
+attributes_kept w folder items all =
+    All-map AttributesNameParameters (with_path w folder) items (All-weaker AttributesNameParameters (λ x. AttributesNameParameters (with_path w folder x)) (λ x p. same_attributes (path_of_link (link w folder x)) x p) items all)
 
 module _ (w : World) (scan : Scan) (answers : SyntaxAnswers) (by : IsScanBy w scan answers) (place : ℕ) (file : ScannedFile) (inside : place < length scan.files.items) (is : file ≡ get_or scan.files.items place file) where
   row : (row : Vec Step Global) × (slice_get scan.rows.items place ≡ Some row)
@@ -56,7 +61,7 @@ module _ (w : World) (scan : Scan) (answers : SyntaxAnswers) (by : IsScanBy w sc
     -- it is not refused again
     pub stops_at : (given : ℕ) (e : Error) → Refuses answers relative text given e → StopsAt given (spends_at w (file_at scan place)) e
     stops_at given (error.Load e) h = h
-    stops_at given (error.Compile e) h = let both : Some scanned.items ≡ None = sym scanned.parsed ∙ ap items_said (says ∙ h.0) in cc
+    stops_at given (error.Compile e) h = let both : Some scanned.items ≡ None = sym scanned.parsed ∙ ap items_said (says ∙ h.says_nothing) in cc
     stops_at given (error.Invocation e) h = h
     stops_at given (error.Run e) h = h
     stops_at given error.Exhausted h = subst (λ n. 2 ^ 64 < given + n) spent_at h

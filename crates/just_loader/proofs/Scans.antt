@@ -61,7 +61,8 @@ module _ (w : World) (f : SourceFile) (file : find f.path w.files ≡ Some f) wh
   pub refused_at : (relative text : List ℕ) (e : Error) → relative ≡ relative_to_root w f.path → text ≡ f.text → Refuses w.answers relative text 0 e → Reports (NamesAt w f.path) e
   refused_at relative text (error.Load e) r t h = absurd h
   refused_at relative text (error.Compile e) r t h =
-      subst (λ k. NamesAt w f.path (Broken e.token k)) (sym h.1) (no_grammar f.text text_there (ap (λ x. w.answers.parsed x f.text) (sym r) ∙ ap (w.answers.parsed relative) (sym t) ∙ h.0))
+      let none : w.answers.parsed (relative_to_root w f.path) f.text ≡ None = ap (λ x. w.answers.parsed x f.text) (sym r) ∙ ap (w.answers.parsed relative) (sym t) ∙ h.says_nothing in
+      subst (λ k. NamesAt w f.path (Broken e.token k)) (sym h.kind) (no_grammar f.text text_there none (record { path_is = h.path ∙ r; src_is = h.src ∙ t }))
   refused_at relative text (error.Invocation e) r t h = absurd h
   refused_at relative text (error.Run e) r t h = absurd h
   refused_at relative text error.Exhausted r t h = no_number f.text text_there (let same : w.answers.spends relative text ≡ w.answers.spends (relative_to_root w f.path) f.text = ap (w.answers.spends relative) t ∙ ap (λ x. w.answers.spends x f.text) r in omega (arith, same, h))
@@ -96,7 +97,7 @@ module _ (w : World) (f : SourceFile) (file : find f.path w.files ≡ Some f) wh
 
     -- what is scanned has no fault
     pub none_at : (paths : List (List ℕ)) (ts : List (Option ℕ)) → ArePlacesOf paths links ts → w.answers.spends (relative_to_root w f.path) f.text ≤ 2 ^ 64 → (c : Cause) → NamesAt w f.path c → ⊥
-    none_at paths ts places fits _ (no_grammar text there none) =
+    none_at paths ts places fits _ (no_grammar text there none told) =
         let same : text ≡ f.text = (let e = sym there ∙ text_there in cc) in
         let no : Some (map bare_item items) ≡ None = sym parsed ∙ ap (λ t. items_said (w.answers.parsed (relative_to_root w f.path) t)) (sym same) ∙ ap items_said none in cc
     none_at paths ts places fits _ (no_number text there many) =

@@ -9,7 +9,7 @@ use Rattle.just_parts.specs.Bare.{bare_ast}
 use Rattle.just_errors.specs.Causes.{Keeps, Reports}
 use Rattle.just_paths.specs.Clean.{folder_of}
 use Rattle.just_ast_items.specs.Edge.{with_absolute}
-use Rattle.just_parts.specs.Syntax.{AreRising, IsFrom, PriorsAreDependencies, components_of, numbers}
+use Rattle.just_parts.specs.Syntax.{AreNoConstants, AreRising, AttributesNameParameters, IsFrom, PriorsAreDependencies, components_of, numbers}
 use Rattle.just_names.specs.Texts.{Text}
 use Rattle.just_names.specs.Name.{names_of_path}
 use Rattle.just_names.specs.declared.name.Name.{Name}
@@ -89,8 +89,10 @@ pub record IsLoaded (w : World) (asts : AstKey → Option Ast) (loaded : List Te
   pub keys : (k : FileKey) → IsKey w k → HasKeyOf nodes k
   pub held : (n : FileNode) → Contains nodes n → (ast : Ast) × (asts (ast_key (key_of n)) ≡ Some ast) × IsAstOf w n ast
   pub only : (k : AstKey) (ast : Ast) → asts k ≡ Some ast → (n : FileNode) × Contains nodes n × (ast_key (key_of n) ≡ k)
+  pub constants : (k : AstKey) (ast : Ast) → asts k ≡ Some ast → AreNoConstants w.answers.constant (numbers ast.items)
   pub numbers : AreToldApart asts
   pub priors : (k : AstKey) (ast : Ast) → asts k ≡ Some ast → All PriorsAreDependencies ast.items
+  pub attributes : (k : AstKey) (ast : Ast) → asts k ≡ Some ast → All AttributesNameParameters ast.items
   pub loaded_is : loaded ≡ map (relative_to_root w) (at_first (map (λ (n : FileNode). n.node) nodes))
 
 -- What loading answers: no rule of files is broken, and the files are loaded; or a rule that is broken.

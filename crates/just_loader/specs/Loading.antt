@@ -7,7 +7,7 @@ use Rattle.just_graph.specs.declared.unfolding.Step.{Step}
 use Rattle.just_graph.specs.declared.unfolding.Unfolded.{Unfolded}
 use Rattle.just_parts.specs.Bare.{bare_ast}
 use Rattle.just_paths.specs.Clean.{folder_of}
-use Rattle.just_parts.specs.Syntax.{SyntaxAnswers, AreRising, IsFrom, PriorsAreDependencies, components_of, numbers}
+use Rattle.just_parts.specs.Syntax.{SyntaxAnswers, AreNoConstants, AreRising, AttributesNameParameters, IsFrom, PriorsAreDependencies, components_of, numbers}
 use Rattle.just_names.specs.Texts.{Text}
 use Rattle.just_parts.specs.Items.{Ast, Item}
 use Rattle.just_errors.specs.declared.error.Error.{Error}
@@ -82,9 +82,11 @@ pub record IsSaid (w : World) (path : Text) (source : Source) (ast : Ast) : Type
   pub items : ast.items ≡ map (with_path w (folder_of path)) parsed.items
   pub rest : ast ≡ record parsed { items = ast.items }
 
--- no recipe of a text has more priors than dependencies
-abbrev pub KeepsPriors : Ast → Type 0
-KeepsPriors ast = All PriorsAreDependencies ast.items
+-- What the syntax layer keeps of the items of a text, wherever they lead: no recipe has more priors than dependencies, attributes fit, and no number is a constant's.
+pub record KeepsLaws (answers : SyntaxAnswers) (ast : Ast) : Type 0 where
+  pub priors : All PriorsAreDependencies ast.items
+  pub attributes : All AttributesNameParameters ast.items
+  pub constants : AreNoConstants answers.constant (numbers ast.items)
 
 -- what the texts of the first nodes say
 abbrev pub AreParsedSoFar : World → Scan → List Node → List Ast → Type 0

@@ -7,13 +7,13 @@ ghost use Rattle.std.specs.Option.{option_map};
 ghost use Rattle.just_graph.specs.Unfolding.{Node};
 ghost use Rattle.just_graph.specs.declared.unfolding.Unfolded.{Unfolded};
 ghost use Rattle.just_paths.specs.Clean.{IsClean};
-ghost use Rattle.just_parts.specs.Syntax.{AreRising, PriorsAreDependencies, numbers};
+ghost use Rattle.just_parts.specs.Syntax.{AreRising, numbers};
 ghost use Rattle.just_parts.specs.Asts.{same_ast_key};
 ghost use Rattle.just_ast_items.specs.Edge.{with_absolute};
 ghost use Rattle.just_loader.specs.Keys.{SpendsAt};
 ghost use Rattle.just_loader.specs.Loaded.{Loads};
 ghost use Rattle.just_loader.specs.Placed.{at_first_places, file_at};
-ghost use Rattle.just_loader.specs.Loading.{AreNodes, AreNumberedBy, AreParsedBy, AreSources, AreUnfolded, CameInAt, CameInSoFar, ComesNext, HavePaths, InWorlds, IsSaid, IsScanBy, KeepsPriors, Stops, StopsInFile, spent_by};
+ghost use Rattle.just_loader.specs.Loading.{AreNodes, AreNumberedBy, AreParsedBy, AreSources, AreUnfolded, CameInAt, CameInSoFar, ComesNext, HavePaths, InWorlds, IsSaid, IsScanBy, KeepsLaws, Stops, StopsInFile, spent_by};
 ghost use Rattle.just_loader.specs.Parsed.{AreHeld, AreKeyed, relative_at};
 ghost use Rattle.just_loader.specs.Reached.{World, link, world_of};
 ghost use Rattle.just_loader.specs.Scanned.{ArePlacesOf, EntersName, IsScan, paths_in};
@@ -157,7 +157,7 @@ fn parse_file<'src, S: Syntax>(
     requires few { numerator.old ≤ 2 ^ 64 }
     ensures said { IfOk result (λ ast. InWorlds scan.now (S.answers syntax.now) (λ w. IsSaid w (file_at scan.now place) source.now ast)) }
     ensures numbers { IfOk result (λ ast. AreRising numerator.old (numbers ast.items) numerator.new) }
-    ensures priors { IfOk result (λ ast. All PriorsAreDependencies ast.items) }
+    ensures laws { IfOk result (KeepsLaws (S.answers syntax.now)) }
     ensures spent { OnOk result (InWorlds scan.now (S.answers syntax.now) (λ w. SpendsAt w (file_at scan.now place) numerator.old numerator.new)) }
     ensures fits { OnOk result (numerator.new ≤ 2 ^ 64) }
     ensures stopped { IfErr result (StopsInFile scan.now (S.answers syntax.now) place numerator.old) }
@@ -200,7 +200,7 @@ fn parse_all<'src, S: Syntax>(
     requires nodes { AreUnfolded scan.now nodes.now }
     ensures parsed { IfOk result (λ asts. AreParsedBy (S.answers syntax.now) scan.now nodes.now asts.items) }
     ensures numbers { IfOk result (λ asts. AreNumberedBy (S.answers syntax.now) scan.now nodes.now asts.items) }
-    ensures priors { IfOk result (λ asts. All KeepsPriors asts.items) }
+    ensures laws { IfOk result (λ asts. All (KeepsLaws (S.answers syntax.now)) asts.items) }
     ensures fits { OnOk result (InWorlds scan.now (S.answers syntax.now) (λ w. spent_by w scan.now nodes.now ≤ 2 ^ 64)) }
     ensures stopped { IfErr result (λ e. InWorlds scan.now (S.answers syntax.now) (λ w. Stops w scan.now nodes.now e)) }
 {

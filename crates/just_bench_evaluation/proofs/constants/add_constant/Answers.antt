@@ -12,7 +12,9 @@ use Rattle.just_bench_evaluation.specs.Lookup.{table_values}
 use Rattle.just_bench_evaluation.specs.Values.{value_of}
 use Rattle.just_bench_evaluation.specs.declared.lookup.Constant.{Constant}
 use Rattle.just_bench_evaluation.proofs.Steps.{assigned_is, needed_is}
-use Rattle.just_bench_evaluation.proofs.Told.{faults_on}
+use Rattle.just_bench_evaluation.proofs.Told.{faults_on, told_err}
+use Rattle.just_bench_evaluation.proofs.Places.{assigned_in, in_element}
+use Rattle.just_parts.specs.Told.{assigned_values}
 use Rattle.just_bench_evaluation.proofs.constants.add_constant.Goals as goal
 
 pub returns-in_err-value-clause-refused : goal.returns-in_err-value-clause-refused
@@ -29,7 +31,14 @@ returns-in_err-value-clause-refused c =
     (λ e same. faults_on (λ none. ap (λ b. if b then assigned_value wanted values name else Some [])
     (needed_is c.args.assignments.now c.args.functions.now overrides set false name a found ∙ there)
     ∙ assigned_is c.args.assignments.now c.args.functions.now overrides set false values name a found ∙ none) e
-    (subst (FaultsAt (overridden_or (overrides a.number) (value_of (functions_by_name c.args.functions.now) values a.value))) (sym same) c.in_err-value.ensures)) (search rules)
+    (subst (FaultsAt (overridden_or (overrides a.number) (value_of (functions_by_name c.args.functions.now) values a.value))) (sym same) c.in_err-value.ensures.0)) (search rules)
+
+pub returns-in_err-value-clause-told : goal.returns-in_err-value-clause-told
+returns-in_err-value-clause-told c =
+    let a = c.in-Some.assignment.now in
+    let found : find (text_of_name c.args.name.now) c.args.assignments.now ≡ Some a = search rules in
+    told_err (in_element c.args.functions.now (assigned_values c.args.assignments.now) a.value (assigned_in (text_of_name c.args.name.now) c.args.assignments.now a found))
+    c.from_residual.result c.in_err-value.field-0.0 (search rules) c.in_err-value.ensures.1
 
 pub returns-clause-added : goal.returns-clause-added
 returns-clause-added c = λ need.

@@ -7,11 +7,13 @@ use Rattle.just_names.specs.Index.{texts_of_names}
 use Rattle.just_names.specs.Name.{text_of_name}
 use Rattle.just_parts.specs.Evaluator.{FaultsAt, wanted_by}
 use Rattle.just_parts.specs.Needs.{same_number}
+use Rattle.just_names.specs.Token.{Place}
+use Rattle.just_parts.specs.Told.{IsPlaceInOne, assigned_values}
 use Rattle.just_bench_evaluation.specs.Constants.{Adds, demanded}
 use Rattle.just_bench_evaluation.specs.Lookup.{table_values}
 use Rattle.just_bench_evaluation.proofs.Ended.{binds, constants_are, refused}
 use Rattle.just_bench_evaluation.proofs.Settled.{Settled, adds_any, name_at_place, settled_more}
-use Rattle.just_bench_evaluation.proofs.Told.{faults_on}
+use Rattle.just_bench_evaluation.proofs.Told.{faults_on, told_err}
 use Rattle.just_bench_evaluation.proofs.constants.constants_of.Goals as goal
 
 pub returns-in_err-add_constant-clause-refused : goal.returns-in_err-add_constant-clause-refused
@@ -27,6 +29,11 @@ returns-in_err-add_constant-clause-refused c = λ lists.
     (λ e is. faults_on (λ none. refused c.args.assignments.now c.args.functions.now overrides set lists order c.requires.order c.loop-name.name-index old
     (c.loop-name.invariant.settled lists) inside (ap (demanded wanted (table_values old)) (sym same) ∙ none)) e
     (subst (FaultsAt (demanded wanted (table_values old) (text_of_name c.name-item.result))) (sym is) c.in_err-add_constant.ensures.refused)) (search rules)
+
+pub returns-in_err-add_constant-clause-told : goal.returns-in_err-add_constant-clause-told
+returns-in_err-add_constant-clause-told c =
+    let P : Place → Type 0 = IsPlaceInOne c.args.functions.now (assigned_values c.args.assignments.now) in
+    told_err {P = P} {Q = P} (λ place h. h) c.from_residual.result c.in_err-add_constant.field-0.0 (search rules) c.in_err-add_constant.ensures.told
 
 pub loop-name-preserved : goal.loop-name-preserved
 loop-name-preserved c =

@@ -1,15 +1,18 @@
 use Rattle.std.proofs.Common.{◌≡◌, sym, ◌∙◌, ap, subst, arith, rules, drop, drop-cons, suc, ◌∷◌}
+use Rattle.std.specs.List.{Contains, flat_map}
 use Rattle.std.specs.Option.{option_and_then}
 use Rattle.std.proofs.lemmas.List.{drop_all}
 use Rattle.std.proofs.lemmas.Result.{IfErr-weaker}
 use Rattle.just_ast_expressions.specs.Settings.{default_settings}
-use Rattle.just_parts.specs.Evaluator.{FaultsAt, functions_by_name, values_of}
+use Rattle.just_parts.specs.Evaluator.{FaultsAt, functions_by_name, set_expressions, values_of}
 use Rattle.just_ast_definitions.specs.declared.setting.Set.{Set}
 use Rattle.just_bench_evaluation.specs.Settings.{setting_with, settings_with}
 use Rattle.just_bench_evaluation.specs.Values.{none_bound, value_of}
 use Rattle.just_bench_evaluation.proofs.BareSets.{bare_sets}
 use Rattle.just_bench_evaluation.proofs.Called.{bare_with}
-use Rattle.just_bench_evaluation.proofs.Told.{faults_on}
+use Rattle.just_bench_evaluation.proofs.Told.{faults_on, told_err}
+use Rattle.just_bench_evaluation.proofs.Places.{in_flat, in_more}
+use Rattle.std.proofs.lemmas.List.Elements.{Contains-get_or}
 use Rattle.just_bench_evaluation.proofs.settings.settings_of.Goals as goal
 
 pub loop-one-init : goal.loop-one-init
@@ -48,6 +51,12 @@ returns-in_err-set-clause-refused c =
     ∙ ap (λ (x : Set). settings_with value (x ∷ drop (suc i) sets) c.loop-one.settings) (sym c.one-item.is)
     ∙ ap (option_and_then (settings_with value (drop (suc i) sets))) none) e
     (subst (FaultsAt (setting_with value c.one-item.result.value c.loop-one.settings)) (sym same) c.in_err-set.ensures.refused)) (search rules)
+
+pub returns-in_err-set-clause-told : goal.returns-in_err-set-clause-told
+returns-in_err-set-clause-told c =
+    let there = subst (Contains c.args.sets.now) (sym c.one-item.is) (Contains-get_or c.args.sets.now c.loop-one.one-index c.one-item.result c.loop-one-test.true) in
+    told_err (in_more c.args.functions.now (set_expressions c.one-item.result) (flat_map set_expressions c.args.sets.now) (λ e. in_flat set_expressions c.args.sets.now c.one-item.result e there))
+    c.from_residual.result c.in_err-set.field-0.0 (search rules) c.in_err-set.ensures.told
 
 pub returns-clause-settings : goal.returns-clause-settings
 returns-clause-settings c =

@@ -85,7 +85,7 @@ returns g c =
     let paths : c.in_ok-loaded.loaded ≡ map (relative_at scan) (at_first_places (places_of us)) = subst (λ xs. c.in_ok-loaded.loaded ≡ map (relative_at scan) (at_first_places (places_of xs))) c.as_slice-4.ensures.value c.in_ok-loaded.ensures in
     record {
       kept = are_kept w scan is us whole (search rules) c.in_ok-scan.ensures.kept (c.in_ok-check_circles.ensures.none w is) (subst (λ xs. spent_by w scan xs ≤ 2 ^ 64) c.as_slice-2.ensures.value (c.in_ok-asts.ensures.fits w by));
-      loaded = is_loaded w scan is us whole asts (c.in_ok-asts.ensures.parsed w whole.first.0 by (whole.first.1, told)) (spent_by w scan c.as_slice-2.result.now) (c.in_ok-asts.ensures.numbers w by) c.in_ok-asts.ensures.priors
+      loaded = is_loaded w scan is us whole asts (c.in_ok-asts.ensures.parsed w whole.first.0 by (whole.first.1, told)) (spent_by w scan c.as_slice-2.result.now) (c.in_ok-asts.ensures.numbers w by) c.in_ok-asts.ensures.laws
           (get same_ast_key c.in_ok-asts-2.asts) held c.in_ok-loaded.loaded paths;
       named = tt;
     }

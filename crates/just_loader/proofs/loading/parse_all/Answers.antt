@@ -2,12 +2,12 @@ use Rattle.std.proofs.Common.{◌≡◌, ◌∙◌, ◌+◌, ◌<◌, ◌≤◌,
 use Rattle.std.specs.List.{All, flat_map, slice_get}
 use Rattle.std.proofs.lemmas.List.{length_push, take_all}
 use Rattle.just_graph.specs.declared.unfolding.Unfolded.{Unfolded}
-use Rattle.just_parts.specs.Syntax.{AreRising, PriorsAreDependencies, numbers}
+use Rattle.just_parts.specs.Syntax.{AreRising, numbers}
 use Rattle.just_parts.specs.Items.{Ast}
 use Rattle.just_errors.specs.declared.error.Error.{Error}
 use Rattle.just_loader.specs.Keys.{spends_at}
 use Rattle.just_loader.specs.Placed.{file_at}
-use Rattle.just_loader.specs.Loading.{IsScanBy, Stops, StopsAt, spent_by}
+use Rattle.just_loader.specs.Loading.{IsScanBy, KeepsLaws, Stops, StopsAt, spent_by}
 use Rattle.just_loader.specs.Reached.{World}
 use Rattle.just_loader.proofs.FileKeys.{node_inside}
 use Rattle.just_loader.proofs.Parsings.{all_more, ast_at, err_by, parsed_more, parsed_none, read, rising_more, spent_more, stops_at_last}
@@ -22,7 +22,7 @@ loop-place-init g c =
       parsed = λ w ns by nodes. parsed_none w c.args.scan.now ns c.new-asts.result.items c.new-asts.ensures.items;
       spent = λ w by. c.new-numerator.ensures;
       numbers = subst (λ xs. AreRising 0 (flat_map (λ (ast : Ast). numbers ast.items) xs) c.new-numerator.result) (sym c.new-asts.ensures.items) (omega arith);
-      priors = all_at (λ (ast : Ast). All PriorsAreDependencies ast.items) c.new-asts.result.items (λ k x e. absurd (none_some (ap (λ xs. slice_get xs k) (sym c.new-asts.ensures.items) ∙ e)));
+      laws = all_at (KeepsLaws (g.S.Syntax.answers c.args.syntax.now)) c.new-asts.result.items (λ k x e. absurd (none_some (ap (λ xs. slice_get xs k) (sym c.new-asts.ensures.items) ∙ e)));
       few = omega (arith, c.new-numerator.ensures);
     }
 
@@ -55,7 +55,7 @@ loop-place-preserved g c =
       spent = λ w by. c.in_ok-parse_file.ensures.spent w by ∙ ap (λ m. m + spends_at w (file_at c.args.scan.now (get_or c.args.nodes.now c.loop-place.place c.index-nodes-place.result).node)) (c.loop-place.invariant.spent w by)
           ∙ sym (spent_more w c.args.scan.now c.args.nodes.now c.loop-place.place c.index-nodes-place.result c.loop-place-test.true);
       numbers = rising_more c.loop-place.asts.items c.push.new.self.items c.in_ok-parse_file.field-0 c.loop-place.numerator c.parse_file.new.numerator c.loop-place.invariant.numbers c.in_ok-parse_file.ensures.numbers c.in_ok-push.ensures.items;
-      priors = all_more (λ (ast : Ast). All PriorsAreDependencies ast.items) c.loop-place.asts.items c.push.new.self.items c.in_ok-parse_file.field-0 c.loop-place.invariant.priors c.in_ok-parse_file.ensures.priors c.in_ok-push.ensures.items;
+      laws = all_more (KeepsLaws (g.S.Syntax.answers c.args.syntax.now)) c.loop-place.asts.items c.push.new.self.items c.in_ok-parse_file.field-0 c.loop-place.invariant.laws c.in_ok-parse_file.ensures.laws c.in_ok-push.ensures.items;
       few = c.in_ok-parse_file.ensures.fits;
     }
 
@@ -70,9 +70,9 @@ pub returns-clause-numbers : goal.returns-clause-numbers
 returns-clause-numbers g c =
     λ w by. subst (AreRising 0 (flat_map (λ (ast : Ast). numbers ast.items) c.loop-place.asts.items)) (c.loop-place.invariant.spent w by ∙ ap (spent_by w c.args.scan.now) (take_all c.loop-place.place c.args.nodes.now c.loop-place-test.false)) c.loop-place.invariant.numbers
 
-pub returns-clause-priors : goal.returns-clause-priors
-returns-clause-priors g c =
-    c.loop-place.invariant.priors
+pub returns-clause-laws : goal.returns-clause-laws
+returns-clause-laws g c =
+    c.loop-place.invariant.laws
 
 pub returns-clause-fits : goal.returns-clause-fits
 returns-clause-fits g c =
