@@ -36,7 +36,7 @@ use Rattle.just_name_resolution.proofs.Placed.{the_value}
 use Rattle.just_name_resolution.proofs.Alike.{some_found, find_changed}
 use Rattle.just_module_variables.specs.Variables.{AreVariables, known_with_numbers}
 use Rattle.just_module_variables.proofs.Judging.{bare_is, bare_of}
-use Rattle.just_module_variables.proofs.Similar.{AreSimilar, changed_similar, defined_changed, misnames_same, needs_similar, order_of_similar, range_changed, read_in_similar, reads_on_similar, similar_changed, similar_then}
+use Rattle.just_module_variables.proofs.Similar.{AreSimilar, changed_similar, defined_changed, misnames_same, needs_similar, order_of_similar, range_changed, read_in_similar, similar_changed, similar_then}
 use Rattle.just_module_variables.proofs.Substituted.{changed_again, changed_same}
 
 hides_bare : (ps : List FunctionParameter) (name : Text) → hides (map bare_function_parameter ps) name ≡ hides ps name
@@ -55,9 +55,6 @@ reads_variable (through count c found r) = reads_variable r
 needs_variable : {m : Known} {o : Text → Bool} (es : List Expression) {name : Text} → Needs m o (IsReadIn m es) name → IsSome (find name m.assignments)
 needs_variable es (starts r) = reads_variable r.reads
 needs_variable es (onward need on step) = reads_variable step.reads
-
-pub similar_itself : (vs : List (Text × Assignment)) (fs : List (Text × FunctionDefinition)) → AreSimilar vs vs fs fs
-similar_itself vs fs = record { variable = λ name a is. (a, is, refl); function = λ name f is. (f, is, refl, refl) }
 
 module _ (answers : SyntaxAnswers) (m : Contents) where
   abbrev numbered : Known
@@ -194,10 +191,14 @@ module _ (answers : SyntaxAnswers) (m : Contents) where
         ∙ sym (ap is_some (find_changed located_assignment name variables) ∙ is_some_changed located_assignment (find name variables))
         ∙ ap (λ (k : Known). is_some (find name k.assignments)) (bare_is answers m)
 
+    -- what variables read is told by the tables alone
+    abbrev told : Known
+    told = sources vs fs
+
     -- the question of these tables, where numbers tell which variables are overridden and needed
     module _ (overrides : Text → Option Text) (es : List Expression) (lists : Bool) (numbers : Number → Option Text) (set : Number → Bool)
         (says : (name : Text) (a : Assignment) → find name vs ≡ Some a → numbers a.number ≡ overrides name) (apart : HaveNumbersApart numbered)
-        (are_needed : AreNeededBy tables (λ n. is_some (numbers n)) es set) where
+        (are_needed : AreNeededBy told (λ n. is_some (numbers n)) es set) where
       abbrev over : Number → Bool
       over n = is_some (numbers n)
 
@@ -212,21 +213,21 @@ module _ (answers : SyntaxAnswers) (m : Contents) where
       over_found None = refl
       over_found (Some a) = refl
 
-      over_asked : (name : Text) → overridden_by over tables name ≡ is_overridden (known_of answers m) overrides name
+      over_asked : (name : Text) → overridden_by over told name ≡ is_overridden (known_of answers m) overrides name
       over_asked name = over_found (find name vs) ∙ ap is_some (override_asked name)
 
       abbrev NeededHere : Text → Type 0
-      NeededHere = Needs tables (overridden_by over tables) (IsReadIn tables es)
+      NeededHere = Needs told (overridden_by over told) (IsReadIn told es)
 
       needed_known : {name : Text} → NeededHere name → IsNeeded (known_of answers m) overrides es name
       needed_known need =
-          needs_similar tables (known_of answers m) known_from_tables (overridden_by over tables) (is_overridden (known_of answers m) overrides)
-          (IsReadIn tables es) (IsReadIn (known_of answers m) es) (λ name. sym (over_asked name)) (read_in_similar tables (known_of answers m) known_from_tables es) need
+          needs_similar told (known_of answers m) known_from_tables (overridden_by over told) (is_overridden (known_of answers m) overrides)
+          (IsReadIn told es) (IsReadIn (known_of answers m) es) (λ name. sym (over_asked name)) (read_in_similar told (known_of answers m) known_from_tables es) need
 
       needed_here : {name : Text} → IsNeeded (known_of answers m) overrides es name → NeededHere name
       needed_here need =
-          needs_similar (known_of answers m) tables tables_from_known (is_overridden (known_of answers m) overrides) (overridden_by over tables)
-          (IsReadIn (known_of answers m) es) (IsReadIn tables es) over_asked (read_in_similar (known_of answers m) tables tables_from_known es) need
+          needs_similar (known_of answers m) told tables_from_known (is_overridden (known_of answers m) overrides) (overridden_by over told)
+          (IsReadIn (known_of answers m) es) (IsReadIn told es) over_asked (read_in_similar (known_of answers m) told tables_from_known es) need
 
       -- a variable is in the set exactly where it is needed
       in_set : (name : Text) (a : Assignment) → find name vs ≡ Some a → set a.number ≡ true → NeededHere name
@@ -259,11 +260,11 @@ module _ (answers : SyntaxAnswers) (m : Contents) where
       -- with the number of a variable it has those of whatever the variable reads
       pub tables_closed : IsClosed (sources vs fs) over set
       tables_closed from to a b is_a is_b step free there =
-          let on : overridden_by over tables from ≡ false = ap (λ o. option_map_or (λ (x : Assignment). over x.number) o false) is_a ∙ free in
-          to_set to b is_b (onward (in_set from a is_a there) on (reads_on_similar (sources vs fs) tables (similar_itself vs fs) step))
+          let on : overridden_by over told from ≡ false = ap (λ o. option_map_or (λ (x : Assignment). over x.number) o false) is_a ∙ free in
+          to_set to b is_b (onward (in_set from a is_a there) on step)
 
       -- what one of the expressions reads is needed
       pub tables_read : (e : Expression) → Contains es e → (name : Text) → Reads (sources vs fs) none_hidden e name → needed_by vs set name ≡ true
       tables_read e there name r =
           let read : IsReadIn (sources vs fs) es name = record { e = e; there = there; reads = r } in
-          set_asked name (needed_known (starts (read_in_similar (sources vs fs) tables (similar_itself vs fs) es name read)))
+          set_asked name (needed_known (starts read))

@@ -59,14 +59,14 @@ module _ (layers : Layers) (m : Contents) (vs : List (Text × Assignment)) (fs :
 
   module _ (apart : HaveNumbersApart (known_with_numbers layers.syntax m)) {S : Type 0} (pairs : List (Number × Text)) (overrides : HashMap Number Text S) (set : Number → Bool) (es : List Expression)
       (lists : Bool) (sets : List Set) (listed : lists ≡ sets_lists m.sets) (set_are : sets ≡ m.sets) (found : pairs ≡ overrides_found layers.overrides vs) (by_number : (n : Number) → get same_number overrides n ≡ last_of pairs n)
-      (are : es ≡ constant_expressions m) (needed : AreNeededBy tables (has_number overrides) es set) where
+      (are : es ≡ constant_expressions m) (needed : AreNeededBy (sources vs fs) (has_number overrides) es set) where
     says : (name : Text) (a : Assignment) → find name vs ≡ Some a → get same_number overrides a.number ≡ layers.overrides name
     says name a there =
         by_number a.number ∙ ap (λ ps. last_of ps a.number) found
         ∙ last_overrides tables tables_sorted (tables_apart layers.syntax m vs fs order is apart) layers.overrides name a there
 
-    needed_constants : AreNeededBy tables (has_number overrides) (constant_expressions m) set
-    needed_constants = subst (λ xs. AreNeededBy tables (has_number overrides) xs set) are needed
+    needed_constants : AreNeededBy (sources vs fs) (has_number overrides) (constant_expressions m) set
+    needed_constants = subst (λ xs. AreNeededBy (sources vs fs) (has_number overrides) xs set) are needed
 
     pub asks : AsksConstants layers m (wanted_by vs fs (get same_number overrides) set lists)
     asks =

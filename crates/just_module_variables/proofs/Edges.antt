@@ -18,7 +18,7 @@ use Rattle.just_ast_definitions.specs.declared.function_definition.FunctionDefin
 use Rattle.just_ast_references.specs.Body.{Calls, Mention, Names}
 use Rattle.just_parts.specs.Known.{Known}
 use Rattle.just_parts.specs.Reading.{mentions}
-use Rattle.just_name_resolution.specs.Scopes.{Scoped, body_scoped, value_scoped}
+use Rattle.just_parts.specs.Scopes.{Scoped, body_scoped, value_scoped}
 use Rattle.just_module_variables.specs.Steps.{AreRowsOf, nodes_of, rows_of, solid_of, target_of, targets_of}
 use Rattle.just_name_resolution.proofs.Placed.{at_left, at_right}
 

@@ -9,7 +9,7 @@ use Rattle.just_names.specs.Texts.{Text}
 use Rattle.just_ast_definitions.specs.declared.function_definition.FunctionDefinition.{FunctionDefinition}
 use Rattle.just_ast_definitions.specs.declared.function_definition.FunctionParameter.{FunctionParameter}
 use Rattle.just_parts.specs.Known.{hides}
-use Rattle.just_name_resolution.specs.Scopes.{Scoped, body_scoped, scoped}
+use Rattle.just_parts.specs.Scopes.{Scoped, body_scoped, scoped}
 use Rattle.just_module_variables.specs.Steps.{rows_of, targets_of}
 
 -- the row of one more body

@@ -3,7 +3,7 @@ use Rattle.std.proofs.Common.{◌≡◌, ◌∙◌, ℕ, List, [], ◌∷◌, su
 use Rattle.just_names.specs.Texts.{Text}
 use Rattle.just_names.specs.declared.name.Name.{Name}
 use Rattle.just_names.specs.declared.number.Number.{Number}
-use Rattle.std.proofs.lemmas.List.Elements.{All-nil}
+use Rattle.std.proofs.lemmas.List.Elements.{All-map, All-nil}
 use Rattle.std.specs.HashMap.{HashMap}
 use Rattle.std.specs.declared.alloc.Global.{Global}
 use Rattle.std.specs.declared.vec.Vec.{Vec}
@@ -15,10 +15,12 @@ use Rattle.just_table.proofs.Shown.{put_keyed}
 use Rattle.just_module_contents.specs.Contents.{Contents}
 use Rattle.just_module_contents.specs.Known.{functions_under, variables_under}
 use Rattle.just_module_contents.specs.Kept.{kept_variables}
-use Rattle.just_module_variables.specs.Numbered.{name_of_assignment, name_of_function}
+use Rattle.just_module_variables.specs.Numbered.{name_of_assignment, name_of_function, numbered_assignment, numbered_function}
+use Rattle.just_module_variables.proofs.Asking.{tables_apart}
+use Rattle.just_parts.specs.Needs.{HaveNumbersApart}
 use Rattle.just_module_variables.specs.Resolved.{AreInOrder, ResolvesTo}
 use Rattle.just_parts.specs.Known.{Known, known}
-use Rattle.just_module_variables.specs.Variables.{AreVariables, known_with_numbers}
+use Rattle.just_module_variables.specs.Variables.{AreTables, AreVariables, known_with_numbers}
 
 all_keyed : {V : Type 0} (key_of : V → List ℕ) (es : List (List ℕ × V)) → IsKeyed key_of es → (vs : List V) → IsKeyed key_of (put_all key_of es vs)
 all_keyed key_of es keyed [] = keyed
@@ -30,6 +32,19 @@ module _ (answers : SyntaxAnswers) (m : Contents) where
 
   functions_keyed : IsKeyed name_of_function (functions_under m.functions)
   functions_keyed = all_keyed name_of_function [] (All-nil (λ (e : Text × FunctionDefinition). name_of_function e.1 ≡ e.0)) m.functions
+
+  -- they are tables, where numbers tell variables apart
+  pub are_tables : (vs : List (Text × Assignment)) (fs : List (Text × FunctionDefinition)) (order : List Name) → AreVariables answers m vs fs order
+      → HaveNumbersApart (known_with_numbers answers m) → AreTables vs fs
+  are_tables vs fs order is apart =
+      let numbered = known_with_numbers answers m in
+      record {
+        variables_keyed = subst (IsKeyed name_of_assignment) (sym is.assignments_are)
+            (All-map (λ (e : Text × Assignment). name_of_assignment e.1 ≡ e.0) (λ (e : Text × Assignment). (e.0, numbered_assignment numbered e.1)) (variables_under m.variables) variables_keyed);
+        functions_keyed = subst (IsKeyed name_of_function) (sym is.functions_are)
+            (All-map (λ (e : Text × FunctionDefinition). name_of_function e.1 ≡ e.0) (λ (e : Text × FunctionDefinition). (e.0, numbered_function numbered e.1)) (functions_under m.functions) functions_keyed);
+        apart = tables_apart answers m vs fs order is apart;
+      }
 
   -- tables of these definitions, resolved
   pub are_variables : (variables : List (Text × Assignment)) (functions : List (Text × FunctionDefinition)) → variables ≡ variables_under m.variables → functions ≡ functions_under m.functions

@@ -4,7 +4,7 @@ use Rattle.std.specs.HashMap.{get}
 use Rattle.std.specs.Str.{bytes_eq}
 use Rattle.just_names.specs.Texts.{Text}
 use Rattle.just_ast_references.specs.Body.{Mention}
-use Rattle.just_name_resolution.specs.Scopes.{Scoped}
+use Rattle.just_parts.specs.Scopes.{Scoped}
 use Rattle.just_module_variables.specs.Steps.{target_of, targets_of}
 use Rattle.just_module_variables.specs.declared.nodes.Places.{Places}
 

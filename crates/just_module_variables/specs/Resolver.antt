@@ -9,12 +9,16 @@ use Rattle.just_module_variables.specs.Numbered.{number_by}
 use Rattle.just_parts.specs.Syntax.{SyntaxAnswers}
 use Rattle.just_ast_definitions.specs.declared.function_definition.FunctionParameter.{FunctionParameter}
 use Rattle.just_module_variables.specs.declared.variable_resolver.VariableResolver.{VariableResolver}
-use Rattle.just_parts.specs.Known.{Known}
+use Rattle.just_parts.specs.Known.{Known, sources}
 use Rattle.just_name_resolution.specs.Lent.{known_in}
 
 -- what names stand for
 abbrev pub known_by : {A : Type 0} → SyntaxAnswers → VariableResolver A → Known
 known_by answers resolver = known_in answers resolver.known
+
+-- what variables read is told by the tables alone
+abbrev pub tables_by : {A : Type 0} → VariableResolver A → Known
+tables_by resolver = sources resolver.known.assignments.now resolver.known.functions.now
 
 -- whether the variable of a number is overridden
 abbrev pub overridden : {A : Type 0} → VariableResolver A → Number → Bool

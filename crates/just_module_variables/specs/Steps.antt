@@ -8,7 +8,7 @@ use Rattle.std.specs.declared.vec.Vec.{Vec}
 use Rattle.just_names.specs.Index.{IsIndex, name_at}
 use Rattle.just_names.specs.Texts.{Text}
 use Rattle.just_ast_references.specs.Body.{Calls, Mention, Names}
-use Rattle.just_name_resolution.specs.Scopes.{Scoped, body_scoped, value_scoped}
+use Rattle.just_parts.specs.Scopes.{Scoped, body_scoped, value_scoped}
 use Rattle.just_parts.specs.Known.{Known}
 use Rattle.just_parts.specs.Misnaming.{IsCircleOf}
 use Rattle.just_parts.specs.Reading.{IsEvaluationOrder, mentions}

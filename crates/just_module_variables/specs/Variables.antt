@@ -8,9 +8,11 @@ use Rattle.just_names.specs.declared.name.Name.{Name}
 use Rattle.just_parts.specs.Syntax.{SyntaxAnswers}
 use Rattle.just_ast_definitions.specs.declared.assignment.Assignment.{Assignment}
 use Rattle.just_ast_definitions.specs.declared.function_definition.FunctionDefinition.{FunctionDefinition}
-use Rattle.just_module_variables.specs.Numbered.{numbered_assignments, numbered_functions}
+use Rattle.just_module_variables.specs.Numbered.{name_of_assignment, name_of_function, numbered_assignments, numbered_functions}
 use Rattle.just_module_variables.specs.Resolved.{AreInOrder}
-use Rattle.just_parts.specs.Known.{Known, known}
+use Rattle.just_parts.specs.Known.{Known, known, sources}
+use Rattle.just_parts.specs.Needs.{HaveNumbersApart}
+use Rattle.just_table.specs.Entries.{IsKeyed}
 
 -- what names stand for in a module, with the numbers of its definitions
 abbrev pub known_with_numbers : SyntaxAnswers → Contents → Known
@@ -21,6 +23,12 @@ pub record AreVariables (answers : SyntaxAnswers) (m : Contents) (assignments : 
   pub assignments_are : assignments ≡ numbered_assignments (known_with_numbers answers m)
   pub functions_are : functions ≡ numbered_functions (known_with_numbers answers m)
   pub evaluation_order : AreInOrder (known_with_numbers answers m) order
+
+-- Tables of variables and functions: each stands under its own name, and no two variables have one number.
+pub record AreTables (assignments : List (Text × Assignment)) (functions : List (Text × FunctionDefinition)) : Type 0 where
+  pub variables_keyed : IsKeyed name_of_assignment assignments
+  pub functions_keyed : IsKeyed name_of_function functions
+  pub apart : HaveNumbersApart (sources assignments functions)
 
 abbrev pub AreVariablesOf : SyntaxAnswers → Contents → Variables → Type 0
 AreVariablesOf answers m it = AreVariables answers m it.assignments it.functions it.evaluation_order

@@ -1,9 +1,10 @@
 //! What the constants and the settings of a module come to.
 
 ghost use Rattle.std.specs.Prelude.{◌≡◌, ◌∷◌, [], IfOk, IfErr, OnOk, Some, map};
+ghost use Rattle.std.specs.HashMap.{get};
 ghost use Rattle.std.specs.List.{Contains};
 ghost use Rattle.just_module_variables.specs.Constants.{CoversAll, CoversSets, NamesFaultIn, evaluated_in};
-ghost use Rattle.just_module_variables.specs.Overrides.{overridden_among};
+ghost use Rattle.just_module_variables.specs.Overrides.{last_of, overridden_among};
 ghost use Rattle.just_module_variables.specs.Variables.{AreVariablesOf, known_with_numbers};
 ghost use Rattle.just_errors.specs.Causes.{Keeps, Reports};
 ghost use Rattle.just_module_contents.specs.Constants as rule;
@@ -12,7 +13,7 @@ ghost use Rattle.just_module_contents.specs.Recipes.{lent};
 ghost use Rattle.just_parts.specs.Evaluator.{FaultsAt, bare_set, functions_by_name, values_of};
 ghost use Rattle.just_parts.specs.Known.{none_hidden};
 ghost use Rattle.just_parts.specs.Layers.{given_by, layers_at, override_at};
-ghost use Rattle.just_parts.specs.Needs.{HaveNumbersApart};
+ghost use Rattle.just_parts.specs.Needs.{HaveNumbersApart, same_number};
 ghost use Rattle.just_ast_expressions.specs.declared.expression.Expression.{Expression};
 ghost use Rattle.just_name_resolution.specs.Lent.{known_in};
 ghost use Rattle.just_parts.specs.Misnaming.{Misnames};
@@ -22,13 +23,13 @@ use crate::overrides::{by_number, overrides_of};
 use crate::variables::Variables;
 use just_data::{Text, copied};
 use just_module_contents::definitions::Definitions;
-use just_name_resolution::{Known, check_expression, needed_references};
+use just_name_resolution::{Known, Tables, check_expression, needed_references};
 use just_parts::layers::{
     Error, Evaluation, Expression, Given, Number, Scope, Set, Setting, Settings, Syntax,
 };
 use just_paths::Modulepath;
 use std::alloc::{AllocError, Global};
-use std::collections::HashSet;
+use std::collections::{HashMap, HashSet};
 
 /// What is evaluated of a module while compiling.
 #[derive(Drop)]
@@ -39,6 +40,8 @@ pub struct Constants<'src> {
     pub settings: Settings,
     /// The values that override its variables, each with the number of its variable.
     pub overridden: Vec<(Number, Text)>,
+    /// The same values by these numbers.
+    pub overrides: HashMap<Number, Text>,
 }
 
 // What the module sets, once more.
@@ -136,6 +139,7 @@ pub fn evaluate_constants<'k, 'a, 'src, S: Syntax, E: Evaluation>(
     ensures covered { IfOk result (λ it. CoversAll variables.now (values_of it.scope) (rule.constant_expressions (contents_in definitions.now))) }
     ensures overridden { let found = overridden_among (override_at given.now.config.now.overrides path.now) (contents_in definitions.now) in
         IfOk result (λ it. it.overridden.items ≡ found) }
+    ensures overrides { IfOk result (λ it. (n : Number) → get same_number it.overrides n ≡ last_of it.overridden.items n) }
     ensures named { let given = given_by S.answers E.answers given.now in
         IfErr result (Reports (rule.Constants (layers_at given path.now) (contents_in definitions.now))) }
 {
@@ -150,7 +154,11 @@ pub fn evaluate_constants<'k, 'a, 'src, S: Syntax, E: Evaluation>(
     let overridden = overrides_of(alloc, &variables.assignments, given.config, path)?;
     let overrides = by_number(alloc, overridden.as_slice())?;
     let expressions = constant_expressions(alloc, definitions)?;
-    let references = needed_references(alloc, &known, &overrides, &expressions)?;
+    let tables = Tables {
+        assignments: &variables.assignments,
+        functions: &variables.functions,
+    };
+    let references = needed_references(alloc, &tables, &overrides, &expressions)?;
     let scope = given.evaluation.assignments_const(
         alloc,
         &variables.assignments,
@@ -165,5 +173,6 @@ pub fn evaluate_constants<'k, 'a, 'src, S: Syntax, E: Evaluation>(
         scope,
         settings,
         overridden,
+        overrides,
     })
 }

@@ -1,10 +1,11 @@
 //! The expressions of a module that are evaluated while compiling.
 
 ghost use Rattle.std.specs.Prelude.{◌≡◌, ◌++◌, IfOk, OnOk, flat_map};
-ghost use Rattle.just_module_contents.specs.Constants.{attribute_expressions, constant_expressions, property_expressions, recipe_expressions, settings_expressions};
+ghost use Rattle.just_module_contents.specs.Constants.{constant_expressions, recipe_expressions, settings_expressions};
 ghost use Rattle.just_module_contents.specs.Definitions.{contents_in, recipes_in};
 ghost use Rattle.just_module_contents.specs.Recipes.{lent};
 ghost use Rattle.just_parts.specs.Evaluator.{interpreter_expressions, setting_expressions};
+ghost use Rattle.just_parts.specs.Scopes.{compiled_expressions, property_expressions};
 
 use just_module_contents::definitions::Definitions;
 use just_parts::UnresolvedRecipe;
@@ -57,7 +58,7 @@ fn push_attribute<'a, 'src>(
     attribute: &'a Attribute<'src>,
     found: &mut Vec<&'a Expression<'src>>,
 ) -> Result<(), AllocError>
-    ensures { OnOk result (lent found.new.items ≡ lent found.old.items ++ attribute_expressions attribute.now) }
+    ensures { OnOk result (lent found.new.items ≡ lent found.old.items ++ compiled_expressions attribute.now) }
 {
     match attribute {
         Attribute::Arg(argument) => {

@@ -10,7 +10,7 @@ ghost use Rattle.just_ast_references.specs.Body.{mention_of};
 ghost use Rattle.just_table.specs.Entries.{IsSorted};
 ghost use Rattle.just_name_resolution.specs.Lent.{known_in};
 ghost use Rattle.just_module_variables.specs.Places.{Fit, target_in, targets_in};
-ghost use Rattle.just_name_resolution.specs.Scopes.{body_scoped, scoped, value_scoped};
+ghost use Rattle.just_parts.specs.Scopes.{body_scoped, scoped, value_scoped};
 ghost use Rattle.just_module_variables.specs.Steps.{AreRowsOf, rows_of, solid_of};
 
 use just_ast_references::{Reference, References};

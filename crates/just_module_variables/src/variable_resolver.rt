@@ -4,10 +4,11 @@ ghost use Rattle.std.specs.Prelude.{◌≡◌, IfErr, IfOk, OnErr, OnOk};
 ghost use Rattle.std.specs.HashSet.{contains};
 ghost use Rattle.std.specs.Str.{bytes_eq};
 ghost use Rattle.just_errors.specs.Causes.{Keeps, Reports};
-ghost use Rattle.just_parts.specs.Needs.{Gains, GainsAll, HasNone, IsSame, KeepsAll, same_number};
+ghost use Rattle.just_parts.specs.Needs.{Gains, GainsAll, HaveNumbersApart, IsSame, same_number};
+ghost use Rattle.just_name_resolution.specs.Called.{AreBodiesRead, GainsCalled, IsWhole};
 ghost use Rattle.just_module_variables.specs.Resolved.{ResolvesTo};
 ghost use Rattle.just_ast_references.specs.Numbers.{with_numbers};
-ghost use Rattle.just_module_variables.specs.Resolver.{known_by, number_here, overridden};
+ghost use Rattle.just_module_variables.specs.Resolver.{known_by, number_here, overridden, tables_by};
 ghost use Rattle.just_parts.specs.Known.{hides, known};
 ghost use Rattle.just_parts.specs.Misnaming.{Expressions, Misnames, MisnamesCall};
 ghost use Rattle.just_parts.specs.Reading.{Reads};
@@ -16,7 +17,9 @@ use crate::numbering::{parameter_numbers, variable_numbers};
 use crate::ordering::order_assignments;
 use crate::resolving::{Numbering, names_at, names_of};
 use just_data::{BorrowedText, Text};
-use just_name_resolution::{Known, Numbers, check_call, check_expression, hidden_names, numbered};
+use just_name_resolution::{
+    Known, Numbers, Tables, check_call, check_expression, hidden_names, numbered,
+};
 use just_parts::layers::{
     Assignment, Error, Expression, FunctionDefinition, FunctionParameter, Name, Number, Syntax,
 };
@@ -109,8 +112,9 @@ impl<'a, 'src, S: Syntax> VariableResolver<'a, 'src, S> {
 
     /// Adds the numbers of the variables that an expression needs under parameters: those that it reads, also through
     /// functions, and of each that is not overridden those that it reads in turn. `visited` has the functions whose bodies
-    /// were looked into already: they are not looked into again, and those that are looked into now are added. Where memory
-    /// is refused, both sets have what they had.
+    /// were looked into already: they are not looked into again, and those that are called from the expression are added,
+    /// also those that functions and the values of needed variables call. Nothing is missed where the two sets belong
+    /// together, as empty ones do, and they still do afterwards. Where memory is refused, both sets have what they had.
     pub fn collect_references(
         &self,
         alloc: Global,
@@ -119,20 +123,31 @@ impl<'a, 'src, S: Syntax> VariableResolver<'a, 'src, S> {
         references: &mut HashSet<Number>,
         visited: &mut HashSet<BorrowedText<'src>>,
     ) -> Result<(), AllocError>
-        ensures gains { let m = known_by (S.answers self.now.known.syntax.now) self.now in
+        ensures gains { let m = tables_by self.now in
             let start = Reads m (hides parameters.now) expression.now in
             OnOk result (Gains m (overridden self.now) start (contains same_number references.old) (contains same_number references.new)) }
-        ensures all { let m = known_by (S.answers self.now.known.syntax.now) self.now in
+        ensures all { let m = tables_by self.now in
             let start = Reads m (hides parameters.now) expression.now in
             let old = contains same_number references.old in
-            OnOk result (HasNone (contains bytes_eq visited.old) → GainsAll m (overridden self.now) start old (contains same_number references.new)) }
-        ensures visited { OnOk result (KeepsAll (contains bytes_eq visited.old) (contains bytes_eq visited.new)) }
+            let gains_all = GainsAll m (overridden self.now) start old (contains same_number references.new) in
+            OnOk result (AreBodiesRead m old (contains bytes_eq visited.old) → gains_all) }
+        ensures visited { let m = tables_by self.now in
+            let gains = GainsCalled m (overridden self.now) (contains same_number references.old) (hides parameters.now) expression.now in
+            OnOk result (gains (contains bytes_eq visited.old) (contains bytes_eq visited.new)) }
+        ensures whole { let m = tables_by self.now in
+            let whole = IsWhole m (overridden self.now) in
+            let before = whole (contains same_number references.old) (contains bytes_eq visited.old) in
+            OnOk result (HaveNumbersApart m → before → whole (contains same_number references.new) (contains bytes_eq visited.new)) }
         ensures refused { OnErr result (IsSame (contains same_number references.old) (contains same_number references.new)) }
         ensures refused_visited { OnErr result (IsSame (contains bytes_eq visited.old) (contains bytes_eq visited.new)) }
     {
+        let tables = Tables {
+            assignments: self.known.assignments,
+            functions: self.known.functions,
+        };
         just_name_resolution::collect_references(
             alloc,
-            &self.known,
+            &tables,
             self.overrides,
             expression,
             parameters,
@@ -174,10 +189,10 @@ impl<'a, 'src, S: Syntax> VariableResolver<'a, 'src, S> {
             OnOk result (Keeps (Misnames m (hides parameters.now) expression.old)) }
         ensures numbers { let number = number_here (S.answers self.now.known.syntax.now) self.now parameters.now in
             OnOk result (expression.new ≡ with_numbers number expression.old) }
-        ensures gains { let m = known_by (S.answers self.now.known.syntax.now) self.now in
+        ensures gains { let m = tables_by self.now in
             let start = Reads m (hides parameters.now) expression.old in
             OnOk result (Gains m (overridden self.now) start (contains same_number references.old) (contains same_number references.new)) }
-        ensures all { let m = known_by (S.answers self.now.known.syntax.now) self.now in
+        ensures all { let m = tables_by self.now in
             let start = Reads m (hides parameters.now) expression.old in
             OnOk result (GainsAll m (overridden self.now) start (contains same_number references.old) (contains same_number references.new)) }
         ensures named { let m = known_by (S.answers self.now.known.syntax.now) self.now in

@@ -1,4 +1,5 @@
 pub mod Alike
+pub mod Calling
 pub mod Checked
 pub mod Collecting
 pub mod Fewer

@@ -19,7 +19,7 @@ use Rattle.just_ast_references.specs.Body.{Calls, Mention, Names, mention_of}
 use Rattle.just_ast_references.specs.declared.references.Reference.{Reference}
 use Rattle.just_table.specs.Entries.{find}
 use Rattle.just_parts.specs.Known.{Known}
-use Rattle.just_name_resolution.specs.Scopes.{Scoped, body_scoped, value_scoped}
+use Rattle.just_parts.specs.Scopes.{Scoped, body_scoped, value_scoped}
 
 pub not_in_none : {A : Type 0} (x : A) → Contains [] x → ⊥
 not_in_none x (k, h, e) = omega arith
@@ -57,7 +57,7 @@ module _ (m : Known) (overridden : Number → Bool) (hidden : Text → Bool) whe
     numbers = numbers;
     functions = functions;
     new_number = λ n h. inl h;
-    new_function = λ name d is h. inl h;
+    new_function = λ name h. inl h;
     new_waiting = λ s h. inl h;
     less = omega arith;
   }
@@ -127,7 +127,7 @@ module _ (m : Known) (overridden : Number → Bool) (hidden : Text → Bool) whe
                       subst (λ ss. Contains ss (value_scoped a)) (sym waits) (Contains-append_right f.waiting more (value_scoped a) (subst (λ ss. Contains ss (value_scoped a)) (sym value) (Contains-push [] (value_scoped a))));
                 })
           ];
-          new_function = λ x d found h. inl (sym (function x) ∙ h);
+          new_function = λ x h. inl (sym (function x) ∙ h);
           new_waiting = λ s c. elim (Contains-append_cases f.waiting more s (subst (λ ss. Contains ss s) waits c)) [
             | inl was ↦ inl was
             | inr there ↦ inr (leads s (overridden a.number) refl (subst (λ ss. Contains ss s) which there))
@@ -154,12 +154,19 @@ module _ (m : Known) (overridden : Number → Bool) (hidden : Text → Bool) whe
         numbers = λ x b s. absurd (no_name name x k s.among);
         functions = λ x e s. subst (λ y. g.function y ≡ true) (same_call name x k s.arguments s.among) own;
         new_number = λ n h. inl (sym (number n) ∙ h);
-        new_function = λ x e found h. elim (added (bytes_eq name x) (f.function x) (sym (function x) ∙ h)) [
+        new_function = λ x h. elim (added (bytes_eq name x) (f.function x) (sym (function x) ∙ h)) [
           | inl was ↦ inl was
           | inr same ↦
               let whose : name ≡ x = (bytes_eq-Decides name x).0 same in
-              let one : d ≡ e = same_Some _ _ (sym is ∙ (ap (λ y. find y m.functions) whose ∙ found)) in
-              inr (subst (λ ss. Contains ss (body_scoped e)) (sym waits) (Contains-append_right f.waiting (body_scoped d ∷ []) (body_scoped e) (subst (λ c. Contains (body_scoped d ∷ []) (body_scoped c)) one (Contains-push [] (body_scoped d)))))
+              inr (record {
+                function = d;
+                says = record {
+                  arguments = k;
+                  among = subst (λ y. Contains (Calls name k ∷ []) (Calls y k)) whose (Contains-push [] (Calls name k));
+                  is = subst (λ y. find y m.functions ≡ Some d) whose is;
+                };
+                waits = subst (λ ss. Contains ss (body_scoped d)) (sym waits) (Contains-append_right f.waiting (body_scoped d ∷ []) (body_scoped d) (Contains-push [] (body_scoped d)));
+              })
         ];
         new_waiting = λ s c. elim (Contains-append_cases f.waiting (body_scoped d ∷ []) s (subst (λ ss. Contains ss s) waits c)) [
           | inl was ↦ inl was
@@ -192,13 +199,19 @@ module _ (m : Known) (overridden : Number → Bool) (hidden : Text → Bool) whe
       | inr c ↦ inr (record { arguments = s.arguments; among = c; is = s.is })
     ]
 
+    call_left : {name : Text} {d : FunctionDefinition} → SaysCall m said name d → SaysCall m (said ++ more) name d
+    call_left {name} s = record { arguments = s.arguments; among = Contains-append_left said more (Calls name s.arguments) s.among; is = s.is }
+
+    call_right : {name : Text} {d : FunctionDefinition} → SaysCall m more name d → SaysCall m (said ++ more) name d
+    call_right {name} s = record { arguments = s.arguments; among = Contains-append_right said more (Calls name s.arguments) s.among; is = s.is }
+
     leads_left : (s : Scoped) → LeadsOn m overridden hidden said s → LeadsOn m overridden hidden (said ++ more) s
     leads_left s (to_value says on) = to_value (says_left says) on
-    leads_left s (to_body {name = name} call) = to_body (record { arguments = call.arguments; among = Contains-append_left said more (Calls name call.arguments) call.among; is = call.is })
+    leads_left s (to_body call) = to_body (call_left call)
 
     leads_right : (s : Scoped) → LeadsOn m overridden hidden more s → LeadsOn m overridden hidden (said ++ more) s
     leads_right s (to_value says on) = to_value (says_right says) on
-    leads_right s (to_body {name = name} call) = to_body (record { arguments = call.arguments; among = Contains-append_right said more (Calls name call.arguments) call.among; is = call.is })
+    leads_right s (to_body call) = to_body (call_right call)
 
     pub looks_on : (f g h : Found) → Looks m overridden hidden said f g → Looks m overridden hidden more g h → Looks m overridden hidden (said ++ more) f h
     looks_on f g h one two = record {
@@ -214,9 +227,12 @@ module _ (m : Known) (overridden : Number → Bool) (hidden : Text → Bool) whe
         ]
         | inr v ↦ inr (record { name = v.name; assigned = v.assigned; says = says_right v.says; number = v.number; waits = v.waits })
       ];
-      new_function = λ name d is e. elim (two.new_function name d is e) [
-        | inl was ↦ elim (one.new_function name d is was) [ inl before ↦ inl before | inr c ↦ inr (two.keeps_waiting (body_scoped d) c) ]
-        | inr c ↦ inr c
+      new_function = λ name e. elim (two.new_function name e) [
+        | inl was ↦ elim (one.new_function name was) [
+          | inl before ↦ inl before
+          | inr v ↦ inr (record { function = v.function; says = call_left v.says; waits = two.keeps_waiting (body_scoped v.function) v.waits })
+        ]
+        | inr v ↦ inr (record { function = v.function; says = call_right v.says; waits = v.waits })
       ];
       new_waiting = λ s c. elim (two.new_waiting s c) [
         | inl was ↦ elim (one.new_waiting s was) [ inl before ↦ inl before | inr l ↦ inr (leads_left s l) ]

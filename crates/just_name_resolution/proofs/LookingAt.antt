@@ -30,7 +30,7 @@ use Rattle.just_ast_references.specs.declared.references.Reference.TheVariants a
 use Rattle.just_table.specs.Entries.{find}
 use Rattle.just_parts.specs.Known.{Known}
 use Rattle.just_parts.specs.Reading.{mentions}
-use Rattle.just_name_resolution.specs.Scopes.{Scoped, body_scoped, value_scoped}
+use Rattle.just_parts.specs.Scopes.{Scoped, body_scoped, value_scoped}
 
 -- what a set or a map answers at a key
 pub asked : (set : Text → Bool) (key name : Text) (answer b : Bool) → answer ≡ set key → key ≡ name → answer ≡ b → set name ≡ b

@@ -9,7 +9,8 @@ use Rattle.just_graph.proofs.Members.{the_one}
 use Rattle.just_names.specs.Texts.{Text}
 use Rattle.just_names.specs.declared.number.Number.{Number}
 use Rattle.just_parts.specs.Needs.{Gains, GainsAll, HaveNumbersApart, IsClosed, IsNumberIn, Needs, onward, overridden_by, same_number, starts}
-use Rattle.just_name_resolution.specs.Search.{Found, IsCovered, IsDone, IsReadFrom, LeadsOn, Looks, Says, Searches, to_body, to_value, unfound}
+use Rattle.just_name_resolution.specs.Called.{AreBodiesRead, IsCalledFrom, directly, through_body, through_value}
+use Rattle.just_name_resolution.specs.Search.{Found, IsCalledIn, IsCovered, IsDone, IsReadFrom, LeadsOn, Looks, Says, Searches, to_body, to_value, unfound}
 use Rattle.just_name_resolution.proofs.Looking.{added, kept, not_in_none}
 use Rattle.just_name_resolution.proofs.Sets.{number_itself, one_number}
 use Rattle.just_ast_definitions.specs.declared.assignment.Assignment.{Assignment}
@@ -18,7 +19,7 @@ use Rattle.just_ast_definitions.specs.declared.function_definition.FunctionDefin
 use Rattle.just_table.specs.Entries.{find}
 use Rattle.just_parts.specs.Known.{Known, none_hidden}
 use Rattle.just_parts.specs.Reading.{Reads, at_once, mentions, through}
-use Rattle.just_name_resolution.specs.Scopes.{Scoped, body_scoped, value_scoped}
+use Rattle.just_parts.specs.Scopes.{Scoped, body_scoped, value_scoped}
 
 pub not_overridden : (overridden : Number → Bool) (m : Known) (name : Text) (a : Assignment) → find name m.assignments ≡ Some a → overridden a.number ≡ false → overridden_by overridden m name ≡ false
 not_overridden overridden m name a is on = ap (λ o. option_map_or (λ (x : Assignment). overridden x.number) o false) is ∙ on
@@ -32,6 +33,9 @@ module _ (m : Known) (overridden : Number → Bool) (firsts : List Scoped) (old 
   search_begins f numbers functions waits = record {
     keeps = λ n h. numbers n ∙ h;
     only = λ n h. inl (sym (numbers n) ∙ h);
+    keeps_functions = λ name h. functions name ∙ h;
+    only_called = λ name h. inl (sym (functions name) ∙ h);
+    called = λ s c name r. record { from = s; there = subst (λ ss. Contains ss s) waits c; called = r };
     needed = λ s c name r. starts (record { from = s; there = subst (λ ss. Contains ss s) waits c; reads = r });
     start = λ s there. inl (subst (λ ss. Contains ss s) (sym waits) there);
     bodies = λ name d is h. inl (sym (functions name) ∙ h);
@@ -67,6 +71,10 @@ module _ (m : Known) (overridden : Number → Bool) (firsts : List Scoped) (old 
         onward (needed_now from a says) (not_overridden overridden m from a says.is on) (record { assigned = a; is = says.is; reads = r })
     needed_on t (to_body call) name r = search.needed s waited name (through call.arguments call.among call.is r)
 
+    called_on : (t : Scoped) → LeadsOn m overridden s.hidden (mentions s.expression) t → (name : Text) → IsCalledFrom m overridden t.hidden t.expression name → IsCalledIn m overridden firsts name
+    called_on t (to_value says on) name r = search.called s waited name (through_value says.among says.shown says.is on r)
+    called_on t (to_body call) name r = search.called s waited name (through_body call.arguments call.among call.is r)
+
     -- after an expression is looked into
     pub search_goes_on : Searches m overridden firsts old visited g
     search_goes_on = record {
@@ -75,14 +83,25 @@ module _ (m : Known) (overridden : Number → Bool) (firsts : List Scoped) (old 
         | inl was ↦ search.only n (sym (numbers n) ∙ was)
         | inr v ↦ inr (record { name = v.name; assigned = v.assigned; is = v.says.is; number = v.number; there = needed_now v.name v.assigned v.says })
       ];
+      keeps_functions = λ name h. looks.keeps_functions name (functions name ∙ search.keeps_functions name h);
+      only_called = λ name h. elim (looks.new_function name h) [
+        | inl was ↦ search.only_called name (sym (functions name) ∙ was)
+        | inr v ↦ inr (search.called s waited name (directly v.says.arguments v.says.among v.says.is))
+      ];
+      called = λ t c name r. elim (looks.new_waiting t c) [
+        | inl still ↦ search.called t (waits_still t still) name r
+        | inr leads ↦ called_on t leads name r
+      ];
       needed = λ t c name r. elim (looks.new_waiting t c) [
         | inl still ↦ search.needed t (waits_still t still) name r
         | inr leads ↦ needed_on t leads name r
       ];
       start = λ t there. covered_on t (search.start t there);
-      bodies = λ name d is h. elim (looks.new_function name d is h) [
+      bodies = λ name d is h. elim (looks.new_function name h) [
         | inl was ↦ elim (search.bodies name d is (sym (functions name) ∙ was)) [ inl before ↦ inl before | inr c ↦ inr (covered_on (body_scoped d) c) ]
-        | inr c ↦ inr (inl c)
+        | inr v ↦
+            let one : v.function ≡ d = same_Some _ _ (sym v.says.is ∙ is) in
+            inr (inl (subst (λ e. Contains g.waiting (body_scoped e)) one v.waits))
       ];
       values = λ apart name a is on h. elim (looks.new_number a.number h) [
         | inl was ↦ elim (search.values apart name a is on (sym (numbers a.number) ∙ was)) [ inl before ↦ inl before | inr c ↦ inr (covered_on (value_scoped a) c) ]
@@ -108,20 +127,20 @@ module _ (m : Known) (overridden : Number → Bool) (firsts : List Scoped) (old 
       only = λ n h. search.only n (sym (are n) ∙ h);
     }
 
-    done_at_last : (s : Scoped) → IsCovered m f s → IsDone m f s
+    pub done_at_last : (s : Scoped) → IsCovered m f s → IsDone m f s
     done_at_last s (inl c) = absurd (not_in_none s (subst (λ ss. Contains ss s) over c))
     done_at_last s (inr d) = d
 
-    module _ (unvisited : (name : Text) → visited name ≡ true → ⊥) where
-      body_done : (name : Text) (d : FunctionDefinition) → find name m.functions ≡ Some d → f.function name ≡ true → IsDone m f (body_scoped d)
-      body_done name d is h = elim (search.bodies name d is h) [ inl was ↦ absurd (unvisited name was) | inr c ↦ done_at_last (body_scoped d) c ]
-
+    module _ (bodies_read : AreBodiesRead m old visited) where
       -- whatever is read by what is looked into is found
-      reads_found : {hidden : Text → Bool} {e : Expression} {name : Text} → IsDone m f (record { hidden = hidden; expression = e }) → Reads m hidden e name
+      pub reads_found : {hidden : Text → Bool} {e : Expression} {name : Text} → IsDone m f (record { hidden = hidden; expression = e }) → Reads m hidden e name
           → (a : Assignment) → find name m.assignments ≡ Some a → f.number a.number ≡ true
       reads_found {name = name} done (at_once among shown there) a is = done.numbers name a (record { among = among; shown = shown; is = is })
-      reads_found done (through {function = function} {f = d} arguments among called r) a is =
-          reads_found (body_done function d called (done.functions function d (record { arguments = arguments; among = among; is = called }))) r a is
+      reads_found {name = name} done (through {function = function} {f = d} arguments among called r) a is =
+          elim (search.bodies function d called (done.functions function d (record { arguments = arguments; among = among; is = called }))) [
+            | inl was ↦ search.keeps a.number (bodies_read function name d a called was is r)
+            | inr c ↦ reads_found (done_at_last (body_scoped d) c) r a is
+          ]
 
       module _ (apart : HaveNumbersApart m) (closed : IsClosed m overridden old) where
         needed_found : {name : Text} → IsNeeded name → (a : Assignment) → find name m.assignments ≡ Some a → f.number a.number ≡ true
@@ -206,11 +225,11 @@ module _ (m : Known) (overridden : Number → Bool) (a : Assignment) (inner : Nu
 
   pub value_collected : overridden a.number ≡ false → (hidden : Text → Bool) (old : Number → Bool) (visited : Text → Bool) → ((name : Text) → hidden name ≡ false) → ((n : Number) → old n ≡ false)
       → ((name : Text) → visited name ≡ false) → Gains m overridden (Reads m hidden a.value) old inner
-      → (((name : Text) → visited name ≡ true → ⊥) → GainsAll m overridden (Reads m hidden a.value) old inner) → CollectsValue m overridden a inner
+      → (AreBodiesRead m old visited → GainsAll m overridden (Reads m hidden a.value) old inner) → CollectsValue m overridden a inner
   value_collected on hidden old visited shown none unvisited gains all = record {
     stops = λ e n was. absurd (false≢true (sym on ∙ e));
     gains = λ e. subst (λ (h : Text → Bool). Gains m overridden (Reads m h a.value) (λ n. false) inner) (λ i name. shown name i)
         (subst (λ (s : Number → Bool). Gains m overridden (Reads m hidden a.value) s inner) (λ i n. none n i) gains);
     all = λ e. subst (λ (h : Text → Bool). GainsAll m overridden (Reads m h a.value) (λ n. false) inner) (λ i name. shown name i)
-        (subst (λ (s : Number → Bool). GainsAll m overridden (Reads m hidden a.value) s inner) (λ i n. none n i) (all (λ name was. false≢true (sym (unvisited name) ∙ was))));
+        (subst (λ (s : Number → Bool). GainsAll m overridden (Reads m hidden a.value) s inner) (λ i n. none n i) (all (λ function name f b called was. absurd (false≢true (sym (unvisited function) ∙ was)))));
   }

@@ -16,7 +16,7 @@ use Rattle.just_name_resolution.specs.declared.needs.Search.{Search}
 use Rattle.just_name_resolution.proofs.Looking.{not_in_none}
 use Rattle.just_name_resolution.proofs.Searching.{search_gains, search_gains_all}
 use Rattle.just_ast_expressions.specs.declared.expression.Expression.{Expression}
-use Rattle.just_name_resolution.specs.Scopes.{Scoped, scoped}
+use Rattle.just_parts.specs.Scopes.{Scoped, scoped}
 
 module _ {A B : Type 0} (f : A → B) where
   pub has_image : (xs : List A) (x : A) → Contains xs x → Contains (map f xs) (f x)
@@ -103,4 +103,4 @@ found_by m overridden old visited s first es from search over none unvisited =
     let are : ((n : Number) → new n ≡ (old n || new n)) = λ n. sym (ap (λ b. b || new n) (none n)) in
     needed_by m overridden old new es none
     (search_gains m overridden all old visited (found_in old visited s) from_all waits new are)
-    (search_gains_all m overridden all old visited (found_in old visited s) from_all waits (λ name was. false≢true (sym (unvisited name) ∙ was)) new are)
+    (search_gains_all m overridden all old visited (found_in old visited s) from_all waits (λ function name f a called was. absurd (false≢true (sym (unvisited function) ∙ was))) new are)

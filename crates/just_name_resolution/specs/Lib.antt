@@ -1,5 +1,5 @@
+pub mod Called
 pub mod Lent
 pub mod Nodes
 pub mod Numbers
-pub mod Scopes
 pub mod Search

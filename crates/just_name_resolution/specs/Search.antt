@@ -17,7 +17,8 @@ use Rattle.just_ast_references.specs.declared.references.Reference.{Reference}
 use Rattle.just_table.specs.Entries.{find}
 use Rattle.just_parts.specs.Known.{Known, hides, none_hidden}
 use Rattle.just_parts.specs.Reading.{Reads, mentions}
-use Rattle.just_name_resolution.specs.Scopes.{Scoped, body_scoped, scoped, value_scoped}
+use Rattle.just_name_resolution.specs.Called.{IsCalledFrom}
+use Rattle.just_parts.specs.Scopes.{Scoped, body_scoped, scoped, value_scoped}
 
 -- Which numbers and which functions are found, and the expressions that are looked into next.
 pub record Found : Type 0 where
@@ -77,6 +78,12 @@ pub record FindsVariable (m : Known) (overridden : Number → Bool) (hidden : Te
   pub number : assigned.number ≡ n
   pub waits : overridden n ≡ false → Contains waiting (value_scoped assigned)
 
+-- a function that was found, whose body waits
+pub record FindsFunction (m : Known) (said : List Mention) (waiting : List Scoped) (name : Text) : Type 0 where
+  pub function : FunctionDefinition
+  pub says : SaysCall m said name function
+  pub waits : Contains waiting (body_scoped function)
+
 -- What is said is looked at: whatever it leads to is found, and nothing else, and what is found anew waits.
 pub record Looks (m : Known) (overridden : Number → Bool) (hidden : Text → Bool) (said : List Mention) (old new : Found) : Type 0 where
   pub keeps_numbers : (n : Number) → old.number n ≡ true → new.number n ≡ true
@@ -85,8 +92,7 @@ pub record Looks (m : Known) (overridden : Number → Bool) (hidden : Text → B
   pub numbers : (name : Text) (a : Assignment) → Says m hidden said name a → new.number a.number ≡ true
   pub functions : (name : Text) (f : FunctionDefinition) → SaysCall m said name f → new.function name ≡ true
   pub new_number : (n : Number) → new.number n ≡ true → (old.number n ≡ true) ⊎ FindsVariable m overridden hidden said new.waiting n
-  pub new_function : (name : Text) (f : FunctionDefinition) → find name m.functions ≡ Some f → new.function name ≡ true
-      → (old.function name ≡ true) ⊎ Contains new.waiting (body_scoped f)
+  pub new_function : (name : Text) → new.function name ≡ true → (old.function name ≡ true) ⊎ FindsFunction m said new.waiting name
   pub new_waiting : (s : Scoped) → Contains new.waiting s → Contains old.waiting s ⊎ LeadsOn m overridden hidden said s
   -- so less is left to look at
   pub less : unfound m new + length new.waiting ≤ unfound m old + length old.waiting
@@ -123,10 +129,20 @@ pub record IsReadFrom (m : Known) (firsts : List Scoped) (name : Text) : Type 0 
   pub there : Contains firsts from
   pub reads : Reads m from.hidden from.expression name
 
+-- A function that is called from one of some expressions.
+pub record IsCalledIn (m : Known) (overridden : Number → Bool) (firsts : List Scoped) (name : Text) : Type 0 where
+  pub from : Scoped
+  pub there : Contains firsts from
+  pub called : IsCalledFrom m overridden from.hidden from.expression name
+
 -- A search from some expressions, with numbers and functions that were there before it.
 pub record Searches (m : Known) (overridden : Number → Bool) (firsts : List Scoped) (old : Number → Bool) (visited : Text → Bool) (f : Found) : Type 0 where
   pub keeps : (n : Number) → old n ≡ true → f.number n ≡ true
   pub only : (n : Number) → f.number n ≡ true → (old n ≡ true) ⊎ IsNumberIn m (Needs m (overridden_by overridden m) (IsReadFrom m firsts)) n
+  pub keeps_functions : (name : Text) → visited name ≡ true → f.function name ≡ true
+  pub only_called : (name : Text) → f.function name ≡ true → (visited name ≡ true) ⊎ IsCalledIn m overridden firsts name
+  -- whatever is called from what waits is called from where it starts
+  pub called : (s : Scoped) → Contains f.waiting s → (name : Text) → IsCalledFrom m overridden s.hidden s.expression name → IsCalledIn m overridden firsts name
   -- whatever is read by what waits is needed
   pub needed : (s : Scoped) → Contains f.waiting s → (name : Text) → Reads m s.hidden s.expression name
       → Needs m (overridden_by overridden m) (IsReadFrom m firsts) name

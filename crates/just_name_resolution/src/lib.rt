@@ -7,5 +7,5 @@ mod needs;
 pub mod numbers;
 
 pub use checking::{Known, check_call, check_expression, check_names, hidden_names};
-pub use needs::{assignment_references, collect_references, needed_references};
+pub use needs::{Tables, assignment_references, collect_references, needed_references};
 pub use numbers::{Numbers, numbered};

@@ -4,20 +4,33 @@ ghost use Rattle.std.specs.Prelude.{◌≡◌, ◌≤◌, ◌∷◌, [], is_some
 ghost use Rattle.std.specs.HashSet.{contains, hash_set_len, spare};
 ghost use Rattle.std.specs.Str.{bytes_eq};
 ghost use Rattle.just_names.specs.Name.{text_of_name};
-ghost use Rattle.just_parts.specs.Needs.{AreNeeded, AreNeededBy, Gains, GainsAll, GainsThose, HasNone, IsSame, KeepsAll, has_number, same_number};
+ghost use Rattle.just_parts.specs.Needs.{AreNeeded, AreNeededBy, Gains, GainsAll, GainsThose, HaveNumbersApart, IsSame, has_number, same_number};
+ghost use Rattle.just_name_resolution.specs.Called.{AreBodiesRead, GainsCalled, IsWhole};
 ghost use Rattle.just_name_resolution.specs.Search.{Looks, LooksAtCall, LooksAtName, Searches, found_in, hidden_by, scoped_of};
 ghost use Rattle.just_ast_references.specs.Body.{mention_of};
 ghost use Rattle.just_table.specs.Entries.{find};
 ghost use Rattle.just_parts.specs.Known.{hides};
-ghost use Rattle.just_name_resolution.specs.Lent.{known_in};
+ghost use Rattle.just_name_resolution.specs.Lent.{tables_in};
 ghost use Rattle.just_parts.specs.Reading.{Reads, mentions};
 
-use crate::checking::{Known, hidden_names};
+use crate::checking::hidden_names;
 use just_ast_references::{Reference, References};
 use just_data::{BorrowedText, Text};
-use just_parts::layers::{Expression, FunctionParameter, Name, Number, Syntax};
+use just_parts::layers::{
+    Assignment, Expression, FunctionDefinition, FunctionParameter, Name, Number,
+};
+use just_table::Table;
 use std::alloc::{AllocError, Global};
 use std::collections::{HashMap, HashSet};
+
+/// The variables and the functions of a module, each under its name.
+#[derive(Drop)]
+pub struct Tables<'a, 'src> {
+    /// The variables.
+    pub assignments: &'a Table<'src, Assignment<'src>>,
+    /// The functions.
+    pub functions: &'a Table<'src, FunctionDefinition<'src>>,
+}
 
 // An expression, and the parameters in whose scope it stands: none for the value of a variable.
 #[derive(Drop)]
@@ -38,16 +51,16 @@ struct Search<'w, 'src> {
 }
 
 // Looks at a call: the body of a function of the module that is not found yet waits.
-fn look_at_call<'w, 'a, 'src, S: Syntax>(
-    known: &'w Known<'a, 'src, S>,
+fn look_at_call<'w, 'a, 'src>(
+    tables: &'w Tables<'a, 'src>,
     visited: &HashSet<BorrowedText<'src>>,
     name: &Name<'src>,
     search: &mut Search<'w, 'src>,
 ) -> Result<(), AllocError>
-    ensures { let m = known_in (S.answers known.now.syntax.now) known.now in
+    ensures { let m = tables_in tables.now in
         OnOk result (LooksAtCall m (contains bytes_eq visited.now) (text_of_name name.now) search.old search.new) }
 {
-    let Some(function) = known.functions.get(name.lexeme()) else {
+    let Some(function) = tables.functions.get(name.lexeme()) else {
         return Ok(());
     };
     let name = BorrowedText::new(name.lexeme());
@@ -67,17 +80,17 @@ fn look_at_call<'w, 'a, 'src, S: Syntax>(
 }
 
 // Looks at a variable that is not hidden: one that is not found yet is found, and its value waits unless it is overridden.
-fn look_at_name<'w, 'a, 'src, S: Syntax>(
-    known: &'w Known<'a, 'src, S>,
+fn look_at_name<'w, 'a, 'src>(
+    tables: &'w Tables<'a, 'src>,
     overrides: &HashMap<Number, Text>,
     references: &HashSet<Number>,
     name: &Name<'src>,
     search: &mut Search<'w, 'src>,
 ) -> Result<(), AllocError>
-    ensures { let m = known_in (S.answers known.now.syntax.now) known.now in
+    ensures { let m = tables_in tables.now in
         OnOk result (LooksAtName m (has_number overrides.now) (contains same_number references.now) (text_of_name name.now) search.old search.new) }
 {
-    let Some(assignment) = known.assignments.get(name.lexeme()) else {
+    let Some(assignment) = tables.assignments.get(name.lexeme()) else {
         return Ok(());
     };
     let number = assignment.number;
@@ -100,8 +113,8 @@ fn look_at_name<'w, 'a, 'src, S: Syntax>(
 }
 
 // Looks at a call or a variable.
-fn look_at<'w, 'a, 'src, S: Syntax>(
-    known: &'w Known<'a, 'src, S>,
+fn look_at<'w, 'a, 'src>(
+    tables: &'w Tables<'a, 'src>,
     overrides: &HashMap<Number, Text>,
     references: &HashSet<Number>,
     visited: &HashSet<BorrowedText<'src>>,
@@ -109,18 +122,18 @@ fn look_at<'w, 'a, 'src, S: Syntax>(
     reference: &Reference<'src>,
     search: &mut Search<'w, 'src>,
 ) -> Result<(), AllocError>
-    ensures { let m = known_in (S.answers known.now.syntax.now) known.now in
+    ensures { let m = tables_in tables.now in
         let found = found_in (contains same_number references.now) (contains bytes_eq visited.now) in
         let looks = Looks m (has_number overrides.now) (contains bytes_eq hidden.now) in
         OnOk result (looks (mention_of reference.now ∷ []) (found search.old) (found search.new)) }
 {
     match reference {
-        Reference::Call { name, .. } => look_at_call(known, visited, name, search),
+        Reference::Call { name, .. } => look_at_call(tables, visited, name, search),
         Reference::Variable { name } => {
             if hidden.contains(&BorrowedText::new(name.lexeme())) {
                 return Ok(());
             }
-            look_at_name(known, overrides, references, name, search)
+            look_at_name(tables, overrides, references, name, search)
         }
     }
 }
@@ -139,16 +152,16 @@ fn hidden_in<'w, 'src>(
 }
 
 // Looks into an expression under its parameters.
-fn look_into<'w, 'a, 'src, S: Syntax>(
+fn look_into<'w, 'a, 'src>(
     alloc: Global,
-    known: &'w Known<'a, 'src, S>,
+    tables: &'w Tables<'a, 'src>,
     overrides: &HashMap<Number, Text>,
     references: &HashSet<Number>,
     visited: &HashSet<BorrowedText<'src>>,
     waiting: &Waiting<'w, 'src>,
     search: &mut Search<'w, 'src>,
 ) -> Result<(), AllocError>
-    ensures { let m = known_in (S.answers known.now.syntax.now) known.now in
+    ensures { let m = tables_in tables.now in
         let found = found_in (contains same_number references.now) (contains bytes_eq visited.now) in
         let said = mentions waiting.now.expression.now in
         OnOk result (Looks m (has_number overrides.now) (hidden_by waiting.now.parameters) said (found search.old) (found search.new)) }
@@ -156,22 +169,22 @@ fn look_into<'w, 'a, 'src, S: Syntax>(
     let hidden = hidden_in(alloc, waiting)?;
     for reference in References::new(alloc, waiting.expression)? {
         look_at(
-            known, overrides, references, visited, &hidden, &reference, search,
+            tables, overrides, references, visited, &hidden, &reference, search,
         )?;
     }
     Ok(())
 }
 
 // Searches from what waits until nothing does.
-fn search_from<'w, 'a, 'src, S: Syntax>(
+fn search_from<'w, 'a, 'src>(
     alloc: Global,
-    known: &'w Known<'a, 'src, S>,
+    tables: &'w Tables<'a, 'src>,
     overrides: &HashMap<Number, Text>,
     references: &HashSet<Number>,
     visited: &HashSet<BorrowedText<'src>>,
     stack: Vec<Waiting<'w, 'src>>,
 ) -> Result<Search<'w, 'src>, AllocError>
-    ensures found { let m = known_in (S.answers known.now.syntax.now) known.now in
+    ensures found { let m = tables_in tables.now in
         let old = contains same_number references.now in
         let visited = contains bytes_eq visited.now in
         IfOk result (λ search. Searches m (has_number overrides.now) (map scoped_of stack.entry.items) old visited (found_in old visited search)) }
@@ -185,7 +198,7 @@ fn search_from<'w, 'a, 'src, S: Syntax>(
     while let Some(next) = search.stack.pop() {
         look_into(
             alloc,
-            known,
+            tables,
             overrides,
             references,
             visited,
@@ -225,25 +238,33 @@ fn add_functions<'src>(
 
 /// Adds the numbers of the variables that an expression needs under parameters: those that it reads, also through
 /// functions, and of each that is not overridden those that it reads in turn. `visited` has the functions whose bodies
-/// were looked into already: they are not looked into again, and those that are looked into now are added. Where memory
-/// is refused, both sets have what they had.
-pub fn collect_references<'a, 'src, S: Syntax>(
+/// were looked into already: they are not looked into again, and those that are called from the expression are added, also
+/// those that functions and the values of needed variables call. Nothing is missed where the two sets belong together, as
+/// empty ones do, and they still do afterwards. Where memory is refused, both sets have what they had.
+pub fn collect_references<'a, 'src>(
     alloc: Global,
-    known: &Known<'a, 'src, S>,
+    tables: &Tables<'a, 'src>,
     overrides: &HashMap<Number, Text>,
     expression: &Expression<'src>,
     parameters: &[FunctionParameter<'src>],
     references: &mut HashSet<Number>,
     visited: &mut HashSet<BorrowedText<'src>>,
 ) -> Result<(), AllocError>
-    ensures gains { let m = known_in (S.answers known.now.syntax.now) known.now in
+    ensures gains { let m = tables_in tables.now in
         let start = Reads m (hides parameters.now) expression.now in
         OnOk result (Gains m (has_number overrides.now) start (contains same_number references.old) (contains same_number references.new)) }
-    ensures all { let m = known_in (S.answers known.now.syntax.now) known.now in
+    ensures all { let m = tables_in tables.now in
         let start = Reads m (hides parameters.now) expression.now in
         let old = contains same_number references.old in
-        OnOk result (HasNone (contains bytes_eq visited.old) → GainsAll m (has_number overrides.now) start old (contains same_number references.new)) }
-    ensures visited { OnOk result (KeepsAll (contains bytes_eq visited.old) (contains bytes_eq visited.new)) }
+        let gains_all = GainsAll m (has_number overrides.now) start old (contains same_number references.new) in
+        OnOk result (AreBodiesRead m old (contains bytes_eq visited.old) → gains_all) }
+    ensures visited { let m = tables_in tables.now in
+        let gains = GainsCalled m (has_number overrides.now) (contains same_number references.old) (hides parameters.now) expression.now in
+        OnOk result (gains (contains bytes_eq visited.old) (contains bytes_eq visited.new)) }
+    ensures whole { let m = tables_in tables.now in
+        let whole = IsWhole m (has_number overrides.now) in
+        let before = whole (contains same_number references.old) (contains bytes_eq visited.old) in
+        OnOk result (HaveNumbersApart m → before → whole (contains same_number references.new) (contains bytes_eq visited.new)) }
     ensures refused { OnErr result (IsSame (contains same_number references.old) (contains same_number references.new)) }
     ensures refused_visited { OnErr result (IsSame (contains bytes_eq visited.old) (contains bytes_eq visited.new)) }
 {
@@ -253,7 +274,7 @@ pub fn collect_references<'a, 'src, S: Syntax>(
     };
     let mut stack = Vec::new(alloc);
     stack.push(first)?;
-    let found = search_from(alloc, known, overrides, &*references, &*visited, stack)?;
+    let found = search_from(alloc, tables, overrides, &*references, &*visited, stack)?;
     let Search {
         numbers,
         functions,
@@ -268,17 +289,17 @@ pub fn collect_references<'a, 'src, S: Syntax>(
 
 /// The numbers of what a variable needs: its own, and unless it is overridden those of what it reads, and so on. None
 /// where no variable has the name.
-pub fn assignment_references<'a, 'src, S: Syntax>(
+pub fn assignment_references<'a, 'src>(
     alloc: Global,
-    known: &Known<'a, 'src, S>,
+    tables: &Tables<'a, 'src>,
     overrides: &HashMap<Number, Text>,
     name: &str,
 ) -> Result<Option<HashSet<Number>>, AllocError>
-    ensures found { IfOk result (λ found. is_some found ≡ is_some (find name.now known.now.assignments.now)) }
-    ensures needed { let m = known_in (S.answers known.now.syntax.now) known.now in
+    ensures found { IfOk result (λ found. is_some found ≡ is_some (find name.now tables.now.assignments.now)) }
+    ensures needed { let m = tables_in tables.now in
         IfOk result (λ found. IfSome found (λ set. AreNeeded m (has_number overrides.now) name.now (contains same_number set))) }
 {
-    let Some(assignment) = known.assignments.get(name) else {
+    let Some(assignment) = tables.assignments.get(name) else {
         return Ok(None);
     };
     let mut references = HashSet::new(alloc);
@@ -287,7 +308,7 @@ pub fn assignment_references<'a, 'src, S: Syntax>(
         let mut visited = HashSet::new(alloc);
         collect_references(
             alloc,
-            known,
+            tables,
             overrides,
             &assignment.value,
             parameters.as_slice(),
@@ -301,13 +322,13 @@ pub fn assignment_references<'a, 'src, S: Syntax>(
 
 /// The numbers of the variables that these expressions need: those that one of them reads, and whatever such a one reads,
 /// unless it is overridden, and so on. No parameters are in scope.
-pub fn needed_references<'e, 'a, 'src, S: Syntax>(
+pub fn needed_references<'e, 'a, 'src>(
     alloc: Global,
-    known: &Known<'a, 'src, S>,
+    tables: &Tables<'a, 'src>,
     overrides: &HashMap<Number, Text>,
     expressions: &Vec<&'e Expression<'src>>,
 ) -> Result<HashSet<Number>, AllocError>
-    ensures needed { let m = known_in (S.answers known.now.syntax.now) known.now in
+    ensures needed { let m = tables_in tables.now in
         IfOk result (λ found. AreNeededBy m (has_number overrides.now) (map (λ e. e.now) expressions.now.items) (contains same_number found)) }
 {
     let references = HashSet::new(alloc);
@@ -319,7 +340,7 @@ pub fn needed_references<'e, 'a, 'src, S: Syntax>(
             parameters: None,
         })?;
     }
-    let found = search_from(alloc, known, overrides, &references, &visited, stack)?;
+    let found = search_from(alloc, tables, overrides, &references, &visited, stack)?;
     let Search { numbers, .. } = found;
     Ok(numbers)
 }

@@ -103,3 +103,6 @@ returns-clause-overridden g c =
     let m = contents_in c.args.definitions.now in
     let v = c.args.variables.now in
     overrides_by_number layers m v.assignments v.functions v.evaluation_order c.requires.variables c.in_ok-overridden.overridden.items c.in_ok-overridden.ensures
+
+pub returns-clause-overrides : goal.returns-clause-overrides
+returns-clause-overrides g c n = c.in_ok-overrides.ensures n ∙ ap (λ ps. last_of ps n) c.as_slice.ensures.value

@@ -1,6 +1,6 @@
 use Rattle.std.proofs.Common.{◌≡◌, ◌++◌, map}
 use Rattle.just_module_variables.specs.Places.{targets_in}
-use Rattle.just_name_resolution.specs.Scopes.{body_scoped}
+use Rattle.just_parts.specs.Scopes.{body_scoped}
 use Rattle.just_module_variables.specs.Steps.{rows_of}
 use Rattle.just_module_variables.proofs.nodes.add_body_rows.Given as goal
 

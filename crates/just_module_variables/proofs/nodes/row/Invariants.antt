@@ -4,7 +4,7 @@ use Rattle.std.specs.List.{flat_map}
 use Rattle.std.specs.Str.{bytes_eq}
 use Rattle.just_ast_references.specs.Body.{mention_of}
 use Rattle.just_module_variables.specs.Places.{target_in, targets_in}
-use Rattle.just_name_resolution.specs.Scopes.{scoped}
+use Rattle.just_parts.specs.Scopes.{scoped}
 use Rattle.just_module_variables.proofs.nodes.row.Given as goal
 
 abbrev pub invariant-loop-reference : goal.invariant-loop-reference

@@ -9,12 +9,12 @@ use Rattle.just_name_resolution.proofs.Searching.{CollectsValue, needs_of_name, 
 use Rattle.just_name_resolution.proofs.needs.assignment_references.Goals as goal
 use Rattle.just_name_resolution.proofs.needs.assignment_references.Goals.{then-not-contains_key+in_ok-collect_references, else-not-contains_key}
 use Rattle.just_parts.specs.Known.{hides}
-use Rattle.just_name_resolution.specs.Lent.{known_in}
+use Rattle.just_name_resolution.specs.Lent.{tables_in}
 use Rattle.just_parts.specs.Reading.{Reads}
 
 pub returns-clause-needed : goal.returns-clause-needed
-returns-clause-needed g c =
-    let m = known_in (g.S.Syntax.answers c.args.known.now.syntax.now) c.args.known.now in
+returns-clause-needed c =
+    let m = tables_in c.args.tables.now in
     let name = c.args.name.now in
     let a = c.in-Some.assignment.now in
     let overridden = has_number c.args.overrides.now in
@@ -27,7 +27,7 @@ returns-clause-needed g c =
           value_collected m overridden a inner (sym c.contains_key.ensures ∙ w.if-not-contains_key.true) hidden old (contains bytes_eq w.new-visited.result)
           (λ x. ap (λ ps. hides ps x) (w.as_slice.ensures.value ∙ w.new-parameters.ensures.items)) nothing (λ x. ap (list_any (bytes_eq x)) w.new-visited.ensures.empty)
           (subst (λ s. Gains m overridden (Reads m hidden a.value) old (contains same_number s)) (sym w.references-is) w.in_ok-collect_references.ensures.gains)
-          (λ none. subst (λ s. GainsAll m overridden (Reads m hidden a.value) old (contains same_number s)) (sym w.references-is) (w.in_ok-collect_references.ensures.all none))
+          (λ read. subst (λ s. GainsAll m overridden (Reads m hidden a.value) old (contains same_number s)) (sym w.references-is) (w.in_ok-collect_references.ensures.all read))
       | else-not-contains_key w ↦
           value_stopped m overridden a inner (sym c.contains_key.ensures ∙ w.if-not-contains_key.false) (λ n. ap (λ s. contains same_number s n) w.references-is ∙ nothing n)
     ] in

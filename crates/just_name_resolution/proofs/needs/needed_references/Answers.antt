@@ -11,11 +11,11 @@ use Rattle.just_name_resolution.proofs.needs.needed_references.Goals as goal
 use Rattle.just_parts.specs.Known.{none_hidden}
 use Rattle.just_parts.specs.Needs.{has_number, same_number}
 use Rattle.just_ast_expressions.specs.declared.expression.Expression.{Expression}
-use Rattle.just_name_resolution.specs.Lent.{known_in}
-use Rattle.just_name_resolution.specs.Scopes.{Scoped, scoped}
+use Rattle.just_name_resolution.specs.Lent.{tables_in}
+use Rattle.just_parts.specs.Scopes.{Scoped, scoped}
 
 pub loop-place-preserved : goal.loop-place-preserved
-loop-place-preserved g c =
+loop-place-preserved c =
     let item = c.index.result.now in
     let one : Bor Expression → Scoped = λ e. scoped none_hidden e.now in
     let i = c.loop-place.place in
@@ -27,8 +27,8 @@ loop-place-preserved g c =
     ∙ ap (map one) (sym (take_more es i item (subst (λ n. i < n) (c.len-place-end.ensures ∙ c.args.expressions.now.ok.0) c.loop-place-test.true)))
 
 pub returns : goal.returns
-returns g c =
-    let m = known_in (g.S.Syntax.answers c.args.known.now.syntax.now) c.args.known.now in
+returns c =
+    let m = tables_in c.args.tables.now in
     let es = c.args.expressions.now.items in
     let one : Bor Expression → Scoped = λ e. scoped none_hidden e.now in
     let all : map scoped_of c.loop-place.stack.items ≡ map (scoped none_hidden) (map (λ e. e.now) es) =

@@ -2,7 +2,7 @@ use Rattle.std.proofs.Common.{◌≡◌, map, take}
 use Rattle.just_name_resolution.specs.Search.{scoped_of}
 use Rattle.just_name_resolution.proofs.needs.needed_references.Given as goal
 use Rattle.just_parts.specs.Known.{none_hidden}
-use Rattle.just_name_resolution.specs.Scopes.{scoped}
+use Rattle.just_parts.specs.Scopes.{scoped}
 
 abbrev pub invariant-loop-place : goal.invariant-loop-place
-invariant-loop-place g l = map scoped_of l.stack.items ≡ map (λ e. scoped none_hidden e.now) (take l.place l.expressions.items)
+invariant-loop-place l = map scoped_of l.stack.items ≡ map (λ e. scoped none_hidden e.now) (take l.place l.expressions.items)

@@ -1,6 +1,8 @@
-use Rattle.std.proofs.Common.{◌≡◌, Bool, rules, subst}
+use Rattle.std.proofs.Common.{◌≡◌, ◌∙◌, Bool, ap, rules, subst, sym}
+use Rattle.std.proofs.lemmas.Bool.{false≢true}
 use Rattle.std.proofs.lemmas.Result.{IfErr-weaker}
 use Rattle.std.specs.HashSet.{contains}
+use Rattle.std.specs.List.{list_any}
 use Rattle.std.specs.Str.{bytes_eq}
 use Rattle.just_errors.specs.Causes.{Keeps, Reports}
 use Rattle.just_names.specs.Texts.{Text}
@@ -21,3 +23,8 @@ returns-clause-kept g c =
     let m = known_by (g.S.Syntax.answers c.args.self.now.known.syntax.now) c.args.self.now in
     let same : contains bytes_eq c.in_ok-hidden.hidden ≡ hides c.args.parameters.now = λ i name. c.in_ok-hidden.ensures name i in
     subst (λ (f : Text → Bool). Keeps (Misnames m f c.args.expression.now)) same c.in_ok-check_expression.ensures.kept
+
+pub returns-clause-all : goal.returns-clause-all
+returns-clause-all g c =
+    c.in_ok-collect_references.ensures.all
+    (λ function name f a called was. absurd (false≢true (sym (ap (list_any (bytes_eq function)) c.new-visited.ensures.empty) ∙ was)))
