@@ -86,7 +86,7 @@ module _ (old new : Course) (tasks : List Task) (frames : new.frames.items ≡ o
 pub is-opened : (old new : Course) (tasks : List Task) → new.frames.items ≡ old.frames.items ++ Back old.current ∷ calls_of tasks → state_of new ≡ opened old.calls.items → tasks ≢ [] → length tasks < 2 ^ 64 → IsOpened old tasks new
 is-opened old new tasks frames state some few = record {
   left = course-opened old new tasks frames state some;
-  sound = λ modules recipes callables sound. sound-opened old new tasks frames state (IsCallable modules recipes) sound callables;
+  sound = λ answers modules recipes callables sound. sound-opened old new tasks frames state (IsCallable answers modules recipes) sound callables;
   lighter = λ t below. subst (λ fs. IsLighter fs old.frames.items (Block t)) (sym frames) (block-lighter (2 ^ 64) old.frames.items t old.current tasks below few);
 }
 
@@ -94,7 +94,7 @@ pub not-opened : (old : Course) (tasks : List Task) → length tasks ≡ 0 → I
 not-opened old (t ∷ ts) none = absurd (omega arith)
 not-opened old [] none = record {
   left = λ leaves. refl;
-  sound = λ modules recipes callables sound. sound;
+  sound = λ answers modules recipes callables sound. sound;
   lighter = λ t below. taken-lighter (2 ^ 64) old.frames.items (Block t);
 }
 

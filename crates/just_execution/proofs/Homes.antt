@@ -11,19 +11,25 @@ use Rattle.just_ast_expressions.specs.declared.expression.Expression.{Expression
 use Rattle.just_ast_definitions.specs.Parameter.{is_name, is_option, is_singular}
 use Rattle.just_ast_definitions.specs.declared.line.Line.{Line}
 use Rattle.just_ast_definitions.specs.declared.parameter.Parameter.{Parameter}
+use Rattle.just_ast_expressions.specs.declared.settings.Settings.{Settings}
+use Rattle.just_recipe.specs.Grouping.{joined}
+use Rattle.just_recipe.specs.Script.{is_script}
 use Rattle.just_recipe.specs.declared.dependency.Dependency.{Dependency}
+use Rattle.just_recipe.specs.declared.dependency.DependencyArgument.{DependencyArgument}
 use Rattle.just_recipe.specs.declared.recipe.Recipe.{Recipe}
 use Rattle.just_recipe.specs.Recipes.{IsOrdered}
 use Rattle.just_parts.specs.Evaluation.{Inquiry}
-use Rattle.just_parts.specs.Evaluator.{Covers, values_of}
-use Rattle.just_parts.specs.Known.{Known, sources}
+use Rattle.just_parts.specs.Evaluator.{values_of}
+use Rattle.just_parts.specs.Scopes.{Scoped, attribute_expressions, compiled_expressions, environment_expressions, inner_expressions, is_parameter, line_expressions, of_attributes, parameter_scopes, read_lines, scoped, scopes_of}
+use Rattle.just_parts.specs.Syntax.{SyntaxAnswers}
+use Rattle.just_parts.specs.Known.{Known, none_hidden, sources}
 use Rattle.just_parts.specs.Host.{Answer}
 use Rattle.just_parts.specs.Steps.{both, kept_by}
 use Rattle.just_parts.proofs.StepLemmas.{took-gives}
-use Rattle.just_execution.specs.Homes.{AreHome, IsAmong, IsCallable, IsHome, Modules, attribute_expressions, line_expressions, parameter_expressions}
+use Rattle.just_execution.specs.Homes.{AreHome, IsAmong, IsCallable, HasValues, IsHome, Modules, arguments_of}
 use Rattle.just_execution.specs.Leaves.{AsksAlone, ask_steps, follow_steps}
 use Rattle.just_execution.specs.Pairs.{AllBelow, at_place, needed, place_of, prior_dependencies, subsequent_dependencies, task_of}
-use Rattle.just_execution.specs.Unready.{AreReady, DependsOn, is_empty, places}
+use Rattle.just_execution.specs.Unready.{AreReady, DependsOn, gives_arguments, is_empty, is_unready, places}
 use Rattle.just_execution.specs.declared.task.Task.{Task}
 use Rattle.just_execution.proofs.CourseLemmas.{below-more}
 use Rattle.just_execution.proofs.Places.{priors-before, subsequents-before}
@@ -40,30 +46,30 @@ part-needed part some [] k = All-nil (Contains [])
 part-needed part some (r ∷ rs) zero = some r (Contains r.dependencies) (All-contains_itself r.dependencies)
 part-needed part some (r ∷ rs) (suc k) = part-needed part some rs k
 
-module _ (modules : Modules) (rs : List (Recipe Dependency)) where
+module _ (answers : SyntaxAnswers) (modules : Modules) (rs : List (Recipe Dependency)) where
   -- each of several tasks can be called
-  pub each-callable : (ts : List Task) → AllBelow (length rs) ts → AreHome modules rs ts → All (IsCallable modules rs) ts
-  each-callable ts below home = All-weaker (Contains ts) (IsCallable modules rs)
+  pub each-callable : (ts : List Task) → AllBelow (length rs) ts → AreHome answers modules rs ts → All (IsCallable answers modules rs) ts
+  each-callable ts below home = All-weaker (Contains ts) (IsCallable answers modules rs)
       (λ t c. record {
         place = All-contains (λ (t : Task). t.pair.recipe < length rs) ts t below c;
         home = λ place recipe led at. home place recipe (reached-from (places (t ∷ [])) (places ts)
             (λ a d. from_start (subst (Contains (places ts)) (the_one t.pair.recipe a d) (contained _ _ (in_map (λ (t : Task). t.pair.recipe) t ts (is_in t ts c))))) place led) at;
       }) ts (All-contains_itself ts)
 
-  module _ (t : Task) (callable : IsCallable modules rs t) where
+  module _ (t : Task) (callable : IsCallable answers modules rs t) where
     -- its own recipe
-    pub home-of : (r : Recipe Dependency) → slice_get rs t.pair.recipe ≡ Some r → IsHome modules r
+    pub home-of : (r : Recipe Dependency) → slice_get rs t.pair.recipe ≡ Some r → IsHome answers modules r
     home-of r at = callable.home t.pair.recipe r (from_start (0, omega arith, refl)) at
 
     -- a task of what its recipe depends on
-    next-home : (u : Task) → DependsOn rs t.pair.recipe u.pair.recipe → AreHome modules rs (u ∷ [])
+    next-home : (u : Task) → DependsOn rs t.pair.recipe u.pair.recipe → AreHome answers modules rs (u ∷ [])
     next-home u step = λ place recipe led at. callable.home place recipe
         (reached-from (places (u ∷ [])) (places (t ∷ []))
         (λ a c. from_member (from_start (0, omega arith, refl)) refl (subst (DependsOn rs t.pair.recipe) (the_one u.pair.recipe a c) step)) place led) at
 
-    all-callable : (ds : List Dependency) → All (Contains (needed rs t.pair.recipe)) ds → AllBelow (length rs) (map (task_of rs) ds) → All (IsCallable modules rs) (map (task_of rs) ds)
-    all-callable [] some below = All-nil (IsCallable modules rs)
-    all-callable (d ∷ ds) some below = All-cons (IsCallable modules rs) (task_of rs d) (map (task_of rs) ds)
+    all-callable : (ds : List Dependency) → All (Contains (needed rs t.pair.recipe)) ds → AllBelow (length rs) (map (task_of rs) ds) → All (IsCallable answers modules rs) (map (task_of rs) ds)
+    all-callable [] some below = All-nil (IsCallable answers modules rs)
+    all-callable (d ∷ ds) some below = All-cons (IsCallable answers modules rs) (task_of rs d) (map (task_of rs) ds)
         (record {
           place = All-head (λ (t : Task). t.pair.recipe < length rs) (task_of rs d) (map (task_of rs) ds) below;
           home = next-home (task_of rs d) (contained _ _ (in_map (λ (d : Dependency). place_of rs d.recipe.0) d (needed rs t.pair.recipe)
@@ -73,37 +79,73 @@ module _ (modules : Modules) (rs : List (Recipe Dependency)) where
 
     -- the tasks that it was asked for
     module _ (ordered : IsOrdered rs) (e : Inquiry → Option Answer) (before later : List Inquiry) (ts : List Task) where
-      pub asked-callable : AsksAlone e (ask_steps rs t) before later (Ok ts) → All (IsCallable modules rs) ts
-      asked-callable took = subst (All (IsCallable modules rs)) (took-gives (both e (λ entry. None)) (ask_steps rs t) (kept_by [] before) (kept_by [] later) ts (took (λ entry. None) []))
+      pub asked-callable : AsksAlone e (ask_steps rs t) before later (Ok ts) → All (IsCallable answers modules rs) ts
+      asked-callable took = subst (All (IsCallable answers modules rs)) (took-gives (both e (λ entry. None)) (ask_steps rs t) (kept_by [] before) (kept_by [] later) ts (took (λ entry. None) []))
           (all-callable (prior_dependencies rs t.pair.recipe) (part-needed (λ r. take r.priors r.dependencies) (λ r P h. All-take P r.priors r.dependencies h) rs t.pair.recipe)
           (below-more t.pair.recipe (length rs) _ (omega (arith, callable.place)) (priors-before rs t.pair ordered)))
 
-      pub followed-callable : AsksAlone e (follow_steps rs t) before later (Ok ts) → All (IsCallable modules rs) ts
-      followed-callable took = subst (All (IsCallable modules rs)) (took-gives (both e (λ entry. None)) (follow_steps rs t) (kept_by [] before) (kept_by [] later) ts (took (λ entry. None) []))
+      pub followed-callable : AsksAlone e (follow_steps rs t) before later (Ok ts) → All (IsCallable answers modules rs) ts
+      followed-callable took = subst (All (IsCallable answers modules rs)) (took-gives (both e (λ entry. None)) (follow_steps rs t) (kept_by [] before) (kept_by [] later) ts (took (λ entry. None) []))
           (all-callable (subsequent_dependencies rs t.pair.recipe) (part-needed (λ r. drop r.priors r.dependencies) (λ r P h. All-drop P r.priors r.dependencies h) rs t.pair.recipe)
           (below-more t.pair.recipe (length rs) _ (omega (arith, callable.place)) (subsequents-before rs t.pair ordered)))
 
 -- a recipe that can be run reads nothing
-bare-name : (singular : Bool) (default value : Option Expression) (option : Bool) → ((singular && not (is_some default)) && not option) ≡ true →
-    option_to_list default ++ (if option then option_to_list value else []) ≡ []
-bare-name true None value false e = refl
-bare-name true None value true e = absurd (cc)
+bare-name : (singular : Bool) (default value : Option Expression) (option : Bool) → ((singular && not (is_some default)) && (not (is_some value) && not option)) ≡ true →
+    option_to_list default ++ option_to_list value ≡ []
+bare-name true None None option e = refl
+bare-name true None (Some v) option e = absurd (cc)
 bare-name true (Some d) value option e = absurd (cc)
 bare-name false default value option e = absurd (cc)
 
-bare-parameters : (ps : List Parameter) → list_any (λ p. not (is_name p)) ps ≡ false → flat_map parameter_expressions ps ≡ []
-bare-parameters [] e = refl
-bare-parameters (p ∷ ps) e = elim (cases_Bool (is_name p)) [
-  | inl h ↦ ap (λ xs. xs ++ flat_map parameter_expressions ps) (bare-name (is_singular p.kind) p.default p.value (is_option p) h) ∙ bare-parameters ps (rw h at e)
+bare-parameters : (before ps : List Parameter) → list_any (λ p. not (is_name p)) ps ≡ false → parameter_scopes before ps ≡ []
+bare-parameters before [] e = refl
+bare-parameters before (p ∷ ps) e = elim (cases_Bool (is_name p)) [
+  | inl h ↦ ap (λ (xs : List Expression). map (scoped (is_parameter before)) xs ++ parameter_scopes (before ++ p ∷ []) ps) (bare-name (is_singular p.kind) p.default p.value (is_option p) h)
+      ∙ bare-parameters (before ++ p ∷ []) ps (rw h at e)
   | inr h ↦ absurd (let no : true ≡ false = rw h at e in cc)
 ]
 
-reads-nothing : (attributes : List (NamedAttribute Expression)) (lines : List Line) (ps : List Parameter) →
-    (not (is_empty attributes) || (not (is_empty lines) || list_any (λ p. not (is_name p)) ps)) ≡ false →
-    flat_map (λ (named : NamedAttribute Expression). attribute_expressions named.attribute) attributes ++ (flat_map parameter_expressions ps ++ flat_map line_expressions lines) ≡ []
-reads-nothing [] [] ps e = ap (λ xs. xs ++ []) (bare-parameters ps e)
-reads-nothing [] (l ∷ lines) ps e = absurd (cc)
-reads-nothing (a ∷ attributes) lines ps e = absurd (cc)
+bare-groups : (groups : List (List DependencyArgument)) → list_any (λ (g : List DependencyArgument). not (is_empty g)) groups ≡ false → joined groups ≡ []
+bare-groups [] e = refl
+bare-groups ([] ∷ groups) e = bare-groups groups e
+bare-groups ((x ∷ g) ∷ groups) e = absurd (cc)
+
+bare-dependencies : (ds : List Dependency) → list_any gives_arguments ds ≡ false → flat_map (λ (d : Dependency). map (λ (a : DependencyArgument). a.expression) (arguments_of d)) ds ≡ []
+bare-dependencies [] e = refl
+bare-dependencies (d ∷ ds) e = elim (cases_Bool (gives_arguments d)) [
+  | inl h ↦ absurd (let no : true ≡ false = rw h at e in cc)
+  | inr h ↦ ap (λ (xs : List DependencyArgument). map (λ (a : DependencyArgument). a.expression) xs ++ flat_map (λ (d : Dependency). map (λ (a : DependencyArgument). a.expression) (arguments_of d)) ds) (bare-groups d.arguments h)
+      ∙ bare-dependencies ds (rw h at e)
+]
+
+-- neither of two holds
+or_false : (a b : Bool) → (a || b) ≡ false → (a ≡ false) × (b ≡ false)
+or_false false b e = (refl, e)
+or_false true b e = absurd (cc)
+
+-- the lines of no body
+no-lines : (answers : SyntaxAnswers) (settings : Settings) (script : Bool) → ◌≡◌ {A = List Line} (if script then [] else read_lines answers settings true []) []
+no-lines answers settings true = refl
+no-lines answers settings false = refl
+
+-- what is read of attributes, lines, parameters and dependencies
+abbrev scopes_among : SyntaxAnswers → Settings → Bool → List (NamedAttribute Expression) → List Line → List Parameter → List Dependency → List Scoped
+scopes_among answers settings script attributes lines ps ds =
+    map (scoped none_hidden) (flat_map (λ (named : NamedAttribute Expression). compiled_expressions named.attribute) attributes ++ flat_map (λ (named : NamedAttribute Expression). environment_expressions named.attribute) attributes)
+    ++ (parameter_scopes [] ps ++ map (scoped (is_parameter ps)) (flat_map (λ (named : NamedAttribute Expression). attribute_expressions named.attribute) attributes
+    ++ (flat_map line_expressions (if script then lines else read_lines answers settings true lines) ++ flat_map (λ (d : Dependency). map (λ (a : DependencyArgument). a.expression) (arguments_of d)) ds)))
+
+-- a recipe with none of them reads nothing
+none-among : (answers : SyntaxAnswers) (settings : Settings) (script : Bool) (attributes : List (NamedAttribute Expression)) (lines : List Line) (ps : List Parameter) (ds : List Dependency) →
+    (not (is_empty attributes) || (not (is_empty lines) || (list_any (λ p. not (is_name p)) ps || list_any gives_arguments ds))) ≡ false → scopes_among answers settings script attributes lines ps ds ≡ []
+none-among answers settings script [] [] ps ds e =
+    let halves = or_false (list_any (λ p. not (is_name p)) ps) (list_any gives_arguments ds) e in
+    λ i. bare-parameters [] ps halves.0 i ++ map (scoped (is_parameter ps)) (flat_map line_expressions (no-lines answers settings script i) ++ bare-dependencies ds halves.1 i)
+none-among answers settings script [] (l ∷ lines) ps ds e = absurd (cc)
+none-among answers settings script (a ∷ attributes) lines ps ds e = absurd (cc)
+
+reads-nothing : (answers : SyntaxAnswers) (settings : Settings) (r : Recipe Dependency) → is_unready r ≡ false → scopes_of arguments_of answers settings r ≡ []
+reads-nothing answers settings r ready = none-among answers settings (is_script r settings) r.attributes r.body r.parameters r.dependencies ready
 
 All-got : {A : Type 0} (P : A → Type 0) (xs : List A) (k : ℕ) (x : A) → All P xs → slice_get xs k ≡ Some x → P x
 All-got P [] k x h e = cc
@@ -111,8 +153,8 @@ All-got P (y ∷ xs) zero x h e = let same : y ≡ x = cc in subst P same (All-h
 All-got P (y ∷ xs) (suc k) x h e = All-got P xs k x (All-tail P y xs h) e
 
 -- where the module of each recipe is among those of a run, recipes that can be run are at home
-pub ready-home : (modules : Modules) (rs : List (Recipe Dependency)) (ts : List Task) → All (IsAmong modules) rs → AreReady rs ts → AreHome modules rs ts
-ready-home modules rs ts among ready place r led at =
+pub ready-home : (answers : SyntaxAnswers) (modules : Modules) (rs : List (Recipe Dependency)) (ts : List Task) → All (IsAmong modules) rs → AreReady rs ts → AreHome answers modules rs ts
+ready-home answers modules rs ts among ready place r led at =
     let found = All-got (IsAmong modules) rs place r among at in
     let known : Known = sources found.0.context.assignments.now found.0.context.functions.now in
     record {
@@ -120,6 +162,6 @@ ready-home modules rs ts among ready place r led at =
       there = found.1;
       own = record {
         path = found.2;
-        bound = subst (All (Covers known (values_of found.0.scope))) (sym (reads-nothing r.attributes r.body r.parameters (ready place r led at))) (All-nil (Covers known (values_of found.0.scope)));
+        bound = subst (All (HasValues known (values_of found.0.scope))) (sym (reads-nothing answers found.0.context.settings.now r (ready place r led at))) (All-nil (HasValues known (values_of found.0.scope)));
       };
     }

@@ -15,6 +15,7 @@ use Rattle.just_execution.specs.declared.frame.Frame.{Frame}
 use Rattle.just_execution.specs.declared.frame.Frame.TheVariants.{Call, Block, Back}
 use Rattle.just_execution.specs.declared.frame.OpenTable.{OpenTable}
 use Rattle.just_execution.specs.declared.task.Task.{Task}
+use Rattle.just_parts.specs.Syntax.{SyntaxAnswers}
 use Rattle.just_execution.specs.Homes.{IsCallable, Modules}
 use Rattle.just_execution.specs.Pairs.{AllBelow, table_of}
 use Rattle.just_execution.specs.Leaves.{leaves_of}
@@ -126,8 +127,8 @@ IsLighter new old frame = weight (2 ^ 64) new < weight (2 ^ 64) (old ++ frame �
 pub record IsOpened (old : Course) (tasks : List Task) (new : Course) : Type 0 where
   pub left : (leaves : Leaves) → left_of leaves new ≡
       and_then (fresh_steps (walk_at leaves) tasks old.calls.items) (λ calls. left leaves old.frames.items (with_calls (state_of old) calls))
-  pub sound : (modules : Modules) (recipes : List (Recipe Dependency)) → All (IsCallable modules recipes) tasks →
-      IsSound (IsCallable modules recipes) old → IsSound (IsCallable modules recipes) new
+  pub sound : (answers : SyntaxAnswers) (modules : Modules) (recipes : List (Recipe Dependency)) → All (IsCallable answers modules recipes) tasks →
+      IsSound (IsCallable answers modules recipes) old → IsSound (IsCallable answers modules recipes) new
   pub lighter : (task : Task) → AllBelow task.pair.recipe tasks → IsLighter new.frames.items old.frames.items (Block task)
 
 -- the elements of a vector that came out

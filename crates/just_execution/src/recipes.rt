@@ -82,8 +82,8 @@ impl<'src> Recipes<'src> {
         None
     }
 
-    // A law, which does nothing: each recipe stands after those that it depends on.
-    pub(crate) fn are_ordered(&self)
+    /// A law, which does nothing: each recipe has a number of its own, and stands after those that it depends on.
+    pub fn are_ordered(&self)
         ensures { IsOrdered self.now }
     {
         let _ = &self.recipes;

@@ -18,7 +18,7 @@ use crate::recipes::Recipes;
 use crate::scopes::{ModuleScope, Scopes, module_of};
 use crate::task::Task;
 use just_parts::Dependency;
-use just_parts::layers::{Evaluation, Halt, Host};
+use just_parts::layers::{Evaluation, Halt, Host, Syntax};
 use std::alloc::Global;
 
 /// How often a recipe was called under each once table, in the order of opening.
@@ -29,15 +29,16 @@ pub struct Report {
 }
 
 // The tasks of some of the dependencies of a task; nothing is asked for them yet.
-fn ask<'src, E: Evaluation>(
+fn ask<'src, S: Syntax, E: Evaluation>(
     alloc: Global,
     recipes: &Recipes<'src>,
+    _syntax: &S,
     _module: &ModuleScope<'_, 'src>,
     _evaluation: &mut E,
     _task: &Task,
     dependencies: &[Dependency<'src>],
 ) -> Result<Vec<Task>, Halt<'src>>
-    requires home { IsHomeAt _module.now recipes.now _task.now.pair.recipe }
+    requires home { IsHomeAt (S.answers _syntax.now) _module.now recipes.now _task.now.pair.recipe }
     requires held { All (λ (d : Dependency). Contains (numbers recipes.now) d.recipe.0) dependencies.now }
     ensures keeps { KeepsPromises (E.promised _evaluation.old) (E.promised _evaluation.new) }
     ensures took { let took = AsksAlone (E.promised _evaluation.old) (Give (map (task_of recipes.now) dependencies.now)) in
@@ -47,15 +48,16 @@ fn ask<'src, E: Evaluation>(
 }
 
 // The beginning of a task; it has no body yet.
-fn execute<'src, E: Evaluation, H: Host>(
+fn execute<'src, S: Syntax, E: Evaluation, H: Host>(
     recipes: &Recipes<'src>,
+    _syntax: &S,
     _module: &ModuleScope<'_, 'src>,
     _evaluation: &mut E,
     host: &mut H,
     task: &Task,
 ) -> Result<(), Halt<'src>>
     requires place { task.now.pair.recipe < length recipes.now }
-    requires home { IsHomeAt _module.now recipes.now task.now.pair.recipe }
+    requires home { IsHomeAt (S.answers _syntax.now) _module.now recipes.now task.now.pair.recipe }
     requires resolved { All IsResolved recipes.now }
     ensures keeps { KeepsPromises (E.promised _evaluation.old) (E.promised _evaluation.new) }
     ensures keeps_host { KeepsPromises (H.promised host.old) (H.promised host.new) }
@@ -69,22 +71,22 @@ fn execute<'src, E: Evaluation, H: Host>(
 }
 
 // Calls a task: its priors are called next, and then its block, unless its pair ran.
-fn call_task<'src, E: Evaluation>(
+fn call_task<'src, S: Syntax, E: Evaluation>(
     alloc: Global,
     recipes: &Recipes<'src>,
-    scopes: &Scopes<'_, 'src>,
+    scopes: &Scopes<'_, 'src, S>,
     evaluation: &mut E,
     run: &mut Course,
     task: Task,
 ) -> Result<(), Halt<'src>>
     requires ordered { IsOrdered recipes.now }
     requires resolved { All IsResolved recipes.now }
-    requires callable { IsCallable scopes.now recipes.now task }
-    requires sound { IsSound (IsCallable scopes.now recipes.now) run.old }
+    requires callable { IsCallable (S.answers scopes.now.syntax.now) scopes.now.modules recipes.now task }
+    requires sound { IsSound (IsCallable (S.answers scopes.now.syntax.now) scopes.now.modules recipes.now) run.old }
     ensures keeps { KeepsPromises (E.promised evaluation.old) (E.promised evaluation.new) }
     ensures goes { let goes = Calls (E.promised evaluation.old) recipes.now task run.old (E.inquiries evaluation.old) in
         goes run.new (E.inquiries evaluation.new) result }
-    ensures sound { OnOk result (IsSound (IsCallable scopes.now recipes.now) run.new) }
+    ensures sound { OnOk result (IsSound (IsCallable (S.answers scopes.now.syntax.now) scopes.now.modules recipes.now) run.new) }
     ensures lighter { OnOk result (IsLighter run.new.frames.items run.old.frames.items (Frame.Call task)) }
 {
     count_call(&mut run.calls, run.current.number)?;
@@ -93,17 +95,25 @@ fn call_task<'src, E: Evaluation>(
     }
     let module = module_of(scopes, recipes.at(task.pair.recipe));
     let dependencies = recipes.priors(task.pair.recipe);
-    let priors = ask(alloc, recipes, module, evaluation, &task, dependencies)?;
+    let priors = ask(
+        alloc,
+        recipes,
+        scopes.syntax,
+        module,
+        evaluation,
+        &task,
+        dependencies,
+    )?;
     run.frames.push(Frame::Block(task))?;
     push_calls(&mut run.frames, priors)?;
     Ok(())
 }
 
 // Runs the block of a task: it is executed, and its subsequents are called next under a table of their own.
-fn run_block<'src, E: Evaluation, H: Host>(
+fn run_block<'src, S: Syntax, E: Evaluation, H: Host>(
     alloc: Global,
     recipes: &Recipes<'src>,
-    scopes: &Scopes<'_, 'src>,
+    scopes: &Scopes<'_, 'src, S>,
     evaluation: &mut E,
     host: &mut H,
     run: &mut Course,
@@ -111,30 +121,38 @@ fn run_block<'src, E: Evaluation, H: Host>(
 ) -> Result<(), Halt<'src>>
     requires ordered { IsOrdered recipes.now }
     requires resolved { All IsResolved recipes.now }
-    requires callable { IsCallable scopes.now recipes.now task }
-    requires sound { IsSound (IsCallable scopes.now recipes.now) run.old }
+    requires callable { IsCallable (S.answers scopes.now.syntax.now) scopes.now.modules recipes.now task }
+    requires sound { IsSound (IsCallable (S.answers scopes.now.syntax.now) scopes.now.modules recipes.now) run.old }
     ensures keeps { KeepsPromises (E.promised evaluation.old) (E.promised evaluation.new) }
     ensures keeps_host { KeepsPromises (H.promised host.old) (H.promised host.new) }
     ensures goes { let first = kept_by (H.entries host.old) (E.inquiries evaluation.old) in
         let last = kept_by (H.entries host.new) (E.inquiries evaluation.new) in
         Blocks (E.promised evaluation.old) (H.promised host.old) recipes.now task run.old first run.new last result }
-    ensures sound { OnOk result (IsSound (IsCallable scopes.now recipes.now) run.new) }
+    ensures sound { OnOk result (IsSound (IsCallable (S.answers scopes.now.syntax.now) scopes.now.modules recipes.now) run.new) }
     ensures lighter { OnOk result (IsLighter run.new.frames.items run.old.frames.items (Frame.Block task)) }
 {
     let module = module_of(scopes, recipes.at(task.pair.recipe));
-    execute(recipes, module, evaluation, host, &task)?;
+    execute(recipes, scopes.syntax, module, evaluation, host, &task)?;
     let dependencies = recipes.subsequents(task.pair.recipe);
-    let subsequents = ask(alloc, recipes, module, evaluation, &task, dependencies)?;
+    let subsequents = ask(
+        alloc,
+        recipes,
+        scopes.syntax,
+        module,
+        evaluation,
+        &task,
+        dependencies,
+    )?;
     run.current.table.insert(task.pair)?;
     run.open(alloc, subsequents)?;
     Ok(())
 }
 
 // Takes a frame.
-fn take<'src, E: Evaluation, H: Host>(
+fn take<'src, S: Syntax, E: Evaluation, H: Host>(
     alloc: Global,
     recipes: &Recipes<'src>,
-    scopes: &Scopes<'_, 'src>,
+    scopes: &Scopes<'_, 'src, S>,
     evaluation: &mut E,
     host: &mut H,
     run: &mut Course,
@@ -142,14 +160,14 @@ fn take<'src, E: Evaluation, H: Host>(
 ) -> Result<(), Halt<'src>>
     requires ordered { IsOrdered recipes.now }
     requires resolved { All IsResolved recipes.now }
-    requires there { IsOpen (IsCallable scopes.now recipes.now) (length run.old.calls.items) frame }
-    requires sound { IsSound (IsCallable scopes.now recipes.now) run.old }
+    requires there { IsOpen (IsCallable (S.answers scopes.now.syntax.now) scopes.now.modules recipes.now) (length run.old.calls.items) frame }
+    requires sound { IsSound (IsCallable (S.answers scopes.now.syntax.now) scopes.now.modules recipes.now) run.old }
     ensures keeps { KeepsPromises (E.promised evaluation.old) (E.promised evaluation.new) }
     ensures keeps_host { KeepsPromises (H.promised host.old) (H.promised host.new) }
     ensures goes { let first = kept_by (H.entries host.old) (E.inquiries evaluation.old) in
         let last = kept_by (H.entries host.new) (E.inquiries evaluation.new) in
         Leads (E.promised evaluation.old) (H.promised host.old) recipes.now frame run.old first run.new last result }
-    ensures sound { OnOk result (IsSound (IsCallable scopes.now recipes.now) run.new) }
+    ensures sound { OnOk result (IsSound (IsCallable (S.answers scopes.now.syntax.now) scopes.now.modules recipes.now) run.new) }
     ensures lighter { OnOk result (IsLighter run.new.frames.items run.old.frames.items frame) }
 {
     match frame {
@@ -163,17 +181,17 @@ fn take<'src, E: Evaluation, H: Host>(
 }
 
 // Takes frames until none is left.
-fn finish<'src, E: Evaluation, H: Host>(
+fn finish<'src, S: Syntax, E: Evaluation, H: Host>(
     alloc: Global,
     recipes: &Recipes<'src>,
-    scopes: &Scopes<'_, 'src>,
+    scopes: &Scopes<'_, 'src, S>,
     evaluation: &mut E,
     host: &mut H,
     run: &mut Course,
 ) -> Result<(), Halt<'src>>
     requires ordered { IsOrdered recipes.now }
     requires resolved { All IsResolved recipes.now }
-    requires sound { IsSound (IsCallable scopes.now recipes.now) run.old }
+    requires sound { IsSound (IsCallable (S.answers scopes.now.syntax.now) scopes.now.modules recipes.now) run.old }
     ensures keeps { KeepsPromises (E.promised evaluation.old) (E.promised evaluation.new) }
     ensures keeps_host { KeepsPromises (H.promised host.old) (H.promised host.new) }
     ensures took { let first = kept_by (H.entries host.old) (E.inquiries evaluation.old) in
@@ -187,10 +205,10 @@ fn finish<'src, E: Evaluation, H: Host>(
 }
 
 // Takes the calls of tasks under a first table, and all that they lead to.
-fn start<'src, E: Evaluation, H: Host>(
+fn start<'src, S: Syntax, E: Evaluation, H: Host>(
     alloc: Global,
     recipes: &Recipes<'src>,
-    scopes: &Scopes<'_, 'src>,
+    scopes: &Scopes<'_, 'src, S>,
     evaluation: &mut E,
     host: &mut H,
     tasks: Vec<Task>,
@@ -198,7 +216,7 @@ fn start<'src, E: Evaluation, H: Host>(
     requires ordered { IsOrdered recipes.now }
     requires resolved { All IsResolved recipes.now }
     requires below { AllBelow (length recipes.now) tasks.items }
-    requires home { AreHome scopes.now recipes.now tasks.items }
+    requires home { AreHome (S.answers scopes.now.syntax.now) scopes.now.modules recipes.now tasks.items }
     ensures keeps { KeepsPromises (E.promised evaluation.old) (E.promised evaluation.new) }
     ensures keeps_host { KeepsPromises (H.promised host.old) (H.promised host.new) }
     ensures took { let first = kept_by (H.entries host.old) (E.inquiries evaluation.old) in
@@ -224,17 +242,17 @@ fn start<'src, E: Evaluation, H: Host>(
 /// Each recipe has its path and at least as many dependencies as priors, and each task is that of a recipe that is there:
 /// compiling promises the one, and `InvocationParser` the other. The module of each recipe that the tasks lead to is in
 /// `scopes`, where all that the recipe reads has its value.
-pub fn run_tasks<'src, E: Evaluation, H: Host>(
+pub fn run_tasks<'src, S: Syntax, E: Evaluation, H: Host>(
     alloc: Global,
     recipes: &Recipes<'src>,
-    scopes: &Scopes<'_, 'src>,
+    scopes: &Scopes<'_, 'src, S>,
     evaluation: &mut E,
     host: &mut H,
     tops: Vec<Task>,
 ) -> Result<Report, Halt<'src>>
     requires resolved { All IsResolved recipes.now }
     requires below { AllBelow (length recipes.now) tops.items }
-    requires home { AreHome scopes.now recipes.now tops.items }
+    requires home { AreHome (S.answers scopes.now.syntax.now) scopes.now.modules recipes.now tops.items }
     ensures keeps { KeepsPromises (E.promised evaluation.old) (E.promised evaluation.new) }
     ensures keeps_host { KeepsPromises (H.promised host.old) (H.promised host.new) }
     ensures account { let first = kept_by (H.entries host.old) (E.inquiries evaluation.old) in

@@ -2,7 +2,7 @@
 ghost use Rattle.just_execution.specs.Homes.{IsHome, IsHomeOf};
 
 use just_parts::Recipe;
-use just_parts::layers::{Context, Scope};
+use just_parts::layers::{Context, Scope, Syntax};
 use just_paths::Modulepath;
 use std::collections::HashMap;
 
@@ -15,16 +15,22 @@ pub struct ModuleScope<'run, 'src> {
     pub scope: Scope<'src>,
 }
 
-/// The modules of a run, by their paths.
-pub type Scopes<'run, 'src> = HashMap<Modulepath, ModuleScope<'run, 'src>>;
+/// What recipes run in.
+#[derive(Drop)]
+pub struct Scopes<'run, 'src, S> {
+    /// The grammar, which tells the lines of bodies apart.
+    pub syntax: &'run S,
+    /// The modules of the run, by their paths.
+    pub modules: HashMap<Modulepath, ModuleScope<'run, 'src>>,
+}
 
 /// The module in which a recipe runs.
-pub(crate) fn module_of<'a, 'run, 'src>(
-    scopes: &'a Scopes<'run, 'src>,
+pub(crate) fn module_of<'a, 'run, 'src, S: Syntax>(
+    scopes: &'a Scopes<'run, 'src, S>,
     recipe: &Recipe<'src>,
 ) -> &'a ModuleScope<'run, 'src>
-    requires { IsHome scopes.now recipe.now }
-    ensures { IsHomeOf result.now recipe.now }
+    requires { IsHome (S.answers scopes.now.syntax.now) scopes.now.modules recipe.now }
+    ensures { IsHomeOf (S.answers scopes.now.syntax.now) result.now recipe.now }
 {
-    scopes.get(recipe.module_path()).unwrap()
+    scopes.modules.get(recipe.module_path()).unwrap()
 }

@@ -1,5 +1,5 @@
 -- What is evaluated of a module while compiling.
-use Rattle.std.specs.Prelude.{◌≡◌, ◌↔◌, ◌++◌, Bool, true, false, List, [], ◌∷◌, flat_map, map, Option, None, Some, is_some, option_to_list, if◌then◌else◌}
+use Rattle.std.specs.Prelude.{◌≡◌, ◌↔◌, ◌++◌, Bool, true, false, List, [], ◌∷◌, flat_map, map, Option, None, Some, is_some, if◌then◌else◌}
 use Rattle.std.specs.List.{Contains, list_any}
 use Rattle.just_table.specs.Entries.{find}
 use Rattle.just_names.specs.Texts.{Text}
@@ -13,13 +13,10 @@ use Rattle.just_parts.specs.Known.{Known, none_hidden}
 use Rattle.just_parts.specs.Layers.{Layers}
 use Rattle.just_parts.specs.Needs.{Needs}
 use Rattle.just_parts.specs.Reading.{IsReadIn}
+use Rattle.just_parts.specs.Scopes.{compiled_expressions, of_attributes}
 use Rattle.just_parts.specs.Syntax.{SyntaxAnswers}
 use Rattle.just_recipe.specs.declared.dependency.UnresolvedDependency.{UnresolvedDependency}
 use Rattle.just_recipe.specs.declared.recipe.Recipe.{Recipe}
-use Rattle.just_ast_definitions.specs.declared.attribute.ArgumentProperty.{ArgumentProperty}
-use Rattle.just_ast_definitions.specs.declared.attribute.Attribute.{Attribute}
-use Rattle.just_ast_definitions.specs.declared.attribute.Attribute.TheVariants as attribute
-use Rattle.just_ast_definitions.specs.declared.attribute.NamedAttribute.{NamedAttribute}
 use Rattle.just_ast_expressions.specs.declared.expression.Expression.{Expression}
 use Rattle.just_ast_definitions.specs.declared.setting.Set.{Set}
 use Rattle.just_ast_definitions.specs.declared.setting.Setting.{Setting}
@@ -30,20 +27,9 @@ use Rattle.just_parts.specs.Misnaming.{Misnames}
 use Rattle.just_module_contents.specs.Contents.{Contents}
 use Rattle.just_module_contents.specs.Known.{functions_under, known_of}
 
--- the expression of a property
-abbrev pub property_expressions : Option (ArgumentProperty Expression) → List Expression
-property_expressions None = []
-property_expressions (Some p) = p.value ∷ []
-
--- those of an attribute that are evaluated while compiling: of a doc, a help and a pattern
-abbrev pub attribute_expressions : Attribute Expression → List Expression
-attribute_expressions (attribute.Arg a) = property_expressions a.help_property ++ property_expressions a.pattern_property
-attribute_expressions (attribute.Doc e) = option_to_list e
-attribute_expressions _ = []
-
--- those of a recipe
+-- the expressions of a recipe that are evaluated while compiling
 abbrev pub recipe_expressions : Recipe UnresolvedDependency → List Expression
-recipe_expressions r = flat_map (λ (named : NamedAttribute Expression). attribute_expressions named.attribute) r.attributes
+recipe_expressions = of_attributes compiled_expressions
 
 -- those of the settings of a module
 abbrev pub settings_expressions : Contents → List Expression

@@ -3,11 +3,13 @@ use Rattle.std.specs.Prelude.{◌≡◌, ℕ, ◌<◌, ◌≤◌, List, [], ◌�
 use Rattle.std.specs.List.{All, Contains, slice_get}
 use Rattle.just_names.specs.Name.{text_of_name}
 use Rattle.just_recipe.specs.declared.dependency.Dependency.{Dependency}
+use Rattle.just_recipe.specs.declared.dependency.DependencyArgument.{DependencyArgument}
 use Rattle.just_recipe.specs.declared.dependency.UnresolvedDependency.{UnresolvedDependency}
 use Rattle.just_paths.specs.declared.modulepath.Modulepath.{Modulepath}
 use Rattle.just_recipe.specs.declared.recipe.Recipe.{Recipe}
 use Rattle.just_recipe.specs.Recipes.{numbers}
 use Rattle.just_recipe.specs.Recipes.{IsResolved}
+use Rattle.just_module_contents.specs.Recipes.{recipe_at}
 use Rattle.just_module_contents.specs.Rows.{IsRow, IsOrderOf}
 
 -- the numbers of recipes that are not resolved
@@ -26,11 +28,15 @@ number_at recipes place = slice_index (unresolved_numbers recipes) place
 abbrev pub HasPriors : Recipe UnresolvedDependency → Type 0
 HasPriors recipe = recipe.priors ≤ length recipe.dependencies
 
--- each path, with the number of the recipe at the place beside it
+-- no arguments for each parameter
+abbrev pub no_arguments : Recipe UnresolvedDependency → List (List DependencyArgument)
+no_arguments recipe = map (λ p. []) recipe.parameters
+
+-- each path, with the number of the recipe at the place beside it, which is given no arguments
 abbrev pub linked : List (Recipe UnresolvedDependency) → List UnresolvedDependency → List ℕ → List Dependency
 linked recipes [] places = []
 linked recipes (d ∷ ds) [] = []
-linked recipes (d ∷ ds) (place ∷ places) = record { path = d.recipe; recipe = record { 0 = number_at recipes place } } ∷ linked recipes ds places
+linked recipes (d ∷ ds) (place ∷ places) = record { arguments = no_arguments (recipe_at recipes place); path = d.recipe; recipe = record { 0 = number_at recipes place } } ∷ linked recipes ds places
 
 -- a path that leads one name on
 abbrev pub path_to : Modulepath → List ℕ → Modulepath

@@ -149,6 +149,10 @@ pub record IsDependencyOn (recipes : List (Recipe UnresolvedDependency)) (depend
   pub depends : Contains (named_paths (recipe_at recipes from)) path
   pub names : texts_of_path path ≡ named ∷ []
 
+-- Too few arguments are given, or too many; until arguments are handed on any are too many.
+abbrev pub Miscounts : ℕ → ℕ → ℕ → Type 0
+Miscounts found least most = (found < least) ⊎ ((most < found) ⊎ (0 < found))
+
 -- A dependency is no recipe, a recipe depends on itself, or one is depended on with too few or too many arguments, as values are lists or not. It is told at the last name of the dependency; of a circle, at that of one which closes it.
 pub data Dependencies (lists : Bool) (recipes : List (Recipe UnresolvedDependency)) : Cause → Type 0 where
   unknown_dependency : {recipe : List ℕ} {unknown : Namepath} (i : ℕ) → i < length recipes → name_of (recipe_at recipes i) ≡ recipe
@@ -157,7 +161,7 @@ pub data Dependencies (lists : Bool) (recipes : List (Recipe UnresolvedDependenc
       → Dependencies lists recipes (Broken unknown.last.token (kind.UnknownDependency recipe unknown))
   circular : {recipe : List ℕ} {circle : List (List ℕ)} {path : Namepath} → IsCircleOf recipes recipe circle → IsDependencyOn recipes recipe (get_or circle (length circle - 1) []) path
       → Dependencies lists recipes (Broken path.last.token (kind.CircularRecipeDependency recipe circle))
-  argument_count : {dependency : Namepath} {found least most : ℕ} (i j : ℕ) → i < length recipes → j < length recipes
-      → Contains (named_paths (recipe_at recipes i)) dependency → texts_of_path dependency ≡ name_of (recipe_at recipes j) ∷ []
-      → found ≡ 0 → least_of (recipe_at recipes j) ≡ least → most_of lists (recipe_at recipes j) ≡ most → (found < least) ⊎ (most < found)
-      → Dependencies lists recipes (Broken dependency.last.token (kind.DependencyArgumentCountMismatch dependency found least most))
+  argument_count : {dependency : UnresolvedDependency} {found least most : ℕ} (i j : ℕ) → i < length recipes → j < length recipes
+      → Contains (recipe_at recipes i).dependencies dependency → texts_of_path dependency.recipe ≡ name_of (recipe_at recipes j) ∷ []
+      → length dependency.arguments ≡ found → least_of (recipe_at recipes j) ≡ least → most_of lists (recipe_at recipes j) ≡ most
+      → Miscounts found least most → Dependencies lists recipes (Broken dependency.recipe.last.token (kind.DependencyArgumentCountMismatch dependency.recipe found least most))

@@ -25,10 +25,6 @@ pub data FirstLine (answers : SyntaxAnswers) (settings : Settings) (line : Line)
       → FirstLine answers settings line (Broken token kind.GuardAndInfallibleSigil)
   extra_whitespace : {token : Place} → front line.fragments ≡ Some token → is_indented (lexeme token) ≡ true → FirstLine answers settings line (Broken token kind.ExtraLeadingWhitespace)
 
--- for the private functions: the line after one begins a group, where this one does or not
-abbrev pub ends_group : SyntaxAnswers → Settings → Line → Bool → Bool
-ends_group answers settings line begins = not (answers.is_continuation line) || (begins && (settings.ignore_comments && answers.is_comment line))
-
 -- What is broken in the lines of a body: something at one that begins a group.
 pub data Lines (answers : SyntaxAnswers) (settings : Settings) (body : List Line) : Cause → Type 0 where
   of_line : {line : Line} {c : Cause} (i : ℕ) → BeginsGroup answers settings body i → slice_get body i ≡ Some line → FirstLine answers settings line c → Lines answers settings body c

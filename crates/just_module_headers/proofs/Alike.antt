@@ -25,6 +25,7 @@ use Rattle.just_parts.specs.Layers.{Layers}
 use Rattle.just_parts.specs.Located.{located_assignment}
 use Rattle.just_ast_references.specs.Numbers.{bare}
 use Rattle.just_recipe.specs.Script.{is_script, is_shell}
+use Rattle.just_parts.specs.Scopes.{compiled_expressions}
 use Rattle.just_parts.specs.Syntax.{SyntaxAnswers}
 use Rattle.just_recipe.specs.declared.dependency.UnresolvedDependency.{UnresolvedDependency}
 use Rattle.just_recipe.specs.declared.recipe.Recipe.{Recipe}
@@ -33,7 +34,7 @@ use Rattle.just_names.specs.declared.name.Namepath.{Namepath}
 use Rattle.just_errors.specs.declared.error.Definition.TheVariants as definition
 use Rattle.just_module_contents.specs.Contents.{Contents, Defined, Signature, all_defined, defined, defined_in, defined_recipe, function_names, module_of_name, signature, signatures, variable_names}
 use Rattle.just_names.specs.Index.{texts_of_names, Repeats}
-use Rattle.just_module_contents.specs.Constants.{AreConstants, AsksConstants, AsksFor, Constants, Docs, Evaluated, IsEvaluated, attribute_expressions, constant_expressions, constants_fault, doc_fault, functions_asked, in_doc, in_setting, recipe_expressions, settings_among, settings_fault, sets_lists}
+use Rattle.just_module_contents.specs.Constants.{AreConstants, AsksConstants, AsksFor, Constants, Docs, Evaluated, IsEvaluated, constant_expressions, constants_fault, doc_fault, functions_asked, in_doc, in_setting, recipe_expressions, settings_among, settings_fault, sets_lists}
 use Rattle.just_module_contents.specs.Groups.{BodiesAndDocs, Breaks, Group, OfAliases, OfBodies, OfConstants, OfDependencies, OfExpressions, OfHeaders, OfNames, in_bodies, in_docs}
 use Rattle.just_module_contents.specs.Known.{functions_under, known_of, variables_under}
 use Rattle.just_parts.specs.Known.{Known, known, none_hidden}
@@ -59,6 +60,7 @@ pub record Outline : Type 0 where
   pub needed : List Bool
   pub paths : List Namepath
   pub dependencies : List (List (List ℕ))
+  pub given : List UnresolvedDependency
   pub least : ℕ
   pub most : Bool → ℕ
 
@@ -75,6 +77,7 @@ outline_of recipe = record {
   needed = map is_needed recipe.parameters;
   paths = named_paths recipe;
   dependencies = dependency_paths recipe;
+  given = recipe.dependencies;
   least = least_of recipe;
   most = λ lists. most_of lists recipe;
 }
@@ -120,6 +123,9 @@ module _ (rs qs : List (Recipe UnresolvedDependency)) (alike : AreAlike rs qs) w
 
   named : (i : ℕ) (path : Namepath) → Contains (named_paths (recipe_at rs i)) path → Contains (named_paths (recipe_at qs i)) path
   named i path c = subst (λ (ps : List Namepath). Contains ps path) (ap (λ (o : Outline). o.paths) (at i)) c
+
+  gives : (i : ℕ) (d : UnresolvedDependency) → Contains (recipe_at rs i).dependencies d → Contains (recipe_at qs i).dependencies d
+  gives i d c = subst (λ (ds : List UnresolvedDependency). Contains ds d) (ap (λ (o : Outline). o.given) (at i)) c
 
   inside : (i : ℕ) → i < length rs → i < length qs
   inside i h = subst (λ n. i < n) many h
@@ -206,7 +212,7 @@ module _ (rs qs : List (Recipe UnresolvedDependency)) (alike : AreAlike rs qs) w
     names = d.names;
   })
   dependencies_alike lists _ (argument_count {dependency} i j h l c is none least most wrong) =
-      argument_count i j (inside i h) (inside j l) (named i dependency c) (is ∙ ap (λ n. n ∷ []) (name j)) none
+      argument_count i j (inside i h) (inside j l) (gives i dependency c) (is ∙ ap (λ n. n ∷ []) (name j)) none
       (ap (λ (o : Outline). o.least) (sym (at j)) ∙ least) (ap (λ (o : Outline). o.most lists) (sym (at j)) ∙ most) wrong
 
 -- Contents that are alike: so are their recipes, and their functions and variables without numbers, their names, the docs of their modules, what they set and where they need lists are the same.
@@ -260,7 +266,7 @@ kept_alike_recipes rs qs alike = outlines_left rs rs ∙ (λ i. left_of claim_by
 
 -- the expressions of recipes that are evaluated while compiling are told by their outlines
 abbrev outline_expressions : Outline → List Expression
-outline_expressions o = flat_map (λ (named : NamedAttribute Expression). attribute_expressions named.attribute) o.attributes
+outline_expressions o = flat_map (λ (named : NamedAttribute Expression). compiled_expressions named.attribute) o.attributes
 
 expressions_read : (rs : List (Recipe UnresolvedDependency)) → flat_map recipe_expressions rs ≡ flat_map outline_expressions (outlines_of rs)
 expressions_read [] = refl

@@ -57,6 +57,7 @@ outline_located r = λ i. record {
   needed = needed_bare r.parameters i;
   paths = named_paths r;
   dependencies = dependency_paths r;
+  given = r.dependencies;
   least = least_bare r.parameters i;
   most = λ lists. most_bare lists r.parameters i;
 }

@@ -1,9 +1,9 @@
 -- The graph's edges are the steps between recipes.
 use Rattle.std.proofs.Common.{◌≡◌, ℕ, ◌<◌, List, [], ◌∷◌, length, get_or, slice_index, sym, ◌∙◌, subst, arith, inl, inr, ◌↔◌}
 use Rattle.std.proofs.lemmas.Bool.{cases_lt}
-use Rattle.std.proofs.lemmas.List.{get_or_default}
-use Rattle.std.proofs.lemmas.List.Elements.{Contains-get_or}
-use Rattle.std.specs.List.{Contains}
+use Rattle.std.proofs.lemmas.List.{get_or_default, length-map, take_all}
+use Rattle.std.proofs.lemmas.List.Elements.{All-contains, Contains-get_or}
+use Rattle.std.specs.List.{All, Contains}
 use Rattle.std.specs.declared.vec.Vec.{Vec}
 use Rattle.std.specs.declared.alloc.Global.{Global}
 use Rattle.just_graph.specs.Graph.{HasEdge, IsGraph}
@@ -11,8 +11,9 @@ use Rattle.just_graph.specs.Building.{EachRow, targets_past}
 use Rattle.just_recipe.specs.declared.dependency.UnresolvedDependency.{UnresolvedDependency}
 use Rattle.just_recipe.specs.declared.recipe.Recipe.{Recipe}
 use Rattle.just_names.specs.Index.{AreDifferent}
+use Rattle.just_names.specs.Name.{texts_of_path}
 use Rattle.just_module_contents.specs.Recipes.{name_of, dependency_paths, recipe_at, names_of, Depends}
-use Rattle.just_module_contents.specs.Rows.{IsTarget, IsRow}
+use Rattle.just_module_contents.specs.Rows.{IsBare, IsTarget, IsRow}
 use Rattle.just_module_contents.proofs.RecipePlaces.{one_place}
 
 module _ (rs : List (Recipe UnresolvedDependency)) (different : AreDifferent (names_of rs)) where
@@ -21,6 +22,12 @@ module _ (rs : List (Recipe UnresolvedDependency)) (different : AreDifferent (na
   target_of a row path t c =
       let at : get_or (dependency_paths (recipe_at rs a)) c.0 [] ≡ path = get_or_default (dependency_paths (recipe_at rs a)) c.0 [] path c.1 ∙ c.2 in
       (c.0, omega (arith, c.1, t.count), subst (λ x. IsTarget rs x (slice_index row c.0)) at (t.targets c.0 c.1))
+
+  -- none of its dependencies gives arguments
+  pub bare_of : (a : ℕ) (row : List ℕ) (d : UnresolvedDependency) → IsRow rs a row → Contains (recipe_at rs a).dependencies d → d.arguments ≡ []
+  bare_of a row d t c =
+      All-contains IsBare (recipe_at rs a).dependencies d
+      (subst (All IsBare) (take_all (length (dependency_paths (recipe_at rs a))) (recipe_at rs a).dependencies (omega (arith, length-map (recipe_at rs a).dependencies (λ (x : UnresolvedDependency). texts_of_path x.recipe)))) t.bare) c
 
   pub row_steps : (a b : ℕ) (row : List ℕ) → a < length rs → IsRow rs a row → Contains row b → Depends rs a b
   row_steps a b row inside t c =

@@ -16,13 +16,13 @@ use Rattle.just_ast_definitions.specs.declared.line.Line.{Line}
 use Rattle.just_ast_expressions.specs.declared.settings.Settings.{Settings}
 use Rattle.just_ast_expressions.specs.declared.sigil.Sigil.{Sigil}
 use Rattle.just_ast_expressions.specs.declared.sigil.Sigil.TheVariants as sigil
-use Rattle.just_parts.specs.Groups.{BeginsGroup, after_comment, after_end, first, front, is_indented}
+use Rattle.just_parts.specs.Groups.{BeginsGroup, after_comment, after_end, first, front, is_indented, ends_group}
 use Rattle.just_recipe.specs.Script.{is_script}
 use Rattle.just_parts.specs.Syntax.{SyntaxAnswers}
 use Rattle.just_recipe.specs.declared.dependency.UnresolvedDependency.{UnresolvedDependency}
 use Rattle.just_recipe.specs.declared.recipe.Recipe.{Recipe}
 use Rattle.just_module_contents.specs.Recipes.{name_of, recipe_at}
-use Rattle.just_module_contents.specs.Shells.{FirstLine, Lines, ScriptAttribute, ShellRecipe, Shells, ends_group, extra_whitespace, guard_and_infallible, invalid_attribute, is_of_scripts, of_attributes, of_line, of_lines, of_recipe}
+use Rattle.just_module_contents.specs.Shells.{FirstLine, Lines, ScriptAttribute, ShellRecipe, Shells, extra_whitespace, guard_and_infallible, invalid_attribute, is_of_scripts, of_attributes, of_line, of_lines, of_recipe}
 
 -- equal sigils are the same
 same_sigil : (a b : Sigil) → eq-value.it b a ≡ true → a ≡ b

@@ -7,6 +7,7 @@ use Rattle.std.proofs.lemmas.Option.{slice_get_within, get_or_from_slice_get}
 use Rattle.std.proofs.lemmas.List.Elements.{Contains-get_or, All-push}
 use Rattle.just_graph.specs.Steps.{in_take, IsOnce}
 use Rattle.just_recipe.specs.declared.dependency.Dependency.{Dependency}
+use Rattle.just_recipe.specs.declared.dependency.DependencyArgument.{DependencyArgument}
 use Rattle.just_names.specs.declared.name.Namepath.{Namepath}
 use Rattle.just_names.specs.declared.number.Number.{Number}
 use Rattle.just_recipe.specs.declared.dependency.UnresolvedDependency.{UnresolvedDependency}
@@ -14,28 +15,29 @@ use Rattle.just_paths.specs.declared.modulepath.Modulepath.{Modulepath}
 use Rattle.just_recipe.specs.declared.recipe.Recipe.{Recipe}
 use Rattle.just_recipe.specs.Recipes.{IsNew, IsResolved, needs, numbers}
 use Rattle.just_names.specs.Index.{AreDifferent}
-use Rattle.just_module_contents.specs.Recipes.{names_of, Depends}
+use Rattle.just_module_contents.specs.Recipes.{names_of, no_recipe, recipe_at, Depends}
 use Rattle.just_module_contents.specs.Rows.{IsRow, IsOrderOf}
 use Rattle.just_module_contents.proofs.RecipePlaces.{number_read}
-use Rattle.just_module_contents.specs.Resolved.{unresolved_numbers, number_at, HasPriors, linked, Resolves, IsMadeOf, AreMadeOf, Resolving, AreResolved}
+use Rattle.just_module_contents.specs.Resolved.{unresolved_numbers, number_at, HasPriors, linked, no_arguments, Resolves, IsMadeOf, AreMadeOf, Resolving, AreResolved}
 use Rattle.just_module_recipes.proofs.Edges.{row_steps}
 
 linked_suc : (rs : List (Recipe UnresolvedDependency)) (ds : List UnresolvedDependency) (ps : List ℕ) (k : ℕ) (d : UnresolvedDependency) → k < length ds → k < length ps
-    → linked rs (take (suc k) ds) (take (suc k) ps) ≡ linked rs (take k ds) (take k ps) ++ record { path = (get_or ds k d).recipe; recipe = record { 0 = number_at rs (slice_index ps k) } } ∷ []
+    → linked rs (take (suc k) ds) (take (suc k) ps) ≡ linked rs (take k ds) (take k ps) ++ record { arguments = no_arguments (recipe_at rs (slice_index ps k)); path = (get_or ds k d).recipe; recipe = record { 0 = number_at rs (slice_index ps k) } } ∷ []
 linked_suc rs [] ps k d h l = absurd (omega arith)
 linked_suc rs (x ∷ ds) [] k d h l = absurd (omega arith)
 linked_suc rs (x ∷ ds) (p ∷ ps) zero d h l = refl
-linked_suc rs (x ∷ ds) (p ∷ ps) (suc k) d h l = ap (λ (xs : List Dependency). record { path = x.recipe; recipe = record { 0 = number_at rs p } } ∷ xs) (linked_suc rs ds ps k d (omega arith) (omega arith))
+linked_suc rs (x ∷ ds) (p ∷ ps) (suc k) d h l = ap (λ (xs : List Dependency). record { arguments = no_arguments (recipe_at rs p); path = x.recipe; recipe = record { 0 = number_at rs p } } ∷ xs) (linked_suc rs ds ps k d (omega arith) (omega arith))
 
 -- one more link
-pub linked_more : (rs : List (Recipe UnresolvedDependency)) (ds : List UnresolvedDependency) (ps : List ℕ) (k place : ℕ) (d : UnresolvedDependency) (path : Namepath) (target : Recipe UnresolvedDependency) (made more : List Dependency) → k < length ds → k < length ps
-    → made ≡ linked rs (take k ds) (take k ps) → d ≡ get_or ds k d → path ≡ d.recipe → slice_get rs (slice_index ps k) ≡ Some target
-    → more ≡ made ++ record { path = path; recipe = target.number } ∷ [] → more ≡ linked rs (take (k + 1) ds) (take (k + 1) ps)
-linked_more rs ds ps k place d path target made more h l so read copied there e =
+pub linked_more : (rs : List (Recipe UnresolvedDependency)) (ds : List UnresolvedDependency) (ps : List ℕ) (k place : ℕ) (d : UnresolvedDependency) (arguments : List (List DependencyArgument)) (path : Namepath) (target : Recipe UnresolvedDependency) (made more : List Dependency) → k < length ds → k < length ps
+    → made ≡ linked rs (take k ds) (take k ps) → d ≡ get_or ds k d → path ≡ d.recipe → slice_get rs (slice_index ps k) ≡ Some target → arguments ≡ no_arguments target
+    → more ≡ made ++ record { arguments = arguments; path = path; recipe = target.number } ∷ [] → more ≡ linked rs (take (k + 1) ds) (take (k + 1) ps)
+linked_more rs ds ps k place d arguments path target made more h l so read copied there given e =
     let number : target.number ≡ record { 0 = number_at rs (slice_index ps k) } = ap (λ (n : ℕ). let it : Number = record { 0 = n } in it) (sym (number_read rs (slice_index ps k) target there)) in
-    let item : ◌≡◌ {A = Dependency} (record { path = path; recipe = target.number }) (record { path = (get_or ds k d).recipe; recipe = record { 0 = number_at rs (slice_index ps k) } }) =
-    λ i. record { path = (copied ∙ ap (λ (x : UnresolvedDependency). x.recipe) read) i; recipe = number i } in
-    e ∙ (ap (λ xs. xs ++ record { path = path; recipe = target.number } ∷ []) so ∙ (ap (λ (x : Dependency). linked rs (take k ds) (take k ps) ++ x ∷ []) item
+    let none : arguments ≡ no_arguments (recipe_at rs (slice_index ps k)) = given ∙ ap no_arguments (sym (get_or_from_slice_get rs (slice_index ps k) target no_recipe there)) in
+    let item : ◌≡◌ {A = Dependency} (record { arguments = arguments; path = path; recipe = target.number }) (record { arguments = no_arguments (recipe_at rs (slice_index ps k)); path = (get_or ds k d).recipe; recipe = record { 0 = number_at rs (slice_index ps k) } }) =
+    λ i. record { arguments = none i; path = (copied ∙ ap (λ (x : UnresolvedDependency). x.recipe) read) i; recipe = number i } in
+    e ∙ (ap (λ xs. xs ++ record { arguments = arguments; path = path; recipe = target.number } ∷ []) so ∙ (ap (λ (x : Dependency). linked rs (take k ds) (take k ps) ++ x ∷ []) item
     ∙ (sym (linked_suc rs ds ps k d h l) ∙ ap (λ n. linked rs (take n ds) (take n ps)) (sym (add-one k)))))
 
 -- the numbers that links lead to

@@ -1,15 +1,29 @@
 ghost use Rattle.std.specs.Prelude.{◌≡◌, ◌<◌, IfOk, length};
 ghost use Rattle.std.specs.List.{All};
 ghost use Rattle.just_module_contents.specs.Definitions.{recipes_in};
-ghost use Rattle.just_module_contents.specs.Resolved.{linked, Resolves};
+ghost use Rattle.just_module_contents.specs.Resolved.{linked, no_arguments, Resolves};
 ghost use Rattle.just_recipe.specs.declared.dependency.UnresolvedDependency.{UnresolvedDependency};
 
 use just_data::Sequence;
 use just_module_contents::definitions::Definitions;
-use just_parts::layers::UnresolvedDependency;
+use just_parts::layers::{DependencyArgument, UnresolvedDependency};
 use just_parts::{Dependency, Recipe, UnresolvedRecipe};
 use just_paths::Modulepath;
 use std::alloc::{AllocError, Global};
+
+// No arguments for each parameter.
+fn no_arguments<'src>(
+    alloc: Global,
+    recipe: &UnresolvedRecipe<'src>,
+) -> Result<Sequence<Sequence<DependencyArgument<'src>>>, AllocError>
+    ensures { IfOk result (λ made. made ≡ no_arguments recipe.now) }
+{
+    let mut made = Vec::with_capacity(alloc, recipe.parameters.len())?;
+    for _ in recipe.parameters.as_slice() {
+        made.push(Sequence::new(alloc))?;
+    }
+    Ok(Sequence::from_vec(made))
+}
 
 // The dependencies, each with the number of the recipe at the place beside it.
 fn link<'a, 'src>(
@@ -24,9 +38,11 @@ fn link<'a, 'src>(
 {
     let mut made = Vec::with_capacity(alloc, places.len())?;
     for at in 0..places.len() {
+        let target = definitions.recipe_at(places[at]);
         made.push(Dependency {
+            arguments: no_arguments(alloc, target)?,
             path: dependencies[at].recipe.clone()?,
-            recipe: definitions.recipe_at(places[at]).number,
+            recipe: target.number,
         })?;
     }
     Ok(Sequence::from_vec(made))

@@ -1,4 +1,4 @@
-ghost use Rattle.std.specs.Prelude.{◌≡◌, ◌<◌, Bool, [], length, get_or, map, IfOk, IfErr};
+ghost use Rattle.std.specs.Prelude.{◌≡◌, ◌<◌, ℕ, Bool, false, [], length, get_or, map, true, IfOk, IfErr};
 ghost use Rattle.std.specs.Str.{bytes_eq};
 ghost use Rattle.std.specs.HashMap.{get};
 ghost use Rattle.std.specs.List.{All, Contains};
@@ -10,9 +10,9 @@ ghost use Rattle.just_names.specs.Index.{AreDifferent, IsIndex, place_in};
 ghost use Rattle.just_module_contents.specs.Recipes.{name_of, dependency_paths, recipe_at, names_of};
 ghost use Rattle.just_module_contents.specs.Definitions.{recipes_in};
 ghost use Rattle.just_module_contents.specs.Resolved.{unresolved_numbers, HasPriors, Resolving, AreResolved};
-ghost use Rattle.just_module_contents.specs.Rows.{IsTarget, IsRow, IsOrderOf, IsTokenOn};
+ghost use Rattle.just_module_contents.specs.Rows.{GivesNone, IsTarget, IsRow, IsOrderOf, IsTokenOn};
 ghost use Rattle.just_errors.specs.Causes.{Keeps, Reports};
-ghost use Rattle.just_module_contents.specs.Rules.{Dependencies};
+ghost use Rattle.just_module_contents.specs.Rules.{Dependencies, Miscounts};
 
 use crate::dependencies::resolve;
 use just_data::{BorrowedText, Sequence};
@@ -37,7 +37,20 @@ fn place_of_path<'src>(
     index.get(&BorrowedText::new(path.last.lexeme())).copied()
 }
 
-// The place of the recipe that a dependency names, which takes as many arguments as it gives: none.
+// Whether so many arguments are too few or too many for a recipe that takes so many at least; until arguments are handed on
+// any are too many.
+fn is_miscounted(given: usize, least: usize) -> bool
+    ensures wrong { result ≡ true → (most : ℕ) → Miscounts given least most }
+    ensures given { result ≡ false → given ≡ 0 }
+    ensures least { result ≡ false → least ≡ 0 }
+{
+    if given > 0 {
+        return true;
+    }
+    least > 0
+}
+
+// The place of the recipe that a dependency names, where it gives no arguments and the recipe needs none.
 fn target<'a, 'src>(
     definitions: &Definitions<'src, 'a>,
     index: &HashMap<BorrowedText<'src>, usize>,
@@ -49,6 +62,7 @@ fn target<'a, 'src>(
     requires place { place < length definitions.now.recipes.items }
     requires at { at < length (dependency_paths (recipe_at (recipes_in definitions.now) place)) }
     ensures target { IfOk result (IsTarget (recipes_in definitions.now) (get_or (dependency_paths (recipe_at (recipes_in definitions.now) place)) at [])) }
+    ensures bare { IfOk result (λ _. GivesNone (recipe_at (recipes_in definitions.now) place) at) }
     ensures named { IfErr result (Reports (Dependencies settings.now.lists (recipes_in definitions.now))) }
 {
     let recipe = definitions.recipe_at(place);
@@ -63,19 +77,20 @@ fn target<'a, 'src>(
         }));
     };
     let named = definitions.recipe_at(found);
+    let given = dependency.arguments.len();
     let min = named.min_arguments();
-    if min == 0 {
-        return Ok(found);
+    if is_miscounted(given, min) {
+        return Err(Error::Compile(CompileError {
+            token: dependency.recipe.last.token.copied(),
+            kind: CompileErrorKind::DependencyArgumentCountMismatch {
+                dependency: dependency.recipe.clone()?,
+                found: given,
+                min,
+                max: named.max_arguments(settings),
+            },
+        }));
     }
-    Err(Error::Compile(CompileError {
-        token: dependency.recipe.last.token.copied(),
-        kind: CompileErrorKind::DependencyArgumentCountMismatch {
-            dependency: dependency.recipe.clone()?,
-            found: 0,
-            min,
-            max: named.max_arguments(settings),
-        },
-    }))
+    Ok(found)
 }
 
 // The places of the recipes that a recipe depends on, in the order of its dependencies.

@@ -1,9 +1,9 @@
 //! The rules of recipes that a shell runs.
 ghost use Rattle.std.specs.Prelude.{◌≡◌, IfErr, OnOk};
 ghost use Rattle.just_errors.specs.Causes.{Keeps, Reports};
-ghost use Rattle.just_parts.specs.Groups.{front, is_indented};
+ghost use Rattle.just_parts.specs.Groups.{front, is_indented, ends_group};
 ghost use Rattle.just_module_contents.specs.Definitions.{recipes_in};
-ghost use Rattle.just_module_contents.specs.Shells.{FirstLine, Lines, ScriptAttribute, ShellRecipe, Shells, ends_group, is_of_scripts};
+ghost use Rattle.just_module_contents.specs.Shells.{FirstLine, Lines, ScriptAttribute, ShellRecipe, Shells, is_of_scripts};
 
 use just_data::BorrowedText;
 use just_module_contents::definitions::Definitions;

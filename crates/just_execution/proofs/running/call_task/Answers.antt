@@ -15,7 +15,7 @@ use Rattle.just_execution.proofs.WeightLemmas.{call-lighter, taken-lighter}
 use Rattle.just_execution.proofs.running.call_task.Goals as goal
 
 pub module_of-module-requires : goal.module_of-module-requires
-module_of-module-requires g c = home-of c.args.scopes.now c.args.recipes.now c.args.task c.requires.callable c.at.result.now c.at.ensures
+module_of-module-requires g c = home-of (g.S.Syntax.answers c.args.scopes.now.syntax.now) c.args.scopes.now.modules c.args.recipes.now c.args.task c.requires.callable c.at.result.now c.at.ensures
 
 pub returns-in_err-count_call-clause-goes : goal.returns-in_err-count_call-clause-goes
 returns-in_err-count_call-clause-goes g c = λ h entries.
@@ -80,9 +80,9 @@ pub returns-clause-sound : goal.returns-clause-sound
 returns-clause-sound g c =
     let rs = c.args.recipes.now in
     let ps : List Task = c.in_ok-priors.priors.items in
-    let opens = asked-callable c.args.scopes.now rs c.args.task c.requires.callable c.requires.ordered (g.E.Evaluation.promised c.args.evaluation.now) _ _ ps (asked-priors (g.E.Evaluation.promised c.args.evaluation.now) c.args.recipes.now c.args.task _ _ _ _ c.priors-dependencies.ensures.is c.in_ok-priors.ensures.took) in
+    let opens = asked-callable (g.S.Syntax.answers c.args.scopes.now.syntax.now) c.args.scopes.now.modules rs c.args.task c.requires.callable c.requires.ordered (g.E.Evaluation.promised c.args.evaluation.now) _ _ ps (asked-priors (g.E.Evaluation.promised c.args.evaluation.now) c.args.recipes.now c.args.task _ _ _ _ c.priors-dependencies.ensures.is c.in_ok-priors.ensures.took) in
     let pushed : c.push.new.self.items ≡ c.args.run.now.frames.items ++ Block c.args.task ∷ [] = search rules in
-    called-sound (IsCallable c.args.scopes.now rs) c.args.run.now _ c.args.task ps (search rules) (pushed-calls _ _ (Block c.args.task) ps c.push_calls.new.frames.items pushed c.in_ok-push_calls.ensures) c.requires.callable opens c.requires.sound
+    called-sound (IsCallable (g.S.Syntax.answers c.args.scopes.now.syntax.now) c.args.scopes.now.modules rs) c.args.run.now _ c.args.task ps (search rules) (pushed-calls _ _ (Block c.args.task) ps c.push_calls.new.frames.items pushed c.in_ok-push_calls.ensures) c.requires.callable opens c.requires.sound
 
 pub returns-clause-lighter : goal.returns-clause-lighter
 returns-clause-lighter g c =

@@ -12,7 +12,7 @@ use Rattle.just_execution.proofs.Leaves.{asked-subsequents, followed-below, leav
 use Rattle.just_execution.proofs.running.run_block.Goals as goal
 
 pub module_of-module-requires : goal.module_of-module-requires
-module_of-module-requires g c = home-of c.args.scopes.now c.args.recipes.now c.args.task c.requires.callable c.at.result.now c.at.ensures
+module_of-module-requires g c = home-of (g.S.Syntax.answers c.args.scopes.now.syntax.now) c.args.scopes.now.modules c.args.recipes.now c.args.task c.requires.callable c.at.result.now c.at.ensures
 
 pub returns-in_err-execute-clause-goes : goal.returns-in_err-execute-clause-goes
 returns-in_err-execute-clause-goes g c =
@@ -66,8 +66,8 @@ pub returns-clause-sound : goal.returns-clause-sound
 returns-clause-sound g c =
     let rs = c.args.recipes.now in
     let ts : List Task = c.in_ok-subsequents.subsequents.items in
-    let opens = followed-callable c.args.scopes.now rs c.args.task c.requires.callable c.requires.ordered (g.E.Evaluation.promised c.execute.new._evaluation) _ _ ts (asked-subsequents (g.E.Evaluation.promised c.execute.new._evaluation) c.args.recipes.now c.args.task _ _ _ _ c.subsequents-dependencies.ensures.is c.in_ok-subsequents.ensures.took) in
-    c.in_ok-open.ensures.sound c.args.scopes.now rs opens (record { frames = c.requires.sound.frames; number = c.requires.sound.number })
+    let opens = followed-callable (g.S.Syntax.answers c.args.scopes.now.syntax.now) c.args.scopes.now.modules rs c.args.task c.requires.callable c.requires.ordered (g.E.Evaluation.promised c.execute.new._evaluation) _ _ ts (asked-subsequents (g.E.Evaluation.promised c.execute.new._evaluation) c.args.recipes.now c.args.task _ _ _ _ c.subsequents-dependencies.ensures.is c.in_ok-subsequents.ensures.took) in
+    c.in_ok-open.ensures.sound (g.S.Syntax.answers c.args.scopes.now.syntax.now) c.args.scopes.now.modules rs opens (record { frames = c.requires.sound.frames; number = c.requires.sound.number })
 
 pub returns-clause-lighter : goal.returns-clause-lighter
 returns-clause-lighter g c =

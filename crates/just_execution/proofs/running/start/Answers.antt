@@ -26,8 +26,8 @@ returns-in_err-push_calls-clause-took g c =
 
 pub finish-requires-clause-sound : goal.finish-requires-clause-sound
 finish-requires-clause-sound g c =
-    begun-sound (IsCallable c.args.scopes.now c.args.recipes.now) (record { frames = c.push_calls.new.frames; current = c.in_ok-course.course.current; calls = c.in_ok-course.course.calls }) c.args.tasks.items
-    (first-calls _ _ c.args.tasks.items c.in_ok-course.ensures.frames c.in_ok-push_calls.ensures) c.in_ok-course.ensures.state (each-callable c.args.scopes.now c.args.recipes.now c.args.tasks.items c.requires.below c.requires.home)
+    begun-sound (IsCallable (g.S.Syntax.answers c.args.scopes.now.syntax.now) c.args.scopes.now.modules c.args.recipes.now) (record { frames = c.push_calls.new.frames; current = c.in_ok-course.course.current; calls = c.in_ok-course.course.calls }) c.args.tasks.items
+    (first-calls _ _ c.args.tasks.items c.in_ok-course.ensures.frames c.in_ok-push_calls.ensures) c.in_ok-course.ensures.state (each-callable (g.S.Syntax.answers c.args.scopes.now.syntax.now) c.args.scopes.now.modules c.args.recipes.now c.args.tasks.items c.requires.below c.requires.home)
 
 pub returns-in_err-finish-clause-took : goal.returns-in_err-finish-clause-took
 returns-in_err-finish-clause-took g c =
