@@ -17,7 +17,7 @@ use Rattle.just_names.specs.Texts.{Text}
 use Rattle.just_names.specs.Name.{text_if_named, text_of_name}
 use Rattle.just_parts.specs.Items.{Ast}
 use Rattle.just_paths.specs.declared.modulepath.Modulepath.{Modulepath}
-use Rattle.just_recipe.specs.Recipes.{IsResolved}
+use Rattle.just_recipe.specs.Recipes.{IsOrdered, IsResolved}
 use Rattle.just_invoke.specs.Closed.{IsPlaced, StandsIn}
 use Rattle.just_invoke.specs.Module as naming
 use Rattle.just_invoke.specs.declared.justfile.Justfile.{Justfile, out-Justfile, out-roll-Justfile}
@@ -38,7 +38,7 @@ use Rattle.just_module_headers.specs.declared.files.Files.{Files}
 use Rattle.just_module_headers.specs.declared.files.Rows.{Rows}
 use Rattle.just_module_headers.specs.declared.joined.Joined.{Joined}
 use Rattle.just_module_tree.proofs.Agreeing.{find_reached}
-use Rattle.just_analyzer.proofs.Closing.{forest_closed}
+use Rattle.just_analyzer.proofs.Closing.{forest_closed, forest_tables}
 use Rattle.just_analyzer.proofs.Compilable.{can_compile_all, listed, one_at, stands, subs_differ}
 use Rattle.just_module_headers.proofs.FilePlaces.{count, one_place}
 use Rattle.just_analyzer.proofs.Forests.{forest_at, is_compiled, tree_compiled}
@@ -281,8 +281,8 @@ module _ (given : Given) (entries : List (AstKey × Ast)) (d : AstKey) (files : 
             let out = out-roll-Justfile (record (out-Justfile (so.justfile root)) { name = top.label.name; doc = top.label.doc; groups = top.label.groups; private = top.label.private }) in
             ap (λ x. let label : Label = record { name = x.name; doc = x.doc; doc_expression = None; groups = x.groups; private = x.private } in label) out ∙ (λ i. record top.label { doc_expression = sym undocumented i })
 
-        pub is_analyzed : top.label.doc_expression ≡ None → IsAnalyzed given (λ k. lookup (same_ast_key k) entries) loaded top (labelled_as top.label (so.justfile root)) added.recipes added.overridden
-        is_analyzed undocumented = record {
+        pub is_analyzed : top.label.doc_expression ≡ None → IsOrdered added.recipes → IsAnalyzed given (λ k. lookup (same_ast_key k) entries) loaded top (labelled_as top.label (so.justfile root)) added.recipes added.overridden
+        is_analyzed undocumented ordered = record {
           m = m0;
           inside = inside0;
           are_modules = are_modules;
@@ -295,6 +295,7 @@ module _ (given : Given) (entries : List (AstKey × Ast)) (d : AstKey) (files : 
           overrides = all (λ (x : Made). x.overridden) so.overridden;
           label = labelled undocumented;
           compiled = compiled;
-          closed = forest_closed given (λ k. lookup (same_ast_key k) entries) loaded built added.recipes all_recipes resolved compiled (labelled_as top.label (so.justfile root)) (inl refl);
+          closed = forest_closed R given (λ k. lookup (same_ast_key k) entries) can.paths loaded built added.recipes all_recipes resolved ordered are_modules compiled (labelled_as top.label (so.justfile root)) (inl refl);
           placed = placed_in;
+          tables = forest_tables R given (λ k. lookup (same_ast_key k) entries) can.paths loaded built added.recipes all_recipes resolved ordered compiled (labelled_as top.label (so.justfile root)) (inl refl);
         }

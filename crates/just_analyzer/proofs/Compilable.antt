@@ -118,6 +118,7 @@ module _ (enabled : Item → Bool) (entries : List (AstKey × Ast)) (d : AstKey)
       keys = key_count enabled entries d files placed rows are can.paths;
       files_room = aj.files ∙ sym (count enabled entries d files placed rows are can.paths);
       modules_room = aj.modules ∙ sym (count enabled entries d files placed rows are can.paths);
+      some = let c = ordered.roots_listed 0 root (omega arith) in omega (arith, c.1);
       each = λ k l. can_compile (slice_index order k) (is_reached k l) (different k l);
       once = ordered.once;
       inner_first = ordered.steps_first;

@@ -46,6 +46,7 @@ refused evaluator overrides w (Err e) none h = record {
   compiled = tt;
   rooted = tt;
   all_closed = tt;
+  tables = tt;
   root = tt;
   root_ast = tt;
   named = h;

@@ -1,6 +1,8 @@
 -- The modules of headings are compiled to the justfiles at their places.
 use Rattle.std.proofs.Common.{◌≡◌, ◌<◌, ℕ, suc, List, [], ◌∷◌, ◌++◌, map, length, get_or, slice_index, Option, None, Some, refl, sym, ap, subst, ◌∙◌, inl, inr, arith}
 use Rattle.std.specs.Prelude.{flat_map, slice_get}
+use Rattle.std.specs.HashMap.{get}
+use Rattle.just_parts.specs.Needs.{same_number}
 use Rattle.std.specs.List.{Contains}
 use Rattle.std.specs.Map.{keys_of, lookup}
 use Rattle.std.proofs.lemmas.List.{get_or_default, length-map}
@@ -14,7 +16,7 @@ use Rattle.just_names.specs.Texts.{Text}
 use Rattle.just_parts.specs.Items.{Ast, Item}
 use Rattle.just_invoke.specs.declared.justfile.Justfile.{Justfile, out-Justfile, out-roll-Justfile}
 use Rattle.just_module_contents.specs.Defaults.{IsDefaultAmong}
-use Rattle.just_analyzer.specs.Analysis.{AreKeysOf, HasDefault, HasKeysOf, IsOf}
+use Rattle.just_analyzer.specs.Analysis.{HasDefault, IsOf}
 use Rattle.just_module_headers.specs.Files.{ArePlaced, AreRows, asts_in}
 use Rattle.just_module_headers.specs.Joined.{IsJoined}
 use Rattle.just_module_variables.specs.Documented.{AreDocumented, HasDoc}
@@ -45,7 +47,7 @@ use Rattle.just_analyzer.proofs.Placed.{many_labels}
 use Rattle.just_module_tree.proofs.ModulePlaces.{TreeAt, file_inside, join_at, module_of, tree_at}
 use Rattle.just_module_tree.proofs.Ready.{labels_are}
 use Rattle.just_parts.specs.Layers.{Given, Layers, layers_at}
-use Rattle.just_module_variables.specs.Variables.{AreVariables}
+use Rattle.just_module_variables.specs.Variables.{AreTables, AreVariables}
 use Rattle.just_analyzer.specs.Variables.{HasVariables}
 use Rattle.just_module_contents.specs.Labels.{doc_by}
 use Rattle.just_ast_expressions.specs.declared.expression.Expression.{Expression}
@@ -77,8 +79,8 @@ module _ (cs : Contents) (ast : Ast) (loaded : List Text) (source : Text) (label
   labelled_is_of =
       let out = out-roll-Justfile (record (out-Justfile j) { name = label.name; doc = label.doc; groups = label.groups; private = label.private }) in
       record {
-        keys = subst (λ x. AreKeysOf (kept_recipes cs.recipes) (length (kept_recipes cs.recipes)) x.recipes) (sym out) is.keys;
-        held = subst (λ x. HasKeysOf (kept_recipes cs.recipes) (length (kept_recipes cs.recipes)) x.recipes) (sym out) is.held;
+        recipes_are = ap (λ x. x.recipes) out ∙ is.recipes_are;
+        none_disabled = ap (λ x. x.disabled_recipes) out ∙ is.none_disabled;
         unexports_are = ap (λ x. x.unexports) out ∙ is.unexports_are;
         loaded_is = ap (λ x. x.loaded) out ∙ is.loaded_is;
         source_is = ap (λ x. x.source) out ∙ is.source_is;
@@ -203,6 +205,7 @@ module _ (given : Given) (entries : List (AstKey × Ast)) (d : AstKey) (files : 
             settings = e.settings ∙ ap (λ x. x.settings) (sym out);
             documented = labelled_documented _ _ at.labels (map justfile (targets joined.modules.items p)) (inner_many ∙ sym (length-map (targets joined.modules.items p) justfile)) e.documented;
             overrides_are = e.overrides_are;
+            overrides_held = λ n. ap (λ x. get same_number x.overridden n) out ∙ e.overrides_held n;
           }
 
     pub is_compiled : (label : Label) → IsCompiled given asts loaded m inner (made p) (labelled_as label (justfile p))
@@ -215,6 +218,7 @@ module _ (given : Given) (entries : List (AstKey × Ast)) (d : AstKey) (files : 
           resolved = subst (λ path. AreResolved (kept_recipes (recipes_in given.syntax.enabled asts m.files)) path (made p).recipes) path_same (subst (λ rs. AreResolved (kept_recipes rs) at.own.module_path (made p).recipes) rs_same at.resolved);
           evaluated = evaluated label;
           variables = subst (λ x. AreVariables given.syntax (contents_in given.syntax.enabled asts m.files) x.assignments x.functions x.evaluation_order) (sym out) (subst (λ cs. HasVariables given.syntax cs (justfile p)) cs_same at.variables);
+          tables = subst (λ x. AreTables x.assignments x.functions) (sym out) at.tables;
           default = subst (λ x. IsDefaultAmong (kept_recipes (recipes_in given.syntax.enabled asts m.files)) (recipes_of given.syntax.enabled at.own.items) x.default) (sym out)
               (subst (λ cs. HasDefault cs (recipes_of given.syntax.enabled at.own.items) (justfile p)) cs_same at.default);
           fields = labelled_is_of (contents_in given.syntax.enabled asts m.files) at.own loaded h.key.1 label (justfile p)

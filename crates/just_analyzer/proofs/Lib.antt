@@ -1,5 +1,6 @@
 pub mod Adding
 pub mod Analyzing
+pub mod ByName
 pub mod Closing
 pub mod Compilable
 pub mod Compilations
@@ -7,10 +8,8 @@ pub mod Docs
 pub mod Forests
 pub mod Grounds
 pub mod GroupGrounds
-pub mod Held
 pub mod Inserting
 pub mod Keeping
-pub mod Keys
 pub mod Makings
 pub mod Numbers
 pub mod NumbersApart
@@ -18,6 +17,7 @@ pub mod Ordered
 pub mod Placed
 pub mod Placing
 pub mod Readings
+pub mod RecipeKeys
 pub mod ShownPaths
 pub mod TableValues
 pub mod Taking

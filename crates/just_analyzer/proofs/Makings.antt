@@ -1,23 +1,22 @@
 -- What a justfile is made of.
-use Rattle.std.proofs.Common.{◌≡◌, ℕ, List, length, subst, sym}
+use Rattle.std.proofs.Common.{◌≡◌, ◌∙◌, ℕ, List, [], ap, subst}
 use Rattle.just_recipe.specs.declared.dependency.UnresolvedDependency.{UnresolvedDependency}
 use Rattle.just_recipe.specs.declared.recipe.Recipe.{Recipe}
 use Rattle.just_parts.specs.Items.{Ast}
 use Rattle.just_invoke.specs.declared.justfile.Justfile.{Justfile, out-Justfile}
 use Rattle.just_invoke.specs.declared.justfile.RecipeKey.{RecipeKey}
-use Rattle.just_analyzer.specs.Analysis.{AreKeysOf, HasKeysOf, IsOf}
+use Rattle.just_analyzer.specs.Analysis.{IsOf, recipe_table}
 use Rattle.just_module_contents.specs.Contents.{Contents}
 use Rattle.just_module_contents.specs.Kept.{kept_recipes}
 
 -- a justfile, by its parts
 pub is_of : (m : Contents) (rs : List (Recipe UnresolvedDependency)) (ast : Ast) (loaded : List (List ℕ)) (source : List ℕ) (j : Justfile)
-    → (count : ℕ) (keys : List (List ℕ × RecipeKey)) → rs ≡ kept_recipes m.recipes → length rs ≡ count
-    → (out-Justfile j).recipes ≡ keys → AreKeysOf rs count keys → HasKeysOf rs count keys → (out-Justfile j).unexports ≡ m.unexports
+    → (keys : List (List ℕ × RecipeKey)) → rs ≡ kept_recipes m.recipes → (out-Justfile j).recipes ≡ keys → keys ≡ recipe_table rs → (out-Justfile j).disabled_recipes ≡ [] → (out-Justfile j).unexports ≡ m.unexports
     → (out-Justfile j).loaded ≡ loaded → (out-Justfile j).source ≡ source → (out-Justfile j).module_path ≡ ast.module_path
     → (out-Justfile j).working_directory ≡ ast.working_directory → IsOf m ast loaded source j
-is_of m rs ast loaded source j count keys kept many keys_are all held unexports loaded_is source_is path folder = record {
-  keys = subst (λ (qs : List (Recipe UnresolvedDependency)). AreKeysOf qs (length qs) (out-Justfile j).recipes) kept (subst (AreKeysOf rs (length rs)) (sym keys_are) (subst (λ n. AreKeysOf rs n keys) (sym many) all));
-  held = subst (λ (qs : List (Recipe UnresolvedDependency)). HasKeysOf qs (length qs) (out-Justfile j).recipes) kept (subst (HasKeysOf rs (length rs)) (sym keys_are) (subst (λ n. HasKeysOf rs n keys) (sym many) held));
+is_of m rs ast loaded source j keys kept keys_are all disabled unexports loaded_is source_is path folder = record {
+  recipes_are = keys_are ∙ all ∙ ap recipe_table kept;
+  none_disabled = disabled;
   unexports_are = unexports;
   loaded_is = loaded_is;
   source_is = source_is;

@@ -13,6 +13,9 @@ use Rattle.just_parts.specs.Syntax.{SyntaxAnswers}
 use Rattle.just_ast_definitions.specs.declared.assignment.Assignment.{Assignment}
 use Rattle.just_table.specs.Entries.{find, put, put_all}
 use Rattle.just_module_variables.specs.Variables.{known_with_numbers}
+use Rattle.just_invoke.specs.declared.justfile.Justfile.{Justfile}
+use Rattle.just_analyzer.specs.Variables.{HasTables, HasVariables}
+use Rattle.just_module_variables.proofs.Tabled.{are_tables}
 use Rattle.just_module_headers.specs.Analyzable.{assignment_numbers}
 use Rattle.just_module_contents.specs.Contents.{Contents}
 use Rattle.just_module_contents.specs.Kept.{claim_of_variable, kept_variables}
@@ -59,3 +62,7 @@ numbers_apart answers m once x y a b is_a is_b same =
     let in_b = found_among y b (kept_variables m.variables) is_b in
     let one = one_of m.variables (from_once (assignment_numbers m.variables) once) a b (left_in claim_of_variable m.variables m.variables a in_a.0) (left_in claim_of_variable m.variables m.variables b in_b.0) (ap (λ n. n.0) same) in
     sym in_a.1 ∙ ap name_of one ∙ in_b.1
+
+-- so the tables of a justfile tell its variables apart
+pub has_tables : (answers : SyntaxAnswers) (m : Contents) (j : Justfile) → IsOnce (assignment_numbers m.variables) → HasVariables answers m j → HasTables j
+has_tables answers m j once is = are_tables answers m _ _ _ is (numbers_apart answers m once)

@@ -14,19 +14,18 @@ use Rattle.just_errors.specs.declared.error.Error.{Error}
 use Rattle.just_errors.proofs.Lifts.{reports_by}
 use Rattle.just_recipe.specs.declared.recipe.Recipe.{Recipe}
 use Rattle.just_recipe.specs.Recipes.{numbers}
-use Rattle.just_invoke.specs.declared.justfile.Justfile.{Justfile, roll-Justfile}
+use Rattle.just_invoke.specs.declared.justfile.Justfile.{Justfile}
 use Rattle.just_analyzer.specs.Labelled.{slot}
 use Rattle.just_analyzer.specs.Justfiles.{Made}
 use Rattle.just_module_contents.specs.Kept.{kept_recipes}
 use Rattle.just_module_contents.proofs.Keeping.{kept_number}
 use Rattle.just_module_contents.specs.Resolved.{unresolved_numbers}
 use Rattle.just_module_headers.specs.OfPlaces.{recipes_of_place}
-use Rattle.just_analyzer.specs.Steps.{BreaksInOrder, BreaksPlace, CanCompileAll, CompilesPlace, HaveCompiled, IsCompiledAt}
+use Rattle.just_analyzer.specs.Steps.{BreaksInOrder, BreaksPlace, CanCompileAll, CompilesPlace, HaveCompiled, HaveCompiledSoFar, IsCompiledAt, not_yet, so_far}
 use Rattle.just_module_headers.specs.declared.files.Files.{Files}
 use Rattle.just_module_headers.specs.declared.joined.Joined.{Joined}
 use Rattle.just_module_recipes.proofs.Resolved.{made_numbers}
 use Rattle.just_parts.specs.Layers.{Given}
-use Rattle.just_ast_expressions.specs.Settings.{default_settings}
 
 -- a function that is changed at a place
 abbrev put_at : {A : Type 0} → ℕ → A → (ℕ → A) → ℕ → A
@@ -153,15 +152,12 @@ module _ (given : Given) (files : Files) (joined : Joined) (loaded : List Text) 
       room = step.room ∙ so.room;
     }
 
-no_justfile : Justfile
-no_justfile = roll-Justfile (record { absent_modules = []; assignments = []; default = None; doc = None; evaluation_order = []; functions = []; groups = []; loaded = []; module_path = record { components = []; spaced = false }; modules = []; name = None; private = false; recipes = []; settings = default_settings; source = []; unexports = []; unstable_features = []; warnings = []; working_directory = [] })
-
 -- none is compiled
-pub compiled_none : (given : Given) (files : Files) (joined : Joined) (loaded : List Text) (order : List ℕ) (slots : List (Option Justfile)) (added : Made) → length slots ≡ length files.asts.items → added.recipes ≡ [] → added.overridden ≡ []
+compiled_none : (given : Given) (files : Files) (joined : Joined) (loaded : List Text) (order : List ℕ) (slots : List (Option Justfile)) (added : Made) → Justfile → length slots ≡ length files.asts.items → added.recipes ≡ [] → added.overridden ≡ []
     → HaveCompiled given files joined loaded order 0 slots added
-compiled_none given files joined loaded order slots added room no_recipes not_overridden = record {
+compiled_none given files joined loaded order slots added j room no_recipes not_overridden = record {
   made = λ q. record { recipes = []; overridden = [] };
-  justfile = λ q. no_justfile;
+  justfile = λ q. j;
   recipes = no_recipes;
   overridden = not_overridden;
   each = λ k l. absurd (omega (arith, l));
@@ -170,8 +166,55 @@ compiled_none given files joined loaded order slots added room no_recipes not_ov
 }
 
 -- what the next breaks
-pub breaks_next : (given : Given) (files : Files) (joined : Joined) (loaded : List Text) (order : List ℕ) (n : ℕ) → n < length order → (slots : List (Option Justfile)) (added : Made) → HaveCompiled given files joined loaded order n slots added
+breaks_next : (given : Given) (files : Files) (joined : Joined) (loaded : List Text) (order : List ℕ) (n : ℕ) → n < length order → (slots : List (Option Justfile)) (added : Made) → HaveCompiled given files joined loaded order n slots added
     → (e : Error) → Reports (BreaksPlace given files joined (slice_index order n)) e → Reports (BreaksInOrder given files joined order) e
 breaks_next given files joined loaded order n h slots added so e r =
     reports_by (BreaksPlace given files joined (slice_index order n)) (BreaksInOrder given files joined order)
     (λ c b. record { at = n; there = h; before = λ k l. (so.each k l).kept; broken = b }) e r
+
+-- nothing is held for the modules in one that has none
+no_inner : (row : List ℕ) → ((q : ℕ) → In q row → ⊥) → (slots : List (Option Justfile)) → (js : List Justfile) × (map Some js ≡ map (slot slots) row)
+no_inner [] free slots = ([], refl)
+no_inner (q ∷ qs) free slots = absurd (free q (inl refl))
+
+-- the same where none may be compiled yet
+module _ (given : Given) (files : Files) (joined : Joined) (loaded : List Text) (order : List ℕ) where
+  pub breaks_so_far : (n : ℕ) → n < length order → (slots : List (Option Justfile)) (added : Made) → HaveCompiledSoFar given files joined loaded order n slots added
+      → (e : Error) → Reports (BreaksPlace given files joined (slice_index order n)) e → Reports (BreaksInOrder given files joined order) e
+  breaks_so_far n h slots added (not_yet none room recipes overridden) e r =
+      reports_by (BreaksPlace given files joined (slice_index order n)) (BreaksInOrder given files joined order)
+      (λ c b. record { at = n; there = h; before = λ k l. absurd (omega (arith, l, none)); broken = b }) e r
+  breaks_so_far n h slots added (so_far so) e r = breaks_next given files joined loaded order n h slots added so e r
+
+  pub all_so_far : (n : ℕ) (slots : List (Option Justfile)) (added : Made) → 0 < length order → n ≡ length order → HaveCompiledSoFar given files joined loaded order n slots added
+      → HaveCompiled given files joined loaded order (length order) slots added
+  all_so_far n slots added one same (not_yet none room recipes overridden) = absurd (omega (arith, one, same, none))
+  all_so_far n slots added one same (so_far so) = subst (λ k. HaveCompiled given files joined loaded order k slots added) same so
+
+  module _ (can : CanCompileAll given.syntax.enabled files joined order) (n : ℕ) (h : n < length order) (slots : List (Option Justfile)) (added : Made) where
+    abbrev next : ℕ
+    next = slice_index order n
+
+    pub room_so_far : HaveCompiledSoFar given files joined loaded order n slots added → length slots ≡ length files.asts.items
+    room_so_far (not_yet none room recipes overridden) = room
+    room_so_far (so_far so) = so.room
+
+    pub inner_so_far : HaveCompiledSoFar given files joined loaded order n slots added → (js : List Justfile) × (map Some js ≡ map (slot slots) (targets joined.modules.items next))
+    inner_so_far (not_yet none room recipes overridden) =
+        no_inner (targets joined.modules.items next)
+        (λ q i. let x = in_take order n q (omega (arith, h)) (can.inner_first n q h (contained q (targets joined.modules.items next) i)) in omega (arith, x.1, none)) slots
+    inner_so_far (so_far so) = (map so.justfile (targets joined.modules.items next), inner_there given files joined loaded order can n h slots added so)
+
+    pub apart_so_far : HaveCompiledSoFar given files joined loaded order n slots added → (m : ℕ) → Contains (numbers added.recipes) m
+        → Contains (unresolved_numbers (recipes_of_place given.syntax.enabled files joined next)) m → ⊥
+    apart_so_far (not_yet none room recipes overridden) m a b =
+        let c : Contains [] m = subst (λ (rs : List (Recipe Dependency)). Contains (numbers rs) m) recipes a in
+        omega (arith, c.1)
+    apart_so_far (so_far so) m a b = numbers_apart given files joined loaded order can n h slots added so m a b
+
+    pub more_so_far : HaveCompiledSoFar given files joined loaded order n slots added → (new : List (Option Justfile)) (after : Made)
+        → CompilesPlace given files joined loaded next slots new added after → HaveCompiledSoFar given files joined loaded order (n + 1) new after
+    more_so_far (not_yet none room recipes overridden) new after step =
+        let start = compiled_none given files joined loaded order slots added step.justfile room recipes overridden in
+        so_far (compiled_more given files joined loaded order can n h slots added (subst (λ k. HaveCompiled given files joined loaded order k slots added) (sym none) start) new after step)
+    more_so_far (so_far so) new after step = so_far (compiled_more given files joined loaded order can n h slots added so new after step)

@@ -1,6 +1,7 @@
 -- The module at a place, as it is checked.
 use Rattle.std.proofs.Common.{◌≡◌, ◌∙◌, ℕ, suc, List, [], ◌∷◌, length, Option, Some, sym, ap, subst}
 use Rattle.std.specs.Prelude.{slice_get}
+use Rattle.std.specs.HashMap.{get}
 use Rattle.just_module_variables.specs.Constants.{evaluated_in}
 use Rattle.just_module_variables.specs.Documented.{AreDocumented}
 use Rattle.just_module_variables.specs.Variables.{AreVariablesOf}
@@ -26,6 +27,7 @@ use Rattle.just_module_contents.specs.Labels.{label_by}
 use Rattle.just_module_contents.specs.declared.labels.Label.{Label}
 use Rattle.just_parts.specs.Items.{Ast}
 use Rattle.just_parts.specs.Layers.{Given, Layers, layers_at}
+use Rattle.just_parts.specs.Needs.{same_number}
 use Rattle.just_ast_expressions.specs.declared.expression.Expression.{Expression}
 
 -- as many labels as are said
@@ -78,11 +80,13 @@ module _ (given : Given) (files : Files) (joined : Joined) (p : ℕ) (row : List
     keeps_place recipes = all_kept layers m (evaluated_in it.constants) is.constants.evaluated earlier is.docs (subst (λ n. Keeps (BreaksRecipes given.syntax it.constants.settings n)) is.contents recipes)
 
     -- what is evaluated of it
-    pub evaluated_to : (j : Justfile) → (out-Justfile j).settings ≡ it.constants.settings → IsEvaluatedTo layers m (labels_of_place given.syntax.enabled files joined p) it.labels.items it.constants.overridden.items j
-    evaluated_to j same = record {
+    pub evaluated_to : (j : Justfile) → (out-Justfile j).settings ≡ it.constants.settings → (out-Justfile j).overridden ≡ it.constants.overrides
+        → IsEvaluatedTo layers m (labels_of_place given.syntax.enabled files joined p) it.labels.items it.constants.overridden.items j
+    evaluated_to j same held = record {
       it = evaluated_in it.constants;
       evaluated = is.constants.evaluated;
       settings = sym same;
       documented = is.labels;
       overrides_are = is.constants.overridden;
+      overrides_held = λ n. ap (λ o. get same_number o n) held ∙ is.constants.overrides n;
     }

@@ -103,6 +103,11 @@ pub submodule_names : (subs : List Submodule) → ((s : Submodule) → In s subs
 submodule_names [] named = refl
 submodule_names (s ∷ subs) named = λ i. text_if_named (named s (inl refl) i) ∷ submodule_names subs (λ x h. named x (inr h)) i
 
+-- the modules in one have the names that it declares
+pub inner_names : (value : Expression → Option (List Text)) (subs : List Submodule) (inner : List Justfile) → AreDocumented value (map (λ (s : Submodule). s.label) subs) (map label_in inner)
+    → map naming.module_name inner ≡ map (λ (s : Submodule). text_if_named s.label.name) subs
+inner_names value subs inner documented = sym (names_of_labels inner) ∙ documented_names value (map (λ (s : Submodule). s.label) subs) (map label_in inner) documented ∙ labels_of_modules subs
+
 -- a recipe that is made at a path has that path
 pub made_path : (rs : List (Recipe UnresolvedDependency)) (path : Modulepath) (order : List ℕ) (made : List (Recipe Dependency)) → AreMadeOf rs path order made → (r : Recipe Dependency) → In r made → r.module_path ≡ Some path
 made_path rs path [] [] are r i = absurd i
@@ -133,7 +138,7 @@ module _ (given : Given) (asts : AstKey → Option Ast) (paths : (k : AstKey) (a
   standing (one {m = x} {inner = inner} {j = j} made there below is after) different (in_it has) =
       let s = standing below (λ m b h. different m b (in_it h)) has in
       let names : map naming.module_name inner ≡ map (λ (s : Submodule). text_if_named s.label.name) x.modules =
-      sym (names_of_labels inner) ∙ documented_names _ (map (λ (s : Submodule). s.label) x.modules) (map label_in inner) is.evaluated.documented ∙ labels_of_modules x.modules in
+      inner_names _ x.modules inner is.evaluated.documented in
       let apart : AreDifferent (map naming.module_name inner) = subst AreDifferent (sym names) (different x _ first) in
       let there : In s.top (out-Justfile j).modules = subst (In s.top) (sym is.modules) (each_named inner apart s.top s.among) in
       record { top = j; among = inl refl; it = s.it; stands = inside (contained s.top (out-Justfile j).modules there) s.stands; path = s.path }

@@ -21,6 +21,7 @@ use Rattle.just_invoke.specs.Closed.{AreClosed, IsPlaced}
 use Rattle.just_invoke.specs.declared.justfile.Justfile.{Justfile}
 use Rattle.just_module_tree.specs.Groups.{KeepsModules, NamesModules}
 use Rattle.just_analyzer.specs.Labelled.{label_in}
+use Rattle.just_analyzer.specs.Variables.{HaveTables}
 use Rattle.just_analyzer.specs.Justfiles.{AreCompiled, Built, overridden_of_all, recipes_of_all}
 use Rattle.just_module_tree.specs.Modules.{AreModules, Empty, Forest, Heading, IsHeading, Module, Tree, heading}
 use Rattle.just_module_headers.specs.Reading.{reading_of}
@@ -38,7 +39,7 @@ AreAsBefore old new = (n : Number) → get same_number new n ≡ get same_number
 abbrev pub ComeAfter : List Built → Type 0
 ComeAfter built = (i j : ℕ) (b inner : Built) (name : Text) → slice_get built i ≡ Some b → slice_get built j ≡ Some inner → inner.0.0.components ≡ b.0.0.components ++ name ∷ [] → j < i
 
--- The module of a heading and those in it: they keep all groups, their recipes stand one module after another, each module once and after those in it, and so do the values that override their variables, and their justfiles are a tree, which is closed, and in which the module of each recipe stands.
+-- The module of a heading and those in it: they keep all groups, their recipes stand one module after another, each module once and after those in it, and so do the values that override their variables, and their justfiles are a tree, which is closed, in which the module of each recipe stands, and of which the variables of each module have numbers of their own.
 pub record IsAnalyzed (given : Given) (asts : AstKey → Option Ast) (loaded : List Text) (top : Heading) (justfile : Justfile) (recipes : List (Recipe Dependency)) (overridden : List (Number × Text)) : Type 0 where
   pub m : Module
   pub inside : Forest
@@ -54,6 +55,7 @@ pub record IsAnalyzed (given : Given) (asts : AstKey → Option Ast) (loaded : L
   pub compiled : AreCompiled given asts loaded built (Tree m inside Empty) (justfile ∷ [])
   pub closed : AreClosed recipes justfile
   pub placed : All (IsPlaced justfile) recipes
+  pub tables : HaveTables justfile
 
 -- the same of the module at a path, with its own file and a label
 abbrev pub AnalyzesAt : {H : Type 0} → Given → HashMap AstKey Ast H → List Text → Modulepath → Text → Label → Justfile × Gathered → Type 0

@@ -1,8 +1,9 @@
 -- What is evaluated of a module that is checked.
 use Rattle.std.specs.Prelude.{◌≡◌, List}
+use Rattle.std.specs.HashMap.{get}
 use Rattle.just_module_variables.specs.Constants.{CoversAll, evaluated_in}
 use Rattle.just_module_variables.specs.Documented.{AreDocumentedIn}
-use Rattle.just_module_variables.specs.Overrides.{overridden_among}
+use Rattle.just_module_variables.specs.Overrides.{last_of, overridden_among}
 use Rattle.just_module_variables.specs.Variables.{AreVariablesOf}
 use Rattle.just_module_variables.specs.declared.constants.Constants.{Constants}
 use Rattle.just_module_variables.specs.declared.variables.Variables.{Variables}
@@ -16,6 +17,7 @@ use Rattle.just_names.specs.declared.number.Number.{Number}
 use Rattle.just_module_contents.specs.declared.labels.Label.{Label}
 use Rattle.just_parts.specs.Evaluator.{Values, values_of}
 use Rattle.just_parts.specs.Layers.{Layers}
+use Rattle.just_parts.specs.Needs.{same_number}
 
 -- the values that override variables of a module, each with the number of its variable
 abbrev pub overridden_in : Layers → Contents → List (Number × Text)
@@ -25,12 +27,13 @@ overridden_in layers m = overridden_among layers.overrides m
 abbrev pub AreLabels : Layers → Contents → Values → List Label → List Label → Type 0
 AreLabels layers m values = AreDocumentedIn layers.evaluator m values
 
--- The variables of a module are resolved, it has these constants and settings, with values for whatever is evaluated while compiling, and these values override its variables.
+-- The variables of a module are resolved, it has these constants and settings, with values for whatever is evaluated while compiling, and these values override its variables, also by their numbers.
 pub record HasConstants (layers : Layers) (m : Contents) (variables : Variables) (constants : Constants) : Type 0 where
   pub resolved : AreVariablesOf layers.syntax m variables
   pub evaluated : IsEvaluated layers m (evaluated_in constants)
   pub covered : CoversAll variables (values_of constants.scope) (constant_expressions m)
   pub overridden : constants.overridden.items ≡ overridden_in layers m
+  pub overrides : (n : Number) → get same_number constants.overrides n ≡ last_of constants.overridden.items n
 
 -- What is found of a module: what its files say, its constants, and the labels of the modules in it, whose docs have values.
 pub record IsChecked (layers : Layers) (m : Contents) (said : List Label) (it : Checked) : Type 0 where

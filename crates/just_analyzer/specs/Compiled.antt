@@ -9,33 +9,37 @@ use Rattle.just_invoke.specs.Closed.{AreClosed, IsRooted}
 use Rattle.just_parts.specs.Evaluator.{Evaluator}
 use Rattle.just_parts.specs.Needs.{same_number}
 use Rattle.just_names.specs.declared.number.Number.{Number}
+use Rattle.just_module_headers.specs.Reading.{reading_of}
 use Rattle.just_module_variables.specs.Overrides.{last_of}
 use Rattle.just_loader.specs.Loaded.{IsLoaded}
 use Rattle.just_loader.specs.Reached.{World}
 use Rattle.just_analyzer.specs.Analyzed.{IsAnalyzed}
-use Rattle.just_analyzer.specs.Readings.{Overrides, given_in, root_heading}
+use Rattle.just_analyzer.specs.Readings.{IsReadingOf, Overrides, given_in, root_heading}
 use Rattle.just_analyzer.specs.Rules.{KeepsAll, Names}
+use Rattle.just_analyzer.specs.Variables.{HaveTables}
 use Rattle.just_parts.specs.Items.{Ast}
 use Rattle.just_analyzer.specs.declared.compilation.Compilation.{Compilation as CompilationOf}
 
 abbrev pub Compilation : Type 0
 Compilation = CompilationOf Ast
 
--- The files are loaded, what they say is held, and the root's module is analyzed, with those in it; each variable that is overridden is, by its number, to the last value of that number.
+-- The files are loaded, what they say is held and is a reading of the source map, and the root's module is analyzed, with those in it; each variable that is overridden is, by its number, to the last value of that number.
 pub record IsCompilation (evaluator : Evaluator) (overrides : Overrides) (w : World) (c : Compilation) : Type 0 where
   pub loaded : List Text
   pub is_loaded : IsLoaded w (get same_ast_key c.asts) loaded
+  pub reading : IsReadingOf w (reading_of w.answers.enabled (get same_ast_key c.asts))
   pub overridden : List (Number × Text)
   pub analyzed : IsAnalyzed (given_in evaluator overrides w) (get same_ast_key c.asts) loaded (root_heading w) c.justfile c.recipes overridden
   pub overrides_are : (n : Number) → get same_number c.overrides n ≡ last_of overridden n
 
--- What a compilation answers: no rule is broken, so that none is named, the files are compiled, each recipe that is named is held, each that is held is that of a module that stands in the root, and the root's file is held; or a rule that is broken.
+-- What a compilation answers: no rule is broken, so that none is named, the files are compiled, each recipe that is named is held, each that is held is that of a module that stands in the root, the variables of each module have numbers of their own, and the root's file is held; or a rule that is broken.
 pub record Compiles (evaluator : Evaluator) (overrides : Overrides) (w : World) (result : Result Compilation Error) : Type 0 where
   pub kept : IfOk result (λ _. KeepsAll evaluator overrides w)
   pub unnamed : IfOk result (λ _. Keeps (Names evaluator overrides w))
   pub compiled : IfOk result (IsCompilation evaluator overrides w)
   pub rooted : IfOk result (λ (c : Compilation). IsRooted c.justfile c.recipes)
   pub all_closed : IfOk result (λ (c : Compilation). AreClosed c.recipes c.justfile)
+  pub tables : IfOk result (λ (c : Compilation). HaveTables c.justfile)
   pub root : IfOk result (λ (c : Compilation). c.root ≡ w.root)
   pub root_ast : IfOk result (λ (c : Compilation). IsSome (get same_ast_key c.asts (root_ast_key c.root)))
   pub named : IfErr result (Reports (Names evaluator overrides w))

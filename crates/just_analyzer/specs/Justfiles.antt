@@ -17,7 +17,7 @@ use Rattle.just_module_contents.specs.Labels.{doc_by}
 use Rattle.just_module_contents.specs.Notes.{absent_by, features_by, notes_of, warnings_by}
 use Rattle.just_module_contents.specs.declared.notes.Notes.{Notes}
 use Rattle.just_module_tree.specs.Modules.{Module, Forest, Empty, Tree, path_of}
-use Rattle.just_analyzer.specs.Variables.{HasVariables}
+use Rattle.just_analyzer.specs.Variables.{HasTables, HasVariables}
 use Rattle.just_module_contents.specs.Contents.{Contents}
 use Rattle.just_module_contents.specs.Kept.{kept_recipes}
 use Rattle.just_module_contents.specs.Named.{function_by, lists_by, name_by, set_by, unexported_by, variable_by}
@@ -72,6 +72,7 @@ pub record IsCompiled (given : Given) (asts : AstKey → Option Ast) (loaded : L
   pub resolved : AreResolved (kept_recipes (recipes_in given.syntax.enabled asts m.files)) (path_of m) made.recipes
   pub evaluated : IsEvaluatedTo (layers_at given (path_of m)) (contents_in given.syntax.enabled asts m.files) (map (λ (s : Submodule). s.label) m.modules) (map label_in inner) made.overridden j
   pub variables : HasVariables given.syntax (contents_in given.syntax.enabled asts m.files) j
+  pub tables : HasTables j
   pub default : HasDefault (contents_in given.syntax.enabled asts m.files) (recipes_of given.syntax.enabled own.items) j
   pub fields : IsOf (contents_in given.syntax.enabled asts m.files) own loaded m.heading.key.1 j
   pub notes : notes_in j ≡ notes_said given.syntax.enabled asts m.files

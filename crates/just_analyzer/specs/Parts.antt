@@ -40,6 +40,7 @@ pub record IsAnalyzedFrom (answers : SyntaxAnswers) (own : Ast) (it : Checked) (
   pub fields : IsOf (contents_in it.definitions) own around.loaded around.source j
   pub default : HasDefault (contents_in it.definitions) (recipes_by answers.enabled (Some own)) j
   pub settings : (out-Justfile j).settings ≡ it.constants.settings
+  pub own_overrides : (out-Justfile j).overridden ≡ it.constants.overrides
   pub variables : HasVariables answers (contents_in it.definitions) j
   pub modules : (out-Justfile j).modules ≡ around.modules
   pub notes : notes_in j ≡ around.notes

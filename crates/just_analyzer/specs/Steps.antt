@@ -23,7 +23,7 @@ use Rattle.just_analyzer.specs.Labelled.{by_name, notes_in, slot, with_labels}
 use Rattle.just_analyzer.specs.Justfiles.{Made}
 use Rattle.just_analyzer.specs.declared.compiling.Gathered.{Gathered}
 use Rattle.just_analyzer.specs.Noted.{notes_of_place}
-use Rattle.just_analyzer.specs.Variables.{HasVariables}
+use Rattle.just_analyzer.specs.Variables.{HasTables, HasVariables}
 use Rattle.just_module_contents.specs.Groups.{BreaksContents, KeepsContents}
 use Rattle.just_module_contents.specs.Kept.{kept_recipes}
 use Rattle.just_module_contents.specs.Named.{recipes_by, said_from, variable_by}
@@ -84,6 +84,7 @@ pub record IsCompiledAt (given : Given) (files : Files) (joined : Joined) (loade
   pub labels : List Label
   pub evaluated : IsEvaluatedTo (layers_at given (path_at files p)) (contents_of_place given.syntax.enabled files joined p) (labels_of_place given.syntax.enabled files joined p) labels made.overridden j
   pub variables : HasVariables given.syntax (contents_of_place given.syntax.enabled files joined p) j
+  pub tables : HasTables j
   pub default : HasDefault (contents_of_place given.syntax.enabled files joined p) (recipes_by given.syntax.enabled (Some own)) j
   pub fields : IsOf (contents_of_place given.syntax.enabled files joined p) own loaded key.1 j
   pub notes : notes_in j ≡ notes_of_place given.syntax.enabled files joined p
@@ -107,11 +108,12 @@ pub record CompilesPlace (given : Given) (files : Files) (joined : Joined) (load
 abbrev pub CompilesAt : Given → Files → Joined → List Text → ℕ → Vec (Option Justfile) Global → Vec (Option Justfile) Global → Gathered → Gathered → Type 0
 CompilesAt given files joined loaded p old new before after = CompilesPlace given files joined loaded p old.items new.items (made_in before) (made_in after)
 
--- Modules that can be compiled in this order: each place once, after those of the modules in it, each of which stands in one module, and no number of a recipe in two modules.
+-- Modules that can be compiled in this order: there is one, each place stands there once, after those of the modules in it, each of which stands in one module, and no number of a recipe in two modules.
 pub record CanCompileAll (enabled : Item → Bool) (files : Files) (joined : Joined) (order : List ℕ) : Type 0 where
   pub keys : length files.keys.items ≡ length files.asts.items
   pub files_room : length joined.files.items ≡ length files.asts.items
   pub modules_room : length joined.modules.items ≡ length files.asts.items
+  pub some : 0 < length order
   pub each : (k : ℕ) → k < length order → CanCompile enabled files joined (slice_index order k)
   pub once : IsOnce order
   pub inner_first : ListsStepsFirst (HasEdge joined.modules.items) order
@@ -128,6 +130,11 @@ pub record HaveCompiled (given : Given) (files : Files) (joined : Joined) (loade
   pub each : (k : ℕ) → k < n → IsCompiledAt given files joined loaded (slice_index order k) (map justfile (targets joined.modules.items (slice_index order k))) (made (slice_index order k)) (justfile (slice_index order k))
   pub held : (k : ℕ) → k < n → ((i : ℕ) → i < n → HasEdge joined.modules.items (slice_index order i) (slice_index order k) → ⊥) → slot slots (slice_index order k) ≡ Some (justfile (slice_index order k))
   pub room : length slots ≡ length files.asts.items
+
+-- The same, or none is compiled yet.
+pub data HaveCompiledSoFar (given : Given) (files : Files) (joined : Joined) (loaded : List Text) (order : List ℕ) (n : ℕ) (slots : List (Option Justfile)) (all : Made) : Type 0 where
+  not_yet : n ≡ 0 → length slots ≡ length files.asts.items → all.recipes ≡ [] → all.overridden ≡ [] → HaveCompiledSoFar given files joined loaded order n slots all
+  so_far : HaveCompiled given files joined loaded order n slots all → HaveCompiledSoFar given files joined loaded order n slots all
 
 abbrev pub HaveCompiledAll : Given → Files → Joined → List Text → List ℕ → Vec (Option Justfile) Global × Gathered → Type 0
 HaveCompiledAll given files joined loaded order result = HaveCompiled given files joined loaded order (length order) result.0.items (made_in result.1)

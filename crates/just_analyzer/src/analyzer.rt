@@ -61,6 +61,7 @@ fn analyze_modules<'src, S: Syntax, E: Evaluation>(
     check_module_names(alloc, &files, given.syntax, &joined, order.as_slice())?;
     let (mut slots, gathered) = compile_in_order(given, &files, &joined, loaded, order.as_slice())?;
     let justfile = take_at(&mut slots, place);
+    gathered.recipes.are_ordered();
     Ok((labelled(justfile, label), gathered))
 }
 

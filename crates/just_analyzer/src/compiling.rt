@@ -25,7 +25,6 @@ use just_invoke::{Justfile, Recipes};
 use just_module_contents::Label;
 use just_module_headers::files::Files;
 use just_module_headers::joined::Joined;
-use just_module_variables::Constants;
 use just_parts::layers::{Ast, Error, Evaluation, Given, Number, Syntax};
 use std::alloc::{AllocError, Global};
 
@@ -108,7 +107,6 @@ fn analyze_checked<'b, 'src, S: Syntax>(
         constants,
         ..
     } = checked;
-    let Constants { settings, .. } = constants;
     let justfile = make_justfile(
         alloc,
         &definitions,
@@ -116,7 +114,7 @@ fn analyze_checked<'b, 'src, S: Syntax>(
         ast,
         default,
         variables,
-        settings,
+        constants,
         surroundings,
     )?;
     Ok(justfile)

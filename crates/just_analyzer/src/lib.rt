@@ -58,6 +58,11 @@ pub mod unresolved_recipe {
     pub use just_parts::UnresolvedRecipe;
 }
 
+/// What paths lead to, and recipes that are not there.
+pub mod resolution {
+    pub use just_invoke::{Disabled, Resolution};
+}
+
 /// What command words mean.
 pub mod invocation_parser {
     pub use just_invoke::{Invocation, InvocationParser};
@@ -83,6 +88,7 @@ pub use justfile::{Justfile, RecipeKey, Report};
 pub use modulepath::Modulepath;
 pub use recipe::{Recipe, Recipes};
 pub use references::{Reference, References};
+pub use resolution::{Disabled, Resolution};
 pub use source::{Source, Sources, is_clean};
 pub use table::{Keyed, Table};
 pub use unresolved_recipe::UnresolvedRecipe;

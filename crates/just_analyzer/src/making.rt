@@ -1,20 +1,18 @@
 //! What a module's recipes are compiled to.
 
-ghost use Rattle.std.specs.Prelude.{◌≡◌, IfOk, length};
+ghost use Rattle.std.specs.Prelude.{◌≡◌, IfOk};
 ghost use Rattle.just_invoke.specs.declared.justfile.Justfile.{out-Justfile};
-ghost use Rattle.just_analyzer.specs.Analysis.{AreKeysOf, HasKeysOf, IsOf};
+ghost use Rattle.just_analyzer.specs.Analysis.{HasNoLabel, IsOf, recipe_table};
 ghost use Rattle.just_analyzer.specs.Labelled.{notes_in};
 ghost use Rattle.just_module_contents.specs.Definitions.{contents_in, recipes_in};
-ghost use Rattle.just_names.specs.Index.{AreDifferent};
 ghost use Rattle.just_module_contents.specs.Kept.{kept_recipes};
-ghost use Rattle.just_module_contents.specs.Recipes.{names_of};
 
 use just_data::{Sequence, Shared, Text};
 use just_invoke::{Justfile, RecipeKey};
 use just_module_contents::Notes;
 use just_module_contents::definitions::Definitions;
-use just_module_variables::Variables;
-use just_parts::layers::{Ast, Name, Number, Settings};
+use just_module_variables::{Constants, Variables};
+use just_parts::layers::{Ast, Name, Number};
 use just_table::Table;
 use std::alloc::{AllocError, Global};
 
@@ -23,9 +21,7 @@ fn recipe_keys<'a, 'src>(
     alloc: Global,
     definitions: &Definitions<'src, 'a>,
 ) -> Result<Table<'src, RecipeKey<'src>>, AllocError>
-    requires { AreDifferent (names_of (recipes_in definitions.now)) }
-    ensures keys { IfOk result (AreKeysOf (recipes_in definitions.now) (length definitions.now.recipes.items)) }
-    ensures held { IfOk result (HasKeysOf (recipes_in definitions.now) (length definitions.now.recipes.items)) }
+    ensures { IfOk result (λ keys. keys ≡ recipe_table (recipes_in definitions.now)) }
 {
     let mut keys = Table::new(alloc);
     for place in 0..definitions.recipes.len() {
@@ -67,8 +63,8 @@ pub struct Surroundings<'src> {
     pub source: Text,
 }
 
-/// The justfile of a module with these definitions, of whose recipes some are kept, with a default, and with its variables
-/// and settings. It has no label.
+/// The justfile of a module with these definitions, of whose recipes some are kept, with a default, with its variables and
+/// with what is evaluated of it: its settings, and the values that override its variables. It has no label.
 pub fn make_justfile<'a, 'src>(
     alloc: Global,
     definitions: &Definitions<'src, 'a>,
@@ -76,16 +72,18 @@ pub fn make_justfile<'a, 'src>(
     ast: &Ast<'src>,
     default: Option<Number>,
     variables: Variables<'src>,
-    settings: Settings,
+    constants: Constants<'src>,
     surroundings: Surroundings<'src>,
 ) -> Result<Justfile<'src>, AllocError>
     requires recipes { recipes_in kept.now ≡ kept_recipes (recipes_in definitions.now) }
     ensures fields { IfOk result (λ j. IsOf (contents_in definitions.now) ast.now surroundings.entry.loaded surroundings.entry.source j) }
+    ensures label { IfOk result HasNoLabel }
     ensures default { IfOk result (λ j. (out-Justfile j).default ≡ default) }
     ensures assignments { IfOk result (λ j. (out-Justfile j).assignments ≡ variables.entry.assignments) }
     ensures functions { IfOk result (λ j. (out-Justfile j).functions ≡ variables.entry.functions) }
     ensures evaluation_order { IfOk result (λ j. (out-Justfile j).evaluation_order ≡ variables.entry.evaluation_order) }
-    ensures settings { IfOk result (λ j. (out-Justfile j).settings ≡ settings) }
+    ensures settings { IfOk result (λ j. (out-Justfile j).settings ≡ constants.entry.settings) }
+    ensures overridden { IfOk result (λ j. (out-Justfile j).overridden ≡ constants.entry.overrides) }
     ensures modules { IfOk result (λ j. (out-Justfile j).modules ≡ surroundings.entry.modules) }
     ensures notes { IfOk result (λ j. notes_in j ≡ surroundings.entry.notes) }
 {
@@ -104,6 +102,11 @@ pub fn make_justfile<'a, 'src>(
         unstable_features,
         warnings,
     } = notes;
+    let Constants {
+        settings,
+        overrides,
+        ..
+    } = constants;
     let Variables {
         assignments,
         evaluation_order,
@@ -113,6 +116,7 @@ pub fn make_justfile<'a, 'src>(
         absent_modules,
         assignments,
         default,
+        disabled_recipes: Table::new(alloc),
         doc: None,
         evaluation_order,
         functions,
@@ -121,6 +125,7 @@ pub fn make_justfile<'a, 'src>(
         module_path,
         modules,
         name: None,
+        overridden: overrides,
         private: false,
         recipes,
         settings,

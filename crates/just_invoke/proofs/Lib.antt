@@ -1,10 +1,13 @@
 pub mod Decides
 pub mod Faults
 pub mod HeadLemmas
+pub mod Leading
 pub mod ModuleLemmas
 pub mod Namings
 pub mod Outcomes
+pub mod Resolving
 pub mod Scoping
 pub mod SplitLemmas
 pub mod TailLemmas
 pub mod Unique
+pub mod Walking

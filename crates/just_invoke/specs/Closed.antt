@@ -1,10 +1,17 @@
--- Modules whose recipes are among those that are held.
-use Rattle.std.specs.Prelude.{◌≡◌, ◌↔◌, ℕ, List, Option, Some, None, IsSome}
+-- Modules whose recipes are among those that are held, each under its name.
+use Rattle.std.specs.Prelude.{◌≡◌, ◌↔◌, ℕ, List, [], ◌∷◌, ◌++◌, map, Option, Some, None, IsSome}
+use Rattle.std.specs.Cmp.Lexicographic.{slice_cmp}
 use Rattle.std.specs.List.{All, Contains}
+use Rattle.std.specs.List.Sorted.{IsStrictlySortedBy}
+use Rattle.std.specs.Ordering.{nat_cmp}
 use Rattle.just_table.specs.Entries.{find}
+use Rattle.just_names.specs.Texts.{Text}
+use Rattle.just_names.specs.Token.{lexeme}
 use Rattle.just_names.specs.declared.number.Number.{Number}
+use Rattle.just_paths.specs.declared.modulepath.Modulepath.{Modulepath}
 use Rattle.just_recipe.specs.declared.dependency.Dependency.{Dependency}
 use Rattle.just_recipe.specs.declared.recipe.Recipe.{Recipe}
+use Rattle.just_invoke.specs.Module.{module_name}
 use Rattle.just_invoke.specs.declared.justfile.Justfile.{Justfile, out-Justfile}
 use Rattle.just_invoke.specs.declared.justfile.RecipeKey.{RecipeKey}
 use Rattle.just_recipe.specs.Recipes.{find_number, IsResolved}
@@ -29,24 +36,48 @@ recipe_of_number recipes (Some number) = find_number recipes number.0
 abbrev pub default_recipe : Justfile → List (Recipe Dependency) → Option (Recipe Dependency)
 default_recipe justfile recipes = recipe_of_number recipes (out-Justfile justfile).default
 
--- Each name of the module, and its default, is that of a recipe that is held, and the held recipes are resolved.
+-- the path that leads one name on
+abbrev pub path_on : Modulepath → Text → Modulepath
+path_on path name = record { components = path.components ++ name ∷ []; spaced = path.spaced }
+
+-- The recipe is that of a name in the module: it has this name, its module path is the module's path, and its own path leads one name on.
+pub record IsRecipeOf (justfile : Justfile) (name : Text) (recipe : Recipe Dependency) : Type 0 where
+  pub named : lexeme recipe.name.token ≡ name
+  pub module_path : recipe.module_path ≡ Some (out-Justfile justfile).module_path
+  pub recipe_path : recipe.recipe_path ≡ Some (path_on (out-Justfile justfile).module_path name)
+
+-- the module's table names a held recipe, which is that of the name in the module
+abbrev pub HasRecipe : Justfile → List (Recipe Dependency) → Text → Type 0
+HasRecipe justfile recipes name = (r : Recipe Dependency) × (recipe_named justfile recipes name ≡ Some r) × IsRecipeOf justfile name r
+
+-- Each name in the module's table of recipes leads to a held recipe, which is that of the name in the module, its default is that of a recipe that is held, and the held recipes are resolved.
 pub record IsClosed (justfile : Justfile) (recipes : List (Recipe Dependency)) : Type 0 where
-  pub named : (name : List ℕ) → IsSome (find name (out-Justfile justfile).recipes) → IsSome (recipe_named justfile recipes name)
+  pub named : (name : Text) → IsSome (find name (out-Justfile justfile).recipes) → HasRecipe justfile recipes name
   pub default : IsSome (out-Justfile justfile).default → IsSome (default_recipe justfile recipes)
   pub resolved : All IsResolved recipes
 
--- The module and all modules below it are closed.
+-- The modules in a module: their names rise in byte order, so that each stands once, and the path of each leads from the module's one name on.
+pub record HaveNames (justfile : Justfile) : Type 0 where
+  pub names : IsStrictlySortedBy (slice_cmp nat_cmp) (map module_name (out-Justfile justfile).modules)
+  pub paths : (inner : Justfile) → Contains (out-Justfile justfile).modules inner → (out-Justfile inner).module_path ≡ path_on (out-Justfile justfile).module_path (module_name inner)
+
+-- The module and all modules below it are closed, and those in each have names.
 pub data AreClosed (recipes : List (Recipe Dependency)) : Justfile → Type 0 where
-  all_closed : {justfile : Justfile} → IsClosed justfile recipes → ((inner : Justfile) → Contains (out-Justfile justfile).modules inner → AreClosed recipes inner) → AreClosed recipes justfile
+  all_closed : {justfile : Justfile} → IsClosed justfile recipes → HaveNames justfile
+      → ((inner : Justfile) → Contains (out-Justfile justfile).modules inner → AreClosed recipes inner) → AreClosed recipes justfile
 
 -- the module itself
 pub is_closed : {recipes : List (Recipe Dependency)} {justfile : Justfile} → AreClosed recipes justfile → IsClosed justfile recipes
-is_closed (all_closed closed below) = closed
+is_closed (all_closed closed names below) = closed
+
+-- the names of those in it
+pub have_names : {recipes : List (Recipe Dependency)} {justfile : Justfile} → AreClosed recipes justfile → HaveNames justfile
+have_names (all_closed closed names below) = names
 
 -- each of its modules, with those below that
 pub inner_closed : {recipes : List (Recipe Dependency)} {justfile : Justfile} → AreClosed recipes justfile →
     (inner : Justfile) → Contains (out-Justfile justfile).modules inner → AreClosed recipes inner
-inner_closed (all_closed closed below) = below
+inner_closed (all_closed closed names below) = below
 
 -- A module stands in another one: it is that one, or stands in a module of it.
 pub data StandsIn : Justfile → Justfile → Type 0 where

@@ -9,4 +9,5 @@ pub mod Scopes
 pub mod Split
 pub mod Tail
 pub mod Variables
+pub mod Walks
 pub mod Words

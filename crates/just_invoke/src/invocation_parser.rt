@@ -6,7 +6,7 @@ ghost use Rattle.just_names.specs.Texts.{texts};
 ghost use Rattle.just_errors.specs.declared.error.Error.TheVariants as error;
 ghost use Rattle.just_errors.specs.declared.error.InvocationError.TheVariants as fault;
 ghost use Rattle.just_invoke.specs.Cause.{cause_of, not_yet, IsExpected};
-ghost use Rattle.just_invoke.specs.Closed.{recipe_named, default_recipe, IsHeld, IsClosed};
+ghost use Rattle.just_invoke.specs.Closed.{default_recipe, IsHeld, IsClosed};
 ghost use Rattle.just_invoke.specs.declared.justfile.Justfile.{out-Justfile};
 ghost use Rattle.just_invoke.specs.Head.{name_of, goes_on, TakesDefault, NoDefault, BadName, WordsLead, WordsMislead, PathLeads, NoPath, IsHead, NoHead};
 ghost use Rattle.just_invoke.specs.Split.{invoked_of, misfit, Invokes, Chain, IsSplit, Stops, IsFault};
@@ -49,21 +49,6 @@ impl InvocationParser {
         } else {
             parse_some(alloc, root, recipes, words)
         }
-    }
-}
-
-// The recipe of a name.
-fn recipe_named<'run, 'src>(
-    root: &Justfile<'src>,
-    recipes: &'run Recipes<'src>,
-    name: &str,
-) -> Option<&'run Recipe<'src>>
-    ensures found { option_copied result ≡ recipe_named root.now recipes.now name.now }
-    ensures held { IfSome result (λ r. IsHeld recipes.now r.now) }
-{
-    match root.recipes.get(name) {
-        Some(key) => recipes.get(key.number),
-        None => None,
     }
 }
 
@@ -178,7 +163,7 @@ fn walk<'run, 'src>(
         let recipe = take_default(root, recipes)?;
         return Ok((recipe, 0));
     };
-    let found = recipe_named(root, recipes, name);
+    let found = root.recipe(recipes, name);
     let recipe = end_head(alloc, found, one, goes_on(one, rest), name)?;
     Ok((recipe, 1))
 }

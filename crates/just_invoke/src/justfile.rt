@@ -1,10 +1,14 @@
 //! Compiled modules, and their run.
+use crate::disabled::Disabled;
 use crate::invocation_parser::InvocationParser;
+use crate::resolution::module_along;
 use crate::running::run_invocations;
+use crate::scopes::bare_scopes;
 use crate::variables::check_variables;
 use just_data::{BorrowedText, Exact, Sequence, Shared, Text};
 use just_execution::{Recipes, Report};
-use just_name_resolution::{Known, assignment_references};
+use just_name_resolution::{Tables, assignment_references};
+use just_parts::Recipe;
 use just_parts::layers::{
     Assignment, Config, Error, Evaluation, FunctionDefinition, Host, Name, Number, Output,
     RunError, Settings, StringLiteral, Syntax, UnstableFeature, Warning,
@@ -49,6 +53,8 @@ pub struct Justfile<'src> {
     pub assignments: Table<'src, Assignment<'src>>,
     /// The recipe that is run without words.
     pub default: Option<Number>,
+    /// The recipes that are not there, since what they depend on lies in optional modules without a file, by their names.
+    pub disabled_recipes: Table<'src, Disabled<'src>>,
     /// What a listing says of it.
     pub doc: Option<Text>,
     /// The names of the variables, each once and after those that its value reads, also through functions.
@@ -65,6 +71,8 @@ pub struct Justfile<'src> {
     pub modules: Sequence<Justfile<'src>>,
     /// The name of the module; none of the root's.
     pub name: Option<Name<'src>>,
+    /// The values that overrode variables of the module at its analysis, by the numbers of these variables.
+    pub overridden: HashMap<Number, Text>,
     /// Whether a listing leaves it out.
     pub private: bool,
     /// The recipes of the module, by their names.
@@ -118,34 +126,61 @@ impl<'src> Justfile<'src> {
 }
 
 impl<'src> Justfile<'src> {
+    ghost use Rattle.std.specs.Prelude.{◌≡◌, IfSome};
+    ghost use Rattle.std.specs.Option.{option_copied};
+    ghost use Rattle.just_invoke.specs.Closed.{IsHeld, recipe_named};
+    ghost use Rattle.just_invoke.specs.Walks.{inner_along};
+
+    /// The module to which the names of a path lead from this one, each in the module of the one before it; this one where
+    /// there are no names. None where there is no such module.
+    pub fn submodule(&self, path: &Modulepath) -> Option<&Justfile<'src>>
+        ensures { option_copied result ≡ inner_along self.now path.now.components }
+    {
+        module_along(self, path.components.as_slice())
+    }
+
+    /// The recipe of a name in the module, of these recipes; none where the module has none of the name.
+    pub fn recipe<'run>(
+        &self,
+        recipes: &'run Recipes<'src>,
+        name: &str,
+    ) -> Option<&'run Recipe<'src>>
+        ensures found { option_copied result ≡ recipe_named self.now recipes.now name.now }
+        ensures held { IfSome result (λ r. IsHeld recipes.now r.now) }
+    {
+        match self.recipes.get(name) {
+            Some(key) => recipes.get(key.number),
+            None => None,
+        }
+    }
+}
+
+impl<'src> Justfile<'src> {
     ghost use Rattle.std.specs.Prelude.{◌≡◌, is_some, IfOk, IfSome};
     ghost use Rattle.std.specs.HashSet.{contains};
     ghost use Rattle.just_invoke.specs.declared.justfile.Justfile.{out-Justfile};
     ghost use Rattle.just_parts.specs.Needs.{AreNeeded, has_number, same_number};
     ghost use Rattle.just_table.specs.Entries.{find};
-    ghost use Rattle.just_parts.specs.Known.{known};
+    ghost use Rattle.just_parts.specs.Known.{sources};
 
-    /// The numbers of the variables that a variable of the module needs: its own, and unless it is overridden those of what
-    /// its value reads, also through functions, and so on. None where the module has no variable of the name.
-    ///
-    /// The syntax layer is asked nothing. The error is want of memory.
-    pub fn assignment_references<S: Syntax>(
+    /// The numbers of the variables that a variable of the module needs: its own, and unless it was overridden at the
+    /// analysis those of what its value reads, also through functions, and so on. None where the module has no variable of
+    /// the name. The error is want of memory.
+    pub fn assignment_references(
         &self,
         alloc: Global,
-        syntax: &S,
-        overrides: &HashMap<Number, Text>,
         name: &str,
     ) -> Result<Option<HashSet<Number>>, AllocError>
         ensures found { IfOk result (λ found. is_some found ≡ is_some (find name.now (out-Justfile self.now).assignments)) }
-        ensures needed { let m = known (S.answers syntax.now) (out-Justfile self.now).assignments (out-Justfile self.now).functions in
-            IfOk result (λ found. IfSome found (λ set. AreNeeded m (has_number overrides.now) name.now (contains same_number set))) }
+        ensures needed { let m = sources (out-Justfile self.now).assignments (out-Justfile self.now).functions in
+            let overridden = has_number (out-Justfile self.now).overridden in
+            IfOk result (λ found. IfSome found (λ set. AreNeeded m overridden name.now (contains same_number set))) }
     {
-        let known = Known {
+        let tables = Tables {
             assignments: &self.assignments,
             functions: &self.functions,
-            syntax,
         };
-        assignment_references(alloc, &known, overrides, name)
+        assignment_references(alloc, &tables, &self.overridden, name)
     }
 }
 
@@ -163,8 +198,8 @@ impl<'src> Justfile<'src> {
     /// it was.
     ///
     /// `NotYet` comes where the module or one in it has a variable, with the name of the first recipe that the words mean,
-    /// and where they lead to a recipe with a line, an attribute or a parameter that is more than a name, with that recipe's
-    /// name. It comes after `ExcessInvocations`.
+    /// and where they lead to a recipe with a line, an attribute, a parameter that is more than a name or a dependency with
+    /// arguments, with that recipe's name. It comes after `ExcessInvocations`.
     ///
     /// The writer and the layers that evaluate are asked nothing yet.
     pub fn run<S: Syntax, E: Evaluation, H: Host, W: Output>(
@@ -209,15 +244,14 @@ impl<'src> Justfile<'src> {
             }));
         }
         check_variables(alloc, self, invocations.as_slice())?;
+        let scopes = bare_scopes(alloc, config, syntax, self, overrides)?;
         run_invocations(
             alloc,
-            config,
-            self,
             recipes,
+            &scopes,
             evaluation,
             host,
             invocations.as_slice(),
-            overrides,
         )
     }
 }

@@ -3,33 +3,28 @@ ghost use Rattle.just_parts.specs.Host.{KeepsPromises};
 ghost use Rattle.just_recipe.specs.Recipes.{IsResolved};
 ghost use Rattle.just_parts.specs.Steps.{kept_by};
 ghost use Rattle.just_invoke.specs.declared.invocation.Invocation.{Invocation};
-ghost use Rattle.just_invoke.specs.Closed.{IsHeld, IsPlaced};
+ghost use Rattle.just_execution.specs.Homes.{IsAmong};
+ghost use Rattle.just_invoke.specs.Closed.{IsHeld};
 ghost use Rattle.just_invoke.specs.Going.{ComesTo};
 
 use crate::invocation::Invocation;
-use crate::justfile::Justfile;
 use crate::naming::name_tops;
-use crate::scopes::bare_scopes;
-use just_data::Text;
-use just_execution::{Recipes, Report, find_unready, run_tasks};
-use just_parts::layers::{Config, Error, Evaluation, Host, Number, RunError};
+use just_execution::{Recipes, Report, Scopes, find_unready, run_tasks};
+use just_parts::layers::{Error, Evaluation, Host, RunError, Syntax};
 use std::alloc::Global;
-use std::collections::HashMap;
 
-/// Runs the invocations under one once table, each recipe in its module, which stands in the root. Where a recipe that
-/// they lead to cannot be run yet, nothing is run.
-pub(crate) fn run_invocations<'src, E: Evaluation, H: Host>(
+/// Runs the invocations under one once table, each recipe in its module. Where a recipe that they lead to cannot be run
+/// yet, nothing is run.
+pub(crate) fn run_invocations<'src, S: Syntax, E: Evaluation, H: Host>(
     alloc: Global,
-    config: &Config,
-    root: &Justfile<'src>,
     recipes: &Recipes<'src>,
+    scopes: &Scopes<'_, 'src, S>,
     evaluation: &mut E,
     host: &mut H,
     invocations: &[Invocation<'_, 'src, '_>],
-    overrides: &HashMap<Number, Text>,
 ) -> Result<Report, Error<'src>>
     requires resolved { All IsResolved recipes.now }
-    requires placed { All (IsPlaced root.now) recipes.now }
+    requires among { All (IsAmong scopes.now.modules) recipes.now }
     requires held { All (λ (i : Invocation). IsHeld recipes.now i.recipe.now) invocations.now }
     ensures keeps { KeepsPromises (E.promised evaluation.old) (E.promised evaluation.new) }
     ensures keeps_host { KeepsPromises (H.promised host.old) (H.promised host.new) }
@@ -41,6 +36,5 @@ pub(crate) fn run_invocations<'src, E: Evaluation, H: Host>(
     if let Some(recipe) = find_unready(alloc, recipes, &tops)? {
         return Err(Error::Run(RunError::NotYet { recipe }));
     }
-    let scopes = bare_scopes(alloc, config, root, overrides)?;
-    Ok(run_tasks(alloc, recipes, &scopes, evaluation, host, tops)?)
+    Ok(run_tasks(alloc, recipes, scopes, evaluation, host, tops)?)
 }

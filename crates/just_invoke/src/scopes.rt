@@ -1,12 +1,13 @@
 //! The modules of a run.
-ghost use Rattle.std.specs.Prelude.{IfOk};
+ghost use Rattle.std.specs.Prelude.{◌≡◌, IfOk};
 ghost use Rattle.just_invoke.specs.Scopes.{HasScopes, IsScopeOf};
 
 use crate::justfile::Justfile;
 use crate::modules::modules_in;
 use just_data::{Sequence, Text};
 use just_execution::{ModuleScope, Scopes};
-use just_parts::layers::{Config, Context, Number, Scope};
+use just_parts::layers::{Config, Context, Number, Scope, Syntax};
+use just_paths::Modulepath;
 use std::alloc::{AllocError, Global};
 use std::collections::HashMap;
 
@@ -36,19 +37,36 @@ fn bare_scope<'run, 'src>(
     }
 }
 
-/// The modules that stand in the root, each without values: no variable is read yet.
-pub(crate) fn bare_scopes<'run, 'src>(
+// The modules that stand in the root, each without values: no variable is read yet.
+fn bare_modules<'run, 'src>(
     alloc: Global,
     config: &'run Config,
     root: &'run Justfile<'src>,
     overrides: &'run HashMap<Number, Text>,
-) -> Result<Scopes<'run, 'src>, AllocError>
+) -> Result<HashMap<Modulepath, ModuleScope<'run, 'src>>, AllocError>
     ensures { IfOk result (HasScopes root.now) }
 {
-    let mut scopes = HashMap::new(alloc);
+    let mut modules = HashMap::new(alloc);
     for module in modules_in(alloc, root)? {
         let path = module.module_path.clone()?;
-        scopes.insert(path, bare_scope(alloc, config, module, overrides))?;
+        modules.insert(path, bare_scope(alloc, config, module, overrides))?;
     }
-    Ok(scopes)
+    Ok(modules)
+}
+
+/// What recipes run in under a grammar: the modules that stand in the root, each without values.
+pub(crate) fn bare_scopes<'run, 'src, S: Syntax>(
+    alloc: Global,
+    config: &'run Config,
+    syntax: &'run S,
+    root: &'run Justfile<'src>,
+    overrides: &'run HashMap<Number, Text>,
+) -> Result<Scopes<'run, 'src, S>, AllocError>
+    ensures modules { IfOk result (λ scopes. HasScopes root.now scopes.modules) }
+    ensures syntax { IfOk result (λ scopes. scopes.syntax.now ≡ syntax.now) }
+{
+    Ok(Scopes {
+        syntax,
+        modules: bare_modules(alloc, config, root, overrides)?,
+    })
 }

@@ -135,4 +135,4 @@ returns-clause-analyzed g c =
     subst (λ (j : Justfile). IsAnalyzed given (get same_ast_key c.args.asts.now) c.args.loaded.now (heading key c.args.label) j c.in_ok-slots.gathered.recipes c.in_ok-slots.gathered.overridden.items) (sym (c.labelled.ensures ∙ ap (labelled_as c.args.label) taken))
     (is_analyzed given entries key c.in_ok-files.files c.in_ok-files.ensures c.in_ok-rows.rows c.in_ok-rows.ensures c.requires.asts c.in_ok-place.place
     (slice_get_within (keys_of entries) c.in_ok-place.place key at) c.in_ok-joined.joined c.as_slice.result.now arranged (heading key c.args.label) (sym (get_or_from_slice_get (keys_of entries) c.in_ok-place.place key key at))
-    c.in_ok-check_module_names.ensures.kept c.args.loaded.now c.in_ok-slots.slots.items (made_in c.in_ok-slots.gathered) so c.requires.label)
+    c.in_ok-check_module_names.ensures.kept c.args.loaded.now c.in_ok-slots.slots.items (made_in c.in_ok-slots.gathered) so c.requires.label c.are_ordered.ensures)

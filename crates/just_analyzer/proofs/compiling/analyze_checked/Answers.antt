@@ -21,6 +21,7 @@ returns-clause-analyzed g c =
       fields = is.fields;
       default = subst (IsDefaultAmong (kept_recipes (recipes_in checked.definitions)) (recipes_by answers.enabled (Some c.args.ast.now))) (sym is.default) c.in_ok-kept.ensures.default;
       settings = is.settings;
+      own_overrides = is.overridden;
       variables = variables_had answers (contents_in checked.definitions) checked.variables.assignments checked.variables.functions checked.variables.evaluation_order c.requires.variables _ _ _ is.assignments is.functions is.evaluation_order;
       modules = is.modules;
       notes = is.notes;

@@ -19,6 +19,7 @@ use Rattle.just_analyzer.specs.Analysis.{HasDefault}
 use Rattle.just_analyzer.specs.Labelled.{by_name, with_labels}
 use Rattle.just_analyzer.specs.Variables.{HasVariables}
 use Rattle.just_analyzer.proofs.Makings.{is_of_same}
+use Rattle.just_analyzer.proofs.NumbersApart.{has_tables}
 use Rattle.just_module_recipes.specs.Broken.{BreaksRecipes}
 use Rattle.just_analyzer.proofs.Placed.{breaks_place, breaks_recipes, contents_are, evaluated_to, keeps_place, labels_many, variables_resolved}
 use Rattle.just_analyzer.proofs.compiling.compile_place.Goals as goal
@@ -90,6 +91,7 @@ returns-clause-compiled g c =
     let analyzed = c.in_ok-justfile.ensures.analyzed in
     let room : c.args.place < length c.surroundings_at.new.slots.items = omega (arith, c.in_ok-surroundings.ensures.room, c.requires.fits.room, c.requires.fits.ready.there) in
     let m = contents_are (given_by g.S.Syntax.answers g.E.Evaluation.answers c.args.given.now) c.args.files.now c.args.joined.now c.args.place c.as_slice-row.result.now row c.ast_at-ast.result.now c.ast_at-ast.ensures c.in_ok-checked.checked c.in_ok-checked.ensures.checked c.in_ok-checked.ensures.kept in
+    let has = subst (λ n. HasVariables (g.S.Syntax.answers c.args.given.now.syntax.now) n justfile) m analyzed.variables in
     record {
       made = record { recipes = analyzed.added.made; overridden = checked.constants.overridden.items };
       justfile = justfile;
@@ -102,8 +104,9 @@ returns-clause-compiled g c =
         key_is = there.key_is;
         kept = keeps_place (given_by g.S.Syntax.answers g.E.Evaluation.answers c.args.given.now) c.args.files.now c.args.joined.now c.args.place c.as_slice-row.result.now row c.ast_at-ast.result.now c.ast_at-ast.ensures c.in_ok-checked.checked c.in_ok-checked.ensures.checked c.in_ok-checked.ensures.kept analyzed.kept;
         labels = checked.labels.items;
-        evaluated = evaluated_to (given_by g.S.Syntax.answers g.E.Evaluation.answers c.args.given.now) c.args.files.now c.args.joined.now c.args.place c.as_slice-row.result.now row c.ast_at-ast.result.now c.ast_at-ast.ensures c.in_ok-checked.checked c.in_ok-checked.ensures.checked c.in_ok-checked.ensures.kept justfile analyzed.settings;
-        variables = subst (λ n. HasVariables (g.S.Syntax.answers c.args.given.now.syntax.now) n justfile) m analyzed.variables;
+        evaluated = evaluated_to (given_by g.S.Syntax.answers g.E.Evaluation.answers c.args.given.now) c.args.files.now c.args.joined.now c.args.place c.as_slice-row.result.now row c.ast_at-ast.result.now c.ast_at-ast.ensures c.in_ok-checked.checked c.in_ok-checked.ensures.checked c.in_ok-checked.ensures.kept justfile analyzed.settings analyzed.own_overrides;
+        variables = has;
+        tables = has_tables (g.S.Syntax.answers c.args.given.now.syntax.now) _ justfile c.requires.fits.ready.variables has;
         resolved = subst (λ (n : Contents). AreResolved (kept_recipes n.recipes) own.module_path analyzed.added.made) m analyzed.added.resolved;
         default = subst (λ n. HasDefault n (recipes_by enabled (Some own)) justfile) m analyzed.default;
         fields = is_of_same (contents_in checked.definitions) _ own around.loaded c.args.loaded.now around.source there.key.1 justfile m there.loaded_are there.source_is analyzed.fields;

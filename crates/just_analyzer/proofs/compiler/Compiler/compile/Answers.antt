@@ -75,9 +75,17 @@ returns g c =
     record {
       kept = all_kept (g.E.Evaluation.answers c.args.evaluation.now) (override_at c.args.config.now.overrides) w asts loaded c.in_ok-asts.ensures.loaded c.in_ok-asts.ensures.kept c.in_ok-justfile.justfile c.in_ok-justfile.recipes made.overridden analyzed;
       unnamed = none_named (g.E.Evaluation.answers c.args.evaluation.now) (override_at c.args.config.now.overrides) w asts loaded c.in_ok-asts.ensures.loaded c.in_ok-asts.ensures.kept c.in_ok-justfile.justfile c.in_ok-justfile.recipes made.overridden analyzed;
-      compiled = record { loaded = loaded; is_loaded = c.in_ok-asts.ensures.loaded; analyzed = analyzed; overridden = made.overridden; overrides_are = λ n. put_in_none _ _ _ (search rules) (made.added n) };
+      compiled = record {
+        loaded = loaded;
+        is_loaded = c.in_ok-asts.ensures.loaded;
+        reading = is_reading w asts loaded c.in_ok-asts.ensures.loaded;
+        analyzed = analyzed;
+        overridden = made.overridden;
+        overrides_are = λ n. put_in_none _ _ _ (search rules) (made.added n);
+      };
       rooted = record { closed = is_closed analyzed.closed; placed = analyzed.placed };
       all_closed = analyzed.closed;
+      tables = analyzed.tables;
       root = c.in_ok-path.ensures;
       root_ast = subst (λ r. IsSome (asts (root_ast_key r))) (sym c.in_ok-path.ensures) (subst (λ o. IsSome o) (sym (root_held w asts loaded c.in_ok-asts.ensures.loaded).1) refl);
       named = tt;

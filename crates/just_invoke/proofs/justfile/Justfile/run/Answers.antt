@@ -1,12 +1,14 @@
-use Rattle.std.proofs.Common.{◌≡◌, ◌∙◌, ◌≤◌, true, map, length, refl, sym, ap, subst, arith, rules}
+use Rattle.std.proofs.Common.{◌≡◌, ◌∙◌, ◌≤◌, true, map, length, refl, sym, ap, subst, arith, inl, rules}
 use Rattle.std.proofs.lemmas.List.{length-map}
 use Rattle.just_parts.specs.Steps.{kept_by}
+use Rattle.just_errors.specs.declared.error.Error.TheVariants.{Memory}
 use Rattle.just_names.specs.Texts.{texts}
 use Rattle.just_invoke.specs.Going.{ComesTo}
 use Rattle.just_invoke.specs.Outcome.{refused}
 use Rattle.just_invoke.specs.Split.{invoked_of}
 use Rattle.just_invoke.specs.Variables.{IsHeldBack}
 use Rattle.just_invoke.proofs.Outcomes.{unread-outcome, unread-so, held-outcome, held-so, went, went-expected, many, many-not}
+use Rattle.just_invoke.proofs.Scoping.{are-among}
 use Rattle.just_invoke.proofs.SplitLemmas.{split_some}
 use Rattle.just_invoke.proofs.justfile.Justfile.run.Goals as goal
 use Rattle.just_invoke.proofs.justfile.Justfile.run.Goals.{else-config-via-then-config+else-len-gt1, else-config-via-else-config}
@@ -56,6 +58,35 @@ returns-in_err-check_variables-clause-expected g c =
     (λ yes. subst (λ n. n ≤ 1) (sym (length-map c.in_ok-invocations.invocations.items invoked_of)) (few yes)) _ c.in_err-check_variables.field-0.0
     (subst (λ is. IsHeldBack c.args.self.now (map invoked_of is) c.in_err-check_variables.field-0.0) c.as_slice.ensures.value c.in_err-check_variables.ensures.err) c.from_residual-in_err-check_variables.result (search rules)
     (g.E.Evaluation.promised c.args.evaluation.now) (g.H.Host.promised c.args.host.now)
+
+-- where there is no memory for the modules, nothing was run
+pub returns-in_err-scopes-clause-outcome : goal.returns-in_err-scopes-clause-outcome
+returns-in_err-scopes-clause-outcome g c =
+    let p = g.E.Evaluation.promised c.args.evaluation.now in
+    let q = g.H.Host.promised c.args.host.now in
+    let few : c.args.config.now.one ≡ true → length c.in_ok-invocations.invocations.items ≤ 1 = elim c.else-config.branch [
+      | else-config-via-then-config+else-len-gt1 w ↦ λ yes. (search rules)
+      | else-config-via-else-config w ↦ λ yes. (search rules)
+    ] in
+    went c.args.self.now c.args.recipes.now (texts c.args.words.now) c.args.config.now p q (map invoked_of c.in_ok-invocations.invocations.items) c.in_ok-invocations.ensures.split
+    (λ yes. subst (λ n. n ≤ 1) (sym (length-map c.in_ok-invocations.invocations.items invoked_of)) (few yes)) c.in_ok-check_variables.ensures.ok _ _ c.from_residual-in_err-scopes.result
+    (inl (Memory, (search rules), inl refl, refl))
+
+pub returns-in_err-scopes-clause-expected : goal.returns-in_err-scopes-clause-expected
+returns-in_err-scopes-clause-expected g c =
+    let p = g.E.Evaluation.promised c.args.evaluation.now in
+    let q = g.H.Host.promised c.args.host.now in
+    let few : c.args.config.now.one ≡ true → length c.in_ok-invocations.invocations.items ≤ 1 = elim c.else-config.branch [
+      | else-config-via-then-config+else-len-gt1 w ↦ λ yes. (search rules)
+      | else-config-via-else-config w ↦ λ yes. (search rules)
+    ] in
+    went-expected c.args.self.now c.args.recipes.now (texts c.args.words.now) c.args.config.now p q (map invoked_of c.in_ok-invocations.invocations.items) c.in_ok-invocations.ensures.split
+    (λ yes. subst (λ n. n ≤ 1) (sym (length-map c.in_ok-invocations.invocations.items invoked_of)) (few yes)) c.in_ok-check_variables.ensures.ok _ _ c.from_residual-in_err-scopes.result
+    (inl (Memory, (search rules), inl refl, refl))
+
+pub run_invocations-requires-clause-among : goal.run_invocations-requires-clause-among
+run_invocations-requires-clause-among g c =
+    are-among c.args.self.now c.in_ok-scopes.scopes.modules c.args.recipes.now c.in_ok-scopes.ensures.modules c.requires.placed
 
 pub returns-clause-outcome : goal.returns-clause-outcome
 returns-clause-outcome g c =

@@ -3,7 +3,7 @@ use Rattle.std.specs.List.{All}
 use Rattle.just_invoke.specs.Closed.{AreModulesIn}
 use Rattle.just_invoke.specs.Scopes.{HasScope}
 use Rattle.just_invoke.proofs.ModuleLemmas.{shown}
-use Rattle.just_invoke.proofs.scopes.bare_scopes.Given as goal
+use Rattle.just_invoke.proofs.scopes.bare_modules.Given as goal
 
 abbrev pub invariant-loop-module : goal.invariant-loop-module
-invariant-loop-module l = All (HasScope l.root l.scopes) (shown l.yielded) × AreModulesIn l.root (shown (l.yielded ++ l.module-iterator.rest.items))
+invariant-loop-module l = All (HasScope l.root l.modules) (shown l.yielded) × AreModulesIn l.root (shown (l.yielded ++ l.module-iterator.rest.items))

@@ -6,11 +6,11 @@ use Rattle.just_invoke.specs.Scopes.{HasScope}
 use Rattle.just_invoke.specs.declared.justfile.Justfile.{out-Justfile}
 use Rattle.just_invoke.proofs.ModuleLemmas.{shown, each_done}
 use Rattle.just_invoke.proofs.Scoping.{next_scoped}
-use Rattle.just_invoke.proofs.scopes.bare_scopes.Goals as goal
+use Rattle.just_invoke.proofs.scopes.bare_modules.Goals as goal
 
 pub loop-module-init : goal.loop-module-init
 loop-module-init c =
-    (All-nil (HasScope c.args.root.now c.new-scopes.result), subst (λ ms. AreModulesIn c.args.root.now (shown ms)) (search rules) c.in_ok-module-items.ensures)
+    (All-nil (HasScope c.args.root.now c.new-modules.result), subst (λ ms. AreModulesIn c.args.root.now (shown ms)) (search rules) c.in_ok-module-items.ensures)
 
 pub loop-module-preserved-in_ok-insert : goal.loop-module-preserved-in_ok-insert
 loop-module-preserved-in_ok-insert c =
@@ -26,4 +26,4 @@ pub returns : goal.returns
 returns c =
     let rest = c.loop-module.module-iterator.rest in
     let none : rest.items ≡ [] = nil_from_length rest.items (omega (arith, rest.ok, c.in-None.ensures.steps.0)) in
-    each_done c.args.root.now c.loop-module.yielded rest.items c.loop-module.invariant.1 none (HasScope c.args.root.now c.loop-module.scopes) c.loop-module.invariant.0
+    each_done c.args.root.now c.loop-module.yielded rest.items c.loop-module.invariant.1 none (HasScope c.args.root.now c.loop-module.modules) c.loop-module.invariant.0

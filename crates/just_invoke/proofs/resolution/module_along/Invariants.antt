@@ -1,0 +1,8 @@
+use Rattle.std.proofs.Common.{◌≡◌, drop}
+use Rattle.std.specs.Option.{option_copied}
+use Rattle.just_invoke.specs.Walks.{inner_along}
+use Rattle.just_invoke.proofs.Walking.{along_from}
+use Rattle.just_invoke.proofs.resolution.module_along.Given as goal
+
+abbrev pub invariant-loop-name : goal.invariant-loop-name
+invariant-loop-name l = inner_along l.root l.names ≡ along_from (option_copied l.found) (drop l.name-index l.names)
