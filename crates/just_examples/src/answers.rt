@@ -11,6 +11,7 @@ use just_bench::{PlainEvaluation, PlainSyntax};
 use just_examples_answers::compiled::add_compiled;
 use just_examples_answers::held::{add_justfile, add_recipes};
 use just_examples_answers::variables::add_variable;
+use just_examples_answers::walks::add_walk;
 use just_examples_answers::{add_items, answer_text, read_pairs};
 use just_examples_format::asked::{Asked, read_asked};
 use just_examples_format::faults::add_fault;
@@ -53,9 +54,13 @@ fn add_compilation(
     let word = asked.first_word();
     match kind {
         "just" => add_compiled(justfile, recipes, overrides, asts.len(), alloc, asked, text),
-        "variable" => add_variable(alloc, justfile, overrides, word, text),
+        "variable" => add_variable(alloc, justfile, word, text),
         "Compilation::root_ast" => add_items(text, compilation.root_ast().items.as_slice()),
         "Justfile::name" | "Justfile::is_submodule" => add_justfile(justfile, kind, text),
+        "Justfile::recipe"
+        | "Justfile::submodule"
+        | "Resolution::resolve_recipe"
+        | "Resolution::resolve_module" => add_walk(justfile, recipes, alloc, kind, word, text),
         _ => add_recipes(justfile, recipes, kind, word, text),
     }
 }
@@ -105,10 +110,14 @@ pub fn answer(alloc: Global, bundle: &str, question: &str) -> Result<Option<Stri
         | "Compilation::root_ast"
         | "Justfile::name"
         | "Justfile::is_submodule"
+        | "Justfile::recipe"
+        | "Justfile::submodule"
         | "Recipes::len"
         | "Recipes::is_empty"
         | "Recipes::get"
-        | "Recipes::place_of" => Ok(Some(answer_compiled(alloc, bundle, kind, rest)?)),
+        | "Recipes::place_of"
+        | "Resolution::resolve_recipe"
+        | "Resolution::resolve_module" => Ok(Some(answer_compiled(alloc, bundle, kind, rest)?)),
         "find" => Ok(Some(answer_find(alloc, bundle, rest)?)),
         "parse" | "read" | "conflicts" => Ok(Some(answer_text(alloc, kind, rest)?)),
         "copy" | "file" => just_examples_answers::answer(alloc, kind, rest),

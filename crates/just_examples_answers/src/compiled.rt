@@ -48,7 +48,7 @@ pub fn add_compiled<'src>(
     requires { IsRooted root.now recipes.now }
 {
     add_loaded(root, texts, text)?;
-    add_modules(root, recipes, overrides, alloc, text)?;
+    add_modules(root, recipes, alloc, text)?;
     let words = asked.words(alloc)?;
     add_words(
         root,

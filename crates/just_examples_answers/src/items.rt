@@ -23,6 +23,7 @@ fn mark(optional: bool) -> &'static str {
 // Adds what an item is.
 fn add_item(text: &mut String, item: &Item) -> Result<(), AllocError> {
     match item {
+        Item::Alias(alias) => write!(text, "alias {} {}", alias.name, alias.target),
         Item::Import {
             relative,
             optional,

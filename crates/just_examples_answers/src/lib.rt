@@ -11,6 +11,7 @@ mod items;
 mod readings;
 mod runs;
 pub mod variables;
+pub mod walks;
 
 pub use answers::answer;
 pub use items::{add_items, answer_text, read_pairs};

@@ -2,7 +2,7 @@
 use just_parts::UnresolvedRecipe;
 use just_parts::layers::{
     Ast, Attribute, Fragment, FunctionDefinition, Item, Line, NamedAttribute, Number, Parameter,
-    Set, Setting,
+    Set, Setting, UnresolvedDependency,
 };
 use std::alloc::AllocError;
 
@@ -54,12 +54,26 @@ fn add_line(line: &Line, text: &mut String) -> Result<(), AllocError> {
     Ok(())
 }
 
+// Adds a dependency, in parentheses where it has arguments.
+fn add_dependency(dependency: &UnresolvedDependency, text: &mut String) -> Result<(), AllocError> {
+    if dependency.arguments.is_empty() {
+        return write!(text, " {}", dependency.recipe);
+    }
+    text.push_str(if dependency.starred() { " *" } else { " " })?;
+    write!(text, "({}", dependency.recipe)?;
+    for argument in dependency.arguments.as_slice() {
+        text.push_str(if argument.starred { " *" } else { " " })?;
+        write!(text, "{}", argument.expression.text)?;
+    }
+    text.push(')')
+}
+
 // Adds what a recipe depends on.
 fn add_dependencies(recipe: &UnresolvedRecipe, text: &mut String) -> Result<(), AllocError> {
     text.push_str(" :")?;
     for (place, dependency) in recipe.dependencies.as_slice().iter().enumerate() {
         text.push_str(if place == recipe.priors { " &&" } else { "" })?;
-        write!(text, " {}", dependency.recipe)?;
+        add_dependency(dependency, text)?;
     }
     Ok(())
 }
@@ -128,6 +142,7 @@ fn add_set(set: &Set, text: &mut String) -> Result<(), AllocError> {
 // Adds an item.
 fn add_item(item: &Item, text: &mut String) -> Result<(), AllocError> {
     match item {
+        Item::Alias(alias) => write!(text, "alias {} {}", alias.name, alias.target),
         Item::Assignment(it) => {
             text.push_str(if it.private { "private " } else { "" })?;
             text.push_str(if it.export { "export " } else { "" })?;

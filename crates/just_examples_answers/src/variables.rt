@@ -1,11 +1,8 @@
 //! The lines that tell what a variable refers to, and which variables it needs.
 use just_ast_references::{Reference, References};
-use just_bench_syntax::PlainSyntax;
-use just_data::Text;
 use just_invoke::Justfile;
-use just_parts::layers::{Assignment, Number};
+use just_parts::layers::Assignment;
 use std::alloc::{AllocError, Global};
-use std::collections::HashMap;
 
 // Adds a call with the count of its arguments, or a variable.
 fn add_reference(reference: &Reference, text: &mut String) -> Result<(), AllocError> {
@@ -32,12 +29,10 @@ fn add_references(
 fn add_needs(
     alloc: Global,
     module: &Justfile,
-    overrides: &HashMap<Number, Text>,
     name: &str,
     text: &mut String,
 ) -> Result<(), AllocError> {
-    let syntax = PlainSyntax::new();
-    let Some(needed) = module.assignment_references(alloc, &syntax, overrides, name)? else {
+    let Some(needed) = module.assignment_references(alloc, name)? else {
         return Ok(());
     };
     text.push_str("needs")?;
@@ -53,12 +48,11 @@ fn add_needs(
 pub fn add_variable(
     alloc: Global,
     module: &Justfile,
-    overrides: &HashMap<Number, Text>,
     name: &str,
     text: &mut String,
 ) -> Result<(), AllocError> {
     if let Some(variable) = module.assignments.get(name) {
         add_references(alloc, variable, text)?;
     }
-    add_needs(alloc, module, overrides, name, text)
+    add_needs(alloc, module, name, text)
 }

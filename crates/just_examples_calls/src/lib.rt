@@ -1,5 +1,5 @@
-//! Answers of worked examples that public calls give, each asked by its name: of paths, tables, names, recipes and sources, and
-//! of the resolver.
+//! Answers of worked examples that public calls give, each asked by its name: of paths, tables, names, patterns, recipes and
+//! sources, and of the resolver.
 #![tactic(auto)]
 
 mod data;
@@ -7,6 +7,7 @@ mod items;
 mod names;
 mod numbers;
 mod paths;
+mod patterns;
 mod recipes;
 mod resolver;
 mod sources;
@@ -20,6 +21,7 @@ use crate::items::{answer_config, answer_item, answer_parameter};
 use crate::names::{answer_name, answer_namepath, answer_token};
 use crate::numbers::answer_numerator;
 use crate::paths::{answer_argument, answer_modulepath, answer_path, answer_path_test};
+use crate::patterns::answer_pattern;
 use crate::recipes::answer_recipe;
 use crate::resolver::answer_resolver;
 use crate::sources::answer_source;
@@ -46,6 +48,7 @@ fn answer_call(
         "Namepath" => answer_namepath(alloc, call, rest),
         "Numerator" => answer_numerator(alloc, call, rest),
         "Parameter" => answer_parameter(alloc, call, rest),
+        "Pattern" => answer_pattern(alloc, call, rest),
         "Recipe" => answer_recipe(alloc, call, rest),
         "Sequence" => answer_sequence(alloc, call, rest),
         "Shared" => answer_shared(alloc, call, rest),

@@ -4,7 +4,7 @@ use just_bench::parse;
 use just_bench_syntax::PlainSyntax;
 use just_data::Sequence;
 use just_examples_format::faults::add_fault;
-use just_parts::layers::{Ast, Error, Item, Number, Settings};
+use just_parts::layers::{Ast, DependencyArgument, Error, Item, Number, Settings};
 use just_parts::{Dependency, Recipe, UnresolvedRecipe};
 use just_paths::Modulepath;
 use std::alloc::{AllocError, Global};
@@ -17,7 +17,7 @@ fn settings_of(words: &str) -> Settings {
     settings
 }
 
-// What a recipe depends on, each with its place as the number of the recipe.
+// What a recipe depends on, each with its place as the number of the recipe, and with its arguments as one group.
 fn numbered<'src>(
     alloc: Global,
     recipe: &UnresolvedRecipe<'src>,
@@ -27,7 +27,13 @@ fn numbered<'src>(
     for dependency in recipe.dependencies.as_slice() {
         let path = dependency.recipe.clone()?;
         let recipe = Number(number);
-        dependencies.push(Dependency { path, recipe })?;
+        let mut arguments = Sequence::new(alloc);
+        arguments.push(dependency.arguments.clone()?)?;
+        dependencies.push(Dependency {
+            arguments,
+            path,
+            recipe,
+        })?;
         number = number.saturating_add(1);
     }
     Ok(dependencies)
@@ -58,6 +64,17 @@ fn add_dependencies(
     text.push('\n')
 }
 
+// Adds for each dependency which group has a starred argument.
+fn add_stars(dependencies: &[Dependency], text: &mut String) -> Result<(), AllocError> {
+    for dependency in dependencies {
+        match dependency.star() {
+            Some(place) => writeln!(text, "star {place}")?,
+            None => writeln!(text, "star none")?,
+        }
+    }
+    Ok(())
+}
+
 // Adds what a call of a resolved recipe gives. It answers whether there is such a call.
 fn add_resolved(call: &str, recipe: &Recipe, text: &mut String) -> Result<bool, AllocError> {
     if recipe.module_path.is_none() || recipe.recipe_path.is_none() {
@@ -70,11 +87,51 @@ fn add_resolved(call: &str, recipe: &Recipe, text: &mut String) -> Result<bool, 
         "resolved" => add_dependencies(call, recipe.dependencies.as_slice(), text)?,
         "priors" => add_dependencies(call, recipe.priors(), text)?,
         "subsequents" => add_dependencies(call, recipe.subsequents(), text)?,
+        "star" => add_stars(recipe.dependencies.as_slice(), text)?,
         "module_path" => writeln!(text, "module_path {}", recipe.module_path())?,
         "recipe_path" => writeln!(text, "recipe_path {}", recipe.recipe_path())?,
         _ => return Ok(false),
     }
     Ok(true)
+}
+
+// Adds the groups of arguments, a line each.
+fn add_groups(
+    groups: &[Sequence<DependencyArgument>],
+    text: &mut String,
+) -> Result<(), AllocError> {
+    for group in groups {
+        text.push_str("group")?;
+        for argument in group.as_slice() {
+            write!(text, " {}", argument.expression.text)?;
+        }
+        text.push('\n')?;
+    }
+    Ok(())
+}
+
+// Adds how the arguments of each of its dependencies are grouped, as if it depended on itself.
+fn add_grouped(
+    alloc: Global,
+    settings: &Settings,
+    recipe: &UnresolvedRecipe,
+    text: &mut String,
+) -> Result<(), AllocError> {
+    for dependency in recipe.dependencies.as_slice() {
+        let arguments = dependency.arguments.as_slice();
+        let groups = recipe.group_arguments(alloc, settings, arguments)?;
+        writeln!(text, "starred {}", dependency.starred())?;
+        add_groups(groups.as_slice(), text)?;
+    }
+    Ok(())
+}
+
+// Adds whether it can be run without words.
+fn add_default(recipe: &UnresolvedRecipe, text: &mut String) -> Result<(), AllocError> {
+    match recipe.check_can_be_default_recipe() {
+        Ok(()) => text.push_str("can be the default\n"),
+        Err(error) => add_fault(text, &Error::Invocation(error)),
+    }
 }
 
 // Adds what a call of a recipe gives. It answers whether there is such a call.
@@ -94,6 +151,8 @@ fn add_recipe(
             writeln!(text, "argument_range {} {}\n{range}", range.min, range.max)?;
             writeln!(text, "takes two {takes_two}")?;
         }
+        "group_arguments" => add_grouped(alloc, settings, recipe, text)?,
+        "check_can_be_default_recipe" => add_default(recipe, text)?,
         "is_script" => writeln!(text, "is_script {}", recipe.is_script(settings))?,
         _ => return add_resolved(call, &resolved(alloc, recipe)?, text),
     }

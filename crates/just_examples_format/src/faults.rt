@@ -27,7 +27,8 @@ fn add_broken(text: &mut String, kind: &CompileErrorKind) -> Result<(), AllocErr
     match kind {
         CompileErrorKind::Syntax
         | CompileErrorKind::GuardAndInfallibleSigil
-        | CompileErrorKind::ExtraLeadingWhitespace => Ok(()),
+        | CompileErrorKind::ExtraLeadingWhitespace
+        | CompileErrorKind::ArgumentPatternRegex => Ok(()),
         CompileErrorKind::Evaluate(fault) => write!(text, ": {fault}"),
         CompileErrorKind::DuplicateParameter { recipe, parameter } => {
             write!(text, ": recipe {recipe}, parameter {parameter}")

@@ -5,7 +5,7 @@ use just_invoke::{Justfile, RecipeKey, Recipes};
 use just_parts::Recipe;
 use just_parts::layers::{Interpreter, Number};
 use std::alloc::{AllocError, Global};
-use std::collections::{HashMap, HashSet};
+use std::collections::HashSet;
 
 // What is told of the modules and the recipes so far.
 #[derive(Drop)]
@@ -172,13 +172,9 @@ fn add_program(
 }
 
 // Adds the paths of the variables of a module that are overridden.
-fn add_overridden(
-    module: &Justfile,
-    overrides: &HashMap<Number, Text>,
-    text: &mut String,
-) -> Result<(), AllocError> {
+fn add_overridden(module: &Justfile, text: &mut String) -> Result<(), AllocError> {
     for variable in module.assignments.values() {
-        if !overrides.contains_key(&variable.number) {
+        if !module.overridden.contains_key(&variable.number) {
             continue;
         }
         text.push(' ')?;
@@ -239,7 +235,6 @@ fn add_recipes<'src>(
 fn add_whole<'src>(
     module: &Justfile<'src>,
     recipes: &Recipes<'src>,
-    overrides: &HashMap<Number, Text>,
     alloc: Global,
     lines: &mut Lines,
 ) -> Result<(), AllocError> {
@@ -252,7 +247,7 @@ fn add_whole<'src>(
     add_program(module, &settings.shell, &mut lines.shells)?;
     add_program(module, &settings.script_interpreter, &mut lines.scripts)?;
     add_variables(module, &mut lines.variables)?;
-    add_overridden(module, overrides, &mut lines.overridden)?;
+    add_overridden(module, &mut lines.overridden)?;
     add_order(module, &mut lines.order)?;
     add_recipes(module, recipes, alloc, lines)
 }
@@ -261,7 +256,6 @@ fn add_whole<'src>(
 fn add_all<'src>(
     root: &Justfile<'src>,
     recipes: &Recipes<'src>,
-    overrides: &HashMap<Number, Text>,
     alloc: Global,
     lines: &mut Lines,
 ) -> Result<(), AllocError> {
@@ -271,7 +265,7 @@ fn add_all<'src>(
         let Some(module) = left.pop() else {
             break;
         };
-        add_whole(module, recipes, overrides, alloc, lines)?;
+        add_whole(module, recipes, alloc, lines)?;
         for inner in module.modules.as_slice().iter().rev() {
             left.push(inner)?;
         }
@@ -298,17 +292,15 @@ fn add_lines(lines: &Lines, text: &mut String) -> Result<(), AllocError> {
 }
 
 /// Adds what the root's module and those in it have: their files, docs, settings and variables, and of the recipes the
-/// depths, the files, how many different numbers they have, and how many could be copied. The values that override
-/// variables are those of `overrides`.
+/// depths, the files, how many different numbers they have, and how many could be copied.
 pub fn add_modules<'src>(
     root: &Justfile<'src>,
     recipes: &Recipes<'src>,
-    overrides: &HashMap<Number, Text>,
     alloc: Global,
     text: &mut String,
 ) -> Result<(), AllocError> {
     let mut lines = Lines::new(alloc);
-    add_all(root, recipes, overrides, alloc, &mut lines)?;
+    add_all(root, recipes, alloc, &mut lines)?;
     add_lines(&lines, text)
 }
 
