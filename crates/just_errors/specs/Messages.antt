@@ -52,6 +52,8 @@ kind_name (kind.UnknownDependency recipe unknown) = codes "UnknownDependency"
 kind_name (kind.CircularRecipeDependency recipe circle) = codes "CircularRecipeDependency"
 kind_name kind.ArgumentPatternRegex = codes "ArgumentPatternRegex"
 kind_name (kind.DependencyArgumentCountMismatch dependency found least most) = codes "DependencyArgumentCountMismatch"
+kind_name kind.MappedDependencyWithoutListsSetting = codes "MappedDependencyWithoutListsSetting"
+kind_name (kind.UnknownAliasTarget alias target) = codes "UnknownAliasTarget"
 kind_name (kind.DuplicateDefault recipe) = codes "DuplicateDefault"
 
 abbrev pub invocation_name : InvocationError → List ℕ
@@ -77,6 +79,7 @@ error_name error.Exhausted = codes "Exhausted"
 error_name error.Memory = codes "Memory"
 
 abbrev pub definition_text : Definition → List ℕ
+definition_text definition.Alias = codes "alias"
 definition_text definition.Module = codes "module"
 definition_text definition.Recipe = codes "recipe"
 definition_text definition.Function = codes "function"
@@ -124,7 +127,7 @@ kind_text (kind.UndefinedVariable variable) = codes "Variable `" ++ (variable ++
 kind_text (kind.CircularVariableDependency variable circle) = reading_text variable circle
 kind_text (kind.ListFeature feature) = feature_text feature ++ codes " needs the setting `lists`, which is off"
 kind_text (kind.Redefinition first_type second_type name first) =
-    codes "`" ++ (name ++ (codes "` is redefined as " ++ (definition_text second_type ++ (codes "; its first definition is a " ++ (definition_text first_type ++ (codes " on line " ++ (place_text first ++ codes " of this file or of another one of its module")))))))
+    codes "`" ++ (name ++ (codes "` is redefined as " ++ (definition_text second_type ++ (codes "; it is first defined as " ++ (definition_text first_type ++ (codes " on line " ++ (place_text first ++ codes " of this file or of another one of its module")))))))
 kind_text kind.GuardAndInfallibleSigil = codes "The sigils `?` and `-` may not stand before one line"
 kind_text kind.ExtraLeadingWhitespace = codes "The line has extra leading whitespace"
 kind_text (kind.InvalidShellRecipeAttribute recipe attribute) = codes "Recipe `" ++ (recipe ++ (codes "` has attribute `" ++ (attribute ++ codes "`, which only a script may have")))
@@ -133,6 +136,8 @@ kind_text (kind.CircularRecipeDependency recipe circle) = circle_text recipe cir
 kind_text kind.ArgumentPatternRegex = codes "Failed to parse argument pattern"
 kind_text (kind.DependencyArgumentCountMismatch dependency found least most) =
     codes "Dependency `" ++ (path_text dependency ++ (codes "` got " ++ (arguments_text found ++ (codes " but takes " ++ takes_text least most))))
+kind_text kind.MappedDependencyWithoutListsSetting = codes "A dependency with a starred argument needs the setting `lists`, which is off"
+kind_text (kind.UnknownAliasTarget alias target) = codes "Alias `" ++ (alias ++ (codes "` has unknown target `" ++ (path_text target ++ codes "`")))
 kind_text (kind.DuplicateDefault recipe) = codes "Recipe `" ++ (recipe ++ codes "` has attribute `default`, as another recipe of its module has")
 
 -- the same, after the place where it is told

@@ -65,6 +65,8 @@ impl<'src> LoadError<'src> {
 /// What a name is defined as.
 #[derive(Clone, Copy, Debug, PartialEq, Eq)]
 pub enum Definition {
+    /// An alias.
+    Alias,
     /// A module of a file.
     Module,
     /// A recipe.
@@ -81,6 +83,7 @@ impl fmt::Display for Definition {
 
     fn fmt<W: fmt::Write>(&self, f: &mut fmt::Formatter<W>) -> fmt::Result {
         match self {
+            Definition::Alias => f.write_str("alias"),
             Definition::Module => f.write_str("module"),
             Definition::Recipe => f.write_str("recipe"),
             Definition::Function => f.write_str("function"),
@@ -208,6 +211,13 @@ pub enum CompileErrorKind<'src> {
         min: usize,
         max: usize,
     },
+    /// An argument of a dependency is starred, and no setting says that values are lists.
+    MappedDependencyWithoutListsSetting,
+    /// An alias leads to what is neither a module nor a recipe.
+    UnknownAliasTarget {
+        alias: BorrowedText<'src>,
+        target: Namepath<'src>,
+    },
     /// Two recipes of a module have the attribute `default`.
     DuplicateDefault {
         recipe: BorrowedText<'src>,
@@ -249,6 +259,10 @@ impl<'src> CompileErrorKind<'src> {
             CompileErrorKind::DependencyArgumentCountMismatch { .. } => {
                 "DependencyArgumentCountMismatch"
             }
+            CompileErrorKind::MappedDependencyWithoutListsSetting => {
+                "MappedDependencyWithoutListsSetting"
+            }
+            CompileErrorKind::UnknownAliasTarget { .. } => "UnknownAliasTarget",
             CompileErrorKind::DuplicateDefault { .. } => "DuplicateDefault",
         }
     }
@@ -408,7 +422,7 @@ impl<'src> fmt::Display for CompileErrorKind<'src> {
                 let line = first.saturating_add(1);
                 write!(
                     f,
-                    "`{name}` is redefined as {second_type}; its first definition is a {first_type} on line {line} of this file or of another one of its module"
+                    "`{name}` is redefined as {second_type}; it is first defined as {first_type} on line {line} of this file or of another one of its module"
                 )
             }
             CompileErrorKind::GuardAndInfallibleSigil => {
@@ -444,6 +458,12 @@ impl<'src> fmt::Display for CompileErrorKind<'src> {
                     max: *max,
                 };
                 write!(f, "Dependency `{dependency}` got {found} but takes {takes}")
+            }
+            CompileErrorKind::MappedDependencyWithoutListsSetting => f.write_str(
+                "A dependency with a starred argument needs the setting `lists`, which is off",
+            ),
+            CompileErrorKind::UnknownAliasTarget { alias, target } => {
+                write!(f, "Alias `{alias}` has unknown target `{target}`")
             }
             CompileErrorKind::DuplicateDefault { recipe } => {
                 write!(

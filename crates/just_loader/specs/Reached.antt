@@ -60,13 +60,13 @@ pub data Reached (w : World) : Text → Type 0 where
   from_file : {f g : Text} → Reached w f → LeadsTo w f g → Reached w g
 
 -- a place in the text of the file at a path
-pub record IsPlaceIn (w : World) (path text : Text) (place : Place) : Type 0 where
+pub record IsInText (w : World) (path text : Text) (place : Place) : Type 0 where
   pub path_is : place.path ≡ relative_to_root w path
   pub src_is : place.src ≡ text
 
 -- The text of a file does not follow the grammar, which is told in that file, or takes more numbers than there are, or an item is at fault.
 pub data NamesAt (w : World) (path : Text) : Cause → Type 0 where
-  no_grammar : {place : Place} (text : Text) → text_at w.files path ≡ Some text → w.answers.parsed (relative_to_root w path) text ≡ None → IsPlaceIn w path text place
+  no_grammar : {place : Place} (text : Text) → text_at w.files path ≡ Some text → w.answers.parsed (relative_to_root w path) text ≡ None → IsInText w path text place
       → NamesAt w path (Broken place kind.Syntax)
   no_number : (text : Text) → text_at w.files path ≡ Some text → 2 ^ 64 < w.answers.spends (relative_to_root w path) text → NamesAt w path NoNumber
   in_item : {c : Cause} (item : Item) → HasItem w path item → link w (folder_of path) item ≡ Fault c → NamesAt w path c

@@ -14,3 +14,6 @@ returns-in-UnknownDependency-clause-writes g c = λ plain ok. rw c.in-UnknownDep
 
 pub returns-in-DependencyArgumentCountMismatch-clause-writes : goal.returns-in-DependencyArgumentCountMismatch-clause-writes
 returns-in-DependencyArgumentCountMismatch-clause-writes g c = λ plain ok. rw c.in-DependencyArgumentCountMismatch.is (c.write-in-DependencyArgumentCountMismatch.ensures.writes plain ok)
+
+pub returns-in-UnknownAliasTarget-clause-writes : goal.returns-in-UnknownAliasTarget-clause-writes
+returns-in-UnknownAliasTarget-clause-writes g c = λ plain ok. rw c.in-UnknownAliasTarget.is (c.write-in-UnknownAliasTarget.ensures.writes plain ok)
