@@ -15,14 +15,16 @@ use Rattle.just_errors.specs.declared.error.CompileErrorKind.TheVariants as kind
 use Rattle.just_errors.specs.declared.error.Definition.TheVariants as definition
 use Rattle.just_recipe.specs.declared.dependency.UnresolvedDependency.{UnresolvedDependency}
 use Rattle.just_recipe.specs.declared.recipe.Recipe.{Recipe}
-use Rattle.just_module_contents.specs.Contents.{Contents, Defined, all_defined, defined_in, defined_recipe, function_texts, module_of_name, signatures, texts_of_defined, variable_names}
+use Rattle.just_module_contents.specs.Contents.{Contents, Defined, all_defined, defined_in, defined_naming, defined_recipe, function_texts, signatures, texts_of_defined, texts_of_named, variable_names}
+use Rattle.just_module_contents.specs.declared.definitions.Naming.{Naming}
+use Rattle.just_module_contents.specs.declared.definitions.Naming.TheVariants as naming
 use Rattle.just_names.specs.Index.{texts_of_names, AreApart, AreDifferent, IsLast, NoneRepeats, Repeats, name_at}
 use Rattle.just_module_contents.specs.Recipes.{name_of, names_of}
 use Rattle.just_module_contents.specs.Settings.{Conflicts, allows_variables}
 use Rattle.just_module_contents.specs.Shells.{Shells}
 use Rattle.just_parts.specs.Syntax.{SyntaxAnswers}
 use Rattle.just_ast_expressions.specs.declared.settings.Settings.{Settings}
-use Rattle.just_module_contents.specs.Rules.{AssignedTwice, Bodies, Functions, Headers, IsRedefinition, Lists, Modules, Names, Parameters, Redefined, Sets, Unexported, Unexports, Variables, assigned_twice, duplicate_unexport, duplicate_variable, export_unexported, of_defined, of_functions, of_lists, of_shells, of_variables, unexported, module_redefinition, of_modules, of_parameters, of_sets, of_unexports, redefinition}
+use Rattle.just_module_contents.specs.Rules.{AssignedTwice, Bodies, Functions, Headers, IsRedefinition, Lists, Named, Names, Parameters, Redefined, Sets, Unexported, Unexports, Variables, assigned_twice, duplicate_unexport, duplicate_variable, export_unexported, of_defined, of_functions, of_lists, of_shells, of_variables, unexported, named_redefinition, of_named, of_parameters, of_sets, of_unexports, redefinition}
 
 -- what stands in the first list, and in the second
 get_left : {A : Type 0} (xs ys : List A) (i : ℕ) (x : A) → slice_get xs i ≡ Some x → slice_get (xs ++ ys) i ≡ Some x
@@ -36,30 +38,17 @@ get_right xs ys i y e =
     slice_get_read (xs ++ ys) (length (xs ++ ys)) (length xs + i) y refl (omega (arith, h, length-append xs ys)) (sym (get_or-append-add xs ys i y ∙ get_or_from_slice_get ys i y y e))
 
 -- the names of definitions
-texts_modules : (ns : List Name) → texts_of_defined (map module_of_name ns) ≡ texts_of_names ns
-texts_modules [] = refl
-texts_modules (n ∷ ns) = ap (λ ts. text_of_name n ∷ ts) (texts_modules ns)
-
 texts_recipes : (rs : List (Recipe UnresolvedDependency)) → texts_of_defined (map defined_recipe rs) ≡ names_of rs
 texts_recipes [] = refl
 texts_recipes (r ∷ rs) = ap (λ ts. name_of r ∷ ts) (texts_recipes rs)
 
-pub texts_all : (ns : List Name) (rs : List (Recipe UnresolvedDependency)) → texts_of_defined (all_defined ns rs) ≡ texts_of_names ns ++ names_of rs
-texts_all ns rs = map-append (λ (d : Defined). text_of_name d.name) (map module_of_name ns) (map defined_recipe rs) ∙ (λ i. texts_modules ns i ++ texts_recipes rs i)
+pub texts_all : (ns : List Naming) (rs : List (Recipe UnresolvedDependency)) → texts_of_defined (all_defined ns rs) ≡ texts_of_named ns ++ names_of rs
+texts_all ns rs = map-append (λ (d : Defined). text_of_name d.name) (map defined_naming ns) (map defined_recipe rs) ∙ ap (λ ts. texts_of_named ns ++ ts) (texts_recipes rs)
 
--- two modules of one name
-pub modules_redefined : (ns : List Name) (i j : ℕ) (first second : Name) (place : Place) (told : CompileErrorKind) → Repeats (texts_of_names ns) i j → slice_get ns i ≡ Some first → slice_get ns j ≡ Some second
-    → IsRedefinition (module_of_name first) (module_of_name second) place told → Modules ns (Broken place told)
-modules_redefined ns i j first second place told repeats a b is = module_redefinition (record {
-  i = i;
-  j = j;
-  first = module_of_name first;
-  second = module_of_name second;
-  repeats = subst (λ ts. Repeats ts i j) (sym (texts_modules ns)) repeats;
-  first_is = map_get module_of_name ns i first a;
-  second_is = map_get module_of_name ns j second b;
-  told_is = is;
-})
+-- two modules and aliases of one name
+pub named_again : (ns : List Naming) (i j : ℕ) (first second : Defined) (place : Place) (told : CompileErrorKind) → Repeats (texts_of_named ns) i j → slice_get (map defined_naming ns) i ≡ Some first → slice_get (map defined_naming ns) j ≡ Some second
+    → IsRedefinition first second place told → Named ns (Broken place told)
+named_again ns i j first second place told repeats a b is = named_redefinition (record { i = i; j = j; first = first; second = second; repeats = repeats; first_is = a; second_is = b; told_is = is })
 
 -- a variable that is unexported twice
 pub unexported_twice : (ns : List Name) (i j : ℕ) (second : Name) (place : Place) (variable : List ℕ) → Repeats (texts_of_names ns) i j → slice_get ns j ≡ Some second → place ≡ second.token → variable ≡ text_of_name second
@@ -97,11 +86,11 @@ bodies_kept answers s m lists defined shells c (of_defined b) = defined c b
 bodies_kept answers s m lists defined shells c (of_shells b) = shells c b
 
 -- the headers of a module
-pub headers_kept : (conflicts : Conflicts) (m : Contents) → Keeps (Parameters m.recipes) → Keeps (Sets conflicts m.sets) → AreDifferent (texts_of_names m.unexports) → AreDifferent (texts_of_names m.modules) → Keeps (Headers conflicts m)
-headers_kept conflicts m kept sets unexports modules c (of_parameters h) = kept c h
-headers_kept conflicts m kept sets unexports modules c (of_sets h) = sets c h
-headers_kept conflicts m kept sets unexports modules _ (of_unexports (duplicate_unexport i j r e)) = unexports i j r.apart r.within r.same
-headers_kept conflicts m kept sets unexports modules _ (of_modules (module_redefinition r)) = subst AreDifferent (sym (texts_modules m.modules)) modules r.i r.j r.repeats.apart r.repeats.within r.repeats.same
+pub headers_kept : (conflicts : Conflicts) (m : Contents) → Keeps (Parameters m.recipes) → Keeps (Sets conflicts m.sets) → AreDifferent (texts_of_names m.unexports) → AreDifferent (texts_of_named m.named) → Keeps (Headers conflicts m)
+headers_kept conflicts m kept sets unexports named c (of_parameters h) = kept c h
+headers_kept conflicts m kept sets unexports named c (of_sets h) = sets c h
+headers_kept conflicts m kept sets unexports named _ (of_unexports (duplicate_unexport i j r e)) = unexports i j r.apart r.within r.same
+headers_kept conflicts m kept sets unexports named _ (of_named (named_redefinition r)) = named r.i r.j r.repeats.apart r.repeats.within r.repeats.same
 
 -- one more name that stands not among others
 pub apart_more : (ns : List Name) (others : List (List ℕ)) (n : ℕ) (name : Name) (v : List ℕ) (found : Option ℕ) → slice_get ns n ≡ Some name → v ≡ text_of_name name → IsLast others (length others) v found → found ≡ None
@@ -114,36 +103,37 @@ apart_more ns others n name v None at is last e before i j h l = elim (cases_lt 
 ]
 apart_more ns others n name v (Some k) at is last e before i j h l = cc
 
--- modules stand first
-module_sort : (ns : List Name) (rs : List (Recipe UnresolvedDependency)) (i : ℕ) (d : Defined) → slice_get (all_defined ns rs) i ≡ Some d → i < length ns → d.sort ≡ definition.Module
-module_sort [] rs i d e h = absurd (omega (arith, h))
-module_sort (n ∷ ns) rs zero d e h = ap (λ (x : Defined). x.sort) (sym (some_same e))
-module_sort (n ∷ ns) rs (suc i) d e h = module_sort ns rs i d e (omega (arith, h))
+-- modules and aliases stand first
+named_sort : (ns : List Naming) (rs : List (Recipe UnresolvedDependency)) (i : ℕ) (d : Defined) → slice_get (all_defined ns rs) i ≡ Some d → i < length ns → d.sort ≢ definition.Recipe
+named_sort [] rs i d e h = absurd (omega (arith, h))
+named_sort (naming.Alias n ∷ ns) rs zero d e h = λ is. let same : definition.Alias ≡ definition.Recipe = ap (λ (x : Defined). x.sort) (some_same e) ∙ is in cc
+named_sort (naming.Module n ∷ ns) rs zero d e h = λ is. let same : definition.Module ≡ definition.Recipe = ap (λ (x : Defined). x.sort) (some_same e) ∙ is in cc
+named_sort (n ∷ ns) rs (suc i) d e h = named_sort ns rs i d e (omega (arith, h))
 
-recipe_sort : (rs : List (Recipe UnresolvedDependency)) (i : ℕ) (d : Defined) → slice_get (map defined_recipe rs) i ≡ Some d → d.sort ≡ definition.Module → ⊥
-recipe_sort [] i d e is = cc
-recipe_sort (r ∷ rs) zero d e is = let same : definition.Recipe ≡ definition.Module = ap (λ (x : Defined). x.sort) (some_same e) ∙ is in cc
-recipe_sort (r ∷ rs) (suc i) d e is = recipe_sort rs i d e is
+recipe_sort : (rs : List (Recipe UnresolvedDependency)) (i : ℕ) (d : Defined) → slice_get (map defined_recipe rs) i ≡ Some d → d.sort ≢ definition.Recipe → ⊥
+recipe_sort [] i d e isnt = cc
+recipe_sort (r ∷ rs) zero d e isnt = isnt (sym (ap (λ (x : Defined). x.sort) (some_same e)))
+recipe_sort (r ∷ rs) (suc i) d e isnt = recipe_sort rs i d e isnt
 
-module_place : (ns : List Name) (rs : List (Recipe UnresolvedDependency)) (i : ℕ) (d : Defined) → slice_get (all_defined ns rs) i ≡ Some d → d.sort ≡ definition.Module → i < length ns
-module_place [] rs i d e is = absurd (recipe_sort rs i d e is)
-module_place (n ∷ ns) rs zero d e is = omega arith
-module_place (n ∷ ns) rs (suc i) d e is = let l = module_place ns rs i d e is in omega (arith, l)
+named_place : (ns : List Naming) (rs : List (Recipe UnresolvedDependency)) (i : ℕ) (d : Defined) → slice_get (all_defined ns rs) i ≡ Some d → d.sort ≢ definition.Recipe → i < length ns
+named_place [] rs i d e isnt = absurd (recipe_sort rs i d e isnt)
+named_place (n ∷ ns) rs zero d e isnt = omega arith
+named_place (n ∷ ns) rs (suc i) d e isnt = let l = named_place ns rs i d e isnt in omega (arith, l)
 
-module _ (ns : List Name) (rs : List (Recipe UnresolvedDependency)) where
+module _ (ns : List Naming) (rs : List (Recipe UnresolvedDependency)) where
   -- what is defined at a place
-  pub module_there : (i : ℕ) (n : Name) → slice_get ns i ≡ Some n → slice_get (all_defined ns rs) i ≡ Some (module_of_name n)
-  module_there i n e = get_left (map module_of_name ns) (map defined_recipe rs) i (module_of_name n) (map_get module_of_name ns i n e)
+  pub named_there : (i : ℕ) (d : Defined) → slice_get (map defined_naming ns) i ≡ Some d → slice_get (all_defined ns rs) i ≡ Some d
+  named_there i d e = get_left (map defined_naming ns) (map defined_recipe rs) i d e
 
   pub recipe_there : (j : ℕ) (r : Recipe UnresolvedDependency) → slice_get rs j ≡ Some r → slice_get (all_defined ns rs) (length ns + j) ≡ Some (defined_recipe r)
-  recipe_there j r e = subst (λ n. slice_get (all_defined ns rs) (n + j) ≡ Some (defined_recipe r)) (length-map ns module_of_name) (get_right (map module_of_name ns) (map defined_recipe rs) j (defined_recipe r) (map_get defined_recipe rs j r e))
+  recipe_there j r e = subst (λ n. slice_get (all_defined ns rs) (n + j) ≡ Some (defined_recipe r)) (length-map ns defined_naming) (get_right (map defined_naming ns) (map defined_recipe rs) j (defined_recipe r) (map_get defined_recipe rs j r e))
 
   -- the places whose names may not be repeated
   abbrev pub bound_of : Bool → ℕ
   bound_of allowed = if allowed then length ns else length (texts_of_defined (all_defined ns rs))
 
-  may_be : (allowed : Bool) (i : ℕ) (first : Defined) → slice_get (all_defined ns rs) i ≡ Some first → i < bound_of allowed → allowed ≡ true → first.sort ≡ definition.Module
-  may_be true i first at below e = module_sort ns rs i first at below
+  may_be : (allowed : Bool) (i : ℕ) (first : Defined) → slice_get (all_defined ns rs) i ≡ Some first → i < bound_of allowed → allowed ≡ true → first.sort ≢ definition.Recipe
+  may_be true i first at below e = named_sort ns rs i first at below
   may_be false i first at below e = cc
 
   -- two of one name
@@ -152,8 +142,8 @@ module _ (ns : List Name) (rs : List (Recipe UnresolvedDependency)) where
   defined_twice allowed i j bound first second place told is below repeats a b redefines =
       redefinition (record { i = i; j = j; first = first; second = second; repeats = repeats; first_is = a; second_is = b; told_is = redefines }) (may_be allowed i first a (subst (λ n. i < n) is below))
 
-  is_below : (allowed : Bool) (i j : ℕ) (first : Defined) → slice_get (all_defined ns rs) i ≡ Some first → (allowed ≡ true → first.sort ≡ definition.Module) → i < j → j < length (texts_of_defined (all_defined ns rs)) → i < bound_of allowed
-  is_below true i j first at may l h = module_place ns rs i first at (may refl)
+  is_below : (allowed : Bool) (i j : ℕ) (first : Defined) → slice_get (all_defined ns rs) i ≡ Some first → (allowed ≡ true → first.sort ≢ definition.Recipe) → i < j → j < length (texts_of_defined (all_defined ns rs)) → i < bound_of allowed
+  is_below true i j first at may l h = named_place ns rs i first at (may refl)
   is_below false i j first at may l h = omega (arith, l, h)
 
   -- no two of them have one that may not

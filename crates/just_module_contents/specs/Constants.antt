@@ -1,5 +1,5 @@
 -- What is evaluated of a module while compiling.
-use Rattle.std.specs.Prelude.{◌≡◌, ◌↔◌, ◌++◌, Bool, true, false, List, [], ◌∷◌, flat_map, map, Option, None, Some, is_some, if◌then◌else◌}
+use Rattle.std.specs.Prelude.{◌≡◌, ◌↔◌, ◌++◌, Bool, true, false, List, flat_map, map, Option, None, Some, is_some, if◌then◌else◌}
 use Rattle.std.specs.List.{Contains, list_any}
 use Rattle.just_table.specs.Entries.{find}
 use Rattle.just_names.specs.Texts.{Text}

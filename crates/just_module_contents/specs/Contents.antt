@@ -3,6 +3,8 @@ use Rattle.std.specs.Prelude.{List, [], ◌∷◌, ◌++◌, map}
 use Rattle.just_names.specs.Texts.{Text}
 use Rattle.just_names.specs.Name.{text_of_name}
 use Rattle.just_names.specs.declared.name.Name.{Name}
+use Rattle.just_names.specs.declared.name.Namepath.{Namepath}
+use Rattle.just_ast_definitions.specs.declared.alias.Alias.{Alias}
 use Rattle.just_ast_definitions.specs.declared.assignment.Assignment.{Assignment}
 use Rattle.just_ast_expressions.specs.declared.expression.Expression.{Expression}
 use Rattle.just_ast_definitions.specs.declared.function_definition.FunctionDefinition.{FunctionDefinition}
@@ -13,13 +15,17 @@ use Rattle.just_errors.specs.declared.error.Definition.{Definition}
 use Rattle.just_errors.specs.declared.error.Definition.TheVariants as definition
 use Rattle.just_recipe.specs.declared.dependency.UnresolvedDependency.{UnresolvedDependency}
 use Rattle.just_recipe.specs.declared.recipe.Recipe.{Recipe}
+use Rattle.just_module_contents.specs.declared.definitions.Naming.{Naming}
+use Rattle.just_module_contents.specs.declared.definitions.Naming.TheVariants as naming
 
--- The recipes, the functions and the variables of a module, the names of the modules that it declares and what their docs are evaluated from, the names of the variables that it unexports, what it sets, and where it needs lists, in the order of its files and then of their texts.
+-- The recipes, the functions, the variables and the aliases of a module, the names of the modules that it declares, what is defined under a name beside recipes, what the docs of its modules are evaluated from, the names of the variables that it unexports, what it sets, and where it needs lists, in the order of its files and then of their texts.
 pub record Contents : Type 0 where
   pub recipes : List (Recipe UnresolvedDependency)
   pub functions : List FunctionDefinition
   pub variables : List Assignment
+  pub aliases : List (Alias Namepath)
   pub modules : List Name
+  pub named : List Naming
   pub docs : List Expression
   pub unexports : List Name
   pub sets : List Set
@@ -56,9 +62,13 @@ with_lists m uses = record m { lists = m.lists ++ uses }
 abbrev pub with_module : Contents → Name → List Expression → Contents
 with_module m name docs = record m { modules = m.modules ++ name ∷ []; docs = m.docs ++ docs }
 
+-- the same contents, with more that is defined under a name beside recipes
+abbrev pub with_named : Contents → List Naming → Contents
+with_named m ns = record m { named = m.named ++ ns }
+
 -- of a module without files
 abbrev pub no_contents : Contents
-no_contents = record { recipes = []; functions = []; variables = []; modules = []; docs = []; unexports = []; sets = []; lists = [] }
+no_contents = record { recipes = []; functions = []; variables = []; aliases = []; modules = []; named = []; docs = []; unexports = []; sets = []; lists = [] }
 
 -- What is defined, and its name.
 pub record Defined : Type 0 where
@@ -68,19 +78,25 @@ pub record Defined : Type 0 where
 abbrev pub defined : Definition → Name → Defined
 defined sort name = record { sort = sort; name = name }
 
-abbrev pub module_of_name : Name → Defined
-module_of_name = defined definition.Module
+-- what is defined under a name beside recipes
+abbrev pub defined_naming : Naming → Defined
+defined_naming (naming.Alias name) = defined definition.Alias name
+defined_naming (naming.Module name) = defined definition.Module name
 
 abbrev pub defined_recipe : Recipe UnresolvedDependency → Defined
 defined_recipe recipe = defined definition.Recipe recipe.name
 
--- what is defined in the name space of modules and recipes: the modules, then the recipes
-abbrev pub all_defined : List Name → List (Recipe UnresolvedDependency) → List Defined
-all_defined modules recipes = map module_of_name modules ++ map defined_recipe recipes
+-- what is defined in the name space of modules, aliases and recipes: the modules and the aliases, then the recipes
+abbrev pub all_defined : List Naming → List (Recipe UnresolvedDependency) → List Defined
+all_defined named recipes = map defined_naming named ++ map defined_recipe recipes
 
 abbrev pub defined_in : Contents → List Defined
-defined_in m = all_defined m.modules m.recipes
+defined_in m = all_defined m.named m.recipes
 
 -- the texts of their names
 abbrev pub texts_of_defined : List Defined → List Text
 texts_of_defined = map (λ (d : Defined). text_of_name d.name)
+
+-- the texts of the names of modules and aliases
+abbrev pub texts_of_named : List Naming → List Text
+texts_of_named named = texts_of_defined (map defined_naming named)

@@ -10,8 +10,8 @@ pub mod Named
 pub mod Notes
 pub mod Recipes
 pub mod Resolved
-pub mod Rows
 pub mod Rules
 pub mod Said
 pub mod Settings
 pub mod Shells
+pub mod Standing

@@ -1,26 +1,38 @@
--- What files at places say: recipes, functions, variables, names and settings, and where they need lists.
-use Rattle.std.specs.Prelude.{◌≡◌, ◌++◌, ℕ, Bool, List, [], ◌∷◌, flat_map, slice_get, Option, None, Some}
-use Rattle.just_recipe.specs.declared.dependency.Dependency.{Dependency}
+-- What files at places say: recipes, functions, variables, aliases, names and settings, and where they need lists.
+use Rattle.std.specs.Prelude.{ℕ, Bool, List, [], ◌∷◌, flat_map, slice_get, Option, None, Some}
 use Rattle.just_parts.specs.Items.{Ast, Item}
 use Rattle.just_ast_items.specs.declared.item.Item.TheVariants as item
 use Rattle.just_recipe.specs.declared.dependency.UnresolvedDependency.{UnresolvedDependency}
 use Rattle.just_names.specs.declared.name.Name.{Name}
+use Rattle.just_names.specs.declared.name.Namepath.{Namepath}
+use Rattle.just_ast_definitions.specs.declared.alias.Alias.{Alias}
 use Rattle.just_ast_definitions.specs.declared.assignment.Assignment.{Assignment}
 use Rattle.just_ast_definitions.specs.declared.function_definition.FunctionDefinition.{FunctionDefinition}
 use Rattle.just_ast_expressions.specs.declared.list_use.ListUse.{ListUse}
 use Rattle.just_ast_definitions.specs.declared.setting.Set.{Set}
-use Rattle.just_paths.specs.declared.modulepath.Modulepath.{Modulepath}
 use Rattle.just_recipe.specs.declared.recipe.Recipe.{Recipe}
 use Rattle.just_module_contents.specs.Labels.{doc_by}
 use Rattle.just_module_contents.specs.Said.{said_in}
 use Rattle.just_module_contents.specs.Recipes.{recipes_of}
-use Rattle.just_module_contents.specs.Resolved.{AreResolved}
 use Rattle.just_module_contents.specs.Contents.{Contents}
+use Rattle.just_module_contents.specs.declared.definitions.Naming.{Naming}
+use Rattle.just_module_contents.specs.declared.definitions.Naming.TheVariants as naming
 
 -- the name of the module that an item declares
 abbrev pub name_by : Item → List Name
 name_by (item.Module name relative (Some file) attributes doc optional) = name ∷ []
 name_by _ = []
+
+-- the alias that an item defines
+abbrev pub alias_by : Item → List (Alias Namepath)
+alias_by (item.Alias alias) = alias ∷ []
+alias_by _ = []
+
+-- what an item defines under a name beside recipes: an alias, or a module that has a file
+abbrev pub naming_by : Item → List Naming
+naming_by (item.Alias alias) = naming.Alias alias.name ∷ []
+naming_by (item.Module name relative (Some file) attributes doc optional) = naming.Module name ∷ []
+naming_by _ = []
 
 -- the name of the variable that an item unexports
 abbrev pub unexported_by : Item → List Name
@@ -69,15 +81,11 @@ contents_from enabled asts files = record {
   recipes = recipes_from enabled asts files;
   functions = said_from function_by enabled asts files;
   variables = said_from variable_by enabled asts files;
+  aliases = said_from alias_by enabled asts files;
   modules = said_from name_by enabled asts files;
+  named = said_from naming_by enabled asts files;
   docs = said_from doc_by enabled asts files;
   unexports = said_from unexported_by enabled asts files;
   sets = said_from set_by enabled asts files;
   lists = lists_from asts files;
 }
-
--- What is made of the recipes of a module: resolved ones, that come after the old ones.
-pub record AreAdded (rs : List (Recipe UnresolvedDependency)) (path : Modulepath) (old new : List (Recipe Dependency)) : Type 0 where
-  pub made : List (Recipe Dependency)
-  pub appended : new ≡ old ++ made
-  pub resolved : AreResolved rs path made

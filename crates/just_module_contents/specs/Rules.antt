@@ -15,13 +15,15 @@ use Rattle.just_ast_expressions.specs.declared.list_use.ListUse.{ListUse}
 use Rattle.just_ast_definitions.specs.declared.setting.Set.{Set}
 use Rattle.just_ast_expressions.specs.declared.settings.Settings.{Settings}
 use Rattle.just_parts.specs.Syntax.{SyntaxAnswers}
+use Rattle.just_recipe.specs.Starred.{has_star}
 use Rattle.just_recipe.specs.declared.dependency.UnresolvedDependency.{UnresolvedDependency}
 use Rattle.just_recipe.specs.declared.recipe.Recipe.{Recipe}
-use Rattle.just_module_contents.specs.Contents.{Contents, Defined, Signature, defined_in, function_names, function_texts, module_of_name, signatures, texts_of_defined, variable_names}
+use Rattle.just_module_contents.specs.Contents.{Contents, Defined, Signature, defined_in, defined_naming, function_names, function_texts, signatures, texts_of_defined, variable_names}
 use Rattle.just_names.specs.Index.{texts_of_names, Repeats, name_at}
 use Rattle.just_module_contents.specs.Shells.{Shells}
 use Rattle.just_module_contents.specs.Settings.{Conflicts, allows_variables, are_incompatible, line_at, place_at, setting_at, setting_names}
-use Rattle.just_module_contents.specs.Recipes.{name_of, named_parameters, parameter_names, FollowsDefault, named_paths, least_of, most_of, recipe_at, DependsOn}
+use Rattle.just_module_contents.specs.declared.definitions.Naming.{Naming}
+use Rattle.just_module_contents.specs.Recipes.{name_of, named_parameters, parameter_names, FollowsDefault, named_paths, recipe_at, DependsOn}
 
 -- A recipe has a parameter's name twice: those two that follow each other under that name; or a parameter whose group may not be empty follows one with a default, both given by their places. It is told at the later parameter.
 pub data Parameters (recipes : List (Recipe UnresolvedDependency)) : Cause → Type 0 where
@@ -64,16 +66,16 @@ pub data Sets (conflicts : Conflicts) (sets : List Set) : Cause → Type 0 where
 pub data Unexports (names : List Name) : Cause → Type 0 where
   duplicate_unexport : {second : Name} (i j : ℕ) → Repeats (texts_of_names names) i j → slice_get names j ≡ Some second → Unexports names (Broken second.token (kind.DuplicateUnexport (text_of_name second)))
 
--- Two modules have one name.
-pub data Modules (names : List Name) : Cause → Type 0 where
-  module_redefinition : {place : Place} {told : CompileErrorKind} → Redefines (map module_of_name names) place told → Modules names (Broken place told)
+-- Two of the modules and aliases have one name: those two that follow each other under that name.
+pub data Named (named : List Naming) : Cause → Type 0 where
+  named_redefinition : {place : Place} {told : CompileErrorKind} → Redefines (map defined_naming named) place told → Named named (Broken place told)
 
--- What is broken in the headers of a module: those of its recipes, its settings, the names that it unexports, or those of its modules.
+-- What is broken in the headers of a module: those of its recipes, its settings, the names that it unexports, or those of its modules and aliases.
 pub data Headers (conflicts : Conflicts) (m : Contents) : Cause → Type 0 where
   of_parameters : {c : Cause} → Parameters m.recipes c → Headers conflicts m c
   of_sets : {c : Cause} → Sets conflicts m.sets c → Headers conflicts m c
   of_unexports : {c : Cause} → Unexports m.unexports c → Headers conflicts m c
-  of_modules : {c : Cause} → Modules m.modules c → Headers conflicts m c
+  of_named : {c : Cause} → Named m.named c → Headers conflicts m c
 
 -- A function has the name of a parameter twice: those two that follow each other under that name. It is told at the second.
 pub data RepeatsParameter (s : Signature) : Cause → Type 0 where
@@ -109,9 +111,9 @@ pub data Names (m : Contents) : Cause → Type 0 where
   of_variables : {c : Cause} → VariablesOf m c → Names m c
   of_functions : {c : Cause} → Functions (signatures m.functions) c → Names m c
 
--- Two of these definitions have one name, and they are not two recipes that may have it.
+-- Two of these definitions, of which recipes come last, have one name, and they are not two recipes that may have it.
 pub data Redefined (allowed : Bool) (ds : List Defined) : Cause → Type 0 where
-  redefinition : {place : Place} {told : CompileErrorKind} (r : Redefines ds place told) → (allowed ≡ true → r.first.sort ≡ definition.Module) → Redefined allowed ds (Broken place told)
+  redefinition : {place : Place} {told : CompileErrorKind} (r : Redefines ds place told) → (allowed ≡ true → r.first.sort ≢ definition.Recipe) → Redefined allowed ds (Broken place told)
 
 -- a function of one of these names stands for what needs lists
 pub record StandsFor (names : List Text) (used : ListUse) : Type 0 where
@@ -124,7 +126,7 @@ pub record StandsFor (names : List Text) (used : ListUse) : Type 0 where
 pub data Lists (on : Bool) (names : List Text) (uses : List ListUse) : Cause → Type 0 where
   list_feature : {used : ListUse} (i : ℕ) → on ≡ false → slice_get uses i ≡ Some used → (StandsFor names used → ⊥) → Lists on names uses (Broken used.token (kind.ListFeature used.feature))
 
--- What is broken in the bodies of a module under its settings: something needs lists, two of its modules and recipes have one name, or something in a recipe that a shell runs.
+-- What is broken in the bodies of a module under its settings: something needs lists, two of its modules, aliases and recipes have one name, or something in a recipe that a shell runs.
 pub data Bodies (answers : SyntaxAnswers) (settings : Settings) (m : Contents) : Cause → Type 0 where
   of_lists : {c : Cause} → Lists settings.lists (function_texts m) m.lists c → Bodies answers settings m c
   of_defined : {c : Cause} → Redefined settings.allow_duplicate_recipes (defined_in m) c → Bodies answers settings m c
@@ -149,19 +151,33 @@ pub record IsDependencyOn (recipes : List (Recipe UnresolvedDependency)) (depend
   pub depends : Contains (named_paths (recipe_at recipes from)) path
   pub names : texts_of_path path ≡ named ∷ []
 
--- Too few arguments are given, or too many; until arguments are handed on any are too many.
-abbrev pub Miscounts : ℕ → ℕ → ℕ → Type 0
-Miscounts found least most = (found < least) ⊎ ((most < found) ⊎ (0 < found))
+-- too few arguments are given, or too many
+abbrev pub IsOutside : ℕ → ℕ → ℕ → Type 0
+IsOutside found least most = (found < least) ⊎ (most < found)
 
--- A dependency is no recipe, a recipe depends on itself, or one is depended on with too few or too many arguments, as values are lists or not. It is told at the last name of the dependency; of a circle, at that of one which closes it.
-pub data Dependencies (lists : Bool) (recipes : List (Recipe UnresolvedDependency)) : Cause → Type 0 where
-  unknown_dependency : {recipe : List ℕ} {unknown : Namepath} (i : ℕ) → i < length recipes → name_of (recipe_at recipes i) ≡ recipe
-      → Contains (named_paths (recipe_at recipes i)) unknown
-      → ((j : ℕ) → j < length recipes → texts_of_path unknown ≢ name_of (recipe_at recipes j) ∷ [])
-      → Dependencies lists recipes (Broken unknown.last.token (kind.UnknownDependency recipe unknown))
-  circular : {recipe : List ℕ} {circle : List (List ℕ)} {path : Namepath} → IsCircleOf recipes recipe circle → IsDependencyOn recipes recipe (get_or circle (length circle - 1) []) path
-      → Dependencies lists recipes (Broken path.last.token (kind.CircularRecipeDependency recipe circle))
-  argument_count : {dependency : UnresolvedDependency} {found least most : ℕ} (i j : ℕ) → i < length recipes → j < length recipes
-      → Contains (recipe_at recipes i).dependencies dependency → texts_of_path dependency.recipe ≡ name_of (recipe_at recipes j) ∷ []
-      → length dependency.arguments ≡ found → least_of (recipe_at recipes j) ≡ least → most_of lists (recipe_at recipes j) ≡ most
-      → Miscounts found least most → Dependencies lists recipes (Broken dependency.recipe.last.token (kind.DependencyArgumentCountMismatch dependency.recipe found least most))
+-- a recipe of a name depends on what a path names
+pub record DependsBy (recipes : List (Recipe UnresolvedDependency)) (name : List ℕ) (path : Namepath) : Type 0 where
+  pub from : ℕ
+  pub there : from < length recipes
+  pub name_is : name_of (recipe_at recipes from) ≡ name
+  pub depends : Contains (named_paths (recipe_at recipes from)) path
+
+-- a recipe that stands has this dependency
+pub record StandsWith (Stands : Text → Type 0) (recipes : List (Recipe UnresolvedDependency)) (d : UnresolvedDependency) : Type 0 where
+  pub from : ℕ
+  pub there : from < length recipes
+  pub depends : Contains (recipe_at recipes from).dependencies d
+  pub stands : Stands (name_of (recipe_at recipes from))
+
+-- What is broken of dependencies, where paths lead to recipes, some recipes stand, and what a path leads to takes so many arguments at least and at most.
+module _ (Leads : Namepath → Type 0) (Stands : Text → Type 0) (Takes : Namepath → ℕ → ℕ → Type 0) where
+  -- A dependency leads to no recipe, or a recipe depends on itself, whether it stands or not; or one that stands has a dependency with a starred argument where values are no lists, or with too few or too many arguments. It is told at the last name of the dependency; of a circle, at that of one which closes it.
+  pub data Dependencies (lists : Bool) (recipes : List (Recipe UnresolvedDependency)) : Cause → Type 0 where
+    unknown_dependency : {recipe : List ℕ} {unknown : Namepath} → DependsBy recipes recipe unknown → (Leads unknown → ⊥)
+        → Dependencies lists recipes (Broken unknown.last.token (kind.UnknownDependency recipe unknown))
+    circular : {recipe : List ℕ} {circle : List (List ℕ)} {path : Namepath} → IsCircleOf recipes recipe circle → IsDependencyOn recipes recipe (get_or circle (length circle - 1) []) path
+        → Dependencies lists recipes (Broken path.last.token (kind.CircularRecipeDependency recipe circle))
+    starred : {d : UnresolvedDependency} → StandsWith Stands recipes d → lists ≡ false → has_star d.arguments ≡ true
+        → Dependencies lists recipes (Broken d.recipe.last.token kind.MappedDependencyWithoutListsSetting)
+    argument_count : {d : UnresolvedDependency} {found least most : ℕ} → StandsWith Stands recipes d → Takes d.recipe least most → length d.arguments ≡ found → IsOutside found least most
+        → Dependencies lists recipes (Broken d.recipe.last.token (kind.DependencyArgumentCountMismatch d.recipe found least most))

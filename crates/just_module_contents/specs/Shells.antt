@@ -1,5 +1,5 @@
 -- The rules of recipes that a shell runs.
-use Rattle.std.specs.Prelude.{◌≡◌, ℕ, ◌<◌, Bool, true, false, ◌||◌, ◌&&◌, not, List, length, Some}
+use Rattle.std.specs.Prelude.{◌≡◌, ℕ, ◌<◌, Bool, true, false, List, length, Some}
 use Rattle.std.specs.List.{Contains, slice_get}
 use Rattle.just_errors.specs.Causes.{Cause, Broken}
 use Rattle.just_errors.specs.declared.error.CompileErrorKind.TheVariants as kind

@@ -2,11 +2,84 @@
 
 use crate::enabled::is_enabled;
 use crate::labels::doc_of;
+use just_data::BorrowedText;
 use just_parts::UnresolvedRecipe;
+use just_parts::layers::error::Definition;
 use just_parts::layers::{
-    Assignment, Expression, FunctionDefinition, Item, ListUse, Name, NamedAttribute, Set, Syntax,
+    Alias, Assignment, Expression, FunctionDefinition, Item, ListUse, Name, NamedAttribute, Set,
+    Syntax,
 };
 use std::alloc::{AllocError, Global};
+
+/// What is defined under a name beside recipes.
+#[derive(Drop)]
+pub enum Naming<'src> {
+    /// An alias.
+    Alias(Name<'src>),
+    /// A module that has a file.
+    Module(Name<'src>),
+}
+
+impl<'src> Naming<'src> {
+    ghost use Rattle.std.specs.Prelude.{◌≡◌, IfOk, option_to_list};
+    ghost use Rattle.just_module_contents.specs.Contents.{defined, defined_naming, texts_of_named};
+    ghost use Rattle.just_module_contents.specs.Named.{naming_by};
+
+    /// What an item defines under a name beside recipes.
+    pub fn of(item: &Item<'src>) -> Option<Naming<'src>>
+        ensures { option_to_list result ≡ naming_by item.now }
+    {
+        match item {
+            Item::Alias(alias) => Some(Naming::Alias(alias.name.copied())),
+            Item::Module {
+                name,
+                absolute: Some(_),
+                ..
+            } => Some(Naming::Module(name.copied())),
+            _ => None,
+        }
+    }
+
+    // Its name.
+    fn name(&self) -> &Name<'src>
+        ensures { result.now ≡ (defined_naming self.now).name }
+    {
+        match self {
+            Naming::Alias(name) | Naming::Module(name) => name,
+        }
+    }
+
+    // As what the name is defined.
+    fn sort(&self) -> Definition
+        ensures { result ≡ (defined_naming self.now).sort }
+    {
+        match self {
+            Naming::Alias(_) => Definition::Alias,
+            Naming::Module(_) => Definition::Module,
+        }
+    }
+
+    /// The names of several, as texts.
+    pub fn texts(
+        alloc: Global,
+        named: &[Naming<'src>],
+    ) -> Result<Vec<BorrowedText<'src>>, AllocError>
+        ensures { IfOk result (λ texts. texts.items ≡ texts_of_named named.now) }
+    {
+        let mut texts = Vec::with_capacity(alloc, named.len())?;
+        for naming in named {
+            texts.push(BorrowedText::new(naming.name().lexeme()))?;
+        }
+        Ok(texts)
+    }
+
+    /// As what the name is defined, and the name.
+    pub fn defined(&self) -> (Definition, &Name<'src>)
+        ensures { defined result.0 result.1.now ≡ defined_naming self.now }
+    {
+        (self.sort(), self.name())
+    }
+}
 
 /// What the files of a module say of it, file after file, before its recipes are resolved.
 #[derive(Drop)]
@@ -17,8 +90,12 @@ pub struct Definitions<'src, 'a> {
     pub functions: Vec<&'a FunctionDefinition<'src>>,
     /// The variables.
     pub variables: Vec<&'a Assignment<'src>>,
+    /// The aliases.
+    pub aliases: Vec<&'a Alias<'src>>,
     /// The names of the modules in it.
     pub modules: Vec<Name<'src>>,
+    /// What is defined under a name beside recipes: the modules and the aliases, as they are met.
+    pub named: Vec<Naming<'src>>,
     /// What the docs of these are evaluated from.
     pub docs: Vec<&'a Expression<'src>>,
     /// The names of the variables that it unexports.
@@ -30,11 +107,11 @@ pub struct Definitions<'src, 'a> {
 }
 
 impl<'a, 'src> Definitions<'src, 'a> {
-    ghost use Rattle.std.specs.Prelude.{◌≡◌, ◌++◌, ◌<◌, [], IfOk, OnOk, Some, length, option_to_list, slice_get};
-    ghost use Rattle.just_module_contents.specs.Contents.{function_names, no_contents, signatures, with_lists, with_module};
+    ghost use Rattle.std.specs.Prelude.{◌≡◌, ◌++◌, ◌<◌, [], IfOk, OnOk, Some, length, map, option_to_list, slice_get};
+    ghost use Rattle.just_module_contents.specs.Contents.{defined, defined_naming, function_names, no_contents, signatures, with_lists, with_module, with_named};
     ghost use Rattle.just_module_contents.specs.Recipes.{recipe_at, recipes_of};
-    ghost use Rattle.just_module_contents.specs.Definitions.{contents_in, docs_in, functions_in, lists_in, recipes_in, sets_in, variables_in};
-    ghost use Rattle.just_module_contents.specs.Named.{function_by, name_by, set_by, unexported_by, variable_by};
+    ghost use Rattle.just_module_contents.specs.Definitions.{aliases_in, contents_in, docs_in, functions_in, lists_in, recipes_in, sets_in, variables_in};
+    ghost use Rattle.just_module_contents.specs.Named.{alias_by, function_by, name_by, naming_by, set_by, unexported_by, variable_by};
     ghost use Rattle.just_module_contents.specs.Labels.{doc_by, doc_of};
     ghost use Rattle.just_module_contents.specs.Said.{said};
 
@@ -46,7 +123,9 @@ impl<'a, 'src> Definitions<'src, 'a> {
             recipes: Vec::new(alloc),
             functions: Vec::new(alloc),
             variables: Vec::new(alloc),
+            aliases: Vec::new(alloc),
             modules: Vec::new(alloc),
+            named: Vec::new(alloc),
             docs: Vec::new(alloc),
             unexports: Vec::new(alloc),
             sets: Vec::new(alloc),
@@ -59,7 +138,9 @@ impl<'a, 'src> Definitions<'src, 'a> {
         ensures recipes { OnOk result (recipes_in self.new ≡ recipes_in self.old ++ recipes_of (S.answers syntax.now).enabled items.now) }
         ensures functions { OnOk result (functions_in self.new ≡ functions_in self.old ++ said function_by (S.answers syntax.now).enabled items.now) }
         ensures variables { OnOk result (variables_in self.new ≡ variables_in self.old ++ said variable_by (S.answers syntax.now).enabled items.now) }
+        ensures aliases { OnOk result (aliases_in self.new ≡ aliases_in self.old ++ said alias_by (S.answers syntax.now).enabled items.now) }
         ensures modules { OnOk result (self.new.modules.items ≡ self.old.modules.items ++ said name_by (S.answers syntax.now).enabled items.now) }
+        ensures named { OnOk result (self.new.named.items ≡ self.old.named.items ++ said naming_by (S.answers syntax.now).enabled items.now) }
         ensures docs { OnOk result (docs_in self.new ≡ docs_in self.old ++ said doc_by (S.answers syntax.now).enabled items.now) }
         ensures unexports { OnOk result (self.new.unexports.items ≡ self.old.unexports.items ++ said unexported_by (S.answers syntax.now).enabled items.now) }
         ensures sets { OnOk result (sets_in self.new ≡ sets_in self.old ++ said set_by (S.answers syntax.now).enabled items.now) }
@@ -69,7 +150,9 @@ impl<'a, 'src> Definitions<'src, 'a> {
             if !is_enabled(item, syntax) {
                 continue;
             }
+            self.add_naming(item)?;
             match item {
+                Item::Alias(alias) => self.aliases.push(alias)?,
                 Item::Recipe(recipe) => self.recipes.push(recipe)?,
                 Item::Function(function) => self.functions.push(function)?,
                 Item::Assignment(variable) => self.variables.push(variable)?,
@@ -83,6 +166,16 @@ impl<'a, 'src> Definitions<'src, 'a> {
                 Item::Setting(set) => self.sets.push(set)?,
                 _ => continue,
             }
+        }
+        Ok(())
+    }
+
+    // Adds what an item defines under a name beside recipes.
+    fn add_naming(&mut self, item: &Item<'src>) -> Result<(), AllocError>
+        ensures { OnOk result (contents_in self.new ≡ with_named (contents_in self.old) (naming_by item.now)) }
+    {
+        if let Some(naming) = Naming::of(item) {
+            self.named.push(naming)?;
         }
         Ok(())
     }
@@ -110,6 +203,14 @@ impl<'a, 'src> Definitions<'src, 'a> {
             self.lists.push(used)?;
         }
         Ok(())
+    }
+
+    /// As what a name is defined at a place of what is defined beside recipes, and the name.
+    pub fn naming_at(&self, place: usize) -> (Definition, &Name<'src>)
+        requires { place < length self.now.named.items }
+        ensures { slice_get (map defined_naming self.now.named.items) place ≡ Some (defined result.0 result.1.now) }
+    {
+        self.named[place].defined()
     }
 
     // The recipe that is lent at a place.

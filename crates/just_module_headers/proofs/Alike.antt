@@ -9,6 +9,7 @@ use Rattle.std.proofs.lemmas.List.{length-map}
 use Rattle.just_errors.specs.Causes.{Broken, Cause, Keeps}
 use Rattle.just_errors.specs.declared.error.CompileErrorKind.TheVariants as kind
 use Rattle.just_names.specs.Name.{text_of_name}
+use Rattle.just_names.specs.Texts.{Text}
 use Rattle.just_names.specs.Token.{Place, lexeme}
 use Rattle.just_ast_definitions.specs.declared.assignment.Assignment.{Assignment}
 use Rattle.just_ast_definitions.specs.declared.function_definition.FunctionDefinition.{FunctionDefinition}
@@ -32,10 +33,10 @@ use Rattle.just_recipe.specs.declared.recipe.Recipe.{Recipe}
 use Rattle.just_names.specs.declared.name.Name.{Name}
 use Rattle.just_names.specs.declared.name.Namepath.{Namepath}
 use Rattle.just_errors.specs.declared.error.Definition.TheVariants as definition
-use Rattle.just_module_contents.specs.Contents.{Contents, Defined, Signature, all_defined, defined, defined_in, defined_recipe, function_names, module_of_name, signature, signatures, variable_names}
+use Rattle.just_module_contents.specs.Contents.{Contents, Defined, Signature, all_defined, defined, defined_in, defined_naming, defined_recipe, function_names, signature, signatures, variable_names}
 use Rattle.just_names.specs.Index.{texts_of_names, Repeats}
 use Rattle.just_module_contents.specs.Constants.{AreConstants, AsksConstants, AsksFor, Constants, Docs, Evaluated, IsEvaluated, constant_expressions, constants_fault, doc_fault, functions_asked, in_doc, in_setting, recipe_expressions, settings_among, settings_fault, sets_lists}
-use Rattle.just_module_contents.specs.Groups.{BodiesAndDocs, Breaks, Group, OfAliases, OfBodies, OfConstants, OfDependencies, OfExpressions, OfHeaders, OfNames, in_bodies, in_docs}
+use Rattle.just_module_contents.specs.Groups.{BodiesAndDocs, Breaks, Group, Links, OfAliases, OfBodies, OfConstants, OfDependencies, OfExpressions, OfHeaders, OfNames, in_bodies, in_docs}
 use Rattle.just_module_contents.specs.Known.{functions_under, known_of, variables_under}
 use Rattle.just_parts.specs.Known.{Known, known, none_hidden}
 use Rattle.just_parts.specs.Misnaming.{Expressions, Misnames}
@@ -43,9 +44,10 @@ use Rattle.just_module_contents.specs.Defaults.{Defaults, IsLater, duplicate_def
 use Rattle.just_module_contents.specs.Kept.{claim_of_recipe, gives_way, kept_recipes, left_of}
 use Rattle.just_module_contents.specs.Settings.{allows_variables}
 use Rattle.just_module_contents.specs.Shells.{Lines, ScriptAttribute, ShellRecipe, Shells, invalid_attribute, of_attributes, of_lines, of_recipe}
+use Rattle.just_module_contents.specs.declared.definitions.Naming.{Naming}
 use Rattle.just_module_contents.specs.declared.kept.Claim.{Claim}
-use Rattle.just_module_contents.specs.Recipes.{name_of, line_of, token_of, named_parameters, parameter_names, is_defaulted, is_needed, FollowsDefault, named_paths, dependency_paths, least_of, most_of, no_recipe, recipe_at, Depends, DependsOn}
-use Rattle.just_module_contents.specs.Rules.{Bodies, Dependencies, Functions, Headers, IsCircleOf, Lists, Modules, Names, Parameters, Redefined, Sets, Under, Unexports, Variables, argument_count, circular, duplicate_parameter, of_defined, of_functions, of_lists, of_modules, of_parameters, of_sets, of_shells, of_unexports, of_variables, required_after_default, under, unknown_dependency}
+use Rattle.just_module_contents.specs.Recipes.{name_of, line_of, token_of, named_parameters, parameter_names, is_defaulted, is_needed, FollowsDefault, named_paths, dependency_paths, least_of, most_of, names_of, no_recipe, recipe_at, Depends, DependsOn}
+use Rattle.just_module_contents.specs.Rules.{Bodies, Dependencies, DependsBy, Functions, Headers, IsCircleOf, Lists, Named, Names, Parameters, Redefined, Sets, StandsWith, Under, Unexports, Variables, argument_count, circular, duplicate_parameter, of_defined, of_functions, of_lists, of_named, of_parameters, of_sets, of_shells, of_unexports, of_variables, required_after_default, starred, under, unknown_dependency}
 
 -- What the rules read of a recipe.
 pub record Outline : Type 0 where
@@ -102,17 +104,26 @@ defined_read : (rs : List (Recipe UnresolvedDependency)) → map defined_recipe 
 defined_read [] = refl
 defined_read (r ∷ rs) = ap (λ ds. defined_recipe r ∷ ds) (defined_read rs)
 
+names_read : (rs : List (Recipe UnresolvedDependency)) → names_of rs ≡ map (λ (o : Outline). lexeme o.token) (outlines_of rs)
+names_read [] = refl
+names_read (r ∷ rs) = ap (λ ns. name_of r ∷ ns) (names_read rs)
+
 module _ (rs qs : List (Recipe UnresolvedDependency)) (alike : AreAlike rs qs) where
-  many : length rs ≡ length qs
+  -- they have the same names
+  pub same_names : names_of rs ≡ names_of qs
+  same_names = names_read rs ∙ ap (map (λ (o : Outline). lexeme o.token)) alike ∙ sym (names_read qs)
+
+  -- so many, each with the same outline and the same name
+  pub many : length rs ≡ length qs
   many = sym (length-map rs outline_of) ∙ ap length alike ∙ length-map qs outline_of
 
-  at : (i : ℕ) → outline_of (recipe_at rs i) ≡ outline_of (recipe_at qs i)
+  pub at : (i : ℕ) → outline_of (recipe_at rs i) ≡ outline_of (recipe_at qs i)
   at i = outline_read rs i ∙ ap (λ os. get_or os i (outline_of no_recipe)) alike ∙ sym (outline_read qs i)
 
   tokens : (i : ℕ) → token_of (recipe_at rs i) ≡ token_of (recipe_at qs i)
   tokens i = ap (λ (o : Outline). o.token) (at i)
 
-  name : (i : ℕ) → name_of (recipe_at rs i) ≡ name_of (recipe_at qs i)
+  pub name : (i : ℕ) → name_of (recipe_at rs i) ≡ name_of (recipe_at qs i)
   name i = ap lexeme (tokens i)
 
   paths : (i : ℕ) → dependency_paths (recipe_at rs i) ≡ dependency_paths (recipe_at qs i)
@@ -178,8 +189,8 @@ module _ (rs qs : List (Recipe UnresolvedDependency)) (alike : AreAlike rs qs) w
       (duplicate_default i j (inside i h) (inside j l) apart (sym (marks i) ∙ first) (sym (marks j) ∙ second) (later_alike i j later))
 
   -- they define the same
-  defined_alike : (ns : List Name) → all_defined ns rs ≡ all_defined ns qs
-  defined_alike ns = ap (λ ds. map module_of_name ns ++ ds) (defined_read rs ∙ ap (map defined_by) alike ∙ sym (defined_read qs))
+  defined_alike : (ns : List Naming) → all_defined ns rs ≡ all_defined ns qs
+  defined_alike ns = ap (λ ds. map defined_naming ns ++ ds) (defined_read rs ∙ ap (map defined_by) alike ∙ sym (defined_read qs))
 
   depends_alike : (a b : ℕ) → Depends rs a b → Depends qs a b
   depends_alike a b d = record {
@@ -188,7 +199,8 @@ module _ (rs qs : List (Recipe UnresolvedDependency)) (alike : AreAlike rs qs) w
     names = subst (λ n. Contains (dependency_paths (recipe_at qs a)) (n ∷ [])) (name b) (contains a (name_of (recipe_at rs b) ∷ []) d.names);
   }
 
-  depends_on_alike : (dependent named : List ℕ) → DependsOn rs dependent named → DependsOn qs dependent named
+  -- and names depend on names
+  pub depends_on_alike : (dependent named : List ℕ) → DependsOn rs dependent named → DependsOn qs dependent named
   depends_on_alike dependent named d = record {
     from = d.from;
     to = d.to;
@@ -200,27 +212,36 @@ module _ (rs qs : List (Recipe UnresolvedDependency)) (alike : AreAlike rs qs) w
   circle_alike : (recipe : List ℕ) (circle : List (List ℕ)) → IsCircleOf rs recipe circle → IsCircleOf qs recipe circle
   circle_alike recipe circle c = record { steps = c.steps; closed = c.closed; walk = λ k h. depends_on_alike (get_or circle k []) (get_or circle (k + 1) []) (c.walk k h); closing = c.closing }
 
-  pub dependencies_alike : (lists : Bool) (c : Cause) → Dependencies lists rs c → Dependencies lists qs c
-  dependencies_alike lists _ (unknown_dependency {recipe} {unknown} i h e c none) =
-      unknown_dependency i (inside i h) (sym (name i) ∙ e) (named i unknown c)
-      (λ j l is. none j (subst (λ n. j < n) (sym many) l) (is ∙ ap (λ n. n ∷ []) (sym (name j))))
-  dependencies_alike lists _ (circular {recipe} {circle} {path} c d) = circular (circle_alike recipe circle c) (record {
-    from = d.from;
-    there = inside d.from d.there;
-    dependent_is = sym (name d.from) ∙ d.dependent_is;
-    depends = named d.from path d.depends;
-    names = d.names;
-  })
-  dependencies_alike lists _ (argument_count {dependency} i j h l c is none least most wrong) =
-      argument_count i j (inside i h) (inside j l) (gives i dependency c) (is ∙ ap (λ n. n ∷ []) (name j)) none
-      (ap (λ (o : Outline). o.least) (sym (at j)) ∙ least) (ap (λ (o : Outline). o.most lists) (sym (at j)) ∙ most) wrong
+  -- a recipe of a name depends on a path in both
+  pub depends_by_alike : (name_is : List ℕ) (path : Namepath) → DependsBy rs name_is path → DependsBy qs name_is path
+  depends_by_alike name_is path d = record { from = d.from; there = inside d.from d.there; name_is = sym (name d.from) ∙ d.name_is; depends = named d.from path d.depends }
 
--- Contents that are alike: so are their recipes, and their functions and variables without numbers, their names, the docs of their modules, what they set and where they need lists are the same.
+  -- where paths lead to the same, the same recipes stand, and those that are led to from a recipe that stands take the same arguments, the dependencies of recipes that are alike break the same rules
+  module _ (Leads Leads-2 : Namepath → Type 0) (Stands Stands-2 : Text → Type 0) (Takes Takes-2 : Namepath → ℕ → ℕ → Type 0) (leads_back : (path : Namepath) → Leads-2 path → Leads path) (stands_on : (name : Text) → Stands name → Stands-2 name)
+      (takes_on : (d : UnresolvedDependency) → StandsWith Stands rs d → (least most : ℕ) → Takes d.recipe least most → Takes-2 d.recipe least most) where
+    stands_with : (d : UnresolvedDependency) → StandsWith Stands rs d → StandsWith Stands-2 qs d
+    stands_with d s = record { from = s.from; there = inside s.from s.there; depends = gives s.from d s.depends; stands = subst Stands-2 (name s.from) (stands_on (name_of (recipe_at rs s.from)) s.stands) }
+
+    pub dependencies_alike : (lists : Bool) (c : Cause) → Dependencies Leads Stands Takes lists rs c → Dependencies Leads-2 Stands-2 Takes-2 lists qs c
+    dependencies_alike lists _ (unknown_dependency {recipe} {unknown} d none) = unknown_dependency (depends_by_alike recipe unknown d) (λ l. none (leads_back unknown l))
+    dependencies_alike lists _ (circular {recipe} {circle} {path} c d) = circular (circle_alike recipe circle c) (record {
+      from = d.from;
+      there = inside d.from d.there;
+      dependent_is = sym (name d.from) ∙ d.dependent_is;
+      depends = named d.from path d.depends;
+      names = d.names;
+    })
+    dependencies_alike lists _ (starred {d} s off star) = starred (stands_with d s) off star
+    dependencies_alike lists _ (argument_count {d} {found} {least} {most} s takes count wrong) = argument_count (stands_with d s) (takes_on d s least most takes) count wrong
+
+-- Contents that are alike: so are their recipes, and their functions and variables without numbers, their aliases, their names, the docs of their modules, what they set and where they need lists are the same.
 pub record AreAlikeContents (m n : Contents) : Type 0 where
   pub recipes : AreAlike m.recipes n.recipes
   pub functions : map bare_function m.functions ≡ map bare_function n.functions
   pub variables : map located_assignment m.variables ≡ map located_assignment n.variables
+  pub aliases : m.aliases ≡ n.aliases
   pub modules : m.modules ≡ n.modules
+  pub named : m.named ≡ n.named
   pub docs : m.docs ≡ n.docs
   pub unexports : m.unexports ≡ n.unexports
   pub sets : m.sets ≡ n.sets
@@ -261,7 +282,8 @@ outlines_left all (x ∷ xs) =
     outline_if all xs x (gives_way (map claim_of_recipe all) (map claim_of_recipe xs) (claim_of_recipe x)) (outlines_left all xs)
     ∙ ap (λ b. if b then left_of claim_by (outlines_of all) (outlines_of xs) else outline_of x ∷ left_of claim_by (outlines_of all) (outlines_of xs)) (λ i. gives_way (claims_read all i) (claims_read xs i) (claim_of_recipe x))
 
-kept_alike_recipes : (rs qs : List (Recipe UnresolvedDependency)) → AreAlike rs qs → AreAlike (kept_recipes rs) (kept_recipes qs)
+-- what is kept of recipes that are alike is alike
+pub kept_alike_recipes : (rs qs : List (Recipe UnresolvedDependency)) → AreAlike rs qs → AreAlike (kept_recipes rs) (kept_recipes qs)
 kept_alike_recipes rs qs alike = outlines_left rs rs ∙ (λ i. left_of claim_by (alike i) (alike i)) ∙ sym (outlines_left qs qs)
 
 -- the expressions of recipes that are evaluated while compiling are told by their outlines
@@ -278,13 +300,13 @@ module _ (layers : Layers) (m n : Contents) (alike : AreAlikeContents m n) where
   headers_alike c (of_parameters b) = of_parameters (parameters_alike m.recipes n.recipes alike.recipes c b)
   headers_alike c (of_sets b) = of_sets (subst (λ (ss : List Set). Sets layers.syntax.conflicts ss c) alike.sets b)
   headers_alike c (of_unexports b) = of_unexports (subst (λ (ns : List Name). Unexports ns c) alike.unexports b)
-  headers_alike c (of_modules b) = of_modules (subst (λ (ns : List Name). Modules ns c) alike.modules b)
+  headers_alike c (of_named b) = of_named (subst (λ (ns : List Naming). Named ns c) alike.named b)
 
   signed_alike : signatures m.functions ≡ signatures n.functions
   signed_alike = sym (signatures_bare m.functions) ∙ ap signatures alike.functions ∙ signatures_bare n.functions
 
   defined_same : defined_in m ≡ defined_in n
-  defined_same = ap (λ ns. all_defined ns m.recipes) alike.modules ∙ defined_alike m.recipes n.recipes alike.recipes n.modules
+  defined_same = ap (λ ns. all_defined ns m.recipes) alike.named ∙ defined_alike m.recipes n.recipes alike.recipes n.named
 
   known_alike : known_of layers.syntax m ≡ known_of layers.syntax n
   known_alike = λ i. known layers.syntax (variables_under (alike.variables i)) (functions_under (alike.functions i))
@@ -348,22 +370,24 @@ module _ (layers : Layers) (m n : Contents) (alike : AreAlikeContents m n) where
   under_alike : (broken other : Evaluated → Cause → Type 0) → ((it : Evaluated) (c : Cause) → broken it c → other it c) → (c : Cause) → Under (IsEvaluated layers m) broken c → Under (IsEvaluated layers n) other c
   under_alike broken other each c (under {a = it} is b) = under (evaluated_alike it is) (each it c b)
 
-  pub breaks_alike : (g : Group) (c : Cause) → Breaks layers g m c → Breaks layers g n c
-  breaks_alike OfHeaders c b = headers_alike c b
-  breaks_alike OfNames c b = names_alike c b
-  breaks_alike OfExpressions c b = subst (λ (k : Known). Expressions k c) known_alike b
-  breaks_alike OfConstants c b = values_alike c b
-  breaks_alike OfBodies c b = under_alike (BodiesAndDocs layers m) (BodiesAndDocs layers n) bodies_and_docs_alike c b
-  breaks_alike OfAliases c b = defaults_alike (kept_recipes m.recipes) (kept_recipes n.recipes) (kept_alike_recipes m.recipes n.recipes alike.recipes) c b
-  breaks_alike OfDependencies c b = under_alike (λ it. Dependencies it.settings.lists (kept_recipes m.recipes)) (λ it. Dependencies it.settings.lists (kept_recipes n.recipes))
-      (λ it. dependencies_alike (kept_recipes m.recipes) (kept_recipes n.recipes) (kept_alike_recipes m.recipes n.recipes alike.recipes) it.settings.lists) c b
+  -- with these links the one breaks what the other does
+  pub breaks_alike : (links other : Links) → ((lists : Bool) (g : Group) (c : Cause) → links lists g c → other lists g c) → (g : Group) (c : Cause) → Breaks layers links g m c → Breaks layers other g n c
+  breaks_alike links other each OfHeaders c b = headers_alike c b
+  breaks_alike links other each OfNames c b = names_alike c b
+  breaks_alike links other each OfExpressions c b = subst (λ (k : Known). Expressions k c) known_alike b
+  breaks_alike links other each OfConstants c b = values_alike c b
+  breaks_alike links other each OfBodies c b = under_alike (BodiesAndDocs layers m) (BodiesAndDocs layers n) bodies_and_docs_alike c b
+  breaks_alike links other each OfDependencies c b = under_alike (λ (it : Evaluated). links it.settings.lists OfDependencies) (λ (it : Evaluated). other it.settings.lists OfDependencies) (λ it. each it.settings.lists OfDependencies) c b
+  breaks_alike links other each OfAliases c b = under_alike (λ (it : Evaluated). links it.settings.lists OfAliases) (λ (it : Evaluated). other it.settings.lists OfAliases) (λ it. each it.settings.lists OfAliases) c b
 
 pub alike_back : (m n : Contents) → AreAlikeContents m n → AreAlikeContents n m
 alike_back m n alike = record {
   recipes = sym alike.recipes;
   functions = sym alike.functions;
   variables = sym alike.variables;
+  aliases = sym alike.aliases;
   modules = sym alike.modules;
+  named = sym alike.named;
   docs = sym alike.docs;
   unexports = sym alike.unexports;
   sets = sym alike.sets;
@@ -371,5 +395,5 @@ alike_back m n alike = record {
 }
 
 -- and keep the same
-pub kept_alike : (layers : Layers) (m n : Contents) → AreAlikeContents m n → (g : Group) → Keeps (Breaks layers g m) → Keeps (Breaks layers g n)
-kept_alike layers m n alike g kept c b = kept c (breaks_alike layers n m (alike_back m n alike) g c b)
+pub kept_alike : (layers : Layers) (links other : Links) (m n : Contents) → AreAlikeContents m n → ((lists : Bool) (g : Group) (c : Cause) → other lists g c → links lists g c) → (g : Group) → Keeps (Breaks layers links g m) → Keeps (Breaks layers other g n)
+kept_alike layers links other m n alike each g kept c b = kept c (breaks_alike layers n m (alike_back m n alike) other links each g c b)

@@ -5,5 +5,6 @@ pub mod FilePlaces
 pub mod Following
 pub mod Holding
 pub mod Joining
+pub mod ModuleNames
 pub mod Numbers
 pub mod Placing

@@ -9,11 +9,12 @@ use Rattle.just_recipe.specs.declared.recipe.Recipe.{Recipe}
 use Rattle.just_names.specs.declared.name.Name.{Name}
 use Rattle.just_module_contents.specs.Labels.{label_by}
 use Rattle.just_module_contents.specs.declared.labels.Label.{Label}
-use Rattle.just_module_contents.specs.Contents.{Contents}
+use Rattle.just_module_contents.specs.Contents.{Contents, texts_of_named}
+use Rattle.just_module_contents.specs.declared.definitions.Naming.{Naming}
 use Rattle.just_names.specs.Index.{texts_of_names, AreDifferent}
 use Rattle.just_module_headers.specs.Files.{asts_in}
-use Rattle.just_module_contents.specs.Named.{contents_from, name_by, said_from, recipes_from}
-use Rattle.just_module_contents.specs.Rules.{Modules}
+use Rattle.just_module_contents.specs.Named.{contents_from, name_by, naming_by, said_from, recipes_from}
+use Rattle.just_module_contents.specs.Rules.{Named}
 use Rattle.just_module_headers.specs.declared.files.Files.{Files}
 use Rattle.just_module_headers.specs.declared.joined.Joined.{Joined}
 
@@ -24,7 +25,11 @@ recipes_of_place enabled files joined p = recipes_from enabled (asts_in files) (
 abbrev pub names_of_place : (Item → Bool) → Files → Joined → ℕ → List Name
 names_of_place enabled files joined p = said_from name_by enabled (asts_in files) (targets joined.files.items p)
 
--- the labels of these
+-- what is defined in it under a name beside recipes
+abbrev pub namings_of_place : (Item → Bool) → Files → Joined → ℕ → List Naming
+namings_of_place enabled files joined p = said_from naming_by enabled (asts_in files) (targets joined.files.items p)
+
+-- the labels of the modules in it
 abbrev pub labels_of_place : (Item → Bool) → Files → Joined → ℕ → List Label
 labels_of_place enabled files joined p = said_from label_by enabled (asts_in files) (targets joined.files.items p)
 
@@ -32,16 +37,20 @@ labels_of_place enabled files joined p = said_from label_by enabled (asts_in fil
 abbrev pub contents_of_place : (Item → Bool) → Files → Joined → ℕ → Contents
 contents_of_place enabled files joined p = contents_from enabled (asts_in files) (targets joined.files.items p)
 
--- Two modules have one name in the module at a place of an order.
+-- Two modules and aliases have one name in the module at a place of an order.
 pub record RepeatsNames (enabled : Item → Bool) (files : Files) (joined : Joined) (order : List ℕ) (c : Cause) : Type 0 where
   pub at : ℕ
   pub there : at < length order
-  pub broken : Modules (names_of_place enabled files joined (slice_index order at)) c
+  pub broken : Named (namings_of_place enabled files joined (slice_index order at)) c
 
 -- the files of each module of an order have places
 abbrev pub HaveFiles : Files → Joined → List ℕ → Type 0
 HaveFiles files joined order = (k : ℕ) → k < length order → All (λ q. q < length files.asts.items) (targets joined.files.items (slice_index order k))
 
--- the modules in each module of an order have different names
+-- the modules and the aliases in each module of an order have different names
 abbrev pub HaveNames : (Item → Bool) → Files → Joined → List ℕ → Type 0
-HaveNames enabled files joined order = (k : ℕ) → k < length order → AreDifferent (texts_of_names (names_of_place enabled files joined (slice_index order k)))
+HaveNames enabled files joined order = (k : ℕ) → k < length order → AreDifferent (texts_of_named (namings_of_place enabled files joined (slice_index order k)))
+
+-- the modules in each module of an order have different names
+abbrev pub HaveModuleNames : (Item → Bool) → Files → Joined → List ℕ → Type 0
+HaveModuleNames enabled files joined order = (k : ℕ) → k < length order → AreDifferent (texts_of_names (names_of_place enabled files joined (slice_index order k)))

@@ -3,17 +3,17 @@ ghost use Rattle.just_names.specs.Name.{text_of_name};
 ghost use Rattle.just_ast_definitions.specs.declared.parameter.Parameter.{Parameter};
 ghost use Rattle.just_names.specs.Index.{AreDifferent, texts_of_names};
 ghost use Rattle.just_module_contents.specs.Recipes.{FollowsDefault, NoneFollows, is_defaulted, is_needed, parameter_names, recipe_at};
+ghost use Rattle.just_module_contents.specs.Contents.{texts_of_named};
 ghost use Rattle.just_module_contents.specs.Definitions.{contents_in, recipes_in};
 ghost use Rattle.just_errors.specs.Causes.{Keeps, Reports};
-ghost use Rattle.just_module_contents.specs.Rules.{Headers, Modules, Parameters, Unexports};
+ghost use Rattle.just_module_contents.specs.Rules.{Headers, Named, Parameters, Unexports};
 
 use crate::settings::check_sets;
 use just_data::BorrowedText;
-use just_module_contents::definitions::Definitions;
+use just_module_contents::definitions::{Definitions, Naming};
 use just_module_contents::redefinition::redefinition;
 use just_names::{index_names, repeated_name};
-use just_parts::layers::error::Definition;
-use just_parts::layers::{CompileError, CompileErrorKind, Error, Name, Parameter, Syntax};
+use just_parts::layers::{CompileError, CompileErrorKind, Error, Parameter, Syntax};
 use std::alloc::{AllocError, Global};
 
 fn parameter_names<'src>(
@@ -129,19 +129,19 @@ fn check_parameters<'a, 'src>(
     Ok(())
 }
 
-/// Checks that the names of a module's modules are different.
-pub fn check_modules<'src>(alloc: Global, names: &[Name<'src>]) -> Result<(), Error<'src>>
-    ensures kept { OnOk result (AreDifferent (texts_of_names names.now)) }
-    ensures named { IfErr result (Reports (Modules names.now)) }
+/// Checks that the names of a module's modules and aliases are different.
+pub fn check_named<'src>(alloc: Global, namings: &[Naming<'src>]) -> Result<(), Error<'src>>
+    ensures kept { OnOk result (AreDifferent (texts_of_named namings.now)) }
+    ensures named { IfErr result (Reports (Named namings.now)) }
 {
-    match repeated_name(alloc, names)? {
-        None => Ok(()),
-        Some((first, second)) => Err(Error::Compile(redefinition(
-            Definition::Module,
-            &names[first],
-            Definition::Module,
-            &names[second],
-        ))),
+    let texts = Naming::texts(alloc, namings)?;
+    match index_names(alloc, texts.as_slice())? {
+        Ok(_) => Ok(()),
+        Err((first, second)) => {
+            let (first, first_name) = namings[first].defined();
+            let (second, second_name) = namings[second].defined();
+            Err(Error::Compile(redefinition(first, first_name, second, second_name)))
+        }
     }
 }
 
@@ -168,14 +168,14 @@ fn check_unexports<'a, 'src>(
     }
 }
 
-/// Refuses a rule that is broken in the headers of a module whose modules have different names: of its recipes, of what
+/// Refuses a rule that is broken in the headers of a module whose modules and aliases have different names: of its recipes, of what
 /// it sets, or of what it unexports.
 pub fn check_headers<'a, 'src, S: Syntax>(
     alloc: Global,
     definitions: &Definitions<'src, 'a>,
     syntax: &S,
 ) -> Result<(), Error<'src>>
-    requires { AreDifferent (texts_of_names definitions.now.modules.items) }
+    requires { AreDifferent (texts_of_named definitions.now.named.items) }
     ensures kept { OnOk result (Keeps (Headers (S.answers syntax.now).conflicts (contents_in definitions.now))) }
     ensures named { IfErr result (Reports (Headers (S.answers syntax.now).conflicts (contents_in definitions.now))) }
 {

@@ -4,7 +4,7 @@ use Rattle.std.proofs.lemmas.List.{append-nil, map-append}
 use Rattle.std.proofs.lemmas.Result.{IfOk-from_err}
 use Rattle.just_names.specs.declared.name.Name.{Name}
 use Rattle.just_module_contents.specs.Labels.{doc_of}
-use Rattle.just_module_contents.specs.Definitions.{docs_in, functions_in, lists_in, recipes_in, sets_in, variables_in}
+use Rattle.just_module_contents.specs.Definitions.{aliases_in, docs_in, functions_in, lists_in, recipes_in, sets_in, variables_in}
 use Rattle.just_module_contents.specs.Recipes.{lent}
 use Rattle.just_module_contents.proofs.definitions.Definitions.add_module.Goals as goal
 
@@ -25,7 +25,9 @@ returns-in_ok-push-2 c =
       recipes = recipes_in old;
       functions = functions_in old;
       variables = variables_in old;
+      aliases = aliases_in old;
       modules = (pushed ∙ ap (λ (n : Name). old.modules.items ++ n ∷ []) c.copied.ensures) i;
+      named = old.named.items;
       docs = docs i;
       unexports = old.unexports.items;
       sets = sets_in old;
@@ -42,7 +44,9 @@ returns-in_default c =
       recipes = recipes_in old;
       functions = functions_in old;
       variables = variables_in old;
+      aliases = aliases_in old;
       modules = (pushed ∙ ap (λ (n : Name). old.modules.items ++ n ∷ []) c.copied.ensures) i;
+      named = old.named.items;
       docs = docs i;
       unexports = old.unexports.items;
       sets = sets_in old;

@@ -1,7 +1,0 @@
-use Rattle.std.proofs.Common.{◌≡◌, take}
-use Rattle.just_module_headers.specs.Files.{asts_in}
-use Rattle.just_module_contents.specs.Named.{name_by, said_from}
-use Rattle.just_module_headers.proofs.module_names.module_names.Given as goal
-
-abbrev pub invariant-loop-place : goal.invariant-loop-place
-invariant-loop-place g l = l.names.items ≡ said_from name_by (g.S.Syntax.answers l.syntax).enabled (asts_in l.files) (take l.place-index l.places)

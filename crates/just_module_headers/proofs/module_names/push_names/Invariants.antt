@@ -1,8 +1,0 @@
-use Rattle.std.proofs.Common.{◌≡◌, ◌++◌, drop}
-use Rattle.just_module_contents.specs.Named.{name_by}
-use Rattle.just_module_contents.specs.Said.{said}
-use Rattle.just_module_headers.proofs.module_names.push_names.Given as goal
-
-abbrev pub invariant-loop-item : goal.invariant-loop-item
-invariant-loop-item g l =
-    l.initial.names.items ++ said name_by (g.S.Syntax.answers l.syntax).enabled l.items ≡ l.names.items ++ said name_by (g.S.Syntax.answers l.syntax).enabled (drop l.item-index l.items)
