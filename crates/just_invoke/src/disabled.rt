@@ -1,13 +1,13 @@
-//! Recipes that cannot be used.
+//! Recipes and aliases that cannot be used.
 use just_parts::layers::Name;
 use just_paths::Modulepath;
 use just_table::Keyed;
 use std::collections::BTreeSet;
 
-/// A recipe that is not there, since what it depends on lies in optional modules without a file.
+/// A recipe or an alias that is not there, since what it depends on or leads to lies in optional modules without a file.
 #[derive(Drop)]
 pub struct Disabled<'src> {
-    /// The name of the recipe.
+    /// Its name.
     pub name: Name<'src>,
     /// The paths of these modules, each from the module that names it.
     pub modules: BTreeSet<Modulepath>,

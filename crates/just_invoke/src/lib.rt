@@ -1,6 +1,7 @@
 //! A module as it is compiled, what command words mean in it, and the run of what they mean.
 #![tactic(auto)]
 
+mod aliases;
 mod disabled;
 mod groups;
 mod invocation;
@@ -17,6 +18,7 @@ mod scopes;
 mod tail;
 mod variables;
 
+pub use aliases::{Aliases, ModuleAlias, RecipeAlias};
 pub use disabled::Disabled;
 pub use invocation::Invocation;
 pub use invocation_parser::InvocationParser;

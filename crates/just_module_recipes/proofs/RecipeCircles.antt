@@ -6,14 +6,18 @@ use Rattle.std.specs.List.{Contains}
 use Rattle.std.specs.declared.vec.Vec.{Vec}
 use Rattle.std.specs.declared.alloc.Global.{Global}
 use Rattle.just_names.specs.Token.{Place}
-use Rattle.just_graph.specs.Graph.{HasEdge, targets}
+use Rattle.just_graph.specs.Building.{EachRow}
+use Rattle.just_graph.specs.Graph.{HasEdge}
 use Rattle.just_graph.specs.Steps.{Leads, by_step, IsCircle}
 use Rattle.just_graph.proofs.Walks.{then_step}
 use Rattle.just_recipe.specs.declared.dependency.UnresolvedDependency.{UnresolvedDependency}
 use Rattle.just_recipe.specs.declared.recipe.Recipe.{Recipe}
 use Rattle.just_names.specs.Index.{AreDifferent}
 use Rattle.just_module_contents.specs.Recipes.{name_of, recipe_at, names_of, Depends, DependsOn}
-use Rattle.just_module_contents.specs.Rows.{IsTokenOn}
+use Rattle.just_module_recipes.specs.Rows.{IsTokenOn, near}
+use Rattle.just_module_recipes.specs.declared.targets.Target.{Target}
+use Rattle.just_module_recipes.specs.declared.targets.Target.TheVariants.{Near}
+use Rattle.just_module_recipes.proofs.Nearby.{near_is}
 use Rattle.just_module_contents.specs.Rules.{IsCircleOf, IsDependencyOn}
 use Rattle.just_module_contents.proofs.RecipePlaces.{one_place}
 
@@ -74,12 +78,12 @@ pub last_read : (ns : List ℕ) (n x : ℕ) → n ≡ length ns → 1 < length n
 last_read ns n x len steps is = is ∙ (get_or_default ns (n - 1) x 0 (omega arith) ∙ ap (λ m. slice_index ns (m - 1)) len)
 
 -- the row that closes a circle has its last number
-pub closing_row : (g : List (Vec ℕ Global)) (ns : List ℕ) → IsCircle (HasEdge g) ns → (row : List ℕ) (closing last : ℕ) → row ≡ targets g closing → closing ≡ slice_index ns (length ns - 2) → last ≡ slice_index ns (length ns - 1) → Contains row last
-closing_row g ns c row closing last row_is closing_is last_is =
+pub closing_row : (rows : List (List Target)) (g : List (Vec ℕ Global)) → EachRow (λ a row. row ≡ near (get_or rows a [])) (length rows) g → (ns : List ℕ) → IsCircle (HasEdge g) ns → (closing last : ℕ) → closing < length rows → closing ≡ slice_index ns (length ns - 2) → last ≡ slice_index ns (length ns - 1) → Contains (get_or rows closing []) (Near last)
+closing_row rows g each ns c closing last h closing_is last_is =
     let step : HasEdge g (slice_index ns (length ns - 2)) (slice_index ns (length ns - 2 + 1)) = c.walk (length ns - 2) (omega (arith, c.steps)) in
     let at : length ns - 2 + 1 ≡ length ns - 1 = omega (arith, c.steps) in
-    subst (λ r. Contains r last) (sym row_is) (subst (λ a. HasEdge g a last) (sym closing_is)
-    (subst (HasEdge g (slice_index ns (length ns - 2))) (ap (slice_index ns) at ∙ sym last_is) step))
+    let edge : HasEdge g closing last = subst (λ a. HasEdge g a last) (sym closing_is) (subst (HasEdge g (slice_index ns (length ns - 2))) (ap (slice_index ns) at ∙ sym last_is) step) in
+    near_is (get_or rows closing []) last (subst (λ row. Contains row last) (each.rows closing h) edge)
 
 -- the dependency that closes a circle
 pub closing_dependency : (rs : List (Recipe UnresolvedDependency)) (ns : List ℕ) → IsCircle (Depends rs) ns → (recipe : List ℕ) (names : List (List ℕ)) (closing last : ℕ) (token : Place) → names ≡ map (λ a. name_of (recipe_at rs a)) ns → recipe ≡ name_of (recipe_at rs closing)

@@ -1,1 +1,7 @@
+pub mod Aliased
 pub mod Broken
+pub mod Linked
+pub mod Links
+pub mod Making
+pub mod Planned
+pub mod Rows

@@ -1,4 +1,4 @@
-//! The rules of a module's bodies: what needs lists, the name space of modules and recipes, and what shells run.
+//! The rules of a module's bodies: what needs lists, the name space of modules, aliases and recipes, and what shells run.
 
 ghost use Rattle.std.specs.Prelude.{◌≡◌, ◌+◌, ◌<◌, false, IfOk, IfErr, IsTrue, OnOk, Some, length, slice_get};
 ghost use Rattle.std.specs.Str.{bytes_eq};
@@ -12,7 +12,7 @@ ghost use Rattle.just_module_contents.specs.Rules.{Bodies, Lists, Redefined, Sta
 
 use crate::shells::check_shells;
 use just_data::BorrowedText;
-use just_module_contents::definitions::Definitions;
+use just_module_contents::definitions::{Definitions, Naming};
 use just_module_contents::redefinition::redefinition;
 use just_names::{index_last, repeated_below, texts_of};
 use just_parts::layers::error::Definition;
@@ -69,14 +69,14 @@ fn check_uses<'a, 'src>(
     Ok(())
 }
 
-// The names of what is defined: of the modules, then of the recipes.
+// The names of what is defined: of the modules and aliases, then of the recipes.
 fn defined_names<'a, 'src>(
     alloc: Global,
     definitions: &Definitions<'src, 'a>,
 ) -> Result<Vec<BorrowedText<'src>>, AllocError>
     ensures { IfOk result (λ names. names.items ≡ texts_of_defined (defined_in (contents_in definitions.now))) }
 {
-    let mut names = texts_of(alloc, definitions.modules.as_slice())?;
+    let mut names = Naming::texts(alloc, definitions.named.as_slice())?;
     for place in 0..definitions.recipes.len() {
         names.push(BorrowedText::new(definitions.recipe_at(place).name.lexeme()))?;
     }
@@ -88,18 +88,18 @@ fn defined_at<'b, 'a, 'src>(
     definitions: &'b Definitions<'src, 'a>,
     place: usize,
 ) -> (Definition, &'b Name<'src>)
-    requires { place < length definitions.now.modules.items + length definitions.now.recipes.items }
+    requires { place < length definitions.now.named.items + length definitions.now.recipes.items }
     ensures { slice_get (defined_in (contents_in definitions.now)) place ≡ Some (defined result.0 result.1.now) }
 {
-    let modules = definitions.modules.len();
-    if place < modules {
-        return (Definition::Module, &definitions.modules[place]);
+    let named = definitions.named.len();
+    if place < named {
+        return definitions.naming_at(place);
     }
-    let recipe = definitions.recipe_at(place - modules);
+    let recipe = definitions.recipe_at(place - named);
     (Definition::Recipe, &recipe.name)
 }
 
-// Refuses two modules and recipes of one name; two recipes may have it where that is allowed.
+// Refuses two modules, aliases and recipes of one name; two recipes may have it where that is allowed.
 fn check_defined<'a, 'src>(
     alloc: Global,
     definitions: &Definitions<'src, 'a>,
@@ -109,8 +109,8 @@ fn check_defined<'a, 'src>(
     ensures named { IfErr result (Reports (Redefined allowed (defined_in (contents_in definitions.now)))) }
 {
     let names = defined_names(alloc, definitions)?;
-    let modules = definitions.modules.len();
-    let bound = if allowed { modules } else { names.len() };
+    let named = definitions.named.len();
+    let bound = if allowed { named } else { names.len() };
     match repeated_below(alloc, names.as_slice(), bound)? {
         None => Ok(()),
         Some((first, second)) => {
@@ -122,7 +122,7 @@ fn check_defined<'a, 'src>(
 }
 
 /// Refuses a rule that is broken in the bodies of a module with these settings: something needs lists, which are off, two
-/// of its modules and recipes have one name, or a recipe that a shell runs has what it may not have.
+/// of its modules, aliases and recipes have one name, or a recipe that a shell runs has what it may not have.
 pub fn check_bodies<'a, 'src, S: Syntax>(
     alloc: Global,
     syntax: &S,

@@ -16,6 +16,7 @@ use Rattle.just_module_headers.specs.Files.{all_led, led, led_by}
 use Rattle.just_module_contents.specs.Groups.{Breaks}
 use Rattle.just_module_tree.specs.Groups.{KeepsModules, NamesModules, in_module}
 use Rattle.just_module_tree.specs.Modules.{AreModules, Empty, Forest, HasModule, Heading, IsHeading, IsModule, Module, Tree, a_module, after_it, contents_of, first, heading_of, headings_in, in_it, no_module, of_module, of_root, path_of}
+use Rattle.just_module_tree.specs.Standing.{links_in}
 use Rattle.just_module_headers.specs.Reading.{Reading, Submodule, declared, imported, imports_of, items_in, located_ast, reading_of, submodules_of}
 use Rattle.just_module_headers.proofs.FilePlaces.{keys_flat, led_counted}
 use Rattle.just_module_headers.proofs.Holding.{led_counts, some_value}
@@ -171,10 +172,13 @@ module _ (R S : Reading) (Q : AstKey → Type 0) (agree : (k : AstKey) → Q k �
     same_unnamed named (in_module {c} {h} {m} {inside} g r modules ground breaks) =
         let up = same_heading q r in
         let t = cut R modules h [] refl in
-        let is : IsModule S h m = subst (λ x. IsModule S h x) (let e : t.m ≡ m = cc in e) (same_module h t.m up.1 t.is) in
+        let of_m : t.m ≡ m = cc in
+        let of_inside : t.inside ≡ inside = cc in
         let x = find_reached S are up.0 in
-        let same : x.m ≡ m = one_module S h x.m m x.is is in
-        kept x.m x.inside x.has g c (subst (λ y. Breaks (layers_at given (path_of y)) g (contents_of y) c) (sym same) breaks)
+        let here : x.m ≡ t.m = one_module S h x.m t.m x.is (same_module h t.m up.1 t.is) in
+        let below : x.inside ≡ t.inside = one_forest S (subst (λ y. AreModules S (headings_in y) x.inside) here x.within) (same_forest (heading_known h t.m up.1 t.is) t.within) in
+        kept x.m x.inside x.has g c
+        (subst (λ y. Breaks (layers_at given (path_of y)) (links_in y x.inside) g (contents_of y) c) (sym (here ∙ of_m)) (subst (λ k. Breaks (layers_at given (path_of m)) (links_in m k) g (contents_of m) c) (sym (below ∙ of_inside)) breaks))
 
 -- What asts hold leads to what they hold.
 module _ (enabled : Item → Bool) (asts : AstKey → Option Ast) (can : AreAnalyzable enabled asts) where

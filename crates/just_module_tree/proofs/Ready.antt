@@ -24,7 +24,7 @@ use Rattle.just_recipe.specs.declared.recipe.Recipe.{Recipe}
 use Rattle.just_ast_definitions.specs.declared.function_definition.FunctionDefinition.{FunctionDefinition}
 use Rattle.just_module_headers.specs.Files.{ArePlaced, AreRows, asts_in}
 use Rattle.just_module_headers.specs.Joined.{AreJoined, IsJoined}
-use Rattle.just_module_contents.specs.Named.{function_by, lists_by, lists_from, name_by, said_from, recipes_by, recipes_from, set_by, unexported_by, variable_by}
+use Rattle.just_module_contents.specs.Named.{alias_by, function_by, lists_by, lists_from, name_by, naming_by, said_from, recipes_by, recipes_from, set_by, unexported_by, variable_by}
 use Rattle.just_module_contents.specs.Labels.{doc_by, label_by}
 use Rattle.just_module_contents.specs.declared.labels.Label.{Label}
 use Rattle.just_module_contents.specs.Said.{said, said_in}
@@ -72,6 +72,16 @@ unexport_located : (i : Item) → unexported_by (located_item i) ≡ unexported_
 unexport_located (item.Unexport name) = refl
 unexport_located _ = refl
 
+alias_located : (i : Item) → alias_by (located_item i) ≡ alias_by i
+alias_located (item.Alias a) = refl
+alias_located _ = refl
+
+naming_located : (i : Item) → naming_by (located_item i) ≡ naming_by i
+naming_located (item.Module name relative None attributes doc optional) = refl
+naming_located (item.Module name relative (Some file) attributes doc optional) = refl
+naming_located (item.Alias a) = refl
+naming_located _ = refl
+
 doc_located : (i : Item) → doc_by (located_item i) ≡ doc_by i
 doc_located (item.Module name relative None attributes doc optional) = refl
 doc_located (item.Module name relative (Some file) attributes doc optional) = refl
@@ -99,7 +109,8 @@ module _ {A B : Type 0} (by : Item → List A) (f : A → B) (located : (i : Ite
   one_said true i items = map-append f (by (located_item i)) (flat_map by (map located_item (enabled_items enabled items))) ∙ ap (λ ys. ys ++ map f (flat_map by (map located_item (enabled_items enabled items)))) (located i)
   one_said false i items = refl
 
-  said_counted : (items : List Item) → map f (flat_map by (map located_item (enabled_items enabled items))) ≡ map f (said by enabled items)
+  -- what located items say is what the enabled ones of the text say
+  pub said_counted : (items : List Item) → map f (flat_map by (map located_item (enabled_items enabled items))) ≡ map f (said by enabled items)
   said_counted [] = refl
   said_counted (i ∷ items) =
       one_said (enabled (bare_item i)) i items ∙ ap (λ ys. map f (cond (enabled (bare_item i)) (by i) []) ++ ys) (said_counted items)
@@ -117,12 +128,13 @@ module _ (enabled : Item → Bool) where
   no_recipe true _ items e = refl
   no_recipe false i items e = refl
 
-  recipes_counted : (items : List Item) → AreAlike (recipes_of enabled items) (recipes_said (map located_item (enabled_items enabled items)))
+  -- their recipes are alike
+  pub recipes_counted : (items : List Item) → AreAlike (recipes_of enabled items) (recipes_said (map located_item (enabled_items enabled items)))
   recipes_counted [] = refl
   recipes_counted (item.Recipe r ∷ items) = one_recipe (enabled (bare_item (item.Recipe r))) r items (recipes_counted items)
   recipes_counted (i ∷ items) = recipes_counted items ∙ ap outlines_of (sym (no_recipe (enabled (bare_item i)) i items refl))
 
-  said_append : (xs ys : List Item) → recipes_said (xs ++ ys) ≡ recipes_said xs ++ recipes_said ys
+  pub said_append : (xs ys : List Item) → recipes_said (xs ++ ys) ≡ recipes_said xs ++ recipes_said ys
   said_append [] ys = refl
   said_append (item.Recipe r ∷ xs) ys = ap (λ (rs : List (Recipe UnresolvedDependency)). r ∷ rs) (said_append xs ys)
   said_append (_ ∷ xs) ys = said_append xs ys
@@ -194,6 +206,13 @@ module _ (enabled : Item → Bool) (entries : List (AstKey × Ast)) (d : AstKey)
     same_are : (xs : List ℕ) → ((q : ℕ) → In q xs → q < n) → said_from by enabled (asts_in files) xs ≡ flat_map by (items_of (map (λ k. unwrap_or (R k) no_ast) (map key_at xs)))
     same_are xs inside =
         sym (map-id (said_from by enabled (asts_in files) xs)) ∙ said_are by (λ n. n) (λ i. ap (map (λ n. n)) (located i)) xs inside ∙ map-id (flat_map by (items_of (map (λ k. unwrap_or (R k) no_ast) (map key_at xs))))
+
+  -- its aliases, and what is defined in it under names beside recipes
+  pub aliases_are : (xs : List ℕ) → ((q : ℕ) → In q xs → q < n) → said_from alias_by enabled (asts_in files) xs ≡ flat_map alias_by (items_of (map (λ k. unwrap_or (R k) no_ast) (map key_at xs)))
+  aliases_are = same_are alias_by alias_located
+
+  pub namings_are : (xs : List ℕ) → ((q : ℕ) → In q xs → q < n) → said_from naming_by enabled (asts_in files) xs ≡ flat_map naming_by (items_of (map (λ k. unwrap_or (R k) no_ast) (map key_at xs)))
+  namings_are = same_are naming_by naming_located
 
   -- what a module unexports
   pub unexports_are : (xs : List ℕ) → ((q : ℕ) → In q xs → q < n) → said_from unexported_by enabled (asts_in files) xs ≡ flat_map unexported_by (items_of (map (λ k. unwrap_or (R k) no_ast) (map key_at xs)))

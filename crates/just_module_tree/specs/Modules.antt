@@ -9,7 +9,7 @@ use Rattle.just_parts.specs.Items.{Ast, Item}
 use Rattle.just_ast_expressions.specs.declared.string_literal.StringLiteral.{StringLiteral}
 use Rattle.just_names.specs.declared.name.Name.{Name}
 use Rattle.just_module_contents.specs.Contents.{Contents}
-use Rattle.just_module_contents.specs.Named.{function_by, set_by, unexported_by, variable_by}
+use Rattle.just_module_contents.specs.Named.{alias_by, function_by, naming_by, set_by, unexported_by, variable_by}
 use Rattle.just_module_contents.specs.Recipes.{recipes_said}
 use Rattle.just_module_headers.specs.Reading.{Reading, Submodule, imports_of, submodules_of}
 use Rattle.just_module_contents.specs.Labels.{doc_by}
@@ -55,7 +55,9 @@ contents_of m = record {
   recipes = recipes_said (items_of m.asts);
   functions = flat_map function_by (items_of m.asts);
   variables = flat_map variable_by (items_of m.asts);
+  aliases = flat_map alias_by (items_of m.asts);
   modules = map (λ (s : Submodule). s.name) m.modules;
+  named = flat_map naming_by (items_of m.asts);
   docs = flat_map doc_by (items_of m.asts);
   unexports = flat_map unexported_by (items_of m.asts);
   sets = flat_map set_by (items_of m.asts);

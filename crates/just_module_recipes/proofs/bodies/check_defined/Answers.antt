@@ -11,12 +11,12 @@ use Rattle.just_module_recipes.proofs.bodies.check_defined.Goals as goal
 
 pub returns-in-None-clause-kept : goal.returns-in-None-clause-kept
 returns-in-None-clause-kept c =
-    let ns = c.args.definitions.now.modules.items in
+    let ns = c.args.definitions.now.named.items in
     let rs = recipes_in c.args.definitions.now in
     let texts = texts_of_defined (all_defined ns rs) in
     let made : c.as_slice.result.now ≡ texts = c.as_slice.ensures.value ∙ c.in_ok-names.ensures in
     let bound : c.if-allowed.bound ≡ bound_of ns rs c.args.allowed = elim c.if-allowed.branch [
-      | then-allowed w ↦ (let many : c.len-modules.result ≡ length ns = grind (arith, common_steps) in w.bound-is ∙ many ∙ ap (λ b. if b then length ns else length texts) (sym w.if-allowed.true))
+      | then-allowed w ↦ (let many : c.len-named.result ≡ length ns = grind (arith, common_steps) in w.bound-is ∙ many ∙ ap (λ b. if b then length ns else length texts) (sym w.if-allowed.true))
       | else-allowed w ↦ (let many : w.len-bound.result ≡ length c.in_ok-names.names.items = grind (arith, common_steps) in w.bound-is ∙ many ∙ ap (λ (ts : List Text). length ts) c.in_ok-names.ensures ∙ ap (λ b. if b then length ns else length texts) (sym w.if-allowed.false))
     ] in
     let none : NoneRepeats c.as_slice.result.now (length c.as_slice.result.now) c.if-allowed.bound = rw c.in-None.is at c.in_ok-repeated_below.ensures.none in
@@ -24,12 +24,12 @@ returns-in-None-clause-kept c =
 
 pub returns-clause-named : goal.returns-clause-named
 returns-clause-named c =
-    let ns = c.args.definitions.now.modules.items in
+    let ns = c.args.definitions.now.named.items in
     let rs = recipes_in c.args.definitions.now in
     let texts = texts_of_defined (all_defined ns rs) in
     let made : c.as_slice.result.now ≡ texts = c.as_slice.ensures.value ∙ c.in_ok-names.ensures in
     let bound : c.if-allowed.bound ≡ bound_of ns rs c.args.allowed = elim c.if-allowed.branch [
-      | then-allowed w ↦ (let many : c.len-modules.result ≡ length ns = grind (arith, common_steps) in w.bound-is ∙ many ∙ ap (λ b. if b then length ns else length texts) (sym w.if-allowed.true))
+      | then-allowed w ↦ (let many : c.len-named.result ≡ length ns = grind (arith, common_steps) in w.bound-is ∙ many ∙ ap (λ b. if b then length ns else length texts) (sym w.if-allowed.true))
       | else-allowed w ↦ (let many : w.len-bound.result ≡ length c.in_ok-names.names.items = grind (arith, common_steps) in w.bound-is ∙ many ∙ ap (λ (ts : List Text). length ts) c.in_ok-names.ensures ∙ ap (λ b. if b then length ns else length texts) (sym w.if-allowed.false))
     ] in
     let repeats : Repeats c.as_slice.result.now c.in-Some.first c.in-Some.second = rw c.in-Some.is at c.in_ok-repeated_below.ensures.repeated in

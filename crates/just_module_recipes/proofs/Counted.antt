@@ -1,0 +1,80 @@
+-- The rules of the arguments of dependencies.
+use Rattle.std.proofs.Common.{◌≡◌, ℕ, ◌+◌, ◌<◌, Bool, true, false, List, [], length, take, get_or, None, Some, refl, sym, ◌∙◌, ap, subst, subst₂, arith, inl, inr}
+use Rattle.std.specs.BTreeSet.{BTreeSet}
+use Rattle.std.specs.List.{All}
+use Rattle.std.proofs.lemmas.Bool.{cases_lt}
+use Rattle.std.proofs.lemmas.List.Elements.{All-push}
+use Rattle.just_ast_definitions.specs.Parameter.{least_arguments, most_arguments}
+use Rattle.just_ast_definitions.specs.declared.parameter.Parameter.{Parameter}
+use Rattle.just_errors.specs.Causes.{Broken}
+use Rattle.just_errors.specs.declared.error.CompileErrorKind.TheVariants as kind
+use Rattle.just_invoke.specs.declared.resolution.Resolution.TheVariants as resolution
+use Rattle.just_module_contents.specs.Recipes.{name_of, names_of, recipe_at}
+use Rattle.just_module_contents.specs.Rules.{IsOutside, StandsWith, argument_count, starred}
+use Rattle.just_module_recipes.specs.Links.{Around, BreaksLinks, HasParameters, Stands, Takes, found_by, of_far, of_near}
+use Rattle.just_module_recipes.specs.Making.{AreGiven, IsGiven, IsThere, parameters_in, parameters_of}
+use Rattle.just_module_recipes.specs.Rows.{IsTarget, keys_at}
+use Rattle.just_module_recipes.specs.declared.targets.Target.{Target}
+use Rattle.just_module_recipes.specs.declared.targets.Target.TheVariants.{Near, Far, Gone}
+use Rattle.just_module_recipes.proofs.Finding.{near_only, nowhere}
+use Rattle.just_module_recipes.proofs.Held.{held_some}
+use Rattle.just_module_recipes.proofs.SameSets.{taken}
+use Rattle.just_names.specs.Index.{AreDifferent}
+use Rattle.just_names.specs.Token.{Place}
+use Rattle.just_names.specs.declared.name.Namepath.{Namepath}
+use Rattle.just_names.specs.declared.number.Number.{Number}
+use Rattle.just_paths.specs.declared.modulepath.Modulepath.{Modulepath}
+use Rattle.just_recipe.specs.Starred.{has_star}
+use Rattle.just_recipe.specs.declared.dependency.UnresolvedDependency.{UnresolvedDependency}
+use Rattle.just_recipe.specs.declared.recipe.Recipe.{Recipe}
+
+module _ (lists : Bool) (rs : List (Recipe UnresolvedDependency)) (it : Around) (d : UnresolvedDependency) where
+  pub is_starred : (place : Place) → StandsWith (Stands rs it) rs d → lists ≡ false → has_star d.arguments ≡ true → place ≡ d.recipe.last.token → BreaksLinks lists rs it (Broken place kind.MappedDependencyWithoutListsSetting)
+  is_starred place s off on told = subst (λ (p : Place). BreaksLinks lists rs it (Broken p kind.MappedDependencyWithoutListsSetting)) (sym told) (starred s off on)
+
+  -- what a target says of the parameters
+  has_parameters : (t : Target) → IsTarget rs it d.recipe t → IsThere rs it.held t → HasParameters rs it d.recipe (parameters_of rs it.held t)
+  has_parameters (Near j) n h = of_near j n refl
+  has_parameters (Far n) f h = let x = held_some it.held n.0 h in of_far n x.0 f x.1 (ap parameters_in (sym x.1))
+  has_parameters (Gone set) f h = absurd h
+
+  -- and that there are no others
+  only_parameters : AreDifferent (names_of rs) → (t : Target) → IsTarget rs it d.recipe t → IsThere rs it.held t → (ps : List Parameter) → HasParameters rs it d.recipe ps → ps ≡ parameters_of rs it.held t
+  only_parameters different t k h ps (of_near j n e) = let same : t ≡ Near j = near_only rs it different d.recipe t j k n in sym e ∙ ap (parameters_of rs it.held) (sym same)
+  only_parameters different t k h ps (of_far n r f g e) = let same = far_only t n k f in sym e ∙ (ap parameters_in (sym g) ∙ ap (parameters_of rs it.held) (sym same))
+    where
+      far_only : (t : Target) (n : Number) → IsTarget rs it d.recipe t → found_by it d.recipe ≡ Some (resolution.Resolved n) → t ≡ Far n
+      far_only (Near j) n m e = let wrong : Some (resolution.Resolved n) ≡ None = sym e ∙ nowhere it d.recipe (name_of (recipe_at rs j)) m.named in absurd (cc)
+      far_only (Far m) n f e = let both = sym f ∙ e in let same : m ≡ n = cc in ap Far same
+      far_only (Gone set) n f e = let wrong = sym f ∙ e in absurd (cc)
+
+  module _ (t : Target) (target : IsTarget rs it d.recipe t) (there : IsThere rs it.held t) where
+    pub is_miscounted : StandsWith (Stands rs it) rs d → (found least most : ℕ) (path : Namepath) (place : Place) → found ≡ length d.arguments → least ≡ least_arguments (parameters_of rs it.held t) → most ≡ most_arguments lists (parameters_of rs it.held t) → IsOutside found least most
+        → path ≡ d.recipe → place ≡ d.recipe.last.token → BreaksLinks lists rs it (Broken place (kind.DependencyArgumentCountMismatch path found least most))
+    is_miscounted s found least most path place given is_least is_most wrong copied told =
+        let takes : Takes lists rs it d.recipe least most = record { parameters = parameters_of rs it.held t; has = has_parameters t target there; least_is = sym is_least; most_is = sym is_most } in
+        subst₂ (λ (p : Place) (x : Namepath). BreaksLinks lists rs it (Broken p (kind.DependencyArgumentCountMismatch x found least most))) (sym told) (sym copied) (argument_count s takes (sym given) wrong)
+
+    pub is_given : AreDifferent (names_of rs) → (found least most : ℕ) → found ≡ length d.arguments → least ≡ least_arguments (parameters_of rs it.held t) → most ≡ most_arguments lists (parameters_of rs it.held t) → (IsOutside found least most → ⊥)
+        → (lists ≡ false → has_star d.arguments ≡ true → ⊥) → IsGiven lists rs it d
+    is_given different found least most given is_least is_most right star = record {
+      star = star;
+      count = λ l m takes wrong.
+          let same : takes.parameters ≡ parameters_of rs it.held t = only_parameters different t target there takes.parameters takes.has in
+          let a : l ≡ least = sym takes.least_is ∙ (ap least_arguments same ∙ sym is_least) in
+          let b : m ≡ most = sym takes.most_is ∙ (ap (most_arguments lists) same ∙ sym is_most) in
+          right (subst (λ n. IsOutside n least most) (sym given) (subst₂ (IsOutside (length d.arguments)) a b wrong));
+    }
+
+-- one recipe more
+pub given_more : (lists : Bool) (rs : List (Recipe UnresolvedDependency)) (it : Around) (sets : List (BTreeSet Modulepath)) (n : ℕ) → AreGiven lists rs it sets n → (keys_at sets n ≡ [] → All (IsGiven lists rs it) (recipe_at rs n).dependencies) → AreGiven lists rs it sets (n + 1)
+given_more lists rs it sets n old new i h e = elim (cases_lt i n) [
+  | inl l ↦ old i l e
+  | inr l ↦
+      let same : n ≡ i = omega (arith, h, l) in
+      subst (λ k. All (IsGiven lists rs it) (recipe_at rs k).dependencies) same (new (ap (keys_at sets) same ∙ e))
+]
+
+-- one dependency more
+pub given_next : (lists : Bool) (rs : List (Recipe UnresolvedDependency)) (it : Around) (ds : List UnresolvedDependency) (at : ℕ) (d : UnresolvedDependency) → at < length ds → d ≡ get_or ds at d → All (IsGiven lists rs it) (take at ds) → IsGiven lists rs it d → All (IsGiven lists rs it) (take (at + 1) ds)
+given_next lists rs it ds at d h read old new = subst (All (IsGiven lists rs it)) (sym (taken ds at d h read)) (All-push (IsGiven lists rs it) (take at ds) d old new)

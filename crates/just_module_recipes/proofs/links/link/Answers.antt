@@ -1,0 +1,68 @@
+use Rattle.std.proofs.Common.{rules, ◌≡◌, ◌<◌, ◌∙◌, ◌++◌, ℕ, List, [], ap, arith, get_or, length, subst, sym}
+use Rattle.std.specs.BTreeSet.{BTreeSet}
+use Rattle.just_module_contents.specs.Definitions.{recipes_in}
+use Rattle.just_module_contents.specs.Recipes.{recipe_at}
+use Rattle.just_module_contents.specs.Standing.{AreStanding}
+use Rattle.just_module_recipes.specs.Linked.{disabled_table}
+use Rattle.just_module_recipes.specs.Links.{Stands, around}
+use Rattle.just_module_recipes.specs.Making.{fallen, made, standing}
+use Rattle.just_module_recipes.specs.Planned.{IsPlan}
+use Rattle.just_module_recipes.specs.Rows.{IsTargetOf}
+use Rattle.just_module_recipes.specs.declared.targets.Target.{Target}
+use Rattle.just_module_recipes.proofs.Finished.{adds_linked}
+use Rattle.just_module_recipes.proofs.Splits.{disabled_exact, standing_exact}
+use Rattle.just_module_recipes.proofs.Zipped.{zip_length}
+use Rattle.just_paths.specs.declared.modulepath.Modulepath.{Modulepath}
+use Rattle.just_module_recipes.proofs.links.link.Goals as goal
+
+pub resolve-requires-clause-counts : goal.resolve-requires-clause-counts
+resolve-requires-clause-counts c =
+    let rs = recipes_in c.args.kept.now in
+    let it = around c.args.absent.now c.args.modules.now c.args.recipes in
+    let plan : IsPlan rs it c.in_ok-rows.field-0 = c.in_ok-rows.ensures.plan in
+    let rows = c.in_ok-rows.field-0.rows.items in
+    let order = c.in_ok-rows.field-0.order.items in
+    let sets = c.in_ok-rows.field-0.sets.items in
+    let read : c.as_slice.result.now ≡ rows = search rules in
+    subst (λ (xs : List (List Target)). (k : ℕ) → k < length xs → length (get_or xs k []) ≡ length (recipe_at rs k).dependencies) (sym read)
+    (λ k h. zip_length (IsTargetOf rs it) (recipe_at rs k).dependencies (get_or rows k []) (plan.rows.each k (omega (arith, h, plan.rows.count))))
+
+pub returns-clause-standing : goal.returns-clause-standing
+returns-clause-standing c =
+    let rs = recipes_in c.args.kept.now in
+    let it = around c.args.absent.now c.args.modules.now c.args.recipes in
+    let plan : IsPlan rs it c.in_ok-rows.field-0 = c.in_ok-rows.ensures.plan in
+    let rows = c.in_ok-rows.field-0.rows.items in
+    let order = c.in_ok-rows.field-0.order.items in
+    let sets = c.in_ok-rows.field-0.sets.items in
+    let is : recipes_in c.in_ok-standing.standing ≡ standing sets rs = c.in_ok-standing.ensures.standing in
+    subst (AreStanding (Stands rs it) rs) (sym is) (standing_exact rs it sets plan.exact)
+
+pub returns-clause-disabled : goal.returns-clause-disabled
+returns-clause-disabled c =
+    let rs = recipes_in c.args.kept.now in
+    let it = around c.args.absent.now c.args.modules.now c.args.recipes in
+    let plan : IsPlan rs it c.in_ok-rows.field-0 = c.in_ok-rows.ensures.plan in
+    let rows = c.in_ok-rows.field-0.rows.items in
+    let order = c.in_ok-rows.field-0.order.items in
+    let sets = c.in_ok-rows.field-0.sets.items in
+    let is : c.in_ok-standing.disabled.items ≡ fallen sets rs = search rules in
+    (fallen sets rs, disabled_exact rs it sets plan.exact, c.in_ok-disabled.ensures.all ∙ ap disabled_table is)
+
+pub returns-clause-linked : goal.returns-clause-linked
+returns-clause-linked c =
+    let rs = recipes_in c.args.kept.now in
+    let it = around c.args.absent.now c.args.modules.now c.args.recipes in
+    let plan : IsPlan rs it c.in_ok-rows.field-0 = c.in_ok-rows.ensures.plan in
+    let rows = c.in_ok-rows.field-0.rows.items in
+    let order = c.in_ok-rows.field-0.order.items in
+    let sets = c.in_ok-rows.field-0.sets.items in
+    let read : c.as_slice.result.now ≡ rows = search rules in
+    let listed : c.as_slice-2.result.now ≡ order = search rules in
+    let told : c.as_slice-3.result.now ≡ sets = search rules in
+    let lists = c.args.settings.now.lists in
+    let path = c.args.module_path.now in
+    adds_linked rs it sets plan.exact c.requires.different rows plan.rows lists path c.requires.once c.requires.priors c.requires.apart order plan.order plan.there c.in_ok-all.all
+    (c.in_ok-all.ensures ∙ (ap (λ (xs : List (List Target)). c.args.recipes ++ made lists rs c.args.recipes path xs c.as_slice-3.result.now c.as_slice-2.result.now) read
+    ∙ (ap (λ (xs : List (BTreeSet Modulepath)). c.args.recipes ++ made lists rs c.args.recipes path rows xs c.as_slice-2.result.now) told
+    ∙ ap (λ (xs : List ℕ). c.args.recipes ++ made lists rs c.args.recipes path rows sets xs) listed)))
