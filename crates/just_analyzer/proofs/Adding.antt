@@ -11,7 +11,7 @@ use Rattle.just_table.specs.Entries.{put, put_all}
 use Rattle.just_module_contents.specs.Labels.{doc_by, label_by}
 use Rattle.just_module_contents.specs.Notes.{absent_by, features_by, noted, warnings_by}
 use Rattle.just_module_contents.specs.Contents.{Contents, with_lists}
-use Rattle.just_module_contents.specs.Named.{contents_from, function_by, lists_by, name_by, recipes_by, said_from, set_by, unexported_by, variable_by}
+use Rattle.just_module_contents.specs.Named.{alias_by, contents_from, function_by, lists_by, name_by, naming_by, recipes_by, said_from, set_by, unexported_by, variable_by}
 use Rattle.just_analyzer.specs.Noted.{notes_from}
 use Rattle.just_module_contents.specs.Said.{said, said_in}
 use Rattle.just_module_contents.specs.Recipes.{recipes_of}
@@ -46,15 +46,18 @@ module _ (enabled : Item → Bool) (asts : List Ast) (places : List ℕ) (n plac
       more field say read known says is = is ∙ (λ i. field (same i) ++ say (are i)) ∙ (λ i. known i ++ says i) ∙ sym (next read)
 
       pub contents_more : added.recipes ≡ before.recipes ++ recipes_of enabled items → added.functions ≡ before.functions ++ said function_by enabled items
-          → added.variables ≡ before.variables ++ said variable_by enabled items → added.modules ≡ before.modules ++ said name_by enabled items → added.docs ≡ before.docs ++ said doc_by enabled items
+          → added.variables ≡ before.variables ++ said variable_by enabled items → added.aliases ≡ before.aliases ++ said alias_by enabled items → added.modules ≡ before.modules ++ said name_by enabled items
+          → added.named ≡ before.named ++ said naming_by enabled items → added.docs ≡ before.docs ++ said doc_by enabled items
           → added.unexports ≡ before.unexports ++ said unexported_by enabled items → added.sets ≡ before.sets ++ said set_by enabled items → added.lists ≡ before.lists
           → with_lists added uses ≡ contents_from enabled asts (take (n + 1) places)
-      contents_more recipes functions variables modules docs unexports sets lists =
+      contents_more recipes functions variables aliases modules named docs unexports sets lists =
           let lists_are = (λ i. lists i ++ need i) ∙ (λ i. (same i).lists ++ ast.list_features) ∙ sym (next lists_by) in λ i. record {
             recipes = more (λ m. m.recipes) (recipes_of enabled) (recipes_by enabled) refl refl recipes i;
             functions = more (λ m. m.functions) (said function_by enabled) (said_in function_by enabled) refl refl functions i;
             variables = more (λ m. m.variables) (said variable_by enabled) (said_in variable_by enabled) refl refl variables i;
+            aliases = more (λ m. m.aliases) (said alias_by enabled) (said_in alias_by enabled) refl refl aliases i;
             modules = more (λ m. m.modules) (said name_by enabled) (said_in name_by enabled) refl refl modules i;
+            named = more (λ m. m.named) (said naming_by enabled) (said_in naming_by enabled) refl refl named i;
             docs = more (λ m. m.docs) (said doc_by enabled) (said_in doc_by enabled) refl refl docs i;
             unexports = more (λ m. m.unexports) (said unexported_by enabled) (said_in unexported_by enabled) refl refl unexports i;
             sets = more (λ m. m.sets) (said set_by enabled) (said_in set_by enabled) refl refl sets i;

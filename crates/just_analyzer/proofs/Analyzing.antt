@@ -19,40 +19,50 @@ use Rattle.just_parts.specs.Items.{Ast}
 use Rattle.just_paths.specs.declared.modulepath.Modulepath.{Modulepath}
 use Rattle.just_recipe.specs.Recipes.{IsOrdered, IsResolved}
 use Rattle.just_invoke.specs.Closed.{IsPlaced, StandsIn}
-use Rattle.just_invoke.specs.Module as naming
 use Rattle.just_invoke.specs.declared.justfile.Justfile.{Justfile, out-Justfile, out-roll-Justfile}
 use Rattle.just_module_headers.specs.Analyzable.{AreAnalyzable}
 use Rattle.just_analyzer.specs.Analyzed.{ComeAfter, IsAnalyzed}
-use Rattle.just_names.specs.Index.{texts_of_names, AreDifferent}
+use Rattle.just_names.specs.Index.{AreDifferent}
+use Rattle.just_module_contents.specs.Contents.{texts_of_named}
 use Rattle.just_module_headers.specs.Files.{ArePlaced, AreRows}
-use Rattle.just_module_tree.specs.Groups.{KeepsGroups, NamesModules}
+use Rattle.just_module_tree.specs.Groups.{NamesModules}
 use Rattle.just_module_headers.specs.Joined.{AreArranged, AreJoined, GoDeeper, IsJoined}
-use Rattle.just_analyzer.specs.Labelled.{label_in, labelled_as, slot}
-use Rattle.just_analyzer.specs.Justfiles.{AreCompiled, Built, Made, recipes_of_all}
+use Rattle.just_compiled.specs.Labelled.{label_in, labelled_as, slot, by_name, with_labels}
+use Rattle.just_compiled.specs.Justfiles.{AreCompiled, Built, Made, recipes_of_all, none}
 use Rattle.just_module_contents.specs.declared.labels.Label.{Label}
-use Rattle.just_module_tree.specs.Modules.{AreModules, Empty, Forest, HasModule, Heading, IsHeading, Module, Tree, a_module, after_it, first, in_it, no_module}
+use Rattle.just_module_tree.specs.Modules.{AreModules, Empty, Forest, Heading, IsHeading, Module, Tree, first, no_module}
 use Rattle.just_module_headers.specs.Reading.{Reading, Submodule, reading_of}
-use Rattle.just_module_headers.specs.OfPlaces.{RepeatsNames, labels_of_place, names_of_place}
-use Rattle.just_analyzer.specs.Steps.{BreaksInOrder, CanCompileAll, HaveCompiled}
+use Rattle.just_module_headers.specs.OfPlaces.{RepeatsNames, labels_of_place, namings_of_place}
+use Rattle.just_analyzer.specs.Steps.{BreaksInOrder, CanCompileAll, HaveCompiled, BreaksOver, HaveCompiledSoFar, not_yet, so_far}
 use Rattle.just_module_headers.specs.declared.files.Files.{Files}
 use Rattle.just_module_headers.specs.declared.files.Rows.{Rows}
 use Rattle.just_module_headers.specs.declared.joined.Joined.{Joined}
 use Rattle.just_module_tree.proofs.Agreeing.{find_reached}
-use Rattle.just_analyzer.proofs.Closing.{forest_closed, forest_tables}
+use Rattle.just_compiled.proofs.Closing.{forest_closed, forest_tables}
+use Rattle.just_compiled.proofs.OwnNumbers.{own_numbers}
 use Rattle.just_analyzer.proofs.Compilable.{can_compile_all, listed, one_at, stands, subs_differ}
 use Rattle.just_module_headers.proofs.FilePlaces.{count, one_place}
-use Rattle.just_analyzer.proofs.Forests.{forest_at, is_compiled, tree_compiled}
+use Rattle.just_analyzer.proofs.Forests.{forest_at, Held, names_next, path_same, tree_held, pair_flat}
 use Rattle.just_module_tree.proofs.Headed.{heading_at}
-use Rattle.just_analyzer.proofs.Keeping.{keeps_groups, keeps_listed, names_next, names_repeated}
+use Rattle.just_analyzer.proofs.Keeping.{names_repeated}
 use Rattle.just_module_tree.proofs.ModulePaths.{below_root, deeper, ends_same, entered, not_root, one_path, subs_at}
-use Rattle.just_module_tree.proofs.ModulePlaces.{IsListed, file_inside, module_of, nobody}
-use Rattle.just_analyzer.proofs.Placing.{declared_names, made_path, standing, submodule_names}
+use Rattle.just_module_tree.proofs.ModulePlaces.{file_inside, module_of, nobody}
+use Rattle.just_compiled.proofs.Placing.{declared_names, made_path, standing, submodule_names}
 use Rattle.just_module_tree.proofs.Ready.{edge_joined}
 use Rattle.just_parts.specs.Layers.{Given}
+use Rattle.just_recipe.specs.declared.dependency.Dependency.{Dependency}
+use Rattle.just_recipe.specs.declared.recipe.Recipe.{Recipe}
+use Rattle.just_analyzer.proofs.Ordered.{inner_there}
+use Rattle.just_analyzer.proofs.Meeting.{names_over, none_inside}
 
-pair_flat : {A B : Type 0} (of : Made → List B) (f : ℕ → A) (made : ℕ → Made) (xs : List ℕ) → flat_map (λ q. of (made q)) xs ≡ flat_map (λ (b : A × Made). of b.1) (map (λ q. (f q, made q)) xs)
-pair_flat of f made [] = refl
-pair_flat of f made (x ∷ xs) = ap (λ rs. of (made x) ++ rs) (pair_flat of f made xs)
+-- nothing is compiled under any labels
+no_compiled_as : (given : Given) (asts : AstKey → Option Ast) (loaded : List Text) (built : List Built) (labels : List Label) → AreCompiled given asts loaded built Empty (with_labels [] labels)
+no_compiled_as given asts loaded built labels = none
+
+-- a row of nothing is empty
+no_row : (row : List ℕ) → ((q : ℕ) → In q row → ⊥) → row ≡ []
+no_row [] nothing = refl
+no_row (q ∷ row) nothing = absurd (nothing q (inl refl))
 
 module _ (given : Given) (entries : List (AstKey × Ast)) (d : AstKey) (files : Files) (placed : ArePlaced entries files) (rows : Rows) (are : AreRows given.syntax.enabled files rows)
     (can : AreAnalyzable given.syntax.enabled (λ k. lookup (same_ast_key k) entries)) where
@@ -109,15 +119,39 @@ module _ (given : Given) (entries : List (AstKey × Ast)) (d : AstKey) (files : 
         let h = heading r.at r.there in
         names_repeated given entries d files placed rows are can.paths joined order below joins arr.ordered.steps_first top r.at r.there h.0 h.2 h.1 c r.broken
 
-    module _ (different : (k : ℕ) → k < length order → AreDifferent (texts_of_names (names_of_place given.syntax.enabled files joined (slice_index order k)))) where
+    module _ (different : (k : ℕ) → k < length order → AreDifferent (texts_of_named (namings_of_place given.syntax.enabled files joined (slice_index order k)))) where
       pub all_can : CanCompileAll given.syntax.enabled files joined order
       all_can = can_compile_all given.syntax.enabled entries d files placed rows are can joined aj root inside arr.root_joined arr.inner_joined order arr.ordered arr.reached different
 
-      -- a broken rule of recipes is named
-      pub broken_named : (c : Cause) → BreaksInOrder given files joined order c → NamesModules given R top c
-      broken_named c r =
-          let h = heading r.at r.there in
-          names_next given entries d files placed rows are can.paths joined order below joins arr.ordered.steps_first top r.at r.there h.0 h.2 h.1 c r.before r.broken
+      -- the modules that a module declares have different names
+      names_at : (k : ℕ) → k < length order → AreDifferent (map (λ (s : Submodule). text_if_named s.label.name) (subs_at given.syntax.enabled entries d files placed rows are can.paths joined (slice_index order k)))
+      names_at k l =
+          let p = slice_index order k in
+          subst AreDifferent (sym (submodule_names _ (declared_names R (map key_at (targets joined.files.items p)))))
+          (subs_differ given.syntax.enabled entries d files placed rows are can joined aj root inside arr.root_joined arr.inner_joined order arr.ordered arr.reached different p (reached k l))
+
+      many : (k : ℕ) → k < length order → length (labels_of_place given.syntax.enabled files joined (slice_index order k)) ≡ length (targets joined.modules.items (slice_index order k))
+      many k l = (all_can.each k l).labels
+
+      -- a broken rule is named: of the first module, or over those that are compiled
+      first_named : (loaded : List Text) (k : ℕ) (l : k < length order) → k ≡ 0 → (slots : List (Option Justfile)) (held : List (Recipe Dependency)) → held ≡ [] → (c : Cause) → BreaksOver given files joined (slice_index order k) slots held c → NamesModules given R top c
+      first_named loaded k l start slots held empty c broken =
+          let h = heading k l in
+          let row = targets joined.modules.items (slice_index order k) in
+          let none : row ≡ [] = no_row row (λ q i. let x = in_take order k q (omega (arith, l)) (arr.ordered.steps_first k q l (contained q row i)) in omega (arith, x.1, start)) in
+          let heads = none_inside given entries d files placed rows are can.paths joined order below joins arr.ordered.steps_first loaded many names_at k l h.0 h.2 none in
+          names_over given entries d files placed rows are can.paths joined order below joins arr.ordered.steps_first loaded many names_at k l h.0 h.2 Empty (subst (λ hs. AreModules R hs Empty) (sym heads) no_module) [] [] (ap length (sym none)) (λ labels e. no_compiled_as given (λ q. lookup (same_ast_key q) entries) loaded [] labels)
+          top h.1 (λ x below' i. absurd (nobody i refl)) held (sym empty) (λ labels x c. absurd (is_in x (by_name (with_labels [] labels)) c)) slots (ap (map (slot slots)) (sym none)) c broken
+
+      pub broken_named : (loaded : List Text) (c : Cause) → BreaksInOrder given files joined loaded order c → NamesModules given R top c
+      broken_named loaded c r = go r.before
+        where
+          go : HaveCompiledSoFar given files joined loaded order r.at r.slots r.all → NamesModules given R top c
+          go (not_yet start room recipes overridden) = first_named loaded r.at r.there start r.slots r.all.recipes recipes c r.broken
+          go (so_far so) =
+              let h = heading r.at r.there in
+              names_next given entries d files placed rows are can.paths joined order below joins arr.ordered.steps_first loaded so.made so.justfile r.at (omega (arith, r.there)) arr.ordered.once so.each many names_at top r.there h.0 h.2 h.1 r.slots
+              (inner_there given files joined loaded order all_can r.at r.there r.slots r.all so) c (subst (λ rs. BreaksOver given files joined (slice_index order r.at) r.slots rs c) so.recipes r.broken)
 
       -- the root's place in the order
       root_listed : (k : ℕ) × (k < length order) × (slice_index order k ≡ root)
@@ -133,9 +167,6 @@ module _ (given : Given) (entries : List (AstKey × Ast)) (d : AstKey) (files : 
             subst (λ q. slot slots q ≡ Some (so.justfile q)) k.2 (so.held k.0 k.1 (λ i l e.
             not_root given.syntax.enabled entries d files placed rows are can.paths joined (edge_joined given.syntax.enabled entries d files placed rows are can.paths joined aj) root (reached i l) (subst (HasEdge joined.modules.items (slice_index order i)) k.2 e) refl))
 
-        many : (k : ℕ) → k < length order → length (labels_of_place given.syntax.enabled files joined (slice_index order k)) ≡ length (targets joined.modules.items (slice_index order k))
-        many k l = (all_can.each k l).labels
-
         abbrev k0 : ℕ
         k0 = root_listed.0
 
@@ -149,36 +180,22 @@ module _ (given : Given) (entries : List (AstKey × Ast)) (d : AstKey) (files : 
         m0 = module_of given.syntax.enabled entries d files placed rows are can.paths joined order below joins arr.ordered.steps_first k0 l0 top
 
         abbrev built : List Built
-        built = map (λ q. (key_at q, so.made q)) order
+        built = map (λ q. (key_at q, so.made q)) (take (length order) order)
 
         inside0 : Forest
-        inside0 = (forest_at given entries d files placed rows are can.paths joined order below joins arr.ordered.steps_first loaded so.made so.justfile so.each many k0 l0 top e0).inside
+        inside0 = (forest_at given entries d files placed rows are can.paths joined order below joins arr.ordered.steps_first loaded so.made so.justfile (length order) (omega arith) arr.ordered.once so.each many names_at k0 l0 top e0).inside
 
-        known : (k : ℕ) (x : Module) → IsListed given.syntax.enabled entries d files placed rows are can.paths joined order below joins arr.ordered.steps_first k x → k ≤ length order → KeepsGroups given x
-        known k x i b = keeps_listed given entries d files placed rows are can.paths joined order below joins arr.ordered.steps_first k x (λ j l. (so.each j (omega (arith, l, b))).kept) i
-
-        kept : (x : Module) (below' : Forest) → HasModule (Tree m0 inside0 Empty) x below' → KeepsGroups given x
+        tree : Held given entries d files placed rows are can.paths joined order below joins arr.ordered.steps_first loaded so.made so.justfile (length order) (omega arith) arr.ordered.once so.each many names_at (Tree m0 inside0 Empty) (top ∷ []) (slice_index order k0 ∷ [])
         unfolding inside0
-        kept x below' first = keeps_groups given entries d files placed rows are can.paths joined order below joins arr.ordered.steps_first k0 l0 top e0 (so.each k0 l0).kept
-        kept x below' (in_it i) = known k0 x ((forest_at given entries d files placed rows are can.paths joined order below joins arr.ordered.steps_first loaded so.made so.justfile so.each many k0 l0 top e0).known x below' i) (omega (arith, l0))
-        kept x below' (after_it i) = absurd (nobody i refl)
-
-        are_modules : AreModules R (top ∷ []) (Tree m0 inside0 Empty)
-        unfolding inside0
-        are_modules =
-            let t = forest_at given entries d files placed rows are can.paths joined order below joins arr.ordered.steps_first loaded so.made so.justfile so.each many k0 l0 top e0 in
-            a_module t.is t.are_modules no_module
+        tree = tree_held given entries d files placed rows are can.paths joined order below joins arr.ordered.steps_first loaded so.made so.justfile (length order) (omega arith) arr.ordered.once so.each many names_at k0 l0 l0 top e0
 
         compiled : AreCompiled given (λ k. lookup (same_ast_key k) entries) loaded built (Tree m0 inside0 Empty) (labelled_as top.label (so.justfile root) ∷ [])
-        unfolding inside0
-        compiled =
-            subst (λ q. AreCompiled given (λ k. lookup (same_ast_key k) entries) loaded built (Tree m0 (forest_at given entries d files placed rows are can.paths joined order below joins arr.ordered.steps_first loaded so.made so.justfile so.each many k0 l0 top e0).inside Empty) (labelled_as top.label (so.justfile q) ∷ [])) root_listed.2
-            (tree_compiled given entries d files placed rows are can.paths joined order below joins arr.ordered.steps_first loaded so.made so.justfile so.each many k0 l0 top e0)
+        compiled = subst (λ q. AreCompiled given (λ k. lookup (same_ast_key k) entries) loaded built (Tree m0 inside0 Empty) (labelled_as top.label (so.justfile q) ∷ [])) root_listed.2 (tree.compiled_as (top.label ∷ []) refl)
 
         -- all that is added of each kind
         module _ {B : Type 0} (of : Made → List B) where
           all : of added ≡ flat_map (λ q. of (so.made q)) (take (length order) order) → of added ≡ flat_map (λ (b : Built). of b.1) built
-          all before = before ∙ ap (flat_map (λ q. of (so.made q))) (take_all (length order) order (omega arith)) ∙ pair_flat of key_at so.made order
+          all before = before ∙ pair_flat of key_at so.made (take (length order) order)
 
         all_recipes : added.recipes ≡ recipes_of_all built
         all_recipes = all (λ (x : Made). x.recipes) so.recipes
@@ -188,22 +205,7 @@ module _ (given : Given) (entries : List (AstKey × Ast)) (d : AstKey) (files : 
             let r = get_or added.recipes i x in
             let q = from_flat (λ q. (so.made q).recipes) r (take (length order) order) (subst (In r) so.recipes (is_in r added.recipes (Contains-get_or added.recipes i x l))) in
             let k = in_take order (length order) q.0 (omega arith) (contained q.0 (take (length order) order) q.1) in
-            All-contains IsResolved (so.made (slice_index order k.0)).recipes r (so.each k.0 k.1).resolved.resolved (subst (λ p. Contains (so.made p).recipes r) (sym k.2) (contained r (so.made q.0).recipes q.2))
-
-        -- the modules that a module declares have different names
-        names_at : (k : ℕ) → k < length order → AreDifferent (map (λ (s : Submodule). text_if_named s.label.name) (subs_at given.syntax.enabled entries d files placed rows are can.paths joined (slice_index order k)))
-        names_at k l =
-            let p = slice_index order k in
-            subst AreDifferent (sym (submodule_names _ (declared_names R (map key_at (targets joined.files.items p)))))
-            (subs_differ given.syntax.enabled entries d files placed rows are can joined aj root inside arr.root_joined arr.inner_joined order arr.ordered arr.reached different p (reached k l))
-
-        differ : (x : Module) (below' : Forest) → HasModule (Tree m0 inside0 Empty) x below' → AreDifferent (map (λ (s : Submodule). text_if_named s.label.name) x.modules)
-        unfolding inside0
-        differ x below' first = names_at k0 l0
-        differ x below' (in_it i) =
-            let l = (forest_at given entries d files placed rows are can.paths joined order below joins arr.ordered.steps_first loaded so.made so.justfile so.each many k0 l0 top e0).known x below' i in
-            subst (λ (y : Module). AreDifferent (map (λ (s : Submodule). text_if_named s.label.name) y.modules)) (sym l.is) (names_at l.at l.there)
-        differ x below' (after_it i) = absurd (nobody i refl)
+            All-contains IsResolved (so.made (slice_index order k.0)).recipes r (so.each k.0 k.1).links.linked.resolved (subst (λ p. Contains (so.made p).recipes r) (sym k.2) (contained r (so.made q.0).recipes q.2))
 
         -- each recipe is that of a module that stands in the root's
         placed_in : All (IsPlaced (labelled_as top.label (so.justfile root))) added.recipes
@@ -212,19 +214,18 @@ module _ (given : Given) (entries : List (AstKey × Ast)) (d : AstKey) (files : 
             let q = from_flat (λ q. (so.made q).recipes) r (take (length order) order) (subst (In r) so.recipes (is_in r added.recipes (Contains-get_or added.recipes i x l))) in
             let k = in_take order (length order) q.0 (omega arith) (contained q.0 (take (length order) order) q.1) in
             let h = heading k.0 k.1 in
-            let found = find_reached R are_modules h.1 in
-            let s = standing given (λ k. lookup (same_ast_key k) entries) can.paths loaded built compiled differ found.has in
-            let c = is_compiled given entries d files placed rows are can.paths joined order below joins arr.ordered.steps_first loaded so.made so.justfile so.each many k.0 k.1 h.0 h.2 h.0.label in
+            let found = find_reached R tree.are_modules h.1 in
+            let s = standing given (λ k. lookup (same_ast_key k) entries) can.paths loaded built compiled found.has in
             let same : s.top ≡ labelled_as top.label (so.justfile root) = elim s.among [ inl e ↦ e | inr wrong ↦ absurd wrong ] in (
               s.it,
               subst (λ (t : Justfile). StandsIn t s.it) same s.stands,
-              made_path _ h.0.key.0 c.resolved.order _ c.resolved.made_of r (subst (λ p. In r (so.made p).recipes) (sym k.2) q.2) ∙ ap Some (sym (s.path ∙ ap (λ (g : Heading). g.key.0) found.is.heading)),
+              made_path (so.each k.0 k.1).links.linked r (subst (λ p. In r (so.made p).recipes) (sym k.2) q.2) ∙ ap Some (path_same given entries d files placed rows are can.paths joined order below joins arr.ordered.steps_first loaded so.made so.justfile (length order) (omega arith) arr.ordered.once so.each many names_at k.0 k.1 k.1 h.0 h.2 ∙ sym (s.path ∙ ap (λ (g : Heading). g.key.0) found.is.heading)),
             )
 
         -- what stands at a place of the list
         built_at : (i : ℕ) (b : Built) → slice_get built i ≡ Some b → (i < length order) × (b ≡ (key_at (slice_index order i), so.made (slice_index order i)))
         built_at i b e =
-            let x = get_map (λ q. (key_at q, so.made q)) order i b e in
+            let x = get_map (λ q. (key_at q, so.made q)) order i b (ap (λ xs. slice_get (map (λ q. (key_at q, so.made q)) xs) i) (sym (take_all (length order) order (omega arith))) ∙ e) in
             (slice_get_within order i x.0 x.1, x.2 ∙ ap (λ q. (key_at q, so.made q)) (sym (get_or_from_slice_get order i x.0 0 x.1)))
 
         once : AreApart (map (λ (b : Built). b.0) built)
@@ -238,7 +239,7 @@ module _ (given : Given) (entries : List (AstKey × Ast)) (d : AstKey) (files : 
 
         each : (b : Built) → Contains built b → (h : Heading) × IsHeading R top h × (h.key ≡ b.0)
         each b c =
-            let q = from_map (λ q. (key_at q, so.made q)) b order (is_in b built c) in
+            let q = from_map (λ q. (key_at q, so.made q)) b order (subst (λ xs. In b (map (λ q. (key_at q, so.made q)) xs)) (take_all (length order) order (omega arith)) (is_in b built c)) in
             let o = contained q.0 order q.1 in
             let at : slice_index order o.0 ≡ q.0 = sym (get_or_default order o.0 q.0 0 o.1) ∙ o.2 in
             let h = heading o.0 o.1 in
@@ -285,8 +286,8 @@ module _ (given : Given) (entries : List (AstKey × Ast)) (d : AstKey) (files : 
         is_analyzed undocumented ordered = record {
           m = m0;
           inside = inside0;
-          are_modules = are_modules;
-          kept = kept;
+          are_modules = tree.are_modules;
+          kept = tree.kept;
           built = built;
           once = once;
           after = after;
@@ -295,7 +296,8 @@ module _ (given : Given) (entries : List (AstKey × Ast)) (d : AstKey) (files : 
           overrides = all (λ (x : Made). x.overridden) so.overridden;
           label = labelled undocumented;
           compiled = compiled;
-          closed = forest_closed R given (λ k. lookup (same_ast_key k) entries) can.paths loaded built added.recipes all_recipes resolved ordered are_modules compiled (labelled_as top.label (so.justfile root)) (inl refl);
+          closed = forest_closed R given (λ k. lookup (same_ast_key k) entries) can.paths loaded built added.recipes all_recipes resolved tree.are_modules compiled (labelled_as top.label (so.justfile root)) (inl refl);
           placed = placed_in;
-          tables = forest_tables R given (λ k. lookup (same_ast_key k) entries) can.paths loaded built added.recipes all_recipes resolved ordered compiled (labelled_as top.label (so.justfile root)) (inl refl);
+          tables = forest_tables R given (λ k. lookup (same_ast_key k) entries) can.paths loaded built added.recipes all_recipes resolved compiled (labelled_as top.label (so.justfile root)) (inl refl);
+          numbers = own_numbers given (λ k. lookup (same_ast_key k) entries) can R loaded built tree.are_modules compiled (labelled_as top.label (so.justfile root)) (inl refl);
         }

@@ -1,8 +1,8 @@
 -- An order of the modules that are reached can be compiled.
-use Rattle.std.proofs.Common.{◌≡◌, ◌<◌, ℕ, Bool, List, [], ◌∷◌, map, length, get_or, slice_index, refl, sym, ap, subst, ◌∙◌, arith, inl, inr}
+use Rattle.std.proofs.Common.{◌≡◌, ◌<◌, ℕ, nat_eq, Bool, List, [], ◌∷◌, map, length, get_or, slice_index, refl, sym, ap, subst, ◌∙◌, arith, inl, inr}
 use Rattle.std.specs.List.{All, Contains}
 use Rattle.std.specs.Map.{keys_of, lookup}
-use Rattle.std.proofs.lemmas.Bool.{cases_lt}
+use Rattle.std.proofs.lemmas.Bool.{cases_lt, eq-eqb}
 use Rattle.std.proofs.lemmas.List.Elements.{Contains-get_or}
 use Rattle.std.proofs.lemmas.List.{get_or_default, length-map}
 use Rattle.just_graph.specs.Graph.{HasEdge, targets}
@@ -12,10 +12,13 @@ use Rattle.just_parts.specs.Asts.{AstKey, same_ast_key}
 use Rattle.just_parts.specs.Items.{Ast, Item}
 use Rattle.just_module_headers.specs.Analyzable.{AreAnalyzable}
 use Rattle.just_names.specs.Index.{texts_of_names, AreDifferent}
-use Rattle.just_module_headers.specs.Files.{ArePlaced, AreRows}
+use Rattle.just_module_headers.specs.Files.{ArePlaced, AreRows, asts_in}
 use Rattle.just_module_headers.specs.Joined.{AreJoined, IsJoined}
 use Rattle.just_module_headers.specs.Reading.{Submodule}
-use Rattle.just_module_headers.specs.OfPlaces.{labels_of_place, names_of_place}
+use Rattle.just_module_contents.specs.Contents.{texts_of_named}
+use Rattle.just_module_headers.specs.OfPlaces.{labels_of_place, names_of_place, namings_of_place}
+use Rattle.just_module_headers.proofs.ModuleNames.{modules_different}
+use Rattle.just_compiled.proofs.Closing.{own_joined}
 use Rattle.just_analyzer.specs.Steps.{CanCompile, CanCompileAll}
 use Rattle.just_module_headers.specs.declared.files.Files.{Files}
 use Rattle.just_module_headers.specs.declared.files.Rows.{Rows}
@@ -40,7 +43,7 @@ module _ (enabled : Item → Bool) (entries : List (AstKey × Ast)) (d : AstKey)
   stands r = reached_joined enabled entries d files placed rows are can.paths joined aj root inside root_joined inner_joined r
 
   abbrev names_there : ℕ → Type 0
-  names_there p = AreDifferent (texts_of_names (names_of_place enabled files joined p))
+  names_there p = AreDifferent (texts_of_named (namings_of_place enabled files joined p))
 
   -- the names of the modules in a module, by its files and by its declarations
   names_same : {p : ℕ} → (r : IsReached p) → names_of_place enabled files joined p ≡ map (λ (s : Submodule). s.name) (subs_at enabled entries d files placed rows are can.paths joined p)
@@ -50,7 +53,7 @@ module _ (enabled : Item → Bool) (entries : List (AstKey × Ast)) (d : AstKey)
   labels_same {p} r = labels_are enabled entries d files placed rows are can.paths joined (targets joined.files.items p) (file_inside enabled entries d files placed rows are can.paths joined p (stands r).0 (stands r).1)
 
   different_subs : {p : ℕ} → (r : IsReached p) → names_there p → AreDifferent (texts_of_names (map (λ (s : Submodule). s.name) (subs_at enabled entries d files placed rows are can.paths joined p)))
-  different_subs r different = subst (λ ns. AreDifferent (texts_of_names ns)) (names_same r) different
+  different_subs {p} r different = subst (λ ns. AreDifferent (texts_of_names ns)) (names_same r) (modules_different enabled (asts_in files) (targets joined.files.items p) different)
 
   -- a module that is reached can be compiled
   pub can_compile : (p : ℕ) → (r : IsReached p) → names_there p → CanCompile enabled files joined p
@@ -70,6 +73,7 @@ module _ (enabled : Item → Bool) (entries : List (AstKey × Ast)) (d : AstKey)
             ∙ sym (length-map (subs_at enabled entries d files placed rows are can.paths joined p) (λ (s : Submodule). s.key))
             ∙ ap length (inner_keys enabled entries d files placed rows are can.paths joined p s.0 s.1) ∙ length-map (targets joined.modules.items p) _;
         different = different;
+        own = own_joined nat_eq (λ q. eq-eqb q q refl) (targets rows.imports.items) p (targets joined.files.items p) s.1.files;
       }
 
   module _ (order : List ℕ) (ordered : IsOrder (HasEdge joined.modules.items) (length joined.modules.items) (root ∷ []) order) (reached : All IsReached order)

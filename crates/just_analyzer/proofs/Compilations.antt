@@ -47,6 +47,7 @@ refused evaluator overrides w (Err e) none h = record {
   rooted = tt;
   all_closed = tt;
   tables = tt;
+  numbers = tt;
   root = tt;
   root_ast = tt;
   named = h;

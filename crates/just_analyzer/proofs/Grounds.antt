@@ -5,13 +5,12 @@ use Rattle.just_parts.specs.Layers.{Layers}
 use Rattle.just_module_variables.proofs.Once.{evaluated_once}
 use Rattle.just_module_contents.specs.Constants.{Docs, Evaluated, IsEvaluated}
 use Rattle.just_module_contents.specs.Contents.{Contents}
-use Rattle.just_module_contents.specs.Groups.{BodiesAndDocs, Breaks, BreaksContents, KeepsBefore, KeepsContents, OfAliases, OfBodies, OfConstants, OfDependencies, OfExpressions, OfHeaders, OfNames, in_docs, in_bodies as in_body}
-use Rattle.just_module_contents.specs.Kept.{kept_recipes}
-use Rattle.just_module_contents.specs.Rules.{Bodies, Dependencies, Under, under}
-use Rattle.just_module_recipes.specs.Broken.{BreaksRecipes, in_bodies, in_defaults, in_dependencies}
+use Rattle.just_module_contents.specs.Groups.{BodiesAndDocs, Breaks, BreaksContents, KeepsBefore, KeepsContents, Links, OfAliases, OfBodies, OfConstants, OfDependencies, OfExpressions, OfHeaders, OfNames, in_docs, in_bodies as in_body}
+use Rattle.just_module_contents.specs.Rules.{Bodies, Under, under}
+use Rattle.just_module_recipes.specs.Broken.{BreaksRecipes, in_aliases, in_bodies, in_dependencies}
 
-module _ (layers : Layers) (m : Contents) (earlier : KeepsBefore layers OfBodies m) where
-  before_dependencies : Keeps (Breaks layers OfBodies m) → KeepsBefore layers OfDependencies m
+module _ (layers : Layers) (links : Links) (m : Contents) (earlier : KeepsBefore layers links OfBodies m) where
+  before_dependencies : Keeps (Breaks layers links OfBodies m) → KeepsBefore layers links OfDependencies m
   before_dependencies bodies OfBodies lt = bodies
   before_dependencies bodies OfHeaders lt = earlier OfHeaders (omega arith)
   before_dependencies bodies OfNames lt = earlier OfNames (omega arith)
@@ -20,7 +19,7 @@ module _ (layers : Layers) (m : Contents) (earlier : KeepsBefore layers OfBodies
   before_dependencies bodies OfDependencies lt = absurd (omega (arith, lt))
   before_dependencies bodies OfAliases lt = absurd (omega (arith, lt))
 
-  before_aliases : Keeps (Breaks layers OfBodies m) → Keeps (Breaks layers OfDependencies m) → KeepsBefore layers OfAliases m
+  before_aliases : Keeps (Breaks layers links OfBodies m) → Keeps (Breaks layers links OfDependencies m) → KeepsBefore layers links OfAliases m
   before_aliases bodies dependencies OfBodies lt = bodies
   before_aliases bodies dependencies OfDependencies lt = dependencies
   before_aliases bodies dependencies OfHeaders lt = earlier OfHeaders (omega arith)
@@ -30,7 +29,7 @@ module _ (layers : Layers) (m : Contents) (earlier : KeepsBefore layers OfBodies
   before_aliases bodies dependencies OfAliases lt = absurd (omega (arith, lt))
 
   -- all groups are kept
-  groups_kept : Keeps (Breaks layers OfBodies m) → Keeps (Breaks layers OfDependencies m) → Keeps (Breaks layers OfAliases m) → KeepsContents layers m
+  groups_kept : Keeps (Breaks layers links OfBodies m) → Keeps (Breaks layers links OfDependencies m) → Keeps (Breaks layers links OfAliases m) → KeepsContents layers links m
   groups_kept bodies dependencies aliases OfHeaders = earlier OfHeaders (omega arith)
   groups_kept bodies dependencies aliases OfNames = earlier OfNames (omega arith)
   groups_kept bodies dependencies aliases OfExpressions = earlier OfExpressions (omega arith)
@@ -40,7 +39,7 @@ module _ (layers : Layers) (m : Contents) (earlier : KeepsBefore layers OfBodies
   groups_kept bodies dependencies aliases OfAliases = aliases
 
 -- what is kept of a module as it is evaluated, and what is broken
-module _ (layers : Layers) (m : Contents) (it : Evaluated) (is : IsEvaluated layers m it) where
+module _ (layers : Layers) (links : Links) (m : Contents) (it : Evaluated) (is : IsEvaluated layers m it) where
   under_kept : (broken : Evaluated → Cause → Type 0) → Keeps (broken it) → Keeps (Under (IsEvaluated layers m) broken)
   under_kept broken kept c (under {a} other b) = kept c (subst (λ (x : Evaluated). broken x c) (evaluated_once layers m a it other is) b)
 
@@ -51,23 +50,26 @@ module _ (layers : Layers) (m : Contents) (it : Evaluated) (is : IsEvaluated lay
   both_kept docs bodies c (in_docs b) = docs c b
   both_kept docs bodies c (in_body b) = bodies c b
 
-  bodies_under : DocsKept → Keeps (Bodies layers.syntax it.settings m) → Keeps (Breaks layers OfBodies m)
+  bodies_under : DocsKept → Keeps (Bodies layers.syntax it.settings m) → Keeps (Breaks layers links OfBodies m)
   bodies_under docs bodies = under_kept (BodiesAndDocs layers m) (both_kept docs bodies)
 
-  dependencies_under : Keeps (Dependencies it.settings.lists (kept_recipes m.recipes)) → Keeps (Breaks layers OfDependencies m)
-  dependencies_under kept = under_kept (λ (x : Evaluated). Dependencies x.settings.lists (kept_recipes m.recipes)) kept
+  dependencies_under : Keeps (links it.settings.lists OfDependencies) → Keeps (Breaks layers links OfDependencies m)
+  dependencies_under kept = under_kept (λ (x : Evaluated). links x.settings.lists OfDependencies) kept
 
-  module _ (earlier : KeepsBefore layers OfBodies m) where
+  aliases_under : Keeps (links it.settings.lists OfAliases) → Keeps (Breaks layers links OfAliases m)
+  aliases_under kept = under_kept (λ (x : Evaluated). links x.settings.lists OfAliases) kept
+
+  module _ (earlier : KeepsBefore layers links OfBodies m) where
     -- what is broken of recipes is broken of the module, where docs are kept
-    pub recipes_broken : DocsKept → (c : Cause) → BreaksRecipes layers.syntax it.settings m c → BreaksContents layers m c
+    pub recipes_broken : DocsKept → (c : Cause) → BreaksRecipes layers.syntax it.settings links m c → BreaksContents layers links m c
     recipes_broken docs c (in_bodies b) = record { group = OfBodies; earlier = earlier; broken = under is (in_body b) }
-    recipes_broken docs c (in_dependencies bodies b) = record { group = OfDependencies; earlier = before_dependencies layers m earlier (bodies_under docs bodies); broken = under is b }
-    recipes_broken docs c (in_defaults bodies dependencies b) =
-        record { group = OfAliases; earlier = before_aliases layers m earlier (bodies_under docs bodies) (dependencies_under dependencies); broken = b }
+    recipes_broken docs c (in_dependencies bodies b) = record { group = OfDependencies; earlier = before_dependencies layers links m earlier (bodies_under docs bodies); broken = under is b }
+    recipes_broken docs c (in_aliases bodies dependencies b) =
+        record { group = OfAliases; earlier = before_aliases layers links m earlier (bodies_under docs bodies) (dependencies_under dependencies); broken = under is b }
 
     -- all groups are kept where both are
-    pub all_kept : DocsKept → Keeps (BreaksRecipes layers.syntax it.settings m) → KeepsContents layers m
+    pub all_kept : DocsKept → Keeps (BreaksRecipes layers.syntax it.settings links m) → KeepsContents layers links m
     all_kept docs recipes =
         let bodies : Keeps (Bodies layers.syntax it.settings m) = λ c b. recipes c (in_bodies b) in
-        let dependencies : Keeps (Dependencies it.settings.lists (kept_recipes m.recipes)) = λ c b. recipes c (in_dependencies bodies b) in
-        groups_kept layers m earlier (bodies_under docs bodies) (dependencies_under dependencies) (λ c b. recipes c (in_defaults bodies dependencies b))
+        let dependencies : Keeps (links it.settings.lists OfDependencies) = λ c b. recipes c (in_dependencies bodies b) in
+        groups_kept layers links m earlier (bodies_under docs bodies) (dependencies_under dependencies) (aliases_under (λ c b. recipes c (in_aliases bodies dependencies b)))

@@ -6,24 +6,24 @@ use Rattle.just_graph.specs.Steps.{ListsStepsFirst}
 use Rattle.just_parts.specs.Asts.{AstKey, same_ast_key}
 use Rattle.just_errors.specs.Causes.{Cause}
 use Rattle.just_parts.specs.Items.{Ast}
-use Rattle.just_parts.specs.Layers.{Given, Layers, layers_at}
+use Rattle.just_parts.specs.Layers.{Given, layers_at}
 use Rattle.just_module_contents.specs.Contents.{Contents}
 use Rattle.just_module_headers.specs.Files.{ArePlaced, AreRows}
-use Rattle.just_module_contents.specs.Groups.{BreaksContents, KeepsContents, OfHeaders}
-use Rattle.just_module_tree.specs.Groups.{HasGround, KeepsGroups, KeepsModules, NamesModules, in_module}
+use Rattle.just_module_contents.specs.Groups.{OfHeaders}
+use Rattle.just_module_tree.specs.Groups.{NamesModules, in_module}
 use Rattle.just_module_headers.specs.Joined.{IsJoined}
 use Rattle.just_module_tree.specs.Modules.{Heading, IsHeading, Module, a_module, contents_of, no_module}
 use Rattle.just_module_headers.specs.Reading.{Reading, reading_of}
-use Rattle.just_module_contents.specs.Rules.{Modules, of_modules}
-use Rattle.just_module_headers.specs.OfPlaces.{contents_of_place, names_of_place}
+use Rattle.just_module_contents.specs.Rules.{Named, of_named}
+use Rattle.just_module_headers.specs.OfPlaces.{contents_of_place, namings_of_place}
 use Rattle.just_module_headers.specs.declared.files.Files.{Files}
 use Rattle.just_module_headers.specs.declared.files.Rows.{Rows}
 use Rattle.just_module_headers.specs.declared.joined.Joined.{Joined}
-use Rattle.just_module_headers.proofs.Alike.{AreAlikeContents, breaks_alike, kept_alike}
+use Rattle.just_module_headers.proofs.Alike.{AreAlikeContents}
 use Rattle.just_module_headers.proofs.FilePlaces.{says}
-use Rattle.just_analyzer.specs.Steps.{BreaksPlace, KeepsPlace, path_at, path_in}
-use Rattle.just_module_tree.proofs.ModulePlaces.{IsListed, TreeAt, file_inside, module_of, tree_at}
-use Rattle.just_module_tree.proofs.Ready.{docs_are, functions_are, lists_are, names_are, recipes_are, sets_are, unexports_are, variables_are}
+use Rattle.just_analyzer.specs.Steps.{path_at, path_in}
+use Rattle.just_module_tree.proofs.ModulePlaces.{file_inside, module_of, tree_at}
+use Rattle.just_module_tree.proofs.Ready.{aliases_are, namings_are, docs_are, functions_are, lists_are, names_are, recipes_are, sets_are, unexports_are, variables_are}
 
 module _ (given : Given) (entries : List (AstKey × Ast)) (d : AstKey) (files : Files) (placed : ArePlaced entries files) (rows : Rows) (are : AreRows given.syntax.enabled files rows)
     (paths : (k : AstKey) (a : Ast) → lookup (same_ast_key k) entries ≡ Some a → a.module_path ≡ k.0) (joined : Joined)
@@ -42,8 +42,8 @@ module _ (given : Given) (entries : List (AstKey × Ast)) (d : AstKey) (files : 
   here k = contents_of_place given.syntax.enabled files joined (slice_index order k)
 
   -- what files at places say of a module
-  contents_same : (k : ℕ) (l : k < length order) (h : Heading) → AreAlikeContents (here k) (contents_of (the_module k l h))
-  contents_same k l h =
+  pub alike_at : (k : ℕ) (l : k < length order) (h : Heading) → AreAlikeContents (here k) (contents_of (the_module k l h))
+  alike_at k l h =
       let row = targets joined.files.items (slice_index order k) in
       let in_files = file_inside given.syntax.enabled entries d files placed rows are paths joined (slice_index order k) (below k l) (joins k l) in
       record {
@@ -52,6 +52,8 @@ module _ (given : Given) (entries : List (AstKey × Ast)) (d : AstKey) (files : 
         lists = lists_are given.syntax.enabled entries d files placed rows are paths joined row in_files;
         recipes = recipes_are given.syntax.enabled entries d files placed rows are paths joined row in_files;
         docs = docs_are given.syntax.enabled entries d files placed rows are paths joined row in_files;
+        aliases = aliases_are given.syntax.enabled entries d files placed rows are paths joined row in_files;
+        named = namings_are given.syntax.enabled entries d files placed rows are paths joined row in_files;
         modules = names_are given.syntax.enabled entries d files placed rows are paths joined row in_files;
         unexports = unexports_are given.syntax.enabled entries d files placed rows are paths joined row in_files;
         sets = sets_are given.syntax.enabled entries d files placed rows are paths joined row in_files;
@@ -64,36 +66,12 @@ module _ (given : Given) (entries : List (AstKey × Ast)) (d : AstKey) (files : 
       ap path_in s.listed ∙ paths (key_at (slice_index order k)) s.ast s.said
 
   -- what the layers answer there
-  layers_same : (k : ℕ) (l : k < length order) (h : Heading) → h.key ≡ key_at (slice_index order k) → layers_at given (path_at files (slice_index order k)) ≡ layers_at given h.key.0
-  layers_same k l h e = ap (layers_at given) (path_same k l ∙ ap (λ (x : AstKey). x.0) (sym e))
-
-  -- a module keeps all groups
-  pub keeps_groups : (k : ℕ) (l : k < length order) (h : Heading) → h.key ≡ key_at (slice_index order k) → KeepsPlace given files joined (slice_index order k) → KeepsGroups given (the_module k l h)
-  keeps_groups k l h e kept g =
-      kept_alike (layers_at given h.key.0) (here k) (contents_of (the_module k l h)) (contents_same k l h) g (subst (λ (x : Layers). KeepsContents x (here k)) (layers_same k l h e) kept g)
-
-  -- so do the modules listed before a place
-  pub keeps_listed : (k : ℕ) (x : Module) → ((j : ℕ) → j < k → KeepsPlace given files joined (slice_index order j)) → IsListed given.syntax.enabled entries d files placed rows are paths joined order below joins lists_first k x → KeepsGroups given x
-  keeps_listed k x kept i = subst (KeepsGroups given) (sym i.is) (keeps_groups i.at i.there i.h i.key (kept i.at i.before))
-
-  pub keeps_inside : (k : ℕ) (l : k < length order) (h : Heading) → ((j : ℕ) → j < k → KeepsPlace given files joined (slice_index order j))
-      → (t : TreeAt given.syntax.enabled entries d files placed rows are paths joined order below joins lists_first (λ f hs row. Unit {0}) tt (λ k l h inside after hs row e a b. tt) k l h) → KeepsModules given t.inside
-  keeps_inside k l h kept t x inside i = keeps_listed k x kept (t.known x inside i)
-
-  module _ (root : Heading) (k : ℕ) (l : k < length order) (h : Heading) (e : h.key ≡ key_at (slice_index order k)) (reached : IsHeading R root h) where
-    abbrev t : TreeAt given.syntax.enabled entries d files placed rows are paths joined order below joins lists_first (λ f hs row. Unit {0}) tt (λ k l h inside after hs row e a b. tt) k l h
-    t = tree_at given.syntax.enabled entries d files placed rows are paths joined order below joins lists_first (λ f hs row. Unit {0}) tt (λ k l h inside after hs row e a b. tt) k l h e
-
-    -- what the next module breaks is named
-    pub names_next : (c : Cause) → ((j : ℕ) → j < k → KeepsPlace given files joined (slice_index order j)) → BreaksPlace given files joined (slice_index order k) c → NamesModules given R root c
-    names_next c kept broken =
-        let b : BreaksContents (layers_at given h.key.0) (here k) c = subst (λ (x : Layers). BreaksContents x (here k) c) (layers_same k l h e) broken in
-        let ground : HasGround given b.group (the_module k l h) t.inside = record { earlier = λ f lt. kept_alike (layers_at given h.key.0) (here k) (contents_of (the_module k l h)) (contents_same k l h) f (b.earlier f lt); below = λ ne. keeps_inside k l h kept t } in
-        in_module b.group reached (a_module t.is t.are_modules no_module) ground (breaks_alike (layers_at given h.key.0) (here k) (contents_of (the_module k l h)) (contents_same k l h) b.group c b.broken)
+  pub layers_there : (k : ℕ) (l : k < length order) (h : Heading) → h.key ≡ key_at (slice_index order k) → layers_at given (path_at files (slice_index order k)) ≡ layers_at given h.key.0
+  layers_there k l h e = ap (layers_at given) (path_same k l ∙ ap (λ (x : AstKey). x.0) (sym e))
 
   -- two modules of one name are named
-  pub names_repeated : (root : Heading) (k : ℕ) (l : k < length order) (h : Heading) → h.key ≡ key_at (slice_index order k) → IsHeading R root h → (c : Cause) → Modules (names_of_place given.syntax.enabled files joined (slice_index order k)) c → NamesModules given R root c
+  pub names_repeated : (root : Heading) (k : ℕ) (l : k < length order) (h : Heading) → h.key ≡ key_at (slice_index order k) → IsHeading R root h → (c : Cause) → Named (namings_of_place given.syntax.enabled files joined (slice_index order k)) c → NamesModules given R root c
   names_repeated root k l h e reached c b =
       let t = tree_at given.syntax.enabled entries d files placed rows are paths joined order below joins lists_first (λ f hs row. Unit {0}) tt (λ k l h inside after hs row e a b. tt) k l h e in
       in_module OfHeaders reached (a_module t.is t.are_modules no_module) (record { earlier = λ f lt. absurd (omega (arith, lt)); below = λ ne. absurd (ne refl) })
-      (of_modules (subst (λ ns. Modules ns c) (contents_same k l h).modules b))
+      (of_named (subst (λ ns. Named ns c) (alike_at k l h).named b))

@@ -1,7 +1,5 @@
 pub mod Adding
 pub mod Analyzing
-pub mod ByName
-pub mod Closing
 pub mod Compilable
 pub mod Compilations
 pub mod Docs
@@ -10,14 +8,11 @@ pub mod Grounds
 pub mod GroupGrounds
 pub mod Inserting
 pub mod Keeping
-pub mod Makings
+pub mod Linking
+pub mod Meeting
 pub mod Numbers
-pub mod NumbersApart
 pub mod Ordered
+pub mod OwnNumbers
 pub mod Placed
-pub mod Placing
 pub mod Readings
-pub mod RecipeKeys
 pub mod ShownPaths
-pub mod TableValues
-pub mod Taking

@@ -20,9 +20,9 @@ use Rattle.just_recipe.specs.declared.recipe.Recipe.{Recipe}
 use Rattle.just_invoke.specs.Closed.{AreClosed, IsPlaced}
 use Rattle.just_invoke.specs.declared.justfile.Justfile.{Justfile}
 use Rattle.just_module_tree.specs.Groups.{KeepsModules, NamesModules}
-use Rattle.just_analyzer.specs.Labelled.{label_in}
-use Rattle.just_analyzer.specs.Variables.{HaveTables}
-use Rattle.just_analyzer.specs.Justfiles.{AreCompiled, Built, overridden_of_all, recipes_of_all}
+use Rattle.just_compiled.specs.Labelled.{label_in}
+use Rattle.just_compiled.specs.Variables.{HaveOwnNumbers, HaveTables}
+use Rattle.just_compiled.specs.Justfiles.{AreCompiled, Built, overridden_of_all, recipes_of_all}
 use Rattle.just_module_tree.specs.Modules.{AreModules, Empty, Forest, Heading, IsHeading, Module, Tree, heading}
 use Rattle.just_module_headers.specs.Reading.{reading_of}
 use Rattle.just_module_contents.specs.declared.labels.Label.{Label}
@@ -39,7 +39,7 @@ AreAsBefore old new = (n : Number) → get same_number new n ≡ get same_number
 abbrev pub ComeAfter : List Built → Type 0
 ComeAfter built = (i j : ℕ) (b inner : Built) (name : Text) → slice_get built i ≡ Some b → slice_get built j ≡ Some inner → inner.0.0.components ≡ b.0.0.components ++ name ∷ [] → j < i
 
--- The module of a heading and those in it: they keep all groups, their recipes stand one module after another, each module once and after those in it, and so do the values that override their variables, and their justfiles are a tree, which is closed, in which the module of each recipe stands, and of which the variables of each module have numbers of their own.
+-- The module of a heading and those in it: they keep all groups, their recipes stand one module after another, each module once and after those in it, and so do the values that override their variables, and their justfiles are a tree, which is closed, in which the module of each recipe stands. Each variable and function there stands under its own name in its module, and no two variables of the tree have one number.
 pub record IsAnalyzed (given : Given) (asts : AstKey → Option Ast) (loaded : List Text) (top : Heading) (justfile : Justfile) (recipes : List (Recipe Dependency)) (overridden : List (Number × Text)) : Type 0 where
   pub m : Module
   pub inside : Forest
@@ -56,6 +56,7 @@ pub record IsAnalyzed (given : Given) (asts : AstKey → Option Ast) (loaded : L
   pub closed : AreClosed recipes justfile
   pub placed : All (IsPlaced justfile) recipes
   pub tables : HaveTables justfile
+  pub numbers : HaveOwnNumbers justfile
 
 -- the same of the module at a path, with its own file and a label
 abbrev pub AnalyzesAt : {H : Type 0} → Given → HashMap AstKey Ast H → List Text → Modulepath → Text → Label → Justfile × Gathered → Type 0

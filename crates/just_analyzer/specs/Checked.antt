@@ -2,30 +2,26 @@
 use Rattle.std.specs.Prelude.{◌≡◌, List}
 use Rattle.std.specs.HashMap.{get}
 use Rattle.just_module_variables.specs.Constants.{CoversAll, evaluated_in}
-use Rattle.just_module_variables.specs.Documented.{AreDocumentedIn}
-use Rattle.just_module_variables.specs.Overrides.{last_of, overridden_among}
+use Rattle.just_module_variables.specs.Overrides.{last_of}
 use Rattle.just_module_variables.specs.Variables.{AreVariablesOf}
 use Rattle.just_module_variables.specs.declared.constants.Constants.{Constants}
 use Rattle.just_module_variables.specs.declared.variables.Variables.{Variables}
 use Rattle.just_errors.specs.Causes.{Keeps}
 use Rattle.just_module_contents.specs.Constants.{Docs, IsEvaluated, constant_expressions}
 use Rattle.just_module_contents.specs.Contents.{Contents}
+use Rattle.just_module_contents.specs.Groups.{Links}
 use Rattle.just_module_contents.specs.Definitions.{contents_in}
+use Rattle.just_compiled.specs.Evaluated.{AreLabels, overridden_in}
 use Rattle.just_analyzer.specs.declared.groups.Checked.{Checked}
-use Rattle.just_names.specs.Texts.{Text}
 use Rattle.just_names.specs.declared.number.Number.{Number}
 use Rattle.just_module_contents.specs.declared.labels.Label.{Label}
-use Rattle.just_parts.specs.Evaluator.{Values, values_of}
+use Rattle.just_parts.specs.Evaluator.{values_of}
 use Rattle.just_parts.specs.Layers.{Layers}
 use Rattle.just_parts.specs.Needs.{same_number}
 
--- the values that override variables of a module, each with the number of its variable
-abbrev pub overridden_in : Layers → Contents → List (Number × Text)
-overridden_in layers m = overridden_among layers.overrides m
-
--- labels of the modules in a module, as they are said, with the docs evaluated among its constants
-abbrev pub AreLabels : Layers → Contents → Values → List Label → List Label → Type 0
-AreLabels layers m values = AreDocumentedIn layers.evaluator m values
+-- nothing is broken of the last groups, which read the modules in a module as well
+abbrev pub no_links : Links
+no_links lists g c = ⊥
 
 -- The variables of a module are resolved, it has these constants and settings, with values for whatever is evaluated while compiling, and these values override its variables, also by their numbers.
 pub record HasConstants (layers : Layers) (m : Contents) (variables : Variables) (constants : Constants) : Type 0 where

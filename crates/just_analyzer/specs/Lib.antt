@@ -1,15 +1,10 @@
-pub mod Analysis
 pub mod Analyzed
 pub mod Checked
 pub mod Compiled
-pub mod Evaluated
-pub mod Justfiles
-pub mod Labelled
 pub mod Noted
 pub mod Parts
 pub mod Paths
 pub mod Readings
 pub mod Rules
 pub mod Steps
-pub mod Variables
 pub mod Words

@@ -6,14 +6,22 @@ use Rattle.just_invoke.specs.declared.justfile.Justfile.{Justfile, out-Justfile}
 use Rattle.just_module_contents.specs.Definitions.{contents_in, recipes_in}
 use Rattle.just_module_headers.specs.Files.{keys_in}
 use Rattle.just_module_contents.specs.Kept.{kept_recipes}
-use Rattle.just_module_contents.specs.Named.{AreAdded, recipes_by}
+use Rattle.just_module_contents.specs.Named.{recipes_by}
+use Rattle.just_module_contents.specs.Standing.{AreStanding}
+use Rattle.just_invoke.specs.declared.disabled.Disabled.{Disabled}
+use Rattle.just_module_recipes.specs.Linked.{AddsLinked, HasDisabled}
+use Rattle.just_module_recipes.specs.Links.{Around, Disables, Stands, around as around_made, links_by}
+use Rattle.just_paths.specs.declared.modulepath.Modulepath.{Modulepath}
+use Rattle.just_recipe.specs.declared.dependency.Dependency.{Dependency}
+use Rattle.just_recipe.specs.declared.dependency.UnresolvedDependency.{UnresolvedDependency}
+use Rattle.just_recipe.specs.declared.recipe.Recipe.{Recipe}
 use Rattle.just_module_headers.specs.declared.files.Files.{Files}
 use Rattle.just_module_headers.specs.declared.joined.Joined.{Joined}
-use Rattle.just_analyzer.specs.Analysis.{HasDefault, IsOf}
-use Rattle.just_analyzer.specs.Labelled.{by_name, notes_in, slot, with_labels}
-use Rattle.just_analyzer.specs.Justfiles.{Made}
+use Rattle.just_compiled.specs.Analysis.{HasDefault, IsOf}
+use Rattle.just_compiled.specs.Labelled.{by_name, notes_in, slot, with_labels}
+use Rattle.just_compiled.specs.Justfiles.{Made}
 use Rattle.just_analyzer.specs.Noted.{notes_of_place}
-use Rattle.just_analyzer.specs.Variables.{HasVariables}
+use Rattle.just_compiled.specs.Variables.{HasVariables}
 use Rattle.just_analyzer.specs.declared.groups.Checked.{Checked}
 use Rattle.just_analyzer.specs.declared.making.Surroundings.{Surroundings}
 use Rattle.just_names.specs.Texts.{Text}
@@ -32,13 +40,24 @@ pub record AreSurroundings (enabled : Item → Bool) (files : Files) (joined : J
   pub notes_are : it.notes ≡ notes_of_place enabled files joined p
   pub modules_are : (inner : List Justfile) → map Some inner ≡ map (slot held) (targets joined.modules.items p) → it.modules ≡ by_name (with_labels inner labels)
 
+-- what is around the recipes of a module with these surroundings
+abbrev pub around_by : Surroundings → List (Recipe Dependency) → Around
+around_by it held = around_made it.notes.absent_modules it.modules held
+
+-- The kept recipes of a module are linked over what is around them: those that stand, the table of the others, and all recipes, of which these are added.
+pub record AreLinkedOver (lists : Bool) (recipes : List (Recipe UnresolvedDependency)) (it : Around) (path : Modulepath) (standing : List (Recipe UnresolvedDependency)) (disabled : List (Text × Disabled)) (all : List (Recipe Dependency)) : Type 0 where
+  pub stand : AreStanding (Stands recipes it) recipes standing
+  pub disabled_are : HasDisabled (Disables recipes it) recipes disabled
+  pub linked : AddsLinked lists recipes it path all
+
 -- What a module is analyzed to that is checked, and what it adds.
 pub record IsAnalyzedFrom (answers : SyntaxAnswers) (own : Ast) (it : Checked) (around : Surroundings) (before after : Made) (j : Justfile) : Type 0 where
-  pub kept : Keeps (BreaksRecipes answers it.constants.settings (contents_in it.definitions))
-  pub added : AreAdded (kept_recipes (recipes_in it.definitions)) own.module_path before.recipes after.recipes
+  pub kept : Keeps (BreaksRecipes answers it.constants.settings (links_by (kept_recipes (recipes_in it.definitions)) (around_by around before.recipes)) (contents_in it.definitions))
+  pub standing : List (Recipe UnresolvedDependency)
+  pub linked : AreLinkedOver it.constants.settings.lists (kept_recipes (recipes_in it.definitions)) (around_by around before.recipes) own.module_path standing (out-Justfile j).disabled_recipes after.recipes
   pub overridden : after.overridden ≡ before.overridden ++ it.constants.overridden.items
-  pub fields : IsOf (contents_in it.definitions) own around.loaded around.source j
-  pub default : HasDefault (contents_in it.definitions) (recipes_by answers.enabled (Some own)) j
+  pub fields : IsOf (contents_in it.definitions) standing own around.loaded around.source j
+  pub default : HasDefault standing (recipes_by answers.enabled (Some own)) j
   pub settings : (out-Justfile j).settings ≡ it.constants.settings
   pub own_overrides : (out-Justfile j).overridden ≡ it.constants.overrides
   pub variables : HasVariables answers (contents_in it.definitions) j

@@ -7,14 +7,19 @@ ghost use Rattle.just_graph.specs.Graph.{targets};
 ghost use Rattle.just_graph.specs.Steps.{IsOnce};
 ghost use Rattle.just_errors.specs.Causes.{Reports};
 ghost use Rattle.just_invoke.specs.declared.justfile.Justfile.{Justfile};
-ghost use Rattle.just_analyzer.specs.Labelled.{slot};
+ghost use Rattle.just_compiled.specs.Labelled.{slot};
 ghost use Rattle.just_parts.specs.Layers.{given_by};
 ghost use Rattle.just_module_contents.specs.Definitions.{contents_in, recipes_in};
 ghost use Rattle.just_module_contents.specs.Resolved.{AreNew, HasPriors, unresolved_numbers};
 ghost use Rattle.just_module_headers.specs.OfPlaces.{recipes_of_place};
+ghost use Rattle.just_module_contents.specs.Kept.{kept_recipes};
+ghost use Rattle.just_module_contents.specs.Named.{recipes_by};
 ghost use Rattle.just_module_recipes.specs.Broken.{BreaksRecipes};
-ghost use Rattle.just_analyzer.specs.Parts.{AreSurroundings, IsAnalyzedFrom};
-ghost use Rattle.just_analyzer.specs.Steps.{BreaksInOrder, BreaksPlace, CanCompileAll, CompilesAt, FitsFiles, HaveCompiledAll, made_in};
+ghost use Rattle.just_module_recipes.specs.Linked.{AreSettled};
+ghost use Rattle.just_module_recipes.specs.Links.{links_by};
+ghost use Rattle.just_analyzer.specs.Parts.{AreSurroundings, IsAnalyzedFrom, around_by};
+ghost use Rattle.just_compiled.specs.Settled.{AreInnerSettled};
+ghost use Rattle.just_analyzer.specs.Steps.{BreaksInOrder, BreaksOver, CanCompileAll, CompilesAt, FitsFiles, HaveCompiledAll, made_in};
 
 use crate::groups::{Checked, add_recipes, check_files};
 use crate::inner::take_inner;
@@ -72,34 +77,42 @@ fn surroundings_at<'a, 'src, S: Syntax, E: Evaluation>(
     })
 }
 
-// The justfile of a module that is checked, of which `ast` says its own file. Its recipes, and the values that override its
-// variables, are added to the others.
+// The justfile of a module that is checked, of which `ast` says its own file, and what is gathered: its recipes, and the
+// values that override its variables, are added.
 fn analyze_checked<'b, 'src, S: Syntax>(
     alloc: Global,
     ast: &Ast<'src>,
     syntax: &S,
     mut checked: Checked<'src, 'b>,
     surroundings: Surroundings<'src>,
-    gathered: &mut Gathered<'src>,
-) -> Result<Justfile<'src>, Error<'src>>
+    gathered: Gathered<'src>,
+) -> Result<(Justfile<'src>, Gathered<'src>), Error<'src>>
     requires once { IsOnce (unresolved_numbers (recipes_in checked.definitions)) }
     requires priors { All HasPriors (recipes_in checked.definitions) }
-    requires apart { AreNew gathered.old.recipes (recipes_in checked.definitions) }
+    requires apart { AreNew gathered.recipes (recipes_in checked.definitions) }
+    requires own { AreNew gathered.recipes (recipes_by (S.answers syntax.now).enabled (Some ast.now)) }
+    requires settled { AreSettled (around_by surroundings gathered.recipes) }
     requires variables { AreVariablesOf (S.answers syntax.now) (contents_in checked.definitions) checked.variables }
     ensures analyzed { let is = IsAnalyzedFrom (S.answers syntax.now) ast.now checked.entry surroundings.entry in
-        IfOk result (is (made_in gathered.old) (made_in gathered.new)) }
-    ensures named { IfErr result (Reports (BreaksRecipes (S.answers syntax.now) checked.entry.constants.settings (contents_in checked.entry.definitions))) }
+        IfOk result (λ made. is (made_in gathered.entry) (made_in made.1) made.0) }
+    ensures named { let kept = kept_recipes (recipes_in checked.entry.definitions) in
+        let links = links_by kept (around_by surroundings.entry gathered.entry.recipes) in
+        let breaks = BreaksRecipes (S.answers syntax.now) checked.entry.constants.settings links in
+        IfErr result (Reports (breaks (contents_in checked.entry.definitions))) }
 {
-    gathered
-        .overridden
-        .append(&mut checked.constants.overridden)?;
-    let (kept, default) = add_recipes(
+    let Gathered {
+        recipes,
+        mut overridden,
+    } = gathered;
+    overridden.append(&mut checked.constants.overridden)?;
+    let (own, recipes) = add_recipes(
         alloc,
         &checked.definitions,
         ast,
         syntax,
         &checked.constants.settings,
-        &mut gathered.recipes,
+        &surroundings,
+        recipes,
     )?;
     let Checked {
         definitions,
@@ -110,17 +123,22 @@ fn analyze_checked<'b, 'src, S: Syntax>(
     let justfile = make_justfile(
         alloc,
         &definitions,
-        &kept,
         ast,
-        default,
+        own,
         variables,
         constants,
         surroundings,
     )?;
-    Ok(justfile)
+    Ok((
+        justfile,
+        Gathered {
+            recipes,
+            overridden,
+        },
+    ))
 }
 
-// Compiles the module whose own file stands at a place, from those in it.
+// Compiles the module whose own file stands at a place, from those in it, and adds what it adds to what is gathered.
 fn compile_place<'a, 'src, S: Syntax, E: Evaluation>(
     given: &Given<S, E>,
     files: &Files<'src, 'a>,
@@ -128,14 +146,15 @@ fn compile_place<'a, 'src, S: Syntax, E: Evaluation>(
     loaded: &Shared<Sequence<Text>>,
     place: usize,
     slots: &mut Vec<Option<Justfile<'src>>>,
-    gathered: &mut Gathered<'src>,
-) -> Result<(), Error<'src>>
+    gathered: Gathered<'src>,
+) -> Result<Gathered<'src>, Error<'src>>
     requires fits { FitsFiles (S.answers given.now.syntax.now).enabled files.now joined.now place slots.old.items }
-    requires apart { AreNew gathered.old.recipes (recipes_of_place (S.answers given.now.syntax.now).enabled files.now joined.now place) }
+    requires apart { AreNew gathered.recipes (recipes_of_place (S.answers given.now.syntax.now).enabled files.now joined.now place) }
+    requires settled { AreInnerSettled gathered.recipes slots.old.items (targets joined.now.modules.items place) }
     ensures compiled { let given = given_by S.answers E.answers given.now in
-        OnOk result (CompilesAt given files.now joined.now loaded.now place slots.old slots.new gathered.old gathered.new) }
+        IfOk result (CompilesAt given files.now joined.now loaded.now place slots.old slots.new gathered.entry) }
     ensures named { let given = given_by S.answers E.answers given.now in
-        IfErr result (Reports (BreaksPlace given files.now joined.now place)) }
+        IfErr result (Reports (BreaksOver given files.now joined.now place slots.old.items gathered.entry.recipes)) }
 {
     let row = joined.files[place].as_slice();
     let ast = files.ast_at(place);
@@ -149,7 +168,7 @@ fn compile_place<'a, 'src, S: Syntax, E: Evaluation>(
         checked.labels.as_slice(),
         slots,
     )?;
-    let justfile = analyze_checked(
+    let (justfile, gathered) = analyze_checked(
         given.alloc,
         ast,
         given.syntax,
@@ -158,7 +177,7 @@ fn compile_place<'a, 'src, S: Syntax, E: Evaluation>(
         gathered,
     )?;
     slots[place] = Some(justfile);
-    Ok(())
+    Ok(gathered)
 }
 
 // No justfile at any of so many places.
@@ -185,7 +204,7 @@ pub fn compile_in_order<'a, 'src, S: Syntax, E: Evaluation>(
     ensures compiled { let given = given_by S.answers E.answers given.now in
         IfOk result (HaveCompiledAll given files.now joined.now loaded.now order.now) }
     ensures named { let given = given_by S.answers E.answers given.now in
-        IfErr result (Reports (BreaksInOrder given files.now joined.now order.now)) }
+        IfErr result (Reports (BreaksInOrder given files.now joined.now loaded.now order.now)) }
 {
     let mut slots = no_slots(given.alloc, files.asts.len())?;
     let mut gathered = Gathered {
@@ -193,15 +212,7 @@ pub fn compile_in_order<'a, 'src, S: Syntax, E: Evaluation>(
         overridden: Vec::new(given.alloc),
     };
     for place in order {
-        compile_place(
-            given,
-            files,
-            joined,
-            loaded,
-            *place,
-            &mut slots,
-            &mut gathered,
-        )?;
+        gathered = compile_place(given, files, joined, loaded, *place, &mut slots, gathered)?;
     }
     Ok((slots, gathered))
 }

@@ -1,30 +1,35 @@
 //! The analysis of one module, which goes by groups of rules, in this order: headers, names, variables, constants, docs;
 //! then bodies, dependencies and the default. A group is checked where the ones before it are kept.
 
-ghost use Rattle.std.specs.Prelude.{◌≡◌, ◌<◌, IfErr, IfOk, OnErr, Some, length};
+ghost use Rattle.std.specs.Prelude.{◌≡◌, ◌<◌, IfErr, IfOk, Some, length};
 ghost use Rattle.std.specs.List.{All};
-ghost use Rattle.just_analyzer.specs.Checked.{HasConstants, IsChecked};
+ghost use Rattle.just_analyzer.specs.Checked.{HasConstants, IsChecked, no_links};
+ghost use Rattle.just_analyzer.specs.Parts.{AreLinkedOver, around_by};
 ghost use Rattle.just_errors.specs.Causes.{Keeps, Reports};
 ghost use Rattle.just_graph.specs.Steps.{IsOnce};
 ghost use Rattle.just_module_contents.specs.Constants.{Docs, constant_expressions};
+ghost use Rattle.just_module_contents.specs.Contents.{texts_of_named};
 ghost use Rattle.just_module_contents.specs.Defaults.{IsDefaultAmong};
 ghost use Rattle.just_module_contents.specs.Definitions.{contents_in, recipes_in, variables_in};
 ghost use Rattle.just_module_contents.specs.Groups.{BreaksContents, KeepsBefore, OfBodies};
 ghost use Rattle.just_module_contents.specs.Kept.{kept_recipes};
 ghost use Rattle.just_module_contents.specs.Labels.{label_by};
-ghost use Rattle.just_module_contents.specs.Named.{AreAdded, contents_from, name_by, recipes_by, said_from, variable_by};
-ghost use Rattle.just_module_contents.specs.Resolved.{AreNew, AreResolved, HasPriors, unresolved_numbers};
-ghost use Rattle.just_module_contents.specs.Rules.{Bodies, Dependencies};
+ghost use Rattle.just_module_contents.specs.Named.{contents_from, naming_by, recipes_by, said_from, variable_by};
+ghost use Rattle.just_module_contents.specs.Resolved.{AreNew, HasPriors, unresolved_numbers};
+ghost use Rattle.just_module_contents.specs.Rules.{Bodies};
 ghost use Rattle.just_module_headers.specs.Analyzable.{assignment_numbers};
 ghost use Rattle.just_module_headers.specs.Files.{asts_in};
 ghost use Rattle.just_module_recipes.specs.Broken.{BreaksRecipes};
+ghost use Rattle.just_module_recipes.specs.Linked.{AreSettled};
+ghost use Rattle.just_module_recipes.specs.Links.{BreaksLinks, links_by};
 ghost use Rattle.just_module_variables.specs.Constants.{CoversAll};
 ghost use Rattle.just_module_variables.specs.Documented.{AreDocumentedIn};
 ghost use Rattle.just_module_variables.specs.Variables.{AreVariablesOf};
-ghost use Rattle.just_names.specs.Index.{AreDifferent, texts_of_names};
+ghost use Rattle.just_names.specs.Index.{AreDifferent};
 ghost use Rattle.just_parts.specs.Evaluator.{values_of};
 ghost use Rattle.just_parts.specs.Layers.{given_by, layers_at};
 
+use crate::making::{OwnRecipes, Surroundings};
 use crate::notes::labels_at;
 use just_execution::Recipes;
 use just_module_contents::Label;
@@ -33,13 +38,11 @@ use just_module_contents::kept::keep_recipes;
 use just_module_headers::files::Files;
 use just_module_headers::headers::check_headers;
 use just_module_headers::variables::check_names;
-use just_module_recipes::{
-    check_bodies, default_of, index_recipes, order_recipes, resolve_in_order,
-};
+use just_module_recipes::{Linked, check_bodies, default_of, link};
 use just_module_variables::{
     Constants, Variables, document, evaluate_constants, resolve_variables,
 };
-use just_parts::layers::{Ast, Error, Evaluation, Given, Number, Settings, Syntax};
+use just_parts::layers::{Ast, Error, Evaluation, Given, Settings, Syntax};
 use just_paths::Modulepath;
 use std::alloc::{AllocError, Global};
 
@@ -82,14 +85,14 @@ fn check_module<'src, 'a, S: Syntax, E: Evaluation>(
     definitions: &Definitions<'src, 'a>,
     path: &Modulepath,
 ) -> Result<(Variables<'src>, Constants<'src>), Error<'src>>
-    requires modules { AreDifferent (texts_of_names definitions.now.modules.items) }
+    requires named { AreDifferent (texts_of_named definitions.now.named.items) }
     requires numbers { IsOnce (assignment_numbers (variables_in definitions.now)) }
     ensures kept { let given = given_by S.answers E.answers given.now in
-        IfOk result (λ _. KeepsBefore (layers_at given path.now) OfBodies (contents_in definitions.now)) }
+        IfOk result (λ _. KeepsBefore (layers_at given path.now) no_links OfBodies (contents_in definitions.now)) }
     ensures constants { let given = given_by S.answers E.answers given.now in
         IfOk result (λ it. HasConstants (layers_at given path.now) (contents_in definitions.now) it.0 it.1) }
     ensures named { let given = given_by S.answers E.answers given.now in
-        IfErr result (Reports (BreaksContents (layers_at given path.now) (contents_in definitions.now))) }
+        IfErr result (Reports (BreaksContents (layers_at given path.now) no_links (contents_in definitions.now))) }
 {
     check_headers(given.alloc, definitions, given.syntax)?;
     check_names(given.alloc, definitions)?;
@@ -145,18 +148,18 @@ pub fn check_files<'b, 'a, 'src, S: Syntax, E: Evaluation>(
     places: &[usize],
 ) -> Result<Checked<'src, 'b>, Error<'src>>
     requires places { All (λ p. p < length files.now.asts.items) places.now }
-    requires modules { AreDifferent (texts_of_names (said_from name_by (S.answers given.now.syntax.now).enabled (asts_in files.now) places.now)) }
+    requires names { AreDifferent (texts_of_named (said_from naming_by (S.answers given.now.syntax.now).enabled (asts_in files.now) places.now)) }
     requires numbers { IsOnce (assignment_numbers (said_from variable_by (S.answers given.now.syntax.now).enabled (asts_in files.now) places.now)) }
     ensures kept { let given = given_by S.answers E.answers given.now in
         let m = contents_from given.syntax.enabled (asts_in files.now) places.now in
-        IfOk result (λ _. KeepsBefore (layers_at given path.now) OfBodies m) }
+        IfOk result (λ _. KeepsBefore (layers_at given path.now) no_links OfBodies m) }
     ensures checked { let given = given_by S.answers E.answers given.now in
         let m = contents_from given.syntax.enabled (asts_in files.now) places.now in
         let said = said_from label_by given.syntax.enabled (asts_in files.now) places.now in
         IfOk result (IsChecked (layers_at given path.now) m said) }
     ensures named { let given = given_by S.answers E.answers given.now in
         let m = contents_from given.syntax.enabled (asts_in files.now) places.now in
-        IfErr result (Reports (BreaksContents (layers_at given path.now) m)) }
+        IfErr result (Reports (BreaksContents (layers_at given path.now) no_links m)) }
 {
     let definitions = definitions_at(given.alloc, files, given.syntax, places)?;
     let checked = check_module(given, &definitions, path)?;
@@ -170,55 +173,83 @@ pub fn check_files<'b, 'a, 'src, S: Syntax, E: Evaluation>(
     })
 }
 
-// The recipes of the module at a path that are kept, with these settings, and the same resolved, each after those
-// that it depends on. An error names a rule that is broken in its bodies, or where these are kept in its dependencies.
-fn resolve_recipes<'src, 'a, S: Syntax>(
+// Links the recipes of the module at a path that are kept, under its settings, over what is around them. An error names a
+// rule that is broken in its bodies, or where these are kept in its dependencies.
+fn link_recipes<'src, 'a, S: Syntax>(
     alloc: Global,
     definitions: &Definitions<'src, 'a>,
     syntax: &S,
     settings: &Settings,
     path: &Modulepath,
-) -> Result<(Definitions<'src, 'a>, Recipes<'src>), Error<'src>>
+    around: &Surroundings<'src>,
+    recipes: Recipes<'src>,
+) -> Result<Linked<'src, 'a>, Error<'src>>
     requires once { IsOnce (unresolved_numbers (recipes_in definitions.now)) }
     requires priors { All HasPriors (recipes_in definitions.now) }
+    requires apart { AreNew recipes (recipes_in definitions.now) }
+    requires settled { AreSettled (around_by around.now recipes) }
     ensures bodies { IfOk result (λ _. Keeps (Bodies (S.answers syntax.now) settings.now (contents_in definitions.now))) }
-    ensures dependencies { IfOk result (λ _. Keeps (Dependencies settings.now.lists (kept_recipes (recipes_in definitions.now)))) }
-    ensures recipes { IfOk result (λ made. recipes_in made.0 ≡ kept_recipes (recipes_in definitions.now)) }
-    ensures resolved { IfOk result (λ made. AreResolved (kept_recipes (recipes_in definitions.now)) path.now made.1) }
-    ensures named { IfErr result (Reports (BreaksRecipes (S.answers syntax.now) settings.now (contents_in definitions.now))) }
+    ensures kept { let kept = kept_recipes (recipes_in definitions.now) in
+        IfOk result (λ _. Keeps (BreaksLinks settings.now.lists kept (around_by around.now recipes.entry))) }
+    ensures linked { let kept = kept_recipes (recipes_in definitions.now) in
+        let linked = AreLinkedOver settings.now.lists kept (around_by around.now recipes.entry) path.now in
+        IfOk result (λ made. linked (recipes_in made.standing) made.disabled made.all) }
+    ensures named { let links = links_by (kept_recipes (recipes_in definitions.now)) (around_by around.now recipes.entry) in
+        IfErr result (Reports (BreaksRecipes (S.answers syntax.now) settings.now links (contents_in definitions.now))) }
 {
     check_bodies(alloc, syntax, definitions, settings)?;
     let kept = keep_recipes(alloc, definitions)?;
-    let index = index_recipes(alloc, &kept)?;
-    let (rows, order) = order_recipes(alloc, &kept, &index, settings)?;
-    let made = resolve_in_order(alloc, &kept, rows.as_slice(), order.as_slice(), path)?;
-    Ok((kept, made))
+    link(
+        alloc,
+        &kept,
+        settings,
+        path,
+        &around.notes.absent_modules,
+        around.modules.as_slice(),
+        recipes,
+    )
 }
 
-/// Checks the recipes of a module with these definitions, of which `ast` says its own file, under its settings, resolves
-/// those that are kept, and adds them to the others: those that are kept, and the number of the one that is run without
-/// words. An error names a rule that is broken; the others are then as they were.
+/// Checks the recipes of a module with these definitions, of which `ast` says its own file, under its settings, and links
+/// those that are kept over what is around them: those that stand are put behind the recipes that are resolved so far. It
+/// answers what its justfile has of them, and all recipes. An error names a rule that is broken; the recipes are dropped
+/// then.
 pub fn add_recipes<'src, 'a, S: Syntax>(
     alloc: Global,
     definitions: &Definitions<'src, 'a>,
     ast: &Ast<'src>,
     syntax: &S,
     settings: &Settings,
-    recipes: &mut Recipes<'src>,
-) -> Result<(Definitions<'src, 'a>, Option<Number>), Error<'src>>
+    around: &Surroundings<'src>,
+    recipes: Recipes<'src>,
+) -> Result<(OwnRecipes<'src, 'a>, Recipes<'src>), Error<'src>>
     requires once { IsOnce (unresolved_numbers (recipes_in definitions.now)) }
     requires priors { All HasPriors (recipes_in definitions.now) }
-    requires apart { AreNew recipes.old (recipes_in definitions.now) }
-    ensures kept { IfOk result (λ _. Keeps (BreaksRecipes (S.answers syntax.now) settings.now (contents_in definitions.now))) }
-    ensures recipes { IfOk result (λ made. recipes_in made.0 ≡ kept_recipes (recipes_in definitions.now)) }
-    ensures added { IfOk result (λ _. AreAdded (kept_recipes (recipes_in definitions.now)) ast.now.module_path recipes.old recipes.new) }
+    requires apart { AreNew recipes (recipes_in definitions.now) }
+    requires own { AreNew recipes (recipes_by (S.answers syntax.now).enabled (Some ast.now)) }
+    requires settled { AreSettled (around_by around.now recipes) }
+    ensures kept { let links = links_by (kept_recipes (recipes_in definitions.now)) (around_by around.now recipes.entry) in
+        IfOk result (λ _. Keeps (BreaksRecipes (S.answers syntax.now) settings.now links (contents_in definitions.now))) }
+    ensures linked { let kept = kept_recipes (recipes_in definitions.now) in
+        let linked = AreLinkedOver settings.now.lists kept (around_by around.now recipes.entry) ast.now.module_path in
+        IfOk result (λ made. linked (recipes_in made.0.standing) made.0.disabled made.1) }
     ensures default { let own = recipes_by (S.answers syntax.now).enabled (Some ast.now) in
-        IfOk result (λ made. IsDefaultAmong (kept_recipes (recipes_in definitions.now)) own made.1) }
-    ensures refused { OnErr result (recipes.new ≡ recipes.old) }
-    ensures named { IfErr result (Reports (BreaksRecipes (S.answers syntax.now) settings.now (contents_in definitions.now))) }
+        IfOk result (λ made. IsDefaultAmong (recipes_in made.0.standing) own made.0.default) }
+    ensures named { let links = links_by (kept_recipes (recipes_in definitions.now)) (around_by around.now recipes.entry) in
+        IfErr result (Reports (BreaksRecipes (S.answers syntax.now) settings.now links (contents_in definitions.now))) }
 {
-    let (kept, mut made) = resolve_recipes(alloc, definitions, syntax, settings, &ast.module_path)?;
-    let default = default_of(alloc, &kept, ast, syntax, &made)?;
-    recipes.append(&mut made)?;
-    Ok((kept, default))
+    let path = &ast.module_path;
+    let linked = link_recipes(alloc, definitions, syntax, settings, path, around, recipes)?;
+    let default = default_of(alloc, &linked.standing, ast, syntax, &linked.all)?;
+    let Linked {
+        all,
+        disabled,
+        standing,
+    } = linked;
+    let own = OwnRecipes {
+        default,
+        disabled,
+        standing,
+    };
+    Ok((own, all))
 }

@@ -5,7 +5,7 @@ ghost use Rattle.std.specs.List.{All, Contains};
 ghost use Rattle.std.specs.Map.{values_of};
 ghost use Rattle.just_graph.specs.Steps.{IsOnce};
 ghost use Rattle.just_invoke.specs.declared.justfile.Justfile.{Justfile};
-ghost use Rattle.just_analyzer.specs.Labelled.{AreTaken, labelled_as, slot};
+ghost use Rattle.just_compiled.specs.Labelled.{AreTaken, labelled_as, slot};
 
 use just_data::{Sequence, copied};
 use just_invoke::Justfile;

@@ -2,13 +2,12 @@
 
 ghost use Rattle.std.specs.Prelude.{◌≡◌, IfOk};
 ghost use Rattle.just_invoke.specs.declared.justfile.Justfile.{out-Justfile};
-ghost use Rattle.just_analyzer.specs.Analysis.{HasNoLabel, IsOf, recipe_table};
-ghost use Rattle.just_analyzer.specs.Labelled.{notes_in};
+ghost use Rattle.just_compiled.specs.Analysis.{HasNoLabel, IsOf, recipe_table};
+ghost use Rattle.just_compiled.specs.Labelled.{notes_in};
 ghost use Rattle.just_module_contents.specs.Definitions.{contents_in, recipes_in};
-ghost use Rattle.just_module_contents.specs.Kept.{kept_recipes};
 
 use just_data::{Sequence, Shared, Text};
-use just_invoke::{Justfile, RecipeKey};
+use just_invoke::{Disabled, Justfile, RecipeKey};
 use just_module_contents::Notes;
 use just_module_contents::definitions::Definitions;
 use just_module_variables::{Constants, Variables};
@@ -63,22 +62,33 @@ pub struct Surroundings<'src> {
     pub source: Text,
 }
 
-/// The justfile of a module with these definitions, of whose recipes some are kept, with a default, with its variables and
-/// with what is evaluated of it: its settings, and the values that override its variables. It has no label.
+/// What a module has of its recipes.
+#[derive(Drop)]
+pub struct OwnRecipes<'src, 'a> {
+    /// The one that is run without words.
+    pub default: Option<Number>,
+    /// Those that something disables, by their names.
+    pub disabled: Table<'src, Disabled<'src>>,
+    /// Those that stand.
+    pub standing: Definitions<'src, 'a>,
+}
+
+/// The justfile of a module with these definitions, with these recipes, with its variables and with what is evaluated of it:
+/// its settings, and the values that override its variables. It has no label.
 pub fn make_justfile<'a, 'src>(
     alloc: Global,
     definitions: &Definitions<'src, 'a>,
-    kept: &Definitions<'src, 'a>,
     ast: &Ast<'src>,
-    default: Option<Number>,
+    own: OwnRecipes<'src, 'a>,
     variables: Variables<'src>,
     constants: Constants<'src>,
     surroundings: Surroundings<'src>,
 ) -> Result<Justfile<'src>, AllocError>
-    requires recipes { recipes_in kept.now ≡ kept_recipes (recipes_in definitions.now) }
-    ensures fields { IfOk result (λ j. IsOf (contents_in definitions.now) ast.now surroundings.entry.loaded surroundings.entry.source j) }
+    ensures fields { let is = IsOf (contents_in definitions.now) (recipes_in own.entry.standing) ast.now in
+        IfOk result (is surroundings.entry.loaded surroundings.entry.source) }
     ensures label { IfOk result HasNoLabel }
-    ensures default { IfOk result (λ j. (out-Justfile j).default ≡ default) }
+    ensures default { IfOk result (λ j. (out-Justfile j).default ≡ own.entry.default) }
+    ensures disabled { IfOk result (λ j. (out-Justfile j).disabled_recipes ≡ own.entry.disabled) }
     ensures assignments { IfOk result (λ j. (out-Justfile j).assignments ≡ variables.entry.assignments) }
     ensures functions { IfOk result (λ j. (out-Justfile j).functions ≡ variables.entry.functions) }
     ensures evaluation_order { IfOk result (λ j. (out-Justfile j).evaluation_order ≡ variables.entry.evaluation_order) }
@@ -87,10 +97,15 @@ pub fn make_justfile<'a, 'src>(
     ensures modules { IfOk result (λ j. (out-Justfile j).modules ≡ surroundings.entry.modules) }
     ensures notes { IfOk result (λ j. notes_in j ≡ surroundings.entry.notes) }
 {
-    let recipes = recipe_keys(alloc, kept)?;
+    let recipes = recipe_keys(alloc, &own.standing)?;
     let unexports = copied_names(alloc, definitions.unexports.as_slice())?;
     let module_path = ast.module_path.clone()?;
     let working_directory = ast.working_directory.clone()?;
+    let OwnRecipes {
+        default,
+        disabled,
+        ..
+    } = own;
     let Surroundings {
         loaded,
         modules,
@@ -116,7 +131,7 @@ pub fn make_justfile<'a, 'src>(
         absent_modules,
         assignments,
         default,
-        disabled_recipes: Table::new(alloc),
+        disabled_recipes: disabled,
         doc: None,
         evaluation_order,
         functions,

@@ -11,7 +11,7 @@ use Rattle.just_errors.specs.Causes.{Reports}
 use Rattle.just_errors.proofs.Lifts.{reports_by}
 use Rattle.just_analyzer.specs.Analyzed.{IsAnalyzed}
 use Rattle.just_module_headers.specs.Joined.{AreArranged, AreGraphs}
-use Rattle.just_analyzer.specs.Labelled.{labelled_as}
+use Rattle.just_compiled.specs.Labelled.{labelled_as}
 use Rattle.just_module_tree.specs.Modules.{heading}
 use Rattle.just_module_headers.specs.OfPlaces.{RepeatsNames}
 use Rattle.just_analyzer.specs.Steps.{BreaksInOrder, CanCompileAll, HaveCompiled, made_in}
@@ -86,10 +86,10 @@ returns-in_err-slots-clause-named g c =
     let entries = c.args.asts.now.entries in
     let at = place_back (keys_of entries) key (get same_ast_key c.in_ok-files.files.places) c.in_ok-files.ensures.places key c.in_ok-place.place c.in_ok-place.ensures in
     let arranged = subst (λ (o : List ℕ). AreArranged c.in_ok-rows.rows c.in_ok-place.place c.in_ok-joined.joined o) (sym c.as_slice.ensures.value) c.in_ok-joined.ensures in
-    IfErr-weaker c.from_residual-in_err-slots.result (Reports (BreaksInOrder given c.in_ok-files.files c.in_ok-joined.joined c.as_slice-2.result.now)) _
+    IfErr-weaker c.from_residual-in_err-slots.result (Reports (BreaksInOrder given c.in_ok-files.files c.in_ok-joined.joined c.args.loaded.now c.as_slice-2.result.now)) _
     (λ e h. reports_by _ _ (broken_named given entries key c.in_ok-files.files c.in_ok-files.ensures c.in_ok-rows.rows c.in_ok-rows.ensures c.requires.asts c.in_ok-place.place
     (slice_get_within (keys_of entries) c.in_ok-place.place key at) c.in_ok-joined.joined c.as_slice.result.now arranged (heading key c.args.label) (sym (get_or_from_slice_get (keys_of entries) c.in_ok-place.place key key at))
-    c.in_ok-check_module_names.ensures.kept) e (subst (λ (o : List ℕ). Reports (BreaksInOrder given c.in_ok-files.files c.in_ok-joined.joined o) e) (c.as_slice-2.ensures.value ∙ sym c.as_slice.ensures.value) h))
+    c.in_ok-check_module_names.ensures.kept c.args.loaded.now) e (subst (λ (o : List ℕ). Reports (BreaksInOrder given c.in_ok-files.files c.in_ok-joined.joined c.args.loaded.now o) e) (c.as_slice-2.ensures.value ∙ sym c.as_slice.ensures.value) h))
     (search rules)
 
 pub take_at-justfile-requires-clause-inside : goal.take_at-justfile-requires-clause-inside

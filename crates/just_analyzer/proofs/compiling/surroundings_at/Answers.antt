@@ -6,7 +6,7 @@ use Rattle.just_graph.proofs.Index.{map_get}
 use Rattle.just_parts.specs.Asts.{AstKey}
 use Rattle.just_module_headers.specs.Files.{asts_in, keys_in}
 use Rattle.just_module_headers.proofs.Joining.{row_lent}
-use Rattle.just_analyzer.specs.Labelled.{slot}
+use Rattle.just_compiled.specs.Labelled.{slot}
 use Rattle.just_analyzer.specs.Noted.{notes_from}
 use Rattle.just_analyzer.proofs.compiling.surroundings_at.Goals as goal
 

@@ -4,23 +4,24 @@ use Rattle.just_module_variables.specs.Constants.{evaluated_in}
 use Rattle.just_errors.specs.Causes.{Keeps, Reports}
 use Rattle.just_errors.proofs.Lifts.{reports_by}
 use Rattle.just_graph.specs.Steps.{IsOnce}
-use Rattle.just_names.specs.Index.{texts_of_names, AreDifferent}
+use Rattle.just_names.specs.Index.{AreDifferent}
 use Rattle.just_module_headers.specs.Analyzable.{assignment_numbers}
 use Rattle.just_module_contents.specs.Constants.{Docs}
-use Rattle.just_module_contents.specs.Contents.{Contents}
+use Rattle.just_module_contents.specs.Contents.{Contents, texts_of_named}
 use Rattle.just_module_contents.specs.Definitions.{contents_in}
 use Rattle.just_module_headers.specs.Files.{asts_in}
 use Rattle.just_module_contents.specs.Groups.{BreaksContents, KeepsBefore, OfBodies}
 use Rattle.just_module_contents.specs.Named.{said_from}
-use Rattle.just_analyzer.specs.Checked.{AreLabels, HasConstants}
+use Rattle.just_analyzer.specs.Checked.{HasConstants, no_links}
+use Rattle.just_compiled.specs.Evaluated.{AreLabels}
 use Rattle.just_analyzer.proofs.GroupGrounds.{docs_broken}
 use Rattle.just_analyzer.proofs.groups.check_files.Goals as goal
 use Rattle.just_module_contents.specs.Labels.{label_by}
 use Rattle.just_parts.specs.Evaluator.{values_of}
 use Rattle.just_parts.specs.Layers.{given_by, layers_at}
 
-pub check_module-requires-clause-modules : goal.check_module-requires-clause-modules
-check_module-requires-clause-modules g c = subst (λ (m : Contents). AreDifferent (texts_of_names m.modules)) (sym c.in_ok-definitions.ensures) c.requires.modules
+pub check_module-requires-clause-named : goal.check_module-requires-clause-named
+check_module-requires-clause-named g c = subst (λ (m : Contents). AreDifferent (texts_of_named m.named)) (sym c.in_ok-definitions.ensures) c.requires.names
 
 pub check_module-requires-clause-numbers : goal.check_module-requires-clause-numbers
 check_module-requires-clause-numbers g c = subst (λ (m : Contents). IsOnce (assignment_numbers m.variables)) (sym c.in_ok-definitions.ensures) c.requires.numbers
@@ -28,8 +29,8 @@ check_module-requires-clause-numbers g c = subst (λ (m : Contents). IsOnce (ass
 pub returns-in_err-checked-clause-named : goal.returns-in_err-checked-clause-named
 returns-in_err-checked-clause-named g c =
     let layers = layers_at (given_by g.S.Syntax.answers g.E.Evaluation.answers c.args.given.now) c.args.path.now in
-    IfErr-weaker c.from_residual-in_err-checked.result (Reports (BreaksContents layers (contents_in c.in_ok-definitions.definitions))) _
-    (λ e h. subst (λ m. Reports (BreaksContents layers m) e) c.in_ok-definitions.ensures h) (search rules)
+    IfErr-weaker c.from_residual-in_err-checked.result (Reports (BreaksContents layers no_links (contents_in c.in_ok-definitions.definitions))) _
+    (λ e h. subst (λ m. Reports (BreaksContents layers no_links m) e) c.in_ok-definitions.ensures h) (search rules)
 
 pub returns-in_err-labels-clause-named : goal.returns-in_err-labels-clause-named
 returns-in_err-labels-clause-named g c =
@@ -39,13 +40,13 @@ returns-in_err-labels-clause-named g c =
     let docs = Docs layers.syntax layers.evaluator m (values_of constants.scope) in
     let named : Reports docs c.in_err-labels.field-0.0 = c.in_err-labels.ensures.named in
     IfErr-weaker c.from_residual-in_err-labels.result (Reports docs) _
-    (λ e h. subst (λ n. Reports (BreaksContents layers n) e) c.in_ok-definitions.ensures
-    (reports_by docs (BreaksContents layers m) (docs_broken layers m (evaluated_in constants) c.in_ok-checked.ensures.constants.evaluated c.in_ok-checked.ensures.kept) e h)) (search (rules, named, c.from_residual-in_err-labels.ensures.1, c.from_residual-in_err-labels.ensures.0))
+    (λ e h. subst (λ n. Reports (BreaksContents layers no_links n) e) c.in_ok-definitions.ensures
+    (reports_by docs (BreaksContents layers no_links m) (docs_broken layers no_links m (evaluated_in constants) c.in_ok-checked.ensures.constants.evaluated c.in_ok-checked.ensures.kept) e h)) (search (rules, named, c.from_residual-in_err-labels.ensures.1, c.from_residual-in_err-labels.ensures.0))
 
 pub returns-clause-kept : goal.returns-clause-kept
 returns-clause-kept g c =
     let layers = layers_at (given_by g.S.Syntax.answers g.E.Evaluation.answers c.args.given.now) c.args.path.now in
-    subst (KeepsBefore layers OfBodies) c.in_ok-definitions.ensures c.in_ok-checked.ensures.kept
+    subst (KeepsBefore layers no_links OfBodies) c.in_ok-definitions.ensures c.in_ok-checked.ensures.kept
 
 pub returns-clause-checked : goal.returns-clause-checked
 returns-clause-checked g c =

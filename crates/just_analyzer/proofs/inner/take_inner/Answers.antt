@@ -5,8 +5,8 @@ use Rattle.std.proofs.lemmas.Option.{slice_get_read}
 use Rattle.just_table.specs.Entries.{put}
 use Rattle.just_invoke.specs.Module.{module_name}
 use Rattle.just_graph.proofs.Index.{some_same}
-use Rattle.just_analyzer.specs.Labelled.{held_by_name, labelled_as, with_labels}
-use Rattle.just_analyzer.proofs.Taking.{held_at, held_more, labels_more, not_in_more, not_taken}
+use Rattle.just_compiled.specs.Labelled.{held_by_name, labelled_as, with_labels}
+use Rattle.just_compiled.proofs.Taking.{held_at, held_more, labels_more, not_in_more, not_taken}
 use Rattle.just_analyzer.proofs.inner.take_inner.Goals as goal
 
 pub take_at-justfile-requires-clause-there : goal.take_at-justfile-requires-clause-there

@@ -1,7 +1,7 @@
 use Rattle.std.proofs.Common.{◌≡◌, ℕ, List, [], Some, length, map, take}
 use Rattle.std.specs.List.{Contains}
 use Rattle.just_invoke.specs.declared.justfile.Justfile.{Justfile}
-use Rattle.just_analyzer.specs.Labelled.{held_by_name, slot, with_labels}
+use Rattle.just_compiled.specs.Labelled.{held_by_name, slot, with_labels}
 use Rattle.just_analyzer.proofs.inner.take_inner.Given as goal
 
 abbrev pub invariant-loop-at : goal.invariant-loop-at

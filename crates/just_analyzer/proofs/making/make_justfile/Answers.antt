@@ -2,14 +2,17 @@ use Rattle.std.proofs.Common.{ap, rules}
 use Rattle.just_invoke.specs.declared.justfile.Justfile.{Justfile, Justfile-F, out-roll-Justfile}
 use Rattle.just_invoke.specs.declared.justfile.Justfile.TheViews.{the_lemmas}
 use Rattle.just_module_contents.specs.Definitions.{contents_in, recipes_in}
-use Rattle.just_analyzer.proofs.Makings.{is_of}
+use Rattle.just_compiled.proofs.Makings.{is_of}
 use Rattle.just_analyzer.proofs.making.make_justfile.Goals as goal
 
 pub returns-clause-fields : goal.returns-clause-fields
 returns-clause-fields c =
-    is_of (contents_in c.args.definitions.now) (recipes_in c.args.kept.now) c.args.ast.now c.args.surroundings.loaded c.args.surroundings.source _
-    c.in_ok-recipes.recipes c.requires.recipes (search (rules, the_lemmas)) c.in_ok-recipes.ensures (search (rules, the_lemmas))
+    is_of (contents_in c.args.definitions.now) (recipes_in c.args.own.standing) c.args.ast.now c.args.surroundings.loaded c.args.surroundings.source _
+    c.in_ok-recipes.recipes (search (rules, the_lemmas)) c.in_ok-recipes.ensures
     (search (rules, the_lemmas)) (search (rules, the_lemmas)) (search (rules, the_lemmas)) (search (rules, the_lemmas)) (search (rules, the_lemmas))
+
+pub returns-clause-disabled : goal.returns-clause-disabled
+returns-clause-disabled c = ap (λ (j : Justfile-F Justfile). j.disabled_recipes) (out-roll-Justfile _)
 
 pub returns-clause-default : goal.returns-clause-default
 returns-clause-default c = ap (λ (j : Justfile-F Justfile). j.default) (out-roll-Justfile _)

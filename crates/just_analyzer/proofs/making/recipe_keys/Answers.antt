@@ -4,8 +4,8 @@ use Rattle.just_recipe.specs.declared.dependency.UnresolvedDependency.{Unresolve
 use Rattle.just_recipe.specs.declared.recipe.Recipe.{Recipe}
 use Rattle.just_module_contents.specs.Definitions.{recipes_in}
 use Rattle.just_module_contents.proofs.RecipePlaces.{length-lent}
-use Rattle.just_analyzer.specs.Analysis.{recipe_table}
-use Rattle.just_analyzer.proofs.RecipeKeys.{keys_next}
+use Rattle.just_compiled.specs.Analysis.{recipe_table}
+use Rattle.just_compiled.proofs.RecipeKeys.{keys_next}
 use Rattle.just_analyzer.proofs.making.recipe_keys.Goals as goal
 
 pub loop-place-preserved : goal.loop-place-preserved

@@ -86,6 +86,7 @@ returns g c =
       rooted = record { closed = is_closed analyzed.closed; placed = analyzed.placed };
       all_closed = analyzed.closed;
       tables = analyzed.tables;
+      numbers = analyzed.numbers;
       root = c.in_ok-path.ensures;
       root_ast = subst (λ r. IsSome (asts (root_ast_key r))) (sym c.in_ok-path.ensures) (subst (λ o. IsSome o) (sym (root_held w asts loaded c.in_ok-asts.ensures.loaded).1) refl);
       named = tt;

@@ -1,5 +1,5 @@
 -- The table of recipes.
-use Rattle.std.proofs.Common.{◌≡◌, ◌⊎◌, ℕ, ◌+◌, ◌<◌, Bool, true, false, cond, List, [], ◌∷◌, ◌++◌, map, take, length, Option, Some, refl, sym, ap, ◌∙◌, inl, inr}
+use Rattle.std.proofs.Common.{◌≡◌, ◌⊎◌, ℕ, ◌+◌, ◌<◌, Bool, true, false, cond, List, [], ◌∷◌, ◌++◌, map, take, length, None, Some, refl, sym, ap, ◌∙◌, inl, inr}
 use Rattle.std.specs.Str.{bytes_eq}
 use Rattle.std.proofs.lemmas.List.{map-append, take_more}
 use Rattle.std.proofs.lemmas.Slice.Eq.{bytes_eq-Decides}
@@ -12,7 +12,7 @@ use Rattle.just_invoke.specs.declared.justfile.RecipeKey.{RecipeKey}
 use Rattle.just_table.specs.Entries.{find, put, put_all}
 use Rattle.just_table.proofs.Puts.{find_put}
 use Rattle.just_module_contents.specs.Recipes.{name_of, no_recipe, recipe_at}
-use Rattle.just_analyzer.specs.Analysis.{key_of, name_of_key, recipe_table}
+use Rattle.just_compiled.specs.Analysis.{key_of, name_of_key, recipe_table}
 
 module _ {V : Type 0} (key : V → Text) where
   all_more : (es : List (Text × V)) (vs : List V) (v : V) → put_all key es (vs ++ v ∷ []) ≡ put (key v) v (put_all key es vs)
@@ -24,12 +24,30 @@ module _ {V : Type 0} (key : V → Text) where
   put_by k w v vs es false at e = inr e
 
   -- what is found among values that were put in was put in under this key, or was there before
-  found_among : (k : Text) (v : V) (es : List (Text × V)) (vs : List V) → find k (put_all key es vs) ≡ Some v → (In v vs × (key v ≡ k)) ⊎ (find k es ≡ Some v)
+  pub found_among : (k : Text) (v : V) (es : List (Text × V)) (vs : List V) → find k (put_all key es vs) ≡ Some v → (In v vs × (key v ≡ k)) ⊎ (find k es ≡ Some v)
   found_among k v es [] e = inr e
   found_among k v es (w ∷ vs) e = elim (found_among k v (put (key w) w es) vs e) [
     | inl h ↦ inl (inr h.0, h.1)
     | inr f ↦ put_by k w v vs es (bytes_eq k (key w)) refl (sym (find_put k (key w) w es) ∙ f)
   ]
+
+  absent_before : (k : Text) (es : List (Text × V)) (vs : List V) → find k (put_all key es vs) ≡ None → find k es ≡ None
+  absent_before k es [] e = e
+  absent_before k es (w ∷ vs) e = past (bytes_eq k (key w)) (sym (find_put k (key w) w es) ∙ absent_before k (put (key w) w es) vs e)
+    where
+      past : (b : Bool) → cond b (Some w) (find k es) ≡ None → find k es ≡ None
+      past true f = cc
+      past false f = f
+
+  -- where nothing is found, nothing was put in under this key
+  pub not_found : (k : Text) (es : List (Text × V)) (vs : List V) → find k (put_all key es vs) ≡ None → (v : V) → In v vs → key v ≡ k → ⊥
+  not_found k es [] e v i same = absurd i
+  not_found k es (w ∷ vs) e v (inl is) same =
+      let at : bytes_eq k (key w) ≡ true = (bytes_eq-Decides k (key w)).1 (sym same ∙ ap key is) in
+      let none : cond true (Some w) (find k es) ≡ None = ap (λ b. cond b (Some w) (find k es)) (sym at) ∙ sym (find_put k (key w) w es) ∙ absent_before k (put (key w) w es) vs e in
+      let wrong : Some w ≡ None = none in
+      cc
+  not_found k es (w ∷ vs) e v (inr i) same = not_found k (put (key w) w es) vs e v i same
 
 -- one more key
 pub keys_next : (rs : List (Recipe UnresolvedDependency)) (n : ℕ) (key : RecipeKey) (old new : List (Text × RecipeKey)) → n < length rs → old ≡ recipe_table (take n rs) → key ≡ key_of (recipe_at rs n)

@@ -1,5 +1,5 @@
 -- Each recipe that is compiled is that of a module that stands in the root.
-use Rattle.std.proofs.Common.{◌≡◌, ◌≢◌, ◌∙◌, ℕ, suc, List, [], ◌∷◌, map, Option, None, Some, refl, sym, ap, subst, inl, inr, arith}
+use Rattle.std.proofs.Common.{◌≡◌, ◌≢◌, ◌∙◌, suc, Bool, List, [], ◌∷◌, map, Option, None, Some, refl, sym, ap, subst, inl, inr, arith}
 use Rattle.std.specs.Prelude.{flat_map}
 use Rattle.std.specs.Map.{values_of}
 use Rattle.std.specs.Str.{bytes_eq}
@@ -11,7 +11,7 @@ use Rattle.just_ast_items.specs.declared.item.Item.TheVariants as item
 use Rattle.just_graph.proofs.Members.{In, contained, from_flat}
 use Rattle.just_table.specs.Entries.{find, put}
 use Rattle.just_table.proofs.Puts.{find_put}
-use Rattle.just_names.specs.Name.{text_if_named, text_of_name}
+use Rattle.just_names.specs.Name.{text_if_named}
 use Rattle.just_names.specs.Texts.{Text}
 use Rattle.just_ast_expressions.specs.declared.expression.Expression.{Expression}
 use Rattle.just_names.specs.Index.{AreDifferent, texts_of_names}
@@ -27,20 +27,22 @@ use Rattle.just_invoke.specs.Closed.{StandsIn, itself, inside}
 use Rattle.just_invoke.specs.Module as naming
 use Rattle.just_invoke.specs.declared.justfile.Justfile.{Justfile, out-Justfile}
 use Rattle.just_module_variables.specs.Documented.{AreDocumented}
-use Rattle.just_module_contents.specs.Resolved.{AreMadeOf}
+use Rattle.just_module_recipes.specs.Linked.{AreLinked}
+use Rattle.just_names.specs.declared.name.Namepath.{Namepath}
+use Rattle.just_names.specs.declared.number.Number.{Number}
 use Rattle.just_module_headers.specs.Reading.{Reading, Submodule, declared, items_in, submodules_of}
-use Rattle.just_analyzer.specs.Labelled.{by_name, held_by_name, label_in}
-use Rattle.just_analyzer.specs.Justfiles.{AreCompiled, Built, none, one}
+use Rattle.just_compiled.specs.Labelled.{by_name, held_by_name, label_in}
+use Rattle.just_compiled.specs.Justfiles.{AreCompiled, Built, none, one}
 use Rattle.just_module_tree.specs.Modules.{Forest, HasModule, Module, after_it, first, in_it, path_of}
 use Rattle.just_module_tree.proofs.ModulePlaces.{nobody}
 
 -- names that differ: the first is not among the others, which differ too
-head_differs : (n : Text) (ns : List Text) → AreDifferent (n ∷ ns) → (m : Text) → In m ns → n ≢ m
+pub head_differs : (n : Text) (ns : List Text) → AreDifferent (n ∷ ns) → (m : Text) → In m ns → n ≢ m
 head_differs n ns different m i same =
     let c = contained m ns i in
     different 0 (suc c.0) (omega arith) (omega (arith, c.1)) (same ∙ sym c.2 ∙ get_or_default ns c.0 m [] c.1)
 
-tail_differs : (n : Text) (ns : List Text) → AreDifferent (n ∷ ns) → AreDifferent ns
+pub tail_differs : (n : Text) (ns : List Text) → AreDifferent (n ∷ ns) → AreDifferent ns
 tail_differs n ns different i j l h = different (suc i) (suc j) (omega (arith, l)) (omega (arith, h))
 
 -- what is found under a name is among the values
@@ -108,13 +110,10 @@ pub inner_names : (value : Expression → Option (List Text)) (subs : List Submo
     → map naming.module_name inner ≡ map (λ (s : Submodule). text_if_named s.label.name) subs
 inner_names value subs inner documented = sym (names_of_labels inner) ∙ documented_names value (map (λ (s : Submodule). s.label) subs) (map label_in inner) documented ∙ labels_of_modules subs
 
--- a recipe that is made at a path has that path
-pub made_path : (rs : List (Recipe UnresolvedDependency)) (path : Modulepath) (order : List ℕ) (made : List (Recipe Dependency)) → AreMadeOf rs path order made → (r : Recipe Dependency) → In r made → r.module_path ≡ Some path
-made_path rs path [] [] are r i = absurd i
-made_path rs path [] (x ∷ made) are r i = absurd are
-made_path rs path (place ∷ order) [] are r i = absurd i
-made_path rs path (place ∷ order) (x ∷ made) are r (inl e) = ap (λ (x : Recipe Dependency). x.module_path) e ∙ are.0.resolves.module_path
-made_path rs path (place ∷ order) (x ∷ made) are r (inr i) = made_path rs path order made are.1 r i
+-- a recipe that is linked at a path has that path
+pub made_path : {Stands : Text → Type 0} {HasNumber : Namepath → Number → Type 0} {lists : Bool} {all : List (Recipe Dependency)} {sources : List (Recipe UnresolvedDependency)} {path : Modulepath} {added : List (Recipe Dependency)}
+    → AreLinked Stands HasNumber lists all sources path added → (r : Recipe Dependency) → In r added → r.module_path ≡ Some path
+made_path {added = added} linked r i = (linked.only r (contained r added i)).1.made_of.resolved.module_path
 
 module _ (given : Given) (asts : AstKey → Option Ast) (paths : (k : AstKey) (a : Ast) → asts k ≡ Some a → a.module_path ≡ k.0) (loaded : List Text) (built : List Built) where
   -- the justfile of a module of a forest stands in one of those that the forest is compiled to
@@ -125,23 +124,19 @@ module _ (given : Given) (asts : AstKey → Option Ast) (paths : (k : AstKey) (a
     pub stands : StandsIn top it
     pub path : (out-Justfile it).module_path ≡ path_of m
 
-  pub standing : {f : Forest} {js : List Justfile} → AreCompiled given asts loaded built f js →
-      ((m : Module) (below : Forest) → HasModule f m below → AreDifferent (map (λ (s : Submodule). text_if_named s.label.name) m.modules)) → {m : Module} {below : Forest} → HasModule f m below → Standing js m
-  standing none different has = absurd (nobody has refl)
-  standing (one {m = x} {j = j} made there inner is after) different first = record {
+  pub standing : {f : Forest} {js : List Justfile} → AreCompiled given asts loaded built f js → {m : Module} {below : Forest} → HasModule f m below → Standing js m
+  standing none has = absurd (nobody has refl)
+  standing (one {m = x} {j = j} made there inner is after) first = record {
     top = j;
     among = inl refl;
     it = j;
     stands = itself;
     path = is.fields.module_path ∙ paths x.heading.key is.own is.own_said;
   }
-  standing (one {m = x} {inner = inner} {j = j} made there below is after) different (in_it has) =
-      let s = standing below (λ m b h. different m b (in_it h)) has in
-      let names : map naming.module_name inner ≡ map (λ (s : Submodule). text_if_named s.label.name) x.modules =
-      inner_names _ x.modules inner is.evaluated.documented in
-      let apart : AreDifferent (map naming.module_name inner) = subst AreDifferent (sym names) (different x _ first) in
-      let there : In s.top (out-Justfile j).modules = subst (In s.top) (sym is.modules) (each_named inner apart s.top s.among) in
+  standing (one {m = x} {inner = inner} {j = j} made there below is after) (in_it has) =
+      let s = standing below has in
+      let there : In s.top (out-Justfile j).modules = subst (In s.top) (sym is.modules) (each_named inner is.different s.top s.among) in
       record { top = j; among = inl refl; it = s.it; stands = inside (contained s.top (out-Justfile j).modules there) s.stands; path = s.path }
-  standing (one made there below is after) different (after_it has) =
-      let s = standing after (λ m b h. different m b (after_it h)) has in
+  standing (one made there below is after) (after_it has) =
+      let s = standing after has in
       record { top = s.top; among = inr s.among; it = s.it; stands = s.stands; path = s.path }

@@ -1,5 +1,5 @@
 -- What modules are compiled to.
-use Rattle.std.specs.Prelude.{◌≡◌, Bool, List, [], ◌∷◌, map, flat_map, Option, Some}
+use Rattle.std.specs.Prelude.{◌≡◌, ℕ, ◌<◌, Bool, List, [], ◌∷◌, map, flat_map, length, Option, Some}
 use Rattle.just_parts.specs.Asts.{AstKey}
 use Rattle.just_names.specs.Texts.{Text}
 use Rattle.just_names.specs.declared.number.Number.{Number}
@@ -10,21 +10,27 @@ use Rattle.just_recipe.specs.declared.dependency.UnresolvedDependency.{Unresolve
 use Rattle.just_recipe.specs.declared.recipe.Recipe.{Recipe}
 use Rattle.std.specs.List.{Contains}
 use Rattle.just_invoke.specs.declared.justfile.Justfile.{Justfile, out-Justfile}
-use Rattle.just_analyzer.specs.Analysis.{HasDefault, IsOf}
-use Rattle.just_analyzer.specs.Labelled.{by_name, label_in, notes_in}
-use Rattle.just_analyzer.specs.Evaluated.{IsEvaluatedTo}
+use Rattle.just_compiled.specs.Analysis.{HasDefault, IsOf}
+use Rattle.just_compiled.specs.Labelled.{by_name, label_in, notes_in}
+use Rattle.just_compiled.specs.Evaluated.{IsEvaluatedTo}
 use Rattle.just_module_contents.specs.Labels.{doc_by}
 use Rattle.just_module_contents.specs.Notes.{absent_by, features_by, notes_of, warnings_by}
 use Rattle.just_module_contents.specs.declared.notes.Notes.{Notes}
 use Rattle.just_module_tree.specs.Modules.{Module, Forest, Empty, Tree, path_of}
-use Rattle.just_analyzer.specs.Variables.{HasTables, HasVariables}
+use Rattle.just_compiled.specs.Variables.{HasTables, HasVariables}
 use Rattle.just_module_contents.specs.Contents.{Contents}
 use Rattle.just_module_contents.specs.Kept.{kept_recipes}
-use Rattle.just_module_contents.specs.Named.{function_by, lists_by, name_by, set_by, unexported_by, variable_by}
+use Rattle.just_module_contents.specs.Named.{alias_by, function_by, lists_by, name_by, naming_by, set_by, unexported_by, variable_by}
 use Rattle.just_module_contents.specs.Said.{said_in}
-use Rattle.just_module_contents.specs.Recipes.{recipes_of}
+use Rattle.just_module_contents.specs.Recipes.{name_of, recipe_at, recipes_of}
 use Rattle.just_module_headers.specs.Reading.{Submodule, items_in}
-use Rattle.just_module_contents.specs.Resolved.{AreResolved}
+use Rattle.just_module_contents.specs.Standing.{AreStanding}
+use Rattle.just_invoke.specs.Module.{module_name}
+use Rattle.just_module_recipes.specs.Linked.{AreLinked, HasDisabled}
+use Rattle.just_module_tree.specs.Standing.{DisabledBy, In, StandsIn, leads, name_in}
+use Rattle.just_names.specs.Index.{AreDifferent}
+use Rattle.just_names.specs.Name.{text_of_name}
+use Rattle.just_names.specs.declared.name.Namepath.{Namepath}
 
 -- the recipes that files say, file after file
 abbrev pub recipes_in : (Item → Bool) → (AstKey → Option Ast) → List AstKey → List (Recipe UnresolvedDependency)
@@ -36,7 +42,9 @@ contents_in enabled asts files = record {
   recipes = recipes_in enabled asts files;
   functions = flat_map (λ k. said_in function_by enabled (asts k)) files;
   variables = flat_map (λ k. said_in variable_by enabled (asts k)) files;
+  aliases = flat_map (λ k. said_in alias_by enabled (asts k)) files;
   modules = flat_map (λ k. said_in name_by enabled (asts k)) files;
+  named = flat_map (λ k. said_in naming_by enabled (asts k)) files;
   docs = flat_map (λ k. said_in doc_by enabled (asts k)) files;
   unexports = flat_map (λ k. said_in unexported_by enabled (asts k)) files;
   sets = flat_map (λ k. said_in set_by enabled (asts k)) files;
@@ -64,22 +72,41 @@ recipes_of_all = flat_map (λ (b : Built). b.1.recipes)
 abbrev pub overridden_of_all : List Built → List (Number × Text)
 overridden_of_all = flat_map (λ (b : Built). b.1.overridden)
 
--- What a module is compiled to: its recipes, those that are kept, each once, resolved and after those that it depends on, what is evaluated of it, and its justfile, with the modules in it, which have the labels of their declarations.
-pub record IsCompiled (given : Given) (asts : AstKey → Option Ast) (loaded : List Text) (m : Module) (inner : List Justfile) (made : Made) (j : Justfile) : Type 0 where
+-- the recipes of a module that are kept, as its files say them
+abbrev pub kept_by : Given → (AstKey → Option Ast) → Module → List (Recipe UnresolvedDependency)
+kept_by given asts m = kept_recipes (recipes_in given.syntax.enabled asts m.files)
+
+-- the number of the kept recipe that a path leads to from a module
+pub record HasNumberIn (given : Given) (asts : AstKey → Option Ast) (m : Module) (inside : Forest) (path : Namepath) (number : Number) : Type 0 where
+  pub to : Module
+  pub below : Forest
+  pub leads_in : leads m inside path ≡ In to below
+  pub place : ℕ
+  pub there : place < length (kept_by given asts to)
+  pub named : name_of (recipe_at (kept_by given asts to) place) ≡ text_of_name path.last
+  pub number_is : (recipe_at (kept_by given asts to) place).number ≡ number
+
+-- What a module is compiled to, of all recipes: its recipes that nothing disables, linked, and after those that they depend on, the others with what disables them, what is evaluated of it, and its justfile, with the modules in it, which have the labels of their declarations.
+pub record IsCompiled (given : Given) (asts : AstKey → Option Ast) (loaded : List Text) (all : List (Recipe Dependency)) (m : Module) (inside : Forest) (inner : List Justfile) (made : Made) (j : Justfile) : Type 0 where
   pub own : Ast
   pub own_said : asts m.heading.key ≡ Some own
   pub own_there : Contains m.files m.heading.key
-  pub resolved : AreResolved (kept_recipes (recipes_in given.syntax.enabled asts m.files)) (path_of m) made.recipes
+  pub name : module_name j ≡ name_in m
+  pub linked : AreLinked (StandsIn m inside) (HasNumberIn given asts m inside) (out-Justfile j).settings.lists all (kept_by given asts m) (path_of m) made.recipes
+  pub standing : List (Recipe UnresolvedDependency)
+  pub stand : AreStanding (StandsIn m inside) (kept_by given asts m) standing
+  pub disabled : HasDisabled (DisabledBy m inside) (kept_by given asts m) (out-Justfile j).disabled_recipes
   pub evaluated : IsEvaluatedTo (layers_at given (path_of m)) (contents_in given.syntax.enabled asts m.files) (map (λ (s : Submodule). s.label) m.modules) (map label_in inner) made.overridden j
   pub variables : HasVariables given.syntax (contents_in given.syntax.enabled asts m.files) j
   pub tables : HasTables j
-  pub default : HasDefault (contents_in given.syntax.enabled asts m.files) (recipes_of given.syntax.enabled own.items) j
-  pub fields : IsOf (contents_in given.syntax.enabled asts m.files) own loaded m.heading.key.1 j
+  pub default : HasDefault standing (recipes_of given.syntax.enabled own.items) j
+  pub fields : IsOf (contents_in given.syntax.enabled asts m.files) standing own loaded m.heading.key.1 j
   pub notes : notes_in j ≡ notes_said given.syntax.enabled asts m.files
   pub modules : (out-Justfile j).modules ≡ by_name inner
+  pub different : AreDifferent (map module_name inner)
 
 -- The modules of a forest are compiled to justfiles, one by one.
 pub data AreCompiled (given : Given) (asts : AstKey → Option Ast) (loaded : List Text) (built : List Built) : Forest → List Justfile → Type 0 where
   none : AreCompiled given asts loaded built Empty []
   one : {m : Module} {inside after : Forest} {inner js : List Justfile} {j : Justfile} (made : Made) → Contains built (m.heading.key, made) → AreCompiled given asts loaded built inside inner
-      → IsCompiled given asts loaded m inner made j → AreCompiled given asts loaded built after js → AreCompiled given asts loaded built (Tree m inside after) (j ∷ js)
+      → IsCompiled given asts loaded (recipes_of_all built) m inside inner made j → AreCompiled given asts loaded built after js → AreCompiled given asts loaded built (Tree m inside after) (j ∷ js)

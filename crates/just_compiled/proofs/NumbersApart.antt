@@ -14,7 +14,7 @@ use Rattle.just_ast_definitions.specs.declared.assignment.Assignment.{Assignment
 use Rattle.just_table.specs.Entries.{find, put, put_all}
 use Rattle.just_module_variables.specs.Variables.{known_with_numbers}
 use Rattle.just_invoke.specs.declared.justfile.Justfile.{Justfile}
-use Rattle.just_analyzer.specs.Variables.{HasTables, HasVariables}
+use Rattle.just_compiled.specs.Variables.{HasTables, HasVariables}
 use Rattle.just_module_variables.proofs.Tabled.{are_tables}
 use Rattle.just_module_headers.specs.Analyzable.{assignment_numbers}
 use Rattle.just_module_contents.specs.Contents.{Contents}
@@ -23,10 +23,10 @@ use Rattle.just_module_contents.proofs.Keeping.{left_in}
 use Rattle.just_module_contents.proofs.Once.{from_once}
 use Rattle.just_table.proofs.Puts.{find_put}
 
-abbrev name_of : Assignment → Text
+abbrev pub name_of : Assignment → Text
 name_of a = text_of_name a.name
 
-abbrev number_of : Assignment → ℕ
+abbrev pub number_of : Assignment → ℕ
 number_of a = a.number.0
 
 module _ (x : Text) (a : Assignment) where
@@ -45,11 +45,11 @@ module _ (x : Text) (a : Assignment) where
     | inr f ↦ here v vs es (bytes_eq x (name_of v)) refl (sym (find_put x (name_of v) v es) ∙ f)
   ]
 
-  found_among : (vs : List Assignment) → find x (put_all name_of [] vs) ≡ Some a → In a vs × (name_of a ≡ x)
+  pub found_among : (vs : List Assignment) → find x (put_all name_of [] vs) ≡ Some a → In a vs × (name_of a ≡ x)
   found_among vs e = elim (found vs [] e) [ inl h ↦ h | inr none ↦ (let wrong : None ≡ Some a = none in cc) ]
 
 -- one number is that of one variable
-one_of : (vs : List Assignment) → Once (assignment_numbers vs) → (a b : Assignment) → In a vs → In b vs → number_of a ≡ number_of b → a ≡ b
+pub one_of : (vs : List Assignment) → Once (assignment_numbers vs) → (a b : Assignment) → In a vs → In b vs → number_of a ≡ number_of b → a ≡ b
 one_of [] once a b h k e = absurd h
 one_of (v ∷ vs) once a b (inl p) (inl q) e = p ∙ sym q
 one_of (v ∷ vs) once a b (inl p) (inr k) e = absurd (once.0 (subst (λ n. In n (assignment_numbers vs)) (sym e ∙ ap number_of p) (in_map number_of b vs k)))

@@ -11,7 +11,7 @@ use Rattle.just_names.specs.Texts.{Text}
 use Rattle.just_module_contents.specs.declared.labels.Label.{Label}
 use Rattle.just_invoke.specs.Module.{module_name}
 use Rattle.just_invoke.specs.declared.justfile.Justfile.{Justfile}
-use Rattle.just_analyzer.specs.Labelled.{held_by_name, labelled_as, slot, with_labels}
+use Rattle.just_compiled.specs.Labelled.{held_by_name, labelled_as, slot, with_labels}
 
 pub held_more : (held : List (Text × Justfile)) (js : List Justfile) (j : Justfile) → held_by_name held (js ++ j ∷ []) ≡ put (module_name j) j (held_by_name held js)
 held_more held [] j = refl

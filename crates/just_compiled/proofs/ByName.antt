@@ -1,9 +1,8 @@
 -- The modules in a module, by their names and paths.
-use Rattle.std.proofs.Common.{◌≡◌, ◌∙◌, List, [], ◌∷◌, ◌++◌, map, Option, None, Some, refl, sym, ap, subst, inl, inr}
+use Rattle.std.proofs.Common.{◌≡◌, ◌∙◌, List, [], ◌∷◌, map, Option, None, Some, refl, sym, ap, subst, inl, inr}
 use Rattle.std.specs.Cmp.Lexicographic.{slice_cmp}
 use Rattle.std.specs.Prelude.{flat_map}
 use Rattle.std.specs.List.Sorted.{IsStrictlySortedBy}
-use Rattle.std.specs.Map.{keys_of, values_of}
 use Rattle.std.specs.Ordering.{nat_cmp}
 use Rattle.std.proofs.lemmas.List.Elements.{All-nil}
 use Rattle.just_ast_items.specs.declared.item.Item.TheVariants as item
@@ -23,17 +22,18 @@ use Rattle.just_invoke.specs.declared.justfile.Justfile.{Justfile, out-Justfile}
 use Rattle.just_module_contents.specs.Resolved.{path_to}
 use Rattle.just_module_headers.specs.Reading.{Reading, Submodule, declared, imported, imports_of, items_in, submodules_of}
 use Rattle.just_module_tree.specs.Modules.{AreModules, Forest, Heading, IsModule, Module, a_module, heading_of, no_module}
-use Rattle.just_module_variables.proofs.Substituted.{all_sorted, made_sorted}
-use Rattle.just_analyzer.specs.Justfiles.{AreCompiled, Built, none, one}
-use Rattle.just_analyzer.specs.Labelled.{by_name, held_by_name}
-use Rattle.just_analyzer.proofs.Placing.{declared_names}
-use Rattle.just_analyzer.proofs.TableValues.{keyed_values}
+use Rattle.just_module_variables.proofs.Substituted.{made_sorted}
+use Rattle.just_compiled.specs.Justfiles.{AreCompiled, Built, none, one}
+use Rattle.just_compiled.specs.Labelled.{by_name, held_by_name}
+use Rattle.just_compiled.proofs.Placing.{declared_names}
+use Rattle.just_compiled.proofs.TableValues.{keyed_values}
 
 held_as_put : (held : List (Text × Justfile)) (js : List Justfile) → held_by_name held js ≡ put_all naming.module_name held js
 held_as_put held [] = refl
 held_as_put held (j ∷ js) = held_as_put (put (naming.module_name j) j held) js
 
-held_keyed : (held : List (Text × Justfile)) (js : List Justfile) → IsKeyed naming.module_name held → IsKeyed naming.module_name (held_by_name held js)
+-- each module is held under its name
+pub held_keyed : (held : List (Text × Justfile)) (js : List Justfile) → IsKeyed naming.module_name held → IsKeyed naming.module_name (held_by_name held js)
 held_keyed held [] keyed = keyed
 held_keyed held (j ∷ js) keyed = held_keyed (put (naming.module_name j) j held) js (put_keyed naming.module_name j held keyed)
 
@@ -63,7 +63,7 @@ same_list (x ∷ xs) = ap (λ ys. x ∷ ys) (same_list xs)
 
 module _ (R : Reading) where
   -- the files of a module have its path
-  files_path : (h : Heading) (m : Module) → IsModule R h m → (k : AstKey) → In k m.files → k.0 ≡ h.key.0
+  pub files_path : (h : Heading) (m : Module) → IsModule R h m → (k : AstKey) → In k m.files → k.0 ≡ h.key.0
   files_path h m is = every_level same_ast_key same_ast_key (λ k. k) (λ k. k.0 ≡ h.key.0) (imports_of R) (imports_of R) (λ a b x y. refl) (λ a x. same_list (imports_of R a))
       (λ a b x i. let f = from_flat (imported a.0) b (items_in (R a)) i in import_path a.0 b f.0 f.2 ∙ x) h.key m.files refl is.files
 

@@ -1,0 +1,55 @@
+-- What a module that is analyzed is linked to, by what its justfile has.
+use Rattle.std.proofs.Common.{◌≡◌, ◌∙◌, Bool, List, ◌++◌, sym, ap, subst}
+use Rattle.just_analyzer.specs.Parts.{IsAnalyzedFrom, around_by}
+use Rattle.just_analyzer.specs.declared.groups.Checked.{Checked}
+use Rattle.just_analyzer.specs.declared.making.Surroundings.{Surroundings}
+use Rattle.just_ast_expressions.specs.declared.settings.Settings.{Settings}
+use Rattle.just_compiled.specs.Analysis.{HasLinks}
+use Rattle.just_compiled.specs.Justfiles.{Made}
+use Rattle.just_errors.specs.Causes.{Keeps}
+use Rattle.just_invoke.specs.declared.justfile.Justfile.{Justfile, out-Justfile}
+use Rattle.just_module_contents.specs.Contents.{Contents}
+use Rattle.just_module_contents.specs.Definitions.{contents_in, recipes_in}
+use Rattle.just_module_contents.specs.Kept.{kept_recipes}
+use Rattle.just_module_contents.specs.Standing.{AreStanding}
+use Rattle.just_module_contents.specs.declared.notes.Notes.{Notes}
+use Rattle.just_module_recipes.specs.Broken.{BreaksRecipes}
+use Rattle.just_module_recipes.specs.Linked.{AreLinked, HasDisabled, HasNumber}
+use Rattle.just_module_recipes.specs.Links.{Around, Disables, Stands, around, around_of, links_by}
+use Rattle.just_parts.specs.Items.{Ast}
+use Rattle.just_parts.specs.Syntax.{SyntaxAnswers}
+use Rattle.just_recipe.specs.declared.dependency.Dependency.{Dependency}
+use Rattle.just_recipe.specs.declared.dependency.UnresolvedDependency.{UnresolvedDependency}
+use Rattle.just_recipe.specs.declared.recipe.Recipe.{Recipe}
+
+module _ (answers : SyntaxAnswers) (own : Ast) (it : Checked) (about : Surroundings) (before after : Made) (j : Justfile) (is : IsAnalyzedFrom answers own it about before after j) where
+  abbrev rs : List (Recipe UnresolvedDependency)
+  rs = kept_recipes (recipes_in it.definitions)
+
+  around_is : around_by about before.recipes ≡ around_of j before.recipes
+  around_is = λ i. around (ap (λ (n : Notes). n.absent_modules) (sym is.notes) i) (sym is.modules i) before.recipes
+
+  lists_are : it.constants.settings.lists ≡ (out-Justfile j).settings.lists
+  lists_are = ap (λ (s : Settings). s.lists) (sym is.settings)
+
+  abbrev added : List (Recipe Dependency)
+  added = is.linked.linked.added
+
+  has_links : HasLinks rs before.recipes own.module_path added is.standing j
+  has_links = record {
+    linked = subst (λ (x : Around). AreLinked (Stands rs x) (HasNumber rs x) (out-Justfile j).settings.lists (before.recipes ++ added) rs own.module_path added) around_is
+        (subst (λ l. AreLinked (Stands rs (around_by about before.recipes)) (HasNumber rs (around_by about before.recipes)) l (before.recipes ++ added) rs own.module_path added) lists_are
+        (subst (λ all. AreLinked (Stands rs (around_by about before.recipes)) (HasNumber rs (around_by about before.recipes)) it.constants.settings.lists all rs own.module_path added) is.linked.linked.appended is.linked.linked.linked));
+    stand = subst (λ (x : Around). AreStanding (Stands rs x) rs is.standing) around_is is.linked.stand;
+    disabled = subst (λ (x : Around). HasDisabled (Disables rs x) rs (out-Justfile j).disabled_recipes) around_is is.linked.disabled_are;
+  }
+
+  -- so it has these links, of contents that are the same
+  pub links_of : (m : Contents) → contents_in it.definitions ≡ m → HasLinks (kept_recipes m.recipes) before.recipes own.module_path added is.standing j
+  links_of m same = subst (λ (x : Contents). HasLinks (kept_recipes x.recipes) before.recipes own.module_path added is.standing j) same has_links
+
+  -- and keeps its rules over them
+  pub recipes_kept_over : (m : Contents) → contents_in it.definitions ≡ m → Keeps (BreaksRecipes answers it.constants.settings (links_by (kept_recipes m.recipes) (around_of j before.recipes)) (contents_in it.definitions))
+  recipes_kept_over m same =
+      subst (λ (x : Contents). Keeps (BreaksRecipes answers it.constants.settings (links_by (kept_recipes x.recipes) (around_of j before.recipes)) (contents_in it.definitions))) same
+      (subst (λ (x : Around). Keeps (BreaksRecipes answers it.constants.settings (links_by rs x) (contents_in it.definitions))) around_is is.kept)

@@ -1,0 +1,395 @@
+-- What is disabled, broken and found over compiled modules is what is so over the modules.
+use Rattle.std.proofs.Common.{◌≡◌, ◌≢◌, ◌∙◌, ℕ, ◌<◌, ◌==◌, Bool, true, false, cond, List, [], ◌∷◌, ◌++◌, map, length, Option, None, Some, IsSome, inl, inr, refl, sym, ap, subst}
+use Rattle.std.specs.BTreeSet.{BTreeSet}
+use Rattle.std.specs.List.{Contains, slice_get}
+use Rattle.std.proofs.lemmas.List.{append-nil, get_or_default}
+use Rattle.std.proofs.lemmas.Option.{slice_get_read}
+use Rattle.just_graph.proofs.Index.{some_same}
+use Rattle.just_graph.proofs.Members.{In, contained, from_map, in_map, is_in}
+use Rattle.just_ast_definitions.specs.Parameter.{least_arguments, most_arguments}
+use Rattle.just_ast_definitions.specs.declared.parameter.Parameter.{Parameter}
+use Rattle.just_errors.specs.Causes.{Cause}
+use Rattle.just_invoke.specs.Walks.{end_of, path_along, recipe_by}
+use Rattle.just_invoke.specs.declared.resolution.Resolution.{Resolution}
+use Rattle.just_invoke.specs.declared.resolution.Resolution.TheVariants as resolution
+use Rattle.just_module_contents.specs.Groups.{Group, OfAliases, OfBodies, OfConstants, OfDependencies, OfExpressions, OfHeaders, OfNames}
+use Rattle.just_module_contents.specs.Recipes.{DependsOn, dependency_paths, least_of, most_of, name_of, named_paths, names_of, no_recipe, recipe_at}
+use Rattle.just_module_contents.specs.Resolved.{number_at}
+use Rattle.just_module_contents.specs.Rules.{DependsBy, StandsWith}
+use Rattle.just_module_contents.proofs.Keeping.{kept_different}
+use Rattle.just_module_contents.proofs.RecipePlaces.{number_read, one_place}
+use Rattle.just_module_headers.proofs.Holding.{some_value}
+use Rattle.just_module_headers.proofs.Alike.{Outline, at as outline_at, defaults_alike, dependencies_alike, depends_by_alike, many, name as name_at, same_names}
+use Rattle.just_module_recipes.specs.Linked.{AreSettled, HasNumber, of_far as far_number, of_near as near_number}
+use Rattle.just_module_recipes.specs.Links as links
+use Rattle.just_module_recipes.specs.Links.{Around, BreaksLinks, Disables, HasParameters, Leads, Names, Stands, Takes, by_recipe, by_walk, far, found_by, links_by, near, of_far, of_near}
+use Rattle.just_module_tree.specs.Modules.{Forest, Module, contents_of}
+use Rattle.just_module_tree.specs.Standing as trees
+use Rattle.just_module_tree.specs.Standing.{BreaksDependencies, DisabledBy, EndsWell, LeadsSomewhere, Place, StandsIn, TakesIn, by_disabled, kept_in, leads, links_in, through_absent}
+use Rattle.just_names.specs.Name.{text_of_name, texts_of_path}
+use Rattle.just_names.specs.Texts.{Text}
+use Rattle.just_names.specs.declared.name.Name.{Name}
+use Rattle.just_names.specs.declared.name.Namepath.{Namepath}
+use Rattle.just_names.specs.declared.number.Number.{Number}
+use Rattle.just_parts.specs.Asts.{AstKey}
+use Rattle.just_parts.specs.Items.{Ast}
+use Rattle.just_parts.specs.Layers.{Given}
+use Rattle.just_paths.specs.declared.modulepath.Modulepath.{Modulepath}
+use Rattle.just_recipe.specs.Recipes.{find_number}
+use Rattle.just_recipe.specs.declared.dependency.Dependency.{Dependency}
+use Rattle.just_recipe.specs.declared.dependency.UnresolvedDependency.{UnresolvedDependency}
+use Rattle.just_recipe.specs.declared.recipe.Recipe.{Recipe}
+use Rattle.just_compiled.specs.Justfiles.{Built, HasNumberIn, kept_by, recipes_of_all}
+use Rattle.just_compiled.proofs.Agreeing.{IsBarred, IsNumbered, Meets, Resolves, Through, far_or, stays}
+use Rattle.just_compiled.proofs.Saying.{Says}
+use Rattle.just_compiled.proofs.StandingRecipes.{standing_alike}
+
+one_more : (b : Bool) (r x : Recipe Dependency) (o q : Option (Recipe Dependency)) → (o ≡ Some x → q ≡ Some x) → cond b (Some r) o ≡ Some x → cond b (Some r) q ≡ Some x
+one_more true r x o q rest e = e
+one_more false r x o q rest e = rest e
+
+-- a recipe that is found by its number is found where there are more behind
+pub found_more : (rs more : List (Recipe Dependency)) (n : ℕ) (x : Recipe Dependency) → find_number rs n ≡ Some x → find_number (rs ++ more) n ≡ Some x
+found_more [] more n x e = cc
+found_more (r ∷ rs) more n x e = one_more (r.number.0 == n) r x (find_number rs n) (find_number (rs ++ more) n) (found_more rs more n x) e
+
+-- a path of one name
+one_text : (front : List Name) (last : Name) (t : Text) → map text_of_name (front ++ last ∷ []) ≡ t ∷ [] → (front ≡ []) × (text_of_name last ≡ t)
+one_text [] last t e = (refl, cc)
+one_text (x ∷ []) last t e = cc
+one_text (x ∷ y ∷ front) last t e = cc
+
+texts_one : (d : Namepath) → d.front ≡ [] → texts_of_path d ≡ text_of_name d.last ∷ []
+texts_one d e = ap (λ front. map text_of_name (front ++ d.last ∷ [])) e
+
+-- paths of dependencies, and their texts
+paths_read : (ds : List UnresolvedDependency) → map (λ (d : UnresolvedDependency). texts_of_path d.recipe) ds ≡ map texts_of_path (map (λ (d : UnresolvedDependency). d.recipe) ds)
+paths_read [] = refl
+paths_read (d ∷ ds) = ap (λ ps. texts_of_path d.recipe ∷ ps) (paths_read ds)
+
+module _ (rs : List (Recipe UnresolvedDependency)) where
+  -- a recipe of a name has a place
+  place_named : (name : Text) → Contains (names_of rs) name → (i : ℕ) × (i < length rs) × (name_of (recipe_at rs i) ≡ name)
+  place_named name c =
+      let r = from_map name_of name rs (is_in name (names_of rs) c) in
+      let at = contained r.0 rs r.1 in
+      (at.0, at.1, ap (λ (x : Recipe UnresolvedDependency). name_of x) (get_or_default rs at.0 no_recipe r.0 at.1 ∙ at.2) ∙ sym r.2)
+
+  name_there : (i : ℕ) → i < length rs → Contains (names_of rs) (name_of (recipe_at rs i))
+  name_there i h =
+      let r = recipe_at rs i in
+      contained (name_of r) (names_of rs) (in_map name_of r rs (is_in r rs (i, h, get_or_default rs i r no_recipe h)))
+
+  -- what depends on a path of one name depends on that
+  on_name : (name : Text) (d : Namepath) → d.front ≡ [] → DependsBy rs name d → Contains (names_of rs) (text_of_name d.last) → DependsOn rs name (text_of_name d.last)
+  on_name name d one by c =
+      let to = place_named (text_of_name d.last) c in
+      let r = recipe_at rs by.from in
+      let i : In (texts_of_path d) (dependency_paths r) = subst (In (texts_of_path d)) (sym (paths_read r.dependencies)) (in_map texts_of_path d (named_paths r) (is_in d (named_paths r) by.depends)) in
+      record {
+        from = by.from;
+        to = to.0;
+        step = record {
+          dependent = by.there;
+          there = to.1;
+          names = contained (name_of (recipe_at rs to.0) ∷ []) (dependency_paths r) (subst (λ t. In t (dependency_paths r)) (texts_one d one ∙ ap (λ t. t ∷ []) (sym to.2)) i);
+        };
+        dependent_is = by.name_is;
+        name_is = to.2;
+      }
+
+  -- and what depends on a name depends on a path of one name
+  by_name_of : (name other : Text) → DependsOn rs name other → (d : Namepath) × DependsBy rs name d × (d.front ≡ []) × (text_of_name d.last ≡ other)
+  by_name_of name other on =
+      let r = recipe_at rs on.from in
+      let names = subst (In (name_of (recipe_at rs on.to) ∷ [])) (paths_read r.dependencies) (is_in (name_of (recipe_at rs on.to) ∷ []) (dependency_paths r) on.step.names) in
+      let d = from_map texts_of_path (name_of (recipe_at rs on.to) ∷ []) (named_paths r) names in
+      let one = one_text d.0.front d.0.last (name_of (recipe_at rs on.to)) (sym d.2) in
+      (d.0, record { from = on.from; there = on.step.dependent; name_is = on.dependent_is; depends = contained d.0 (named_paths r) d.1 }, one.0, one.1 ∙ on.name_is)
+
+-- what is disabled is kept
+pub disabled_named : {n : Module} {below : Forest} {name : Text} {path : Modulepath} → DisabledBy n below name path → Contains (names_of (kept_in n)) name
+disabled_named {n} (through_absent d names by f) = subst (Contains (names_of (kept_in n))) by.name_is (name_there (kept_in n) by.from by.there)
+disabled_named {n} (by_disabled d k b by f rest) = subst (Contains (names_of (kept_in n))) by.name_is (name_there (kept_in n) by.from by.there)
+
+some_path : (paths : List Modulepath) → paths ≢ [] → (path : Modulepath) × In path paths
+some_path [] ne = absurd (ne refl)
+some_path (path ∷ paths) ne = (path, inl refl)
+
+module _ (given : Given) (asts : AstKey → Option Ast) (loaded : List Text) (built : List Built) where
+  abbrev kept : Module → List (Recipe UnresolvedDependency)
+  kept m = kept_by given asts m
+
+  -- what disables through a place is among the paths of the look-up
+  barred_of : (place : Place) (last : Text) (path : Modulepath) (r : Option (Resolution Number)) → Resolves given asts loaded built place last r → Through given asts loaded built place last path
+      → (set : BTreeSet Modulepath) × (r ≡ Some (resolution.Disabled set)) × Contains set.keys path
+  barred_of place last path (Some (resolution.Resolved number)) r (inl (names, e, is)) = let f : trees.In r.n r.below ≡ trees.Missing names = sym r.leads_in ∙ e in absurd (cc)
+  barred_of place last path (Some (resolution.Resolved number)) r (inr (k, b, e, d)) =
+      let f : trees.In k b ≡ trees.In r.n r.below = sym e ∙ r.leads_in in
+      let en : k ≡ r.n = cc in
+      let eb : b ≡ r.below = cc in
+      absurd (r.stands path (subst (λ z. DisabledBy r.n z last path) eb (subst (λ z. DisabledBy z b last path) en d)))
+  barred_of place last path (Some (resolution.Disabled set)) r t = (set, refl, (r.each path).1 t)
+  barred_of place last path None r (inl (names, e, is)) = absurd (r (subst (λ p. EndsWell p last) (sym e) tt))
+  barred_of place last path None r (inr (k, b, e, d)) = absurd (r (subst (λ p. EndsWell p last) (sym e) (disabled_named d)))
+
+  ends_of : (place : Place) (last : Text) (r : Option (Resolution Number)) → Resolves given asts loaded built place last r → r ≢ None → EndsWell place last
+  ends_of place last (Some (resolution.Resolved number)) r ne =
+      subst (λ p. EndsWell p last) (sym r.leads_in)
+      (subst (λ ns. Contains ns last) (same_names (kept r.n) (kept_in r.n) r.shows.says.kept) (subst (Contains (names_of (kept r.n))) r.named (name_there (kept r.n) r.i r.there)))
+  ends_of place last (Some (resolution.Disabled set)) r ne = r.ends
+  ends_of place last None r ne = absurd (ne refl)
+
+  -- what the module's recipes depend on, as its files say them and as the tree has them
+  by_files : (m : Module) → Says given asts m → (name : Text) (d : Namepath) → DependsBy (kept_in m) name d → DependsBy (kept m) name d
+  by_files m says name d = depends_by_alike (kept_in m) (kept m) (sym says.kept) name d
+
+  by_tree : (m : Module) → Says given asts m → (name : Text) (d : Namepath) → DependsBy (kept m) name d → DependsBy (kept_in m) name d
+  by_tree m says name d = depends_by_alike (kept m) (kept_in m) says.kept name d
+
+  -- what is disabled in the tree is disabled over the compiled modules
+  pub from_tree : {m : Module} {inside : Forest} {name : Text} {path : Modulepath} → DisabledBy m inside name path → (it : Around) → Meets given asts loaded built m inside it → Disables (kept m) it name path
+  from_tree {m} {inside} {name} (through_absent d names by f) it meets = elim (far_or given asts loaded built m inside it meets d) [
+    | inl z ↦ (let g : trees.In m inside ≡ trees.Missing names = sym (stays m inside d z) ∙ f in absurd (cc))
+    | inr r ↦ (
+        let b = barred_of (leads m inside d) (text_of_name d.last) (path_along names) (found_by it d) r (inl (names, f, refl)) in
+        by_walk d b.0 (by_files m meets.says name d by) b.1 b.2)
+  ]
+  from_tree {m} {inside} {name} {path} (by_disabled d n below by f rest) it meets = elim (far_or given asts loaded built m inside it meets d) [
+    | inl z ↦ (
+        let g : trees.In m inside ≡ trees.In n below = sym (stays m inside d z) ∙ f in
+        let en : n ≡ m = cc in
+        let eb : below ≡ inside = cc in
+        let there : Meets given asts loaded built n below it = subst (λ k. Meets given asts loaded built k below it) (sym en) (subst (λ b. Meets given asts loaded built m b it) (sym eb) meets) in
+        let k : Disables (kept n) it (text_of_name d.last) path = from_tree rest it there in
+        let c : Contains (names_of (kept_in m)) (text_of_name d.last) = subst (λ (x : Module). Contains (names_of (kept_in x)) (text_of_name d.last)) en (disabled_named rest) in
+        let named : Contains (names_of (kept m)) (text_of_name d.last) = subst (λ ns. Contains ns (text_of_name d.last)) (sym (same_names (kept m) (kept_in m) meets.says.kept)) c in
+        by_recipe (text_of_name d.last) (on_name (kept m) name d z (by_files m meets.says name d by) named) (subst (λ (x : Module). Disables (kept x) it (text_of_name d.last) path) en k))
+    | inr r ↦ (
+        let b = barred_of (leads m inside d) (text_of_name d.last) path (found_by it d) r (inr (n, below, f, rest)) in
+        by_walk d b.0 (by_files m meets.says name d by) b.1 b.2)
+  ]
+
+  module _ (m : Module) (inside : Forest) (it : Around) (meets : Meets given asts loaded built m inside it) where
+    -- a path of one name leads through no module
+    nothing_far : (d : Namepath) → d.front ≡ [] → found_by it d ≡ None
+    nothing_far d e = ap (λ front. recipe_by (end_of it.absent it.modules (map text_of_name front)) [] [] (text_of_name d.last)) e
+
+    -- what a look-up that finds something means
+    means : (d : Namepath) (r : Option (Resolution Number)) → found_by it d ≡ r → r ≢ None → Resolves given asts loaded built (leads m inside d) (text_of_name d.last) r
+    means d r e ne = elim (far_or given asts loaded built m inside it meets d) [
+      | inl z ↦ absurd (ne (sym e ∙ nothing_far d z))
+      | inr k ↦ subst (Resolves given asts loaded built (leads m inside d) (text_of_name d.last)) e k
+    ]
+
+    -- what is disabled over the compiled modules is disabled in the tree
+    pub to_tree : {name : Text} {path : Modulepath} → Disables (kept m) it name path → DisabledBy m inside name path
+    to_tree {name} {path} (by_walk d set by f mem) =
+        let r : IsBarred given asts loaded built (leads m inside d) (text_of_name d.last) set.keys = means d (Some (resolution.Disabled set)) f (λ g. cc) in
+        elim ((r.each path).0 mem) [
+          | inl (names, g, is) ↦ subst (DisabledBy m inside name) (sym is) (through_absent d names (by_tree m meets.says name d by) g)
+          | inr (n, below, g, rest) ↦ by_disabled d n below (by_tree m meets.says name d by) g rest
+        ]
+    to_tree {name} {path} (by_recipe other on rest) =
+        let d = by_name_of (kept m) name other on in
+        by_disabled d.0 m inside (by_tree m meets.says name d.0 d.1) (stays m inside d.0 d.2) (subst (λ t. DisabledBy m inside t path) (sym d.3) (to_tree rest))
+
+    -- so the same recipes stand
+    pub stands_on : (name : Text) → Stands (kept m) it name → StandsIn m inside name
+    stands_on name stands path d = stands path (from_tree d it meets)
+
+    -- and the other way
+    pub stands_back : (name : Text) → StandsIn m inside name → Stands (kept m) it name
+    stands_back name stands path d = stands path (to_tree d)
+
+    named_on : (name : Text) → Contains (names_of (kept m)) name → Contains (names_of (kept_in m)) name
+    named_on name c = subst (λ ns. Contains ns name) (same_names (kept m) (kept_in m) meets.says.kept) c
+
+    named_back : (name : Text) → Contains (names_of (kept_in m)) name → Contains (names_of (kept m)) name
+    named_back name c = subst (λ ns. Contains ns name) (sym (same_names (kept m) (kept_in m) meets.says.kept)) c
+
+    leads_on : (d : Namepath) → Leads (kept m) it d → LeadsSomewhere m inside d
+    leads_on d (near j names) =
+        let one = one_text d.front d.last (name_of (recipe_at (kept m) j)) names.named in
+        subst (λ p. EndsWell p (text_of_name d.last)) (sym (stays m inside d one.0)) (named_on (text_of_name d.last) (subst (Contains (names_of (kept m))) (sym one.1) (name_there (kept m) j names.there)))
+    leads_on d (far ne) = ends_of (leads m inside d) (text_of_name d.last) (found_by it d) (means d (found_by it d) refl ne) ne
+
+    leads_back : (d : Namepath) → LeadsSomewhere m inside d → Leads (kept m) it d
+    leads_back d l = elim (far_or given asts loaded built m inside it meets d) [
+      | inl z ↦ (
+          let at = place_named (kept m) (text_of_name d.last) (named_back (text_of_name d.last) (subst (λ p. EndsWell p (text_of_name d.last)) (stays m inside d z) l)) in
+          near at.0 (record { there = at.1; named = texts_one d z ∙ ap (λ t. t ∷ []) (sym at.2) }))
+      | inr r ↦ far (λ e. let lost : (LeadsSomewhere m inside d → ⊥) = subst (Resolves given asts loaded built (leads m inside d) (text_of_name d.last)) e r in lost l)
+    ]
+
+    -- the recipe that is made of one that a number means
+    module _ (place : Place) (last : Text) (number : Number) (r : IsNumbered given asts loaded built place last number) where
+      made_there : (x : Recipe Dependency) × (find_number (recipes_of_all built) number.0 ≡ Some x) × (x.parameters ≡ (recipe_at (kept r.n) r.i).parameters)
+      made_there =
+          let x = r.shows.is.linked.each r.i r.there (subst (StandsIn r.n r.below) (sym r.named) r.stands) in
+          let read : slice_get (kept r.n) r.i ≡ Some (recipe_at (kept r.n) r.i) = slice_get_read (kept r.n) (length (kept r.n)) r.i (recipe_at (kept r.n) r.i) refl r.there (get_or_default (kept r.n) r.i no_recipe (recipe_at (kept r.n) r.i) r.there) in
+          let same : number_at (kept r.n) r.i ≡ number.0 = number_read (kept r.n) r.i (recipe_at (kept r.n) r.i) read ∙ ap (λ (k : Number). k.0) r.number_is in
+          (x.0, ap (find_number (recipes_of_all built)) (sym same) ∙ x.1, x.2.made_of.resolved.parameters)
+
+      -- what is held under the number has its parameters
+      made_held : (q : Recipe Dependency) → find_number it.held number.0 ≡ Some q → q.parameters ≡ (recipe_at (kept r.n) r.i).parameters
+      made_held q e =
+          let x = made_there in
+          let all : find_number (recipes_of_all built) number.0 ≡ Some q = ap (λ qs. find_number qs number.0) meets.held ∙ found_more it.held meets.rest number.0 q e in
+          let same : q ≡ x.0 = some_same (sym all ∙ x.1) in
+          ap (λ (k : Recipe Dependency). k.parameters) same ∙ x.2
+
+    -- how many arguments a recipe takes, as the files say it and as the tree has it
+    least_same : (n : Module) → Says given asts n → (i : ℕ) → least_of (recipe_at (kept n) i) ≡ least_of (recipe_at (kept_in n) i)
+    least_same n says i = ap (λ (o : Outline). o.least) (outline_at (kept n) (kept_in n) says.kept i)
+
+    most_same : (lists : Bool) (n : Module) → Says given asts n → (i : ℕ) → most_of lists (recipe_at (kept n) i) ≡ most_of lists (recipe_at (kept_in n) i)
+    most_same lists n says i = ap (λ (o : Outline). o.most lists) (outline_at (kept n) (kept_in n) says.kept i)
+
+    takes_on : (lists : Bool) (d : Namepath) (least most : ℕ) → Takes lists (kept m) it d least most → TakesIn lists m inside d least most
+    takes_on lists d least most t = by_parameters t.parameters t.has t.least_is t.most_is
+      where
+        by_parameters : (ps : List Parameter) → HasParameters (kept m) it d ps → least_arguments ps ≡ least → most_arguments lists ps ≡ most → TakesIn lists m inside d least most
+        by_parameters ps (of_near j names has) low high =
+            let one = one_text d.front d.last (name_of (recipe_at (kept m) j)) names.named in
+            record {
+              n = m;
+              below = inside;
+              leads_in = stays m inside d one.0;
+              j = j;
+              there = subst (λ k. j < k) (many (kept m) (kept_in m) meets.says.kept) names.there;
+              named = sym (name_at (kept m) (kept_in m) meets.says.kept j) ∙ sym one.1;
+              least_is = sym (least_same m meets.says j) ∙ ap least_arguments has ∙ low;
+              most_is = sym (most_same lists m meets.says j) ∙ ap (most_arguments lists) has ∙ high;
+            }
+        by_parameters ps (of_far n q f held has) low high =
+            let r : IsNumbered given asts loaded built (leads m inside d) (text_of_name d.last) n = means d (Some (resolution.Resolved n)) f (λ g. cc) in
+            let same : (recipe_at (kept r.n) r.i).parameters ≡ ps = sym (made_held (leads m inside d) (text_of_name d.last) n r q held) ∙ has in
+            record {
+              n = r.n;
+              below = r.below;
+              leads_in = r.leads_in;
+              j = r.i;
+              there = subst (λ k. r.i < k) (many (kept r.n) (kept_in r.n) r.shows.says.kept) r.there;
+              named = sym (name_at (kept r.n) (kept_in r.n) r.shows.says.kept r.i) ∙ r.named;
+              least_is = sym (least_same r.n r.shows.says r.i) ∙ ap least_arguments same ∙ low;
+              most_is = sym (most_same lists r.n r.shows.says r.i) ∙ ap (most_arguments lists) same ∙ high;
+            }
+
+    -- what is broken of dependencies over the compiled modules is broken in the tree
+    pub dependencies_on : (lists : Bool) (c : Cause) → BreaksLinks lists (kept m) it c → BreaksDependencies lists m inside c
+    dependencies_on lists =
+        dependencies_alike (kept m) (kept_in m) meets.says.kept (Leads (kept m) it) (LeadsSomewhere m inside) (Stands (kept m) it) (StandsIn m inside) (Takes lists (kept m) it) (TakesIn lists m inside) leads_back stands_on (λ d s. takes_on lists d.recipe) lists
+
+    -- so is what is broken of defaults
+    pub aliases_on : (c : Cause) → links.BreaksAliases (kept m) it c → trees.BreaksAliases m inside c
+    aliases_on _ (links.of_defaults {c} ss are b) =
+        let k = standing_alike (Stands (kept m) it) (StandsIn m inside) stands_on stands_back are (kept_in m) meets.says.kept in
+        trees.of_defaults k.0 k.1 (defaults_alike ss k.0 k.2 c b)
+
+    -- and the other way
+    pub aliases_back : (c : Cause) → trees.BreaksAliases m inside c → links.BreaksAliases (kept m) it c
+    aliases_back _ (trees.of_defaults {c} ss are b) =
+        let k = standing_alike (StandsIn m inside) (Stands (kept m) it) stands_back stands_on are (kept m) (sym meets.says.kept) in
+        links.of_defaults k.0 k.1 (defaults_alike ss k.0 k.2 c b)
+
+    -- so is what is broken of the last groups
+    pub links_on : (lists : Bool) (g : Group) (c : Cause) → links_by (kept m) it lists g c → links_in m inside lists g c
+    links_on lists OfHeaders c b = b
+    links_on lists OfNames c b = b
+    links_on lists OfExpressions c b = b
+    links_on lists OfConstants c b = b
+    links_on lists OfBodies c b = b
+    links_on lists OfDependencies c b = dependencies_on lists c b
+    links_on lists OfAliases c b = aliases_on c b
+
+    -- the number that a path leads to is that of the tree
+    pub number_on : (d : Namepath) (n : Number) → HasNumber (kept m) it d n → HasNumberIn given asts m inside d n
+    number_on d n (near_number j names number) =
+        let one = one_text d.front d.last (name_of (recipe_at (kept m) j)) names.named in
+        record { to = m; below = inside; leads_in = stays m inside d one.0; place = j; there = names.there; named = sym one.1; number_is = number }
+    number_on d n (far_number f) =
+        let r : IsNumbered given asts loaded built (leads m inside d) (text_of_name d.last) n = means d (Some (resolution.Resolved n)) f (λ g. cc) in
+        record { to = r.n; below = r.below; leads_in = r.leads_in; place = r.i; there = r.there; named = r.named; number_is = r.number_is }
+
+    -- where what is held is all that is built, the modules have said what they say of their recipes
+    pub settled : meets.rest ≡ [] → AreSettled it
+    settled none = record {
+      held = λ d n e.
+          let r : IsNumbered given asts loaded built (leads m inside d) (text_of_name d.last) n = means d (Some (resolution.Resolved n)) e (λ g. cc) in
+          let x = made_there (leads m inside d) (text_of_name d.last) n r in
+          let all : recipes_of_all built ≡ it.held = meets.held ∙ ap (λ qs. it.held ++ qs) none ∙ append-nil it.held in
+          subst (λ o. IsSome o) (sym (ap (λ qs. find_number qs n.0) (sym all) ∙ x.1)) refl;
+      disabled = λ d set e.
+          let r : IsBarred given asts loaded built (leads m inside d) (text_of_name d.last) set.keys = means d (Some (resolution.Disabled set)) e (λ g. cc) in
+          r.some;
+    }
+
+    -- so where they have, what is broken in the tree is broken over them
+    module _ (are_settled : AreSettled it) where
+      -- what a recipe that stands depends on stands, and is found
+      far_takes : (lists : Bool) (d : UnresolvedDependency) → StandsWith (StandsIn m inside) (kept_in m) d → (least most : ℕ) → TakesIn lists m inside d.recipe least most → (r : Option (Resolution Number)) → found_by it d.recipe ≡ r
+          → Resolves given asts loaded built (leads m inside d.recipe) (text_of_name d.recipe.last) r → Takes lists (kept m) it d.recipe least most
+      far_takes lists d s least most t None e r =
+          absurd (r (subst (λ p. EndsWell p (text_of_name d.recipe.last)) (sym t.leads_in) (subst (Contains (names_of (kept_in t.n))) t.named (name_there (kept_in t.n) t.j t.there))))
+      far_takes lists d s least most t (Some (resolution.Disabled set)) e r =
+          let p = some_path set.keys r.some in
+          elim ((r.each p.0).0 (contained p.0 set.keys p.1)) [
+            | inl (names, g, is) ↦ (let f : trees.In t.n t.below ≡ trees.Missing names = sym t.leads_in ∙ g in absurd (cc))
+            | inr (k, b, g, rest) ↦ absurd (s.stands p.0 (by_disabled d.recipe k b (record {
+              from = s.from;
+              there = s.there;
+              name_is = refl;
+              depends = contained d.recipe (named_paths (recipe_at (kept_in m) s.from)) (in_map (λ (x : UnresolvedDependency). x.recipe) d (recipe_at (kept_in m) s.from).dependencies (is_in d (recipe_at (kept_in m) s.from).dependencies s.depends));
+            }) g rest))
+          ]
+      far_takes lists d s least most t (Some (resolution.Resolved number)) e r =
+          let q = some_value (find_number it.held number.0) (are_settled.held d.recipe number e) in
+          let f : trees.In t.n t.below ≡ trees.In r.n r.below = sym t.leads_in ∙ r.leads_in in
+          let en : t.n ≡ r.n = cc in
+          let in_tree : r.i < length (kept_in r.n) = subst (λ k. r.i < k) (many (kept r.n) (kept_in r.n) r.shows.says.kept) r.there in
+          let there : t.j < length (kept_in r.n) = subst (λ (x : Module). t.j < length (kept_in x)) en t.there in
+          let named : name_of (recipe_at (kept_in r.n) t.j) ≡ text_of_name d.recipe.last = subst (λ (x : Module). name_of (recipe_at (kept_in x) t.j) ≡ text_of_name d.recipe.last) en t.named in
+          let name : name_of (recipe_at (kept_in r.n) r.i) ≡ text_of_name d.recipe.last = sym (name_at (kept r.n) (kept_in r.n) r.shows.says.kept r.i) ∙ r.named in
+          let same : r.i ≡ t.j = one_place (kept_in r.n) (kept_different (contents_of r.n).recipes) r.i t.j in_tree there (name ∙ sym named) in
+          let parameters : q.0.parameters ≡ (recipe_at (kept r.n) r.i).parameters = made_held (leads m inside d.recipe) (text_of_name d.recipe.last) number r q.0 q.1 in
+          record {
+            parameters = q.0.parameters;
+            has = of_far number q.0 e q.1 refl;
+            least_is = ap least_arguments parameters ∙ least_same r.n r.shows.says r.i ∙ (λ i. least_of (recipe_at (kept_in (sym en i)) (same i))) ∙ t.least_is;
+            most_is = ap (most_arguments lists) parameters ∙ most_same lists r.n r.shows.says r.i ∙ (λ i. most_of lists (recipe_at (kept_in (sym en i)) (same i))) ∙ t.most_is;
+          }
+
+      takes_back : (lists : Bool) (d : UnresolvedDependency) → StandsWith (StandsIn m inside) (kept_in m) d → (least most : ℕ) → TakesIn lists m inside d.recipe least most → Takes lists (kept m) it d.recipe least most
+      takes_back lists d s least most t = elim (far_or given asts loaded built m inside it meets d.recipe) [
+        | inr r ↦ far_takes lists d s least most t (found_by it d.recipe) refl r
+        | inl z ↦ (
+            let f : trees.In t.n t.below ≡ trees.In m inside = sym t.leads_in ∙ stays m inside d.recipe z in
+            let en : t.n ≡ m = cc in
+            let in_tree : t.j < length (kept_in m) = subst (λ (x : Module). t.j < length (kept_in x)) en t.there in
+            let named : name_of (recipe_at (kept_in m) t.j) ≡ text_of_name d.recipe.last = subst (λ (x : Module). name_of (recipe_at (kept_in x) t.j) ≡ text_of_name d.recipe.last) en t.named in
+            record {
+              parameters = (recipe_at (kept m) t.j).parameters;
+              has = of_near t.j (record {
+                there = subst (λ k. t.j < k) (sym (many (kept m) (kept_in m) meets.says.kept)) in_tree;
+                named = texts_one d.recipe z ∙ ap (λ x. x ∷ []) (sym (name_at (kept m) (kept_in m) meets.says.kept t.j ∙ named));
+              }) refl;
+              least_is = least_same m meets.says t.j ∙ ap (λ (x : Module). least_of (recipe_at (kept_in x) t.j)) (sym en) ∙ t.least_is;
+              most_is = most_same lists m meets.says t.j ∙ ap (λ (x : Module). most_of lists (recipe_at (kept_in x) t.j)) (sym en) ∙ t.most_is;
+            })
+      ]
+
+      -- what is broken of dependencies in the tree is broken over the compiled modules
+      pub dependencies_back : (lists : Bool) (c : Cause) → BreaksDependencies lists m inside c → BreaksLinks lists (kept m) it c
+      dependencies_back lists =
+          dependencies_alike (kept_in m) (kept m) (sym meets.says.kept) (LeadsSomewhere m inside) (Leads (kept m) it) (StandsIn m inside) (Stands (kept m) it) (TakesIn lists m inside) (Takes lists (kept m) it) leads_on stands_back (takes_back lists) lists
+
+      -- so is what is broken of the last groups
+      pub links_back : (lists : Bool) (g : Group) (c : Cause) → links_in m inside lists g c → links_by (kept m) it lists g c
+      links_back lists OfHeaders c b = b
+      links_back lists OfNames c b = b
+      links_back lists OfExpressions c b = b
+      links_back lists OfConstants c b = b
+      links_back lists OfBodies c b = b
+      links_back lists OfDependencies c b = dependencies_back lists c b
+      links_back lists OfAliases c b = aliases_back c b

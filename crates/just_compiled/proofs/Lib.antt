@@ -1,0 +1,16 @@
+pub mod Agreeing
+pub mod Bridges
+pub mod ByName
+pub mod Closing
+pub mod Linking
+pub mod Makings
+pub mod NamedModules
+pub mod NumbersApart
+pub mod OwnNumbers
+pub mod Placing
+pub mod RecipeKeys
+pub mod Saying
+pub mod Settling
+pub mod StandingRecipes
+pub mod TableValues
+pub mod Taking

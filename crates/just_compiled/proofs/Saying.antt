@@ -1,0 +1,86 @@
+-- A module of the tree says what its files say.
+use Rattle.std.proofs.Common.{◌≡◌, ◌∙◌, Bool, List, [], ◌∷◌, ◌++◌, map, Option, None, Some, refl, sym, ap}
+use Rattle.std.specs.Prelude.{flat_map, true, false}
+use Rattle.std.specs.Option.{option_map}
+use Rattle.std.proofs.lemmas.Grind.{flat_map-append}
+use Rattle.std.proofs.lemmas.List.{map-append, map-id}
+use Rattle.just_ast_items.specs.declared.item.Item.TheVariants as item
+use Rattle.just_module_contents.specs.Notes.{absent_by}
+use Rattle.just_module_contents.specs.Recipes.{recipes_of, recipes_said}
+use Rattle.just_module_contents.specs.Said.{said_in}
+use Rattle.just_module_headers.proofs.Alike.{AreAlike, kept_alike_recipes, outline_of, outlines_of}
+use Rattle.just_module_headers.specs.Reading.{Reading, enabled_items, items_in, located_ast, reading_of}
+use Rattle.just_module_tree.proofs.ModulePlaces.{nobody}
+use Rattle.just_module_tree.proofs.Ready.{recipes_counted, said_append, said_counted}
+use Rattle.just_module_tree.specs.Modules.{AreModules, Forest, HasModule, Heading, IsModule, Module, a_module, after_it, contents_of, first, in_it, items_of, no_module}
+use Rattle.just_module_tree.specs.Standing.{absent_in, kept_in}
+use Rattle.just_parts.specs.Asts.{AstKey}
+use Rattle.just_parts.specs.Items.{Ast, Item}
+use Rattle.just_parts.specs.Layers.{Given}
+use Rattle.just_parts.specs.Located.{located_item}
+use Rattle.just_compiled.specs.Justfiles.{kept_by, recipes_in}
+
+-- The recipes of a module that are kept are alike those that its files keep, and its absent modules are those of its files.
+pub record Says (given : Given) (asts : AstKey → Option Ast) (m : Module) : Type 0 where
+  pub kept : AreAlike (kept_by given asts m) (kept_in m)
+  pub absent : flat_map (λ k. said_in absent_by given.syntax.enabled (asts k)) m.files ≡ absent_in m
+
+absent_located : (i : Item) → absent_by (located_item i) ≡ absent_by i
+absent_located (item.Module name relative None attributes doc true) = refl
+absent_located (item.Module name relative None attributes doc false) = refl
+absent_located (item.Module name relative (Some file) attributes doc optional) = refl
+absent_located _ = refl
+
+module _ (given : Given) (asts : AstKey → Option Ast) where
+  abbrev enabled : Item → Bool
+  enabled = given.syntax.enabled
+
+  abbrev R : Reading
+  R = reading_of enabled asts
+
+  absent_here : (o : Option Ast) (a : Ast) → Some a ≡ option_map (located_ast enabled) o → said_in absent_by enabled o ≡ flat_map absent_by a.items
+  absent_here None a e = cc
+  absent_here (Some ast) a e =
+      let items : a.items ≡ map located_item (enabled_items enabled ast.items) = let same : a ≡ located_ast enabled ast = cc in ap (λ (x : Ast). x.items) same in
+      sym (map-id (said_in absent_by enabled (Some ast))) ∙ sym (said_counted absent_by (λ t. t) (λ i. ap (map (λ t. t)) (absent_located i)) enabled ast.items)
+      ∙ map-id (flat_map absent_by (map located_item (enabled_items enabled ast.items))) ∙ ap (flat_map absent_by) (sym items)
+
+  absent_said : (ks : List AstKey) (said : List Ast) → map Some said ≡ map R ks → flat_map (λ k. said_in absent_by enabled (asts k)) ks ≡ flat_map absent_by (items_of said)
+  absent_said [] [] e = refl
+  absent_said [] (a ∷ said) e = cc
+  absent_said (k ∷ ks) [] e = cc
+  absent_said (k ∷ ks) (a ∷ said) e =
+      let head : Some a ≡ option_map (located_ast enabled) (asts k) = cc in
+      let rest : map Some said ≡ map R ks = cc in
+      (λ i. absent_here (asts k) a head i ++ absent_said ks said rest i) ∙ sym (flat_map-append absent_by a.items (items_of said))
+
+  recipes_here : (o : Option Ast) (a : Ast) → Some a ≡ option_map (located_ast enabled) o → AreAlike (recipes_of enabled (items_in o)) (recipes_said a.items)
+  recipes_here None a e = cc
+  recipes_here (Some ast) a e =
+      let items : a.items ≡ map located_item (enabled_items enabled ast.items) = let same : a ≡ located_ast enabled ast = cc in ap (λ (x : Ast). x.items) same in
+      recipes_counted enabled ast.items ∙ ap (λ is. outlines_of (recipes_said is)) (sym items)
+
+  recipes_all : (ks : List AstKey) (said : List Ast) → map Some said ≡ map R ks → AreAlike (recipes_in enabled asts ks) (recipes_said (items_of said))
+  recipes_all [] [] e = refl
+  recipes_all [] (a ∷ said) e = cc
+  recipes_all (k ∷ ks) [] e = cc
+  recipes_all (k ∷ ks) (a ∷ said) e =
+      let head : Some a ≡ option_map (located_ast enabled) (asts k) = cc in
+      let rest : map Some said ≡ map R ks = cc in
+      map-append outline_of (recipes_of enabled (items_in (asts k))) (recipes_in enabled asts ks)
+      ∙ (λ i. recipes_here (asts k) a head i ++ recipes_all ks said rest i)
+      ∙ sym (ap outlines_of (said_append enabled a.items (items_of said)) ∙ map-append outline_of (recipes_said a.items) (recipes_said (items_of said)))
+
+  -- a module that is read says what its files say
+  pub module_says : (h : Heading) (m : Module) → IsModule R h m → Says given asts m
+  module_says h m is = record {
+    kept = kept_alike_recipes (recipes_in enabled asts m.files) (contents_of m).recipes (recipes_all m.files m.asts is.asts);
+    absent = absent_said m.files m.asts is.asts;
+  }
+
+  -- so does each of a forest
+  pub forest_says : {hs : List Heading} {f : Forest} → AreModules R hs f → (n : Module) (below : Forest) → HasModule f n below → Says given asts n
+  forest_says no_module n below has = absurd (nobody has refl)
+  forest_says (a_module {h} {hs} {m} is inside after) n below first = module_says h m is
+  forest_says (a_module is inside after) n below (in_it has) = forest_says inside n below has
+  forest_says (a_module is inside after) n below (after_it has) = forest_says after n below has

@@ -1,0 +1,52 @@
+-- What a module's recipes are compiled to.
+use Rattle.std.specs.Prelude.{◌≡◌, ◌++◌, List, [], map, false, None}
+use Rattle.just_names.specs.Name.{text_of_name}
+use Rattle.just_names.specs.Texts.{Text}
+use Rattle.just_table.specs.Entries.{put_all}
+use Rattle.just_parts.specs.Items.{Ast}
+use Rattle.just_invoke.specs.declared.justfile.Justfile.{Justfile, out-Justfile}
+use Rattle.just_recipe.specs.declared.dependency.UnresolvedDependency.{UnresolvedDependency}
+use Rattle.just_recipe.specs.declared.recipe.Recipe.{Recipe}
+use Rattle.just_invoke.specs.declared.justfile.RecipeKey.{RecipeKey}
+use Rattle.just_compiled.specs.Labelled.{label_in}
+use Rattle.just_module_contents.specs.Contents.{Contents}
+use Rattle.just_paths.specs.declared.modulepath.Modulepath.{Modulepath}
+use Rattle.just_module_contents.specs.Standing.{AreStanding}
+use Rattle.just_module_recipes.specs.Linked.{AreLinked, HasDisabled, HasNumber}
+use Rattle.just_module_recipes.specs.Links.{Disables, Stands, around_of}
+use Rattle.just_recipe.specs.declared.dependency.Dependency.{Dependency}
+use Rattle.just_module_contents.specs.Defaults.{IsDefaultAmong}
+
+-- the key of a recipe: its name and its number
+abbrev pub key_of : Recipe UnresolvedDependency → RecipeKey
+key_of r = record { name = r.name; number = r.number }
+
+abbrev pub name_of_key : RecipeKey → Text
+name_of_key key = text_of_name key.name
+
+-- the table of recipes: the key of each under its name, one after another
+abbrev pub recipe_table : List (Recipe UnresolvedDependency) → List (Text × RecipeKey)
+recipe_table recipes = put_all name_of_key [] (map key_of recipes)
+
+-- a module's default, of its recipes that stand
+abbrev pub HasDefault : List (Recipe UnresolvedDependency) → List (Recipe UnresolvedDependency) → Justfile → Type 0
+HasDefault standing own j = IsDefaultAmong standing own (out-Justfile j).default
+
+-- What the kept recipes of a module are linked to, over the modules that its justfile has, where these recipes are held before: those that stand are added, and the others are in its table of what is disabled.
+pub record HasLinks (recipes : List (Recipe UnresolvedDependency)) (before : List (Recipe Dependency)) (path : Modulepath) (added : List (Recipe Dependency)) (standing : List (Recipe UnresolvedDependency)) (j : Justfile) : Type 0 where
+  pub linked : AreLinked (Stands recipes (around_of j before)) (HasNumber recipes (around_of j before)) (out-Justfile j).settings.lists (before ++ added) recipes path added
+  pub stand : AreStanding (Stands recipes (around_of j before)) recipes standing
+  pub disabled : HasDisabled (Disables recipes (around_of j before)) recipes (out-Justfile j).disabled_recipes
+
+-- a justfile has no label
+abbrev pub HasNoLabel : Justfile → Type 0
+HasNoLabel j = label_in j ≡ record { name = None; doc = None; doc_expression = None; groups = []; private = false }
+
+-- A module has the table of its recipes that stand, the names that it unexports, the paths that it was given, and what its own file says.
+pub record IsOf (m : Contents) (standing : List (Recipe UnresolvedDependency)) (ast : Ast) (loaded : List Text) (source : Text) (justfile : Justfile) : Type 0 where
+  pub recipes_are : (out-Justfile justfile).recipes ≡ recipe_table standing
+  pub unexports_are : (out-Justfile justfile).unexports ≡ m.unexports
+  pub loaded_is : (out-Justfile justfile).loaded ≡ loaded
+  pub source_is : (out-Justfile justfile).source ≡ source
+  pub module_path : (out-Justfile justfile).module_path ≡ ast.module_path
+  pub working_directory : (out-Justfile justfile).working_directory ≡ ast.working_directory

@@ -1,0 +1,6 @@
+pub mod Analysis
+pub mod Evaluated
+pub mod Justfiles
+pub mod Labelled
+pub mod Settled
+pub mod Variables
