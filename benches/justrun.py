@@ -256,6 +256,36 @@ def attributes(count):
     return bundle("a:", *["[group('g')]"] * count, "b:"), ["a"]
 
 
+def chain_through_modules(count):
+    """A chain of recipes, a third of it in the root, the next in a module, the last in a module of that."""
+    third = count // 3
+    def part(after):
+        return "\n".join([*(f"r{n}: r{n + 1}" for n in range(third - 1)), f"r{third - 1}:{after}"])
+    return listed(["mod m", part(" m::r0")], [("/m.just", "mod k 'k.just'\n" + part(" k::r0")), ("/k.just", part(""))]), ["r0"]
+
+
+def depends_on_modules(count):
+    """A recipe that depends on one of each of many modules."""
+    root = [f"mod m{n}" for n in range(count)] + ["a: " + " ".join(f"m{n}::b" for n in range(count))]
+    return listed(root, [(f"/m{n}.just", "b:") for n in range(count)]), ["a"]
+
+
+def disabled_chain(count):
+    """Recipes that each depend on the next, of which the last leads into an optional module without a file."""
+    return bundle("a:", "mod? m", *(f"r{n}: r{n + 1}" for n in range(count - 1)), f"r{count - 1}: m::x"), ["a"]
+
+
+def disabled_by_many(count):
+    """The same, where each leads into an optional module of its own, none of which has a file."""
+    rows = [f"r{n}: r{n + 1} m{n}::x" for n in range(count - 1)] + [f"r{count - 1}: m{count - 1}::x"]
+    return bundle("a:", *(f"mod? m{n}" for n in range(count)), *rows), ["a"]
+
+
+def dependency_arguments(count):
+    """A dependency with many arguments. Nothing is run where there are arguments, so the program refuses the word."""
+    return bundle("d *x:", "a: (d " + " ".join(f"'{n}'" for n in range(count)) + ")"), ["a"]
+
+
 INPUTS = {
     "chain of 1,000 recipes": chain(1_000),
     "chain of 10,000 recipes": chain(10_000),
@@ -305,6 +335,13 @@ INPUTS = {
     "2,000 modules with three attributes each": labels(2_000),
     "20,000 optional modules without a file": absent(20_000),
     "recipe with 10,000 parameters": parameters(10_000),
+    "chain of 10,000 recipes through two modules": chain_through_modules(10_000),
+    "chain of 100,000 recipes through two modules": chain_through_modules(100_000),
+    "a recipe that depends on one of each of 2,000 modules": depends_on_modules(2_000),
+    "2,000 disabled recipes in a chain, by one module": disabled_chain(2_000),
+    "20,000 disabled recipes in a chain, by one module": disabled_chain(20_000),
+    "2,000 disabled recipes in a chain, by 2,000 modules": disabled_by_many(2_000),
+    "dependency with 10,000 arguments": dependency_arguments(10_000),
 }
 
 

@@ -28,7 +28,8 @@ fn add_broken(text: &mut String, kind: &CompileErrorKind) -> Result<(), AllocErr
         CompileErrorKind::Syntax
         | CompileErrorKind::GuardAndInfallibleSigil
         | CompileErrorKind::ExtraLeadingWhitespace
-        | CompileErrorKind::ArgumentPatternRegex => Ok(()),
+        | CompileErrorKind::ArgumentPatternRegex
+        | CompileErrorKind::MappedDependencyWithoutListsSetting => Ok(()),
         CompileErrorKind::Evaluate(fault) => write!(text, ": {fault}"),
         CompileErrorKind::DuplicateParameter { recipe, parameter } => {
             write!(text, ": recipe {recipe}, parameter {parameter}")
@@ -83,6 +84,9 @@ fn add_broken(text: &mut String, kind: &CompileErrorKind) -> Result<(), AllocErr
         } => write!(text, ": {first_type}, {second_type}, {name}, first {first}"),
         CompileErrorKind::InvalidShellRecipeAttribute { recipe, attribute } => {
             write!(text, ": recipe {recipe}, attribute {attribute}")
+        }
+        CompileErrorKind::UnknownAliasTarget { alias, target } => {
+            write!(text, ": alias {alias}, target {target}")
         }
         CompileErrorKind::DuplicateDefault { recipe } => write!(text, ": recipe {recipe}"),
         CompileErrorKind::UnknownDependency { recipe, unknown } => {

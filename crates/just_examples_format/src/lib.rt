@@ -4,6 +4,7 @@
 pub mod asked;
 pub mod cases;
 pub mod faults;
+mod links;
 pub mod lists;
 mod modules;
 pub mod written;

@@ -1,4 +1,5 @@
 //! The lines that tell what a compilation has.
+use crate::links::{add_dependencies, add_disabled};
 use crate::lists::{add_list, next};
 use just_data::Text;
 use just_invoke::{Justfile, RecipeKey, Recipes};
@@ -14,6 +15,7 @@ struct Lines {
     labels: String,
     docs: String,
     absent: String,
+    disabled: String,
     settings: String,
     shells: String,
     scripts: String,
@@ -22,6 +24,7 @@ struct Lines {
     order: String,
     recipes: String,
     entrances: String,
+    dependencies: String,
     numbers: HashSet<u64>,
     count: u64,
     copied: u64,
@@ -35,6 +38,7 @@ impl Lines {
             labels: String::new(alloc),
             docs: String::new(alloc),
             absent: String::new(alloc),
+            disabled: String::new(alloc),
             settings: String::new(alloc),
             shells: String::new(alloc),
             scripts: String::new(alloc),
@@ -43,6 +47,7 @@ impl Lines {
             order: String::new(alloc),
             recipes: String::new(alloc),
             entrances: String::new(alloc),
+            dependencies: String::new(alloc),
             numbers: HashSet::new(alloc),
             count: 0,
             copied: 0,
@@ -50,8 +55,8 @@ impl Lines {
     }
 }
 
-// Adds a recipe's path from the root.
-fn add_path(recipe: &Recipe, text: &mut String) -> Result<(), AllocError> {
+/// Adds a recipe's path from the root.
+pub(crate) fn add_path(recipe: &Recipe, text: &mut String) -> Result<(), AllocError> {
     match &recipe.recipe_path {
         Some(path) => write!(text, "{path}"),
         None => write!(text, "{}", recipe.name),
@@ -93,8 +98,8 @@ fn add_module(module: &Justfile, lines: &mut Lines) -> Result<(), AllocError> {
     )
 }
 
-// Adds a module's own file.
-fn add_source(module: &Justfile, text: &mut String) -> Result<(), AllocError> {
+/// Adds a module's own file.
+pub(crate) fn add_source(module: &Justfile, text: &mut String) -> Result<(), AllocError> {
     text.push_str(next(text))?;
     text.push_str(module.source.as_str())
 }
@@ -225,6 +230,7 @@ fn add_recipes<'src>(
     for key in module.recipes.values() {
         if let Some(recipe) = recipes.get(key.number) {
             add_recipe(recipe, alloc, lines)?;
+            add_dependencies(recipe, recipes, &mut lines.dependencies)?;
             add_copies(key, recipe, lines);
         }
     }
@@ -243,6 +249,7 @@ fn add_whole<'src>(
     add_label(module, &mut lines.labels)?;
     add_doc(module, &mut lines.docs)?;
     add_absent(module, &mut lines.absent)?;
+    add_disabled(module, &mut lines.disabled)?;
     add_settings(module, &mut lines.settings)?;
     add_program(module, &settings.shell, &mut lines.shells)?;
     add_program(module, &settings.script_interpreter, &mut lines.scripts)?;
@@ -279,6 +286,7 @@ fn add_lines(lines: &Lines, text: &mut String) -> Result<(), AllocError> {
     writeln!(text, "labels{}", lines.labels)?;
     writeln!(text, "docs{}", lines.docs)?;
     writeln!(text, "absent{}", lines.absent)?;
+    writeln!(text, "disabled{}", lines.disabled)?;
     writeln!(text, "settings{}", lines.settings)?;
     writeln!(text, "shells{}", lines.shells)?;
     writeln!(text, "scripts{}", lines.scripts)?;
@@ -287,12 +295,14 @@ fn add_lines(lines: &Lines, text: &mut String) -> Result<(), AllocError> {
     writeln!(text, "order{}", lines.order)?;
     writeln!(text, "recipes{}", lines.recipes)?;
     writeln!(text, "entrances{}", lines.entrances)?;
+    writeln!(text, "dependencies{}", lines.dependencies)?;
     writeln!(text, "numbers {} of {}", lines.numbers.len(), lines.count)?;
     writeln!(text, "copied {} of {}", lines.copied, lines.count)
 }
 
-/// Adds what the root's module and those in it have: their files, docs, settings and variables, and of the recipes the
-/// depths, the files, how many different numbers they have, and how many could be copied.
+/// Adds what the root's module and those in it have: their files, docs, settings and variables, which recipes are disabled,
+/// and of the other recipes the depths, the files, what they depend on, how many different numbers they have, and
+/// how many could be copied.
 pub fn add_modules<'src>(
     root: &Justfile<'src>,
     recipes: &Recipes<'src>,
