@@ -44,7 +44,7 @@ meaning_within count path text line meaning.Indented r n h = dropped_within coun
 meaning_within count path text line (meaning.Marks m) r n h = either (λ k. k < count) (items.is_nil r.attributes) line.number r.first n h
 meaning_within count path text line (meaning.Begins b) r n h = recipe_within count r (recipe b r.attributes r.options) h
 meaning_within count path text line (meaning.Declares d) r n h = either (Within count) (items.is_nil r.options) _ _ h h
-meaning_within count path text line (meaning.Aliases a) r n h = n
+meaning_within count path text line (meaning.Aliases a) r n h = either (Within count) (items.is_nil r.attributes) _ _ h h
 meaning_within count path text line (meaning.States s) r n h = either (Within count) (items.is_nil r.attributes) _ _ h h
 
 onward_within : {B : Type 0} (count : ℕ) (P : Result B ℕ → Type 0) (r : Result Reading ℕ) (more : Reading → Result B ℕ) → Within count r → ((n : ℕ) → n < count → P (Err n)) → ((x : Reading) → x.first < count → P (more x))

@@ -264,6 +264,9 @@ item_steady : (r : Reading) (it : Item) → IsSteady r → IsProper it → Goes 
 item_steady r it steady proper =
     either Goes (items.is_nil r.attributes) _ _ (record { proper = All-push IsProper r.items it steady.proper proper; said = steady.said }) tt
 
+alias_proper : (a : AliasLine) → IsProper (items.alias_item a)
+alias_proper a = record { bare = refl; priors = tt; attributes = tt }
+
 mark_steady : (r : Reading) (number : ℕ) (m : Mark) → IsSteady r → MarkSaid (Some m) → IsSteady (items.with_mark r number m)
 mark_steady r number m steady marked = record {
   proper = steady.proper;
@@ -316,7 +319,7 @@ meaning_steady path text line meaning.Indented r steady fine = dropped_steady pa
 meaning_steady path text line (meaning.Marks m) r steady fine = mark_steady r line.number m steady fine
 meaning_steady path text line (meaning.Begins h) r steady fine = recipe_steady r (recipe h r.attributes r.options) steady (recipe_proper h r.attributes r.options fine steady.said)
 meaning_steady path text line (meaning.Declares d) r steady fine = module_steady r d steady
-meaning_steady path text line (meaning.Aliases a) r steady fine = tt
+meaning_steady path text line (meaning.Aliases a) r steady fine = item_steady r (items.alias_item a) steady (alias_proper a)
 meaning_steady path text line (meaning.States s) r steady fine = item_steady r (items.item_of s) steady fine
 
 onward_steady : {B : Type 0} (P : B → Type 0) (r : Result Reading ℕ) (more : Reading → Result B ℕ) → Goes r → ((x : Reading) → IsSteady x → IfOk (more x) P) → IfOk (items.onward r more) P

@@ -12,6 +12,7 @@ use Rattle.just_ast_definitions.specs.declared.line.Line.{Line}
 use Rattle.just_ast_expressions.specs.declared.list_use.ListUse.{ListUse}
 use Rattle.just_bench_expressions.specs.declared.lines.TextLine.{TextLine}
 use Rattle.just_bench_expressions.specs.Lines.{lines_of}
+use Rattle.just_bench_lines.specs.declared.alias.AliasLine.{AliasLine}
 use Rattle.just_bench_lines.specs.declared.attributes.Mark.{Mark}
 use Rattle.just_bench_lines.specs.declared.attributes.Options.{Options}
 use Rattle.just_bench_lines.specs.declared.body.BodyLine.{BodyLine}
@@ -46,6 +47,10 @@ item_of (statements.Sets it) = item.Setting it
 item_of (statements.Unexports name) = item.Unexport name
 item_of (statements.Assigns it) = item.Assignment it
 item_of (statements.Defines it) = item.Function it
+
+-- the alias that a line is, without attributes
+abbrev pub alias_item : AliasLine → Item
+alias_item line = item.Alias (record { attributes = []; name = line.name; target = line.target })
 
 -- an item that takes no attributes
 abbrev pub with_item : Reading → Item → Result Reading ℕ
@@ -129,7 +134,7 @@ with_meaning path text line meaning.Indented reading = with_body path text line 
 with_meaning path text line (meaning.Marks mark) reading = Ok (with_mark reading line.number mark)
 with_meaning path text line (meaning.Begins h) reading = with_recipe reading h
 with_meaning path text line (meaning.Declares declared) reading = with_module reading declared
-with_meaning path text line (meaning.Aliases it) reading = Err line.number
+with_meaning path text line (meaning.Aliases it) reading = with_item reading (alias_item it)
 with_meaning path text line (meaning.States it) reading = with_item reading (item_of it)
 
 -- for what follows

@@ -8,9 +8,10 @@ ghost use Rattle.just_bench_syntax.specs.Proper.{IsProper};
 ghost use Rattle.just_bench_syntax.specs.Items as spec;
 
 use crate::recipe::make_recipe;
-use just_ast_definitions::{Fragment, Line, NamedAttribute};
+use just_ast_definitions::{Alias, Fragment, Line, NamedAttribute};
 use just_ast_expressions::ListUse;
 use just_bench_expressions::lines::TextLine;
+use just_bench_lines::alias::AliasLine;
 use just_bench_lines::attributes::{Mark, Options};
 use just_bench_lines::body::{BodyLine, indent, read_body};
 use just_bench_lines::heading::Heading;
@@ -74,17 +75,29 @@ fn item_of<'src>(statement: Statement<'src>) -> Item<'src>
     }
 }
 
+// The alias that a line is, without attributes.
+fn alias_item<'src>(alloc: Global, line: AliasLine<'src>) -> Item<'src>
+    ensures { result ≡ spec.alias_item line.entry }
+{
+    let AliasLine { name, target } = line;
+    Item::Alias(Alias {
+        attributes: Sequence::new(alloc),
+        name,
+        target,
+    })
+}
+
 // Puts an item last that takes no attributes. The number is that of the line that does not follow the grammar.
 fn add_item<'src>(
     reading: &mut Reading<'src>,
-    statement: Statement<'src>,
+    item: Item<'src>,
 ) -> Result<Result<(), usize>, AllocError>
-    ensures { IfOk result (λ told. spec.told told reading.new ≡ spec.with_item reading.old (spec.item_of statement.entry)) }
+    ensures { IfOk result (λ told. spec.told told reading.new ≡ spec.with_item reading.old item.entry) }
 {
     if !reading.attributes.is_empty() {
         return Ok(Err(reading.first));
     }
-    reading.items.push(item_of(statement))?;
+    reading.items.push(item)?;
     reading.body = Body::Closed;
     Ok(Ok(()))
 }
@@ -285,9 +298,8 @@ fn add_meaning<'src>(
         Meaning::Marks(mark) => Ok(Ok(add_mark(reading, line.number, mark)?)),
         Meaning::Begins(heading) => add_recipe(alloc, reading, heading),
         Meaning::Declares(declaration) => add_module(alloc, reading, declaration),
-        // Aliases are not compiled yet.
-        Meaning::Aliases(_) => Ok(Err(line.number)),
-        Meaning::States(statement) => add_item(reading, statement),
+        Meaning::Aliases(alias) => add_item(reading, alias_item(alloc, alias)),
+        Meaning::States(statement) => add_item(reading, item_of(statement)),
     }
 }
 

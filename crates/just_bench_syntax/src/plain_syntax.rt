@@ -24,10 +24,10 @@ use std::alloc::{AllocError, Global};
 
 /// A grammar, line by line, with most of what the analyzer judges; it is not the grammar of `just`.
 ///
-/// A line is an import, a module, a setting, an unexport, a variable, a function, an attribute, a recipe, or a line of a
-/// recipe's body; an empty line, and one that begins with `#`, is ignored. `docs/plain.md` has the table of lines. Where a
-/// text does not follow the grammar, the token of the fault is the whole of a line: the first that does not follow it, or
-/// that of the first attribute before an item that the attributes do not fit.
+/// A line is an import, a module, a setting, an unexport, a variable, a function, an alias, an attribute, a recipe, or a
+/// line of a recipe's body; an empty line, and one that begins with `#`, is ignored. `docs/plain.md` has the table of
+/// lines. Where a text does not follow the grammar, the token of the fault is the whole of a line: the first that does not
+/// follow it, or that of the first attribute before an item that the attributes do not fit.
 #[derive(Clone, Copy)]
 pub struct PlainSyntax<'a> {
     pairs: &'a [(Keyword, Keyword)],
