@@ -6,7 +6,6 @@ use Rattle.std.proofs.lemmas.List.{append-nil, take_more}
 use Rattle.just_parts.specs.Items.{Ast, Item}
 use Rattle.just_ast_expressions.specs.declared.list_use.ListUse.{ListUse}
 use Rattle.just_names.specs.Texts.{Text}
-use Rattle.just_ast_expressions.specs.declared.unstable_feature.UnstableFeature.{UnstableFeature}
 use Rattle.just_table.specs.Entries.{put, put_all}
 use Rattle.just_module_contents.specs.Labels.{doc_by, label_by}
 use Rattle.just_module_contents.specs.Notes.{absent_by, features_by, noted, warnings_by}
@@ -36,7 +35,7 @@ module _ (enabled : Item → Bool) (asts : List Ast) (places : List ℕ) (n plac
     notes_more =
         let absent = sym (put_append (λ t. t) [] (said_from absent_by enabled asts (take n places)) (said absent_by enabled ast.items)) ∙ ap (put_all (λ t. t) []) (sym (next (said_in absent_by enabled))) in
         let used = flat_map (λ p. features_by (slice_get asts p)) (take n places) in
-        let features = sym (put_append (λ (f : UnstableFeature). f.name) [] used ast.unstable_features) ∙ ap (put_all (λ (f : UnstableFeature). f.name) []) (sym (next features_by)) in
+        let features = sym (put_append (λ t. t) [] used (features_by (Some ast))) ∙ ap (put_all (λ t. t) []) (sym (next features_by)) in
         λ i. record { absent_modules = absent i; unstable_features = features i; warnings = sym (next warnings_by) i }
 
     module _ (before added : Contents) (items : List Item) (uses : List ListUse) (same : before ≡ contents_from enabled asts (take n places)) (are : items ≡ ast.items) (need : uses ≡ ast.list_features) where

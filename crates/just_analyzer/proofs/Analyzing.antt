@@ -39,6 +39,7 @@ use Rattle.just_module_headers.specs.declared.files.Rows.{Rows}
 use Rattle.just_module_headers.specs.declared.joined.Joined.{Joined}
 use Rattle.just_module_tree.proofs.Agreeing.{find_reached}
 use Rattle.just_compiled.proofs.Closing.{forest_closed, forest_tables}
+use Rattle.just_compiled.proofs.Saying.{forest_says}
 use Rattle.just_compiled.proofs.OwnNumbers.{own_numbers}
 use Rattle.just_analyzer.proofs.Compilable.{can_compile_all, listed, one_at, stands, subs_differ}
 use Rattle.just_module_headers.proofs.FilePlaces.{count, one_place}
@@ -296,7 +297,7 @@ module _ (given : Given) (entries : List (AstKey × Ast)) (d : AstKey) (files : 
           overrides = all (λ (x : Made). x.overridden) so.overridden;
           label = labelled undocumented;
           compiled = compiled;
-          closed = forest_closed R given (λ k. lookup (same_ast_key k) entries) can.paths loaded built added.recipes all_recipes resolved tree.are_modules compiled (labelled_as top.label (so.justfile root)) (inl refl);
+          closed = forest_closed R given (λ k. lookup (same_ast_key k) entries) can.paths loaded built added.recipes all_recipes resolved tree.are_modules compiled (forest_says given (λ k. lookup (same_ast_key k) entries) tree.are_modules) (labelled_as top.label (so.justfile root)) (inl refl);
           placed = placed_in;
           tables = forest_tables R given (λ k. lookup (same_ast_key k) entries) can.paths loaded built added.recipes all_recipes resolved compiled (labelled_as top.label (so.justfile root)) (inl refl);
           numbers = own_numbers given (λ k. lookup (same_ast_key k) entries) can R loaded built tree.are_modules compiled (labelled_as top.label (so.justfile root)) (inl refl);

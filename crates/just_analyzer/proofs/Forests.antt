@@ -1,6 +1,6 @@
 -- The modules of headings are compiled to the justfiles at their places.
 use Rattle.just_module_headers.proofs.Alike.{kept_alike}
-use Rattle.std.proofs.Common.{◌≡◌, ◌<◌, ℕ, suc, List, [], ◌∷◌, ◌++◌, map, length, get_or, slice_index, Option, Some, refl, sym, ap, subst, ◌∙◌, inl, inr, arith, append_assoc, take, zero, ◌≤◌, ◌+◌, ◌-◌}
+use Rattle.std.proofs.Common.{◌≡◌, ◌≢◌, true, ◌<◌, ℕ, suc, List, [], ◌∷◌, ◌++◌, map, length, get_or, slice_index, Option, None, Some, refl, sym, ap, subst, ◌∙◌, inl, inr, arith, append_assoc, take, zero, ◌≤◌, ◌+◌, ◌-◌}
 use Rattle.std.specs.Prelude.{flat_map, slice_get}
 use Rattle.std.specs.HashMap.{get}
 use Rattle.just_parts.specs.Needs.{same_number}
@@ -23,7 +23,7 @@ use Rattle.just_module_headers.specs.Joined.{IsJoined}
 use Rattle.just_module_variables.specs.Documented.{AreDocumented, HasDoc}
 use Rattle.just_compiled.specs.Evaluated.{IsEvaluatedTo}
 use Rattle.just_compiled.specs.Labelled.{label_in, labelled_as, with_labels, by_name, notes_in, slot}
-use Rattle.just_compiled.specs.Justfiles.{AreCompiled, Built, IsCompiled, Made, contents_in, none, notes_said, one, recipes_in, kept_by, recipes_of_all}
+use Rattle.just_compiled.specs.Justfiles.{AreAliased, AreCompiled, Built, IsCompiled, MeansIn, Made, contents_in, none, notes_said, one, recipes_in, kept_by, recipes_of_all}
 use Rattle.just_module_tree.specs.Modules.{Empty, Forest, Heading, Module, Tree, headings_in, AreModules, IsHeading, a_module, after_it, contents_of, first, in_it, no_module, path_of}
 use Rattle.just_module_contents.specs.Contents.{Contents}
 use Rattle.just_module_contents.specs.Kept.{kept_recipes}
@@ -50,7 +50,7 @@ use Rattle.just_names.specs.Index.{AreDifferent}
 use Rattle.just_module_recipes.specs.Linked.{AreLinked, AreSettled, HasDisabled, HasNumber}
 use Rattle.just_module_contents.specs.Standing.{AreStanding}
 use Rattle.just_module_recipes.specs.Links.{Around, Disables, Stands, around, around_of, links_by}
-use Rattle.just_errors.specs.Causes.{Cause}
+use Rattle.just_errors.specs.Causes.{Cause, Keeps}
 use Rattle.just_recipe.specs.declared.dependency.Dependency.{Dependency}
 use Rattle.just_module_contents.specs.Groups.{KeepsContents}
 use Rattle.just_module_tree.specs.Groups.{KeepsModules, NamesModules, KeepsGroups}
@@ -64,8 +64,15 @@ use Rattle.just_analyzer.proofs.Ordered.{before_more, before_next, inner_settled
 use Rattle.std.proofs.lemmas.Bool.{cases_lt}
 use Rattle.just_analyzer.proofs.Meeting.{contents_same, heads_named, inner_differ, meets_at, names_over, notes_same, recipes_same}
 use Rattle.just_compiled.proofs.Linking.{has_links}
-use Rattle.just_compiled.proofs.Bridges.{links_back}
-use Rattle.just_module_tree.specs.Standing.{links_in, name_in}
+use Rattle.just_compiled.proofs.Agreeing.{Shows}
+use Rattle.just_compiled.proofs.Aliasing.{all_aliased, means_in, means_nothing}
+use Rattle.just_compiled.proofs.Bridges.{aliases_back, links_back}
+use Rattle.just_module_contents.specs.Groups.{OfAliases}
+use Rattle.just_module_contents.specs.Rules.{Aliases, under, unknown_target}
+use Rattle.just_module_recipes.specs.Aliased.{aliases_of, meant, no_aliases, targets as targets_made, targets_of}
+use Rattle.just_ast_definitions.specs.declared.alias.Alias.{Alias}
+use Rattle.just_names.specs.declared.name.Namepath.{Namepath}
+use Rattle.just_module_tree.specs.Standing.{HasTarget, links_in, name_in, of_targets}
 use Rattle.just_invoke.specs.Module.{module_name}
 use Rattle.just_module_tree.proofs.ModulePaths.{subs_at}
 use Rattle.just_names.specs.Name.{text_if_named}
@@ -109,6 +116,7 @@ module _ (cs : Contents) (standing : List (Recipe UnresolvedDependency)) (ast : 
       let out = out-roll-Justfile (record (out-Justfile j) { name = label.name; doc = label.doc; groups = label.groups; private = label.private }) in
       record {
         recipes_are = ap (λ x. x.recipes) out ∙ is.recipes_are;
+        aliases_are = ap (λ x. x.aliases) out ∙ is.aliases_are ∙ (λ i. aliases_of (targets_made (sym out i).absent_modules (sym out i).disabled_recipes (sym out i).modules (sym out i).recipes) cs.aliases);
         unexports_are = ap (λ x. x.unexports) out ∙ is.unexports_are;
         loaded_is = ap (λ x. x.loaded) out ∙ is.loaded_is;
         source_is = ap (λ x. x.source) out ∙ is.source_is;
@@ -275,6 +283,7 @@ module _ (given : Given) (entries : List (AstKey × Ast)) (d : AstKey) (files : 
             own_said = own_same;
             own_there = subst (λ k. Contains m.files k) (sym e) (own_joined same_ast_key keys_equivalent.refl _ (key_at p) m.files (join_at given.syntax.enabled entries d files placed rows are paths joined p (below k l) (joins k l)));
             name = named;
+            path = ap (λ x. x.module_path) (out label) ∙ at.fields.module_path ∙ path_same;
             linked = told.linked;
             standing = at.standing;
             stand = told.stand;
@@ -306,10 +315,26 @@ module _ (given : Given) (entries : List (AstKey × Ast)) (d : AstKey) (files : 
       -- it keeps all groups
       pub keeps_here : KeepsGroups given m inside
       keeps_here g =
-          kept_alike (layers_at given h.key.0) (links_by (kept_of_place given.syntax.enabled files joined p) over) (links_in m inside) (contents_of_place given.syntax.enabled files joined p) (contents_of m)
+          kept_alike (layers_at given h.key.0) (links_by (contents_of_place given.syntax.enabled files joined p) over) (links_in m inside) (contents_of_place given.syntax.enabled files joined p) (contents_of m)
           (alike_at given entries d files placed rows are paths joined order below joins lists_first k l h)
-          (λ lists f c broken. subst (λ rs. links_by (kept_recipes rs) over lists f c) (sym rs_same) (links_back given asts loaded built m inside over meets_over settled_over lists f c broken))
-          g (subst (λ (x : Layers). KeepsContents x (links_by (kept_of_place given.syntax.enabled files joined p) over) (contents_of_place given.syntax.enabled files joined p)) layers_same at.kept g)
+          (λ lists f c broken. subst (λ n. links_by n over lists f c) (sym cs_same) (links_back given asts loaded built m inside over meets_over settled_over lists f c broken))
+          g (subst (λ (x : Layers). KeepsContents x (links_by (contents_of_place given.syntax.enabled files joined p) over) (contents_of_place given.syntax.enabled files joined p)) layers_same at.kept g)
+
+      -- no target of its aliases is unknown
+      targets_there : Keeps (Aliases (HasTarget m inside) (contents_of m).aliases)
+      targets_there c broken = at.kept OfAliases c (under at.evaluated.evaluated (subst (λ n. links_by n over true OfAliases c) (sym cs_same) (aliases_back given asts loaded built m inside over meets_over c (of_targets broken))))
+
+      -- so it has its aliases
+      pub is_aliased : (label : Label) → module_name (j label) ≡ name_in m → AreAliased (MeansIn given asts m inside) (contents_of m).aliases (out-Justfile (j label)).aliases
+      is_aliased label named =
+          let is = is_compiled label named in
+          let met = meets label in
+          let compiled_inside = held.compiled_as at.labels (heads_named given entries d files placed rows are paths joined order below joins lists_first loaded many differ k l h e inside held.are_modules built (map justfile (targets joined.modules.items p)) (length-map (targets joined.modules.items p) justfile) held.compiled_as at.labels labels_named) in
+          let shows : Shows given asts loaded built m inside (j label) = record { made = made p; inner = inner; compiled = compiled_inside; is = is; says = met.says; inner_says = met.inner_says } in
+          let known : (alias : Alias Namepath) → In alias (contents_of m).aliases → meant (targets_of (j label)) alias.target ≢ None = λ alias i nothing.
+          targets_there _ (unknown_target (contained alias (contents_of m).aliases i) (means_nothing given asts loaded built m inside (j label) shows alias.target nothing)) in
+          subst (AreAliased (MeansIn given asts m inside) (contents_of m).aliases) (sym (is.fields.aliases_are ∙ ap (aliases_of (targets_of (j label))) met.says.aliases))
+          (all_aliased (targets_of (j label)) (MeansIn given asts m inside) (means_in given asts loaded built m inside (j label) shows) (contents_of m).aliases no_aliases known)
 
   -- the modules of a forest, where the places of a row are listed among those that are compiled
   abbrev pub Holds : Forest → List Heading → List ℕ → Type 0
@@ -349,7 +374,7 @@ module _ (given : Given) (entries : List (AstKey × Ast)) (d : AstKey) (files : 
         let p = slice_index order k in
         let out = out-roll-Justfile (record (out-Justfile (justfile p)) { name = label.name; doc = label.doc; groups = label.groups; private = label.private }) in
         one (made p) (is_built k l less h e) (within.compiled_as (compiled k less).labels (heads_named given entries d files placed rows are paths joined order below joins lists_first loaded many differ k l h e inside within.are_modules built (map justfile (targets joined.modules.items p)) (length-map (targets joined.modules.items p) justfile) within.compiled_as (compiled k less).labels (labels_named k l less h e)))
-        (is_compiled k l less h e inside within label (ap (λ x. text_if_named x.name) out ∙ ap text_if_named head)) (others.compiled_as labels rest)
+        (is_compiled k l less h e inside within label (ap (λ x. text_if_named x.name) out ∙ ap text_if_named head)) (is_aliased k l less h e inside within label (ap (λ x. text_if_named x.name) out ∙ ap text_if_named head)) (others.compiled_as labels rest)
 
     held_more : Held (Tree (the_module k l h) inside after) (h ∷ hs) (slice_index order k ∷ row)
     held_more = record {

@@ -49,7 +49,7 @@ module _ (answers : SyntaxAnswers) (own : Ast) (it : Checked) (about : Surroundi
   links_of m same = subst (λ (x : Contents). HasLinks (kept_recipes x.recipes) before.recipes own.module_path added is.standing j) same has_links
 
   -- and keeps its rules over them
-  pub recipes_kept_over : (m : Contents) → contents_in it.definitions ≡ m → Keeps (BreaksRecipes answers it.constants.settings (links_by (kept_recipes m.recipes) (around_of j before.recipes)) (contents_in it.definitions))
+  pub recipes_kept_over : (m : Contents) → contents_in it.definitions ≡ m → Keeps (BreaksRecipes answers it.constants.settings (links_by m (around_of j before.recipes)) (contents_in it.definitions))
   recipes_kept_over m same =
-      subst (λ (x : Contents). Keeps (BreaksRecipes answers it.constants.settings (links_by (kept_recipes x.recipes) (around_of j before.recipes)) (contents_in it.definitions))) same
-      (subst (λ (x : Around). Keeps (BreaksRecipes answers it.constants.settings (links_by rs x) (contents_in it.definitions))) around_is is.kept)
+      subst (λ (x : Contents). Keeps (BreaksRecipes answers it.constants.settings (links_by x (around_of j before.recipes)) (contents_in it.definitions))) same
+      (subst (λ (x : Around). Keeps (BreaksRecipes answers it.constants.settings (links_by (contents_in it.definitions) x) (contents_in it.definitions))) around_is is.kept)

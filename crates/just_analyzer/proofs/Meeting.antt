@@ -191,23 +191,23 @@ module _ (given : Given) (entries : List (AstKey × Ast)) (d : AstKey) (files : 
         pub names_over : (slots : List (Option Justfile)) → map Some js ≡ map (slot slots) (targets joined.modules.items p) → (c : Cause) → BreaksOver given files joined p slots held c → NamesModules given R root c
         names_over slots there c broken =
             let it = around (notes_of_place given.syntax.enabled files joined p).absent_modules (by_name (with_labels js broken.labels)) held in
-            let kept = kept_of_place given.syntax.enabled files joined p in
+            let ms = contents_of_place given.syntax.enabled files joined p in
             let meets = meets_at broken.labels broken.named it [] (all ∙ sym (append-nil held)) refl refl in
-            let cs : contents_of_place given.syntax.enabled files joined p ≡ contents_in given.syntax.enabled asts m.files = contents_same (targets joined.files.items p) files_here in
+            let cs : ms ≡ contents_in given.syntax.enabled asts m.files = contents_same (targets joined.files.items p) files_here in
             let alike = alike_at given entries d files placed rows are paths joined order below joins lists_first k l h in
-            let b : BreaksContents (layers_at given h.key.0) (links_by kept it) (contents_of_place given.syntax.enabled files joined p) c =
-            subst (λ (x : Layers). BreaksContents x (links_by kept it) (contents_of_place given.syntax.enabled files joined p) c) (layers_there given entries d files placed rows are paths joined order below joins lists_first k l h e) (broken.broken js there) in
+            let b : BreaksContents (layers_at given h.key.0) (links_by ms it) (contents_of_place given.syntax.enabled files joined p) c =
+            subst (λ (x : Layers). BreaksContents x (links_by ms it) (contents_of_place given.syntax.enabled files joined p) c) (layers_there given entries d files placed rows are paths joined order below joins lists_first k l h e) (broken.broken js there) in
             let are_settled = around_settled held it.absent it.modules (settled broken.labels) in
-            let on : (lists : Bool) (g : Group) (x : Cause) → links_by kept it lists g x → links_in m inside lists g x = λ lists g x r.
-            links_on given asts loaded built m inside it meets lists g x (subst (λ (n : Contents). links_by (kept_recipes n.recipes) it lists g x) cs r) in
-            let back : (lists : Bool) (g : Group) (x : Cause) → links_in m inside lists g x → links_by kept it lists g x = λ lists g x r.
-            subst (λ (n : Contents). links_by (kept_recipes n.recipes) it lists g x) (sym cs) (links_back given asts loaded built m inside it meets are_settled lists g x r) in
+            let on : (lists : Bool) (g : Group) (x : Cause) → links_by ms it lists g x → links_in m inside lists g x = λ lists g x r.
+            links_on given asts loaded built m inside it meets lists g x (subst (λ (n : Contents). links_by n it lists g x) cs r) in
+            let back : (lists : Bool) (g : Group) (x : Cause) → links_in m inside lists g x → links_by ms it lists g x = λ lists g x r.
+            subst (λ (n : Contents). links_by n it lists g x) (sym cs) (links_back given asts loaded built m inside it meets are_settled lists g x r) in
             let ground : HasGround given b.group m inside = record {
-              earlier = λ f lt. kept_alike (layers_at given h.key.0) (links_by kept it) (links_in m inside) (contents_of_place given.syntax.enabled files joined p) (contents_of m) alike back f (b.earlier f lt);
+              earlier = λ f lt. kept_alike (layers_at given h.key.0) (links_by ms it) (links_in m inside) (contents_of_place given.syntax.enabled files joined p) (contents_of m) alike back f (b.earlier f lt);
               below = λ ne. kept_inside;
             } in
             in_module b.group reached (a_module is_here modules_are no_module) ground
-            (breaks_alike (layers_at given h.key.0) (contents_of_place given.syntax.enabled files joined p) (contents_of m) alike (links_by kept it) (links_in m inside) on b.group c b.broken)
+            (breaks_alike (layers_at given h.key.0) (contents_of_place given.syntax.enabled files joined p) (contents_of m) alike (links_by ms it) (links_in m inside) on b.group c b.broken)
 
     -- a module with no modules in it
     pub none_inside : targets joined.modules.items p ≡ [] → headings_in m ≡ []

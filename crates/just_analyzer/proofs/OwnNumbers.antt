@@ -11,11 +11,12 @@ use Rattle.just_module_contents.specs.Contents.{Contents}
 use Rattle.just_module_contents.specs.Defaults.{Defaults, IsDefault, IsDefaultAmong, IsDefaultBy, IsDefaultOf}
 use Rattle.just_module_contents.specs.Recipes.{name_of, no_recipe, recipe_at}
 use Rattle.just_module_contents.specs.Resolved.{AreNew, number_at, unresolved_numbers}
-use Rattle.just_module_contents.specs.Rules.{Bodies}
+use Rattle.just_module_contents.specs.Kept.{kept_recipes}
+use Rattle.just_module_contents.specs.Rules.{Aliases, Bodies}
 use Rattle.just_module_contents.specs.Standing.{AreStanding, falls, none, stands}
 use Rattle.just_module_recipes.specs.Broken.{BreaksRecipes, in_aliases, in_bodies, in_dependencies}
 use Rattle.just_module_recipes.specs.Linked.{AddsLinked}
-use Rattle.just_module_recipes.specs.Links.{Around, BreaksAliases, BreaksLinks, Stands, links_by, of_defaults}
+use Rattle.just_module_recipes.specs.Links.{Around, BreaksAliases, BreaksLinks, HasTarget, Stands, links_by, of_defaults, of_targets}
 use Rattle.just_names.specs.declared.number.Number.{Number}
 use Rattle.just_parts.specs.Syntax.{SyntaxAnswers}
 use Rattle.just_paths.specs.declared.modulepath.Modulepath.{Modulepath}
@@ -43,13 +44,14 @@ one_standing a b = go a b refl
     go (falls {rs} isnt all) (falls {rs = qs} other more) e = let rest : rs ≡ qs = cc in go all more rest
 
 -- what is kept of the recipes of a module
-pub recipes_kept : (answers : SyntaxAnswers) (s : Settings) (m : Contents) (recipes standing : List (Recipe UnresolvedDependency)) (it : Around) → Keeps (Bodies answers s m) → Keeps (BreaksLinks s.lists recipes it)
-    → AreStanding (Stands recipes it) recipes standing → Keeps (Defaults standing) → Keeps (BreaksRecipes answers s (links_by recipes it) m)
-recipes_kept answers s m recipes standing it bodies dependencies stand defaults c (in_bodies b) = bodies c b
-recipes_kept answers s m recipes standing it bodies dependencies stand defaults c (in_dependencies kept b) = dependencies c b
-recipes_kept answers s m recipes standing it bodies dependencies stand defaults c (in_aliases kept also b) = go b
+pub recipes_kept : (answers : SyntaxAnswers) (s : Settings) (m : Contents) (standing : List (Recipe UnresolvedDependency)) (it : Around) → Keeps (Bodies answers s m) → Keeps (BreaksLinks s.lists (kept_recipes m.recipes) it)
+    → AreStanding (Stands (kept_recipes m.recipes) it) (kept_recipes m.recipes) standing → Keeps (Defaults standing) → Keeps (Aliases (HasTarget (kept_recipes m.recipes) it) m.aliases) → Keeps (BreaksRecipes answers s (links_by m it) m)
+recipes_kept answers s m standing it bodies dependencies stand defaults targets c (in_bodies b) = bodies c b
+recipes_kept answers s m standing it bodies dependencies stand defaults targets c (in_dependencies kept b) = dependencies c b
+recipes_kept answers s m standing it bodies dependencies stand defaults targets c (in_aliases kept also b) = go b
   where
-    go : BreaksAliases recipes it c → ⊥
+    go : BreaksAliases (kept_recipes m.recipes) m.aliases it c → ⊥
+    go (of_targets k) = targets c k
     go (of_defaults other is k) = defaults c (subst (λ (rs : List (Recipe UnresolvedDependency)). Defaults rs c) (one_standing is stand) k)
 
 -- a default of numbers is one of others that agree on the own recipes

@@ -9,6 +9,7 @@ use Rattle.just_module_contents.specs.Kept.{kept_recipes}
 use Rattle.just_module_contents.specs.Named.{recipes_by}
 use Rattle.just_module_contents.specs.Standing.{AreStanding}
 use Rattle.just_invoke.specs.declared.disabled.Disabled.{Disabled}
+use Rattle.just_module_recipes.specs.Aliased.{Targets, targets as targets_made}
 use Rattle.just_module_recipes.specs.Linked.{AddsLinked, HasDisabled}
 use Rattle.just_module_recipes.specs.Links.{Around, Disables, Stands, around as around_made, links_by}
 use Rattle.just_paths.specs.declared.modulepath.Modulepath.{Modulepath}
@@ -23,6 +24,7 @@ use Rattle.just_compiled.specs.Justfiles.{Made}
 use Rattle.just_analyzer.specs.Noted.{notes_of_place}
 use Rattle.just_compiled.specs.Variables.{HasVariables}
 use Rattle.just_analyzer.specs.declared.groups.Checked.{Checked}
+use Rattle.just_analyzer.specs.declared.making.OwnRecipes.{OwnRecipes}
 use Rattle.just_analyzer.specs.declared.making.Surroundings.{Surroundings}
 use Rattle.just_names.specs.Texts.{Text}
 use Rattle.just_module_contents.specs.declared.labels.Label.{Label}
@@ -44,6 +46,10 @@ pub record AreSurroundings (enabled : Item → Bool) (files : Files) (joined : J
 abbrev pub around_by : Surroundings → List (Recipe Dependency) → Around
 around_by it held = around_made it.notes.absent_modules it.modules held
 
+-- what the aliases of a module with these surroundings and recipes lead through and to
+abbrev pub own_targets : Surroundings → OwnRecipes → Targets
+own_targets it own = targets_made it.notes.absent_modules own.disabled it.modules own.keys
+
 -- The kept recipes of a module are linked over what is around them: those that stand, the table of the others, and all recipes, of which these are added.
 pub record AreLinkedOver (lists : Bool) (recipes : List (Recipe UnresolvedDependency)) (it : Around) (path : Modulepath) (standing : List (Recipe UnresolvedDependency)) (disabled : List (Text × Disabled)) (all : List (Recipe Dependency)) : Type 0 where
   pub stand : AreStanding (Stands recipes it) recipes standing
@@ -52,7 +58,7 @@ pub record AreLinkedOver (lists : Bool) (recipes : List (Recipe UnresolvedDepend
 
 -- What a module is analyzed to that is checked, and what it adds.
 pub record IsAnalyzedFrom (answers : SyntaxAnswers) (own : Ast) (it : Checked) (around : Surroundings) (before after : Made) (j : Justfile) : Type 0 where
-  pub kept : Keeps (BreaksRecipes answers it.constants.settings (links_by (kept_recipes (recipes_in it.definitions)) (around_by around before.recipes)) (contents_in it.definitions))
+  pub kept : Keeps (BreaksRecipes answers it.constants.settings (links_by (contents_in it.definitions) (around_by around before.recipes)) (contents_in it.definitions))
   pub standing : List (Recipe UnresolvedDependency)
   pub linked : AreLinkedOver it.constants.settings.lists (kept_recipes (recipes_in it.definitions)) (around_by around before.recipes) own.module_path standing (out-Justfile j).disabled_recipes after.recipes
   pub overridden : after.overridden ≡ before.overridden ++ it.constants.overridden.items

@@ -67,7 +67,7 @@ pub record BreaksOver (given : Given) (files : Files) (joined : Joined) (p : ℕ
   pub labels : List Label
   pub named : names_of_labels labels ≡ names_of_labels (labels_of_place given.syntax.enabled files joined p)
   pub broken : (inner : List Justfile) → map Some inner ≡ map (slot slots) (targets joined.modules.items p)
-      → BreaksPlace given files joined p (links_by (kept_of_place given.syntax.enabled files joined p) (around (notes_of_place given.syntax.enabled files joined p).absent_modules (by_name (with_labels inner labels)) held)) c
+      → BreaksPlace given files joined p (links_by (contents_of_place given.syntax.enabled files joined p) (around (notes_of_place given.syntax.enabled files joined p).absent_modules (by_name (with_labels inner labels)) held)) c
 
 -- the variables that the module at a place has
 abbrev pub variables_of_place : (Item → Bool) → Files → Joined → ℕ → List Assignment
@@ -101,7 +101,7 @@ pub record IsCompiledAt (given : Given) (files : Files) (joined : Joined) (loade
   pub own_said : slice_get (asts_in files) p ≡ Some own
   pub key : AstKey
   pub key_is : slice_get (keys_in files) p ≡ Some key
-  pub kept : KeepsPlace given files joined p (links_by (kept_of_place given.syntax.enabled files joined p) (around_of j before))
+  pub kept : KeepsPlace given files joined p (links_by (contents_of_place given.syntax.enabled files joined p) (around_of j before))
   pub standing : List (Recipe UnresolvedDependency)
   pub links : HasLinks (kept_of_place given.syntax.enabled files joined p) before own.module_path made.recipes standing j
   pub labels : List Label

@@ -95,8 +95,7 @@ fn analyze_checked<'b, 'src, S: Syntax>(
     requires variables { AreVariablesOf (S.answers syntax.now) (contents_in checked.definitions) checked.variables }
     ensures analyzed { let is = IsAnalyzedFrom (S.answers syntax.now) ast.now checked.entry surroundings.entry in
         IfOk result (λ made. is (made_in gathered.entry) (made_in made.1) made.0) }
-    ensures named { let kept = kept_recipes (recipes_in checked.entry.definitions) in
-        let links = links_by kept (around_by surroundings.entry gathered.entry.recipes) in
+    ensures named { let links = links_by (contents_in checked.entry.definitions) (around_by surroundings.entry gathered.entry.recipes) in
         let breaks = BreaksRecipes (S.answers syntax.now) checked.entry.constants.settings links in
         IfErr result (Reports (breaks (contents_in checked.entry.definitions))) }
 {

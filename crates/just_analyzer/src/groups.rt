@@ -1,10 +1,10 @@
 //! The analysis of one module, which goes by groups of rules, in this order: headers, names, variables, constants, docs;
-//! then bodies, dependencies and the default. A group is checked where the ones before it are kept.
+//! then bodies, dependencies, aliases and the default. A group is checked where the ones before it are kept.
 
 ghost use Rattle.std.specs.Prelude.{◌≡◌, ◌<◌, IfErr, IfOk, Some, length};
 ghost use Rattle.std.specs.List.{All};
 ghost use Rattle.just_analyzer.specs.Checked.{HasConstants, IsChecked, no_links};
-ghost use Rattle.just_analyzer.specs.Parts.{AreLinkedOver, around_by};
+ghost use Rattle.just_analyzer.specs.Parts.{AreLinkedOver, around_by, own_targets};
 ghost use Rattle.just_errors.specs.Causes.{Keeps, Reports};
 ghost use Rattle.just_graph.specs.Steps.{IsOnce};
 ghost use Rattle.just_module_contents.specs.Constants.{Docs, constant_expressions};
@@ -19,6 +19,8 @@ ghost use Rattle.just_module_contents.specs.Resolved.{AreNew, HasPriors, unresol
 ghost use Rattle.just_module_contents.specs.Rules.{Bodies};
 ghost use Rattle.just_module_headers.specs.Analyzable.{assignment_numbers};
 ghost use Rattle.just_module_headers.specs.Files.{asts_in};
+ghost use Rattle.just_compiled.specs.Analysis.{recipe_table};
+ghost use Rattle.just_module_recipes.specs.Aliased.{aliases_of};
 ghost use Rattle.just_module_recipes.specs.Broken.{BreaksRecipes};
 ghost use Rattle.just_module_recipes.specs.Linked.{AreSettled};
 ghost use Rattle.just_module_recipes.specs.Links.{BreaksLinks, links_by};
@@ -29,7 +31,7 @@ ghost use Rattle.just_names.specs.Index.{AreDifferent};
 ghost use Rattle.just_parts.specs.Evaluator.{values_of};
 ghost use Rattle.just_parts.specs.Layers.{given_by, layers_at};
 
-use crate::making::{OwnRecipes, Surroundings};
+use crate::making::{OwnRecipes, Surroundings, recipe_keys};
 use crate::notes::labels_at;
 use just_execution::Recipes;
 use just_module_contents::Label;
@@ -38,7 +40,7 @@ use just_module_contents::kept::keep_recipes;
 use just_module_headers::files::Files;
 use just_module_headers::headers::check_headers;
 use just_module_headers::variables::check_names;
-use just_module_recipes::{Linked, check_bodies, default_of, link};
+use just_module_recipes::{Linked, check_bodies, default_of, link, resolve_aliases};
 use just_module_variables::{
     Constants, Variables, document, evaluate_constants, resolve_variables,
 };
@@ -194,7 +196,7 @@ fn link_recipes<'src, 'a, S: Syntax>(
     ensures linked { let kept = kept_recipes (recipes_in definitions.now) in
         let linked = AreLinkedOver settings.now.lists kept (around_by around.now recipes.entry) path.now in
         IfOk result (λ made. linked (recipes_in made.standing) made.disabled made.all) }
-    ensures named { let links = links_by (kept_recipes (recipes_in definitions.now)) (around_by around.now recipes.entry) in
+    ensures named { let links = links_by (contents_in definitions.now) (around_by around.now recipes.entry) in
         IfErr result (Reports (BreaksRecipes (S.answers syntax.now) settings.now links (contents_in definitions.now))) }
 {
     check_bodies(alloc, syntax, definitions, settings)?;
@@ -212,7 +214,7 @@ fn link_recipes<'src, 'a, S: Syntax>(
 
 /// Checks the recipes of a module with these definitions, of which `ast` says its own file, under its settings, and links
 /// those that are kept over what is around them: those that stand are put behind the recipes that are resolved so far. It
-/// answers what its justfile has of them, and all recipes. An error names a rule that is broken; the recipes are dropped
+/// answers what its justfile has of them, with its aliases, and all recipes. An error names a rule that is broken; the recipes are dropped
 /// then.
 pub fn add_recipes<'src, 'a, S: Syntax>(
     alloc: Global,
@@ -228,27 +230,40 @@ pub fn add_recipes<'src, 'a, S: Syntax>(
     requires apart { AreNew recipes (recipes_in definitions.now) }
     requires own { AreNew recipes (recipes_by (S.answers syntax.now).enabled (Some ast.now)) }
     requires settled { AreSettled (around_by around.now recipes) }
-    ensures kept { let links = links_by (kept_recipes (recipes_in definitions.now)) (around_by around.now recipes.entry) in
+    ensures kept { let links = links_by (contents_in definitions.now) (around_by around.now recipes.entry) in
         IfOk result (λ _. Keeps (BreaksRecipes (S.answers syntax.now) settings.now links (contents_in definitions.now))) }
     ensures linked { let kept = kept_recipes (recipes_in definitions.now) in
         let linked = AreLinkedOver settings.now.lists kept (around_by around.now recipes.entry) ast.now.module_path in
         IfOk result (λ made. linked (recipes_in made.0.standing) made.0.disabled made.1) }
+    ensures keys { IfOk result (λ made. made.0.keys ≡ recipe_table (recipes_in made.0.standing)) }
+    ensures aliases { IfOk result (λ made. made.0.aliases ≡ aliases_of (own_targets around.now made.0) (contents_in definitions.now).aliases) }
     ensures default { let own = recipes_by (S.answers syntax.now).enabled (Some ast.now) in
         IfOk result (λ made. IsDefaultAmong (recipes_in made.0.standing) own made.0.default) }
-    ensures named { let links = links_by (kept_recipes (recipes_in definitions.now)) (around_by around.now recipes.entry) in
+    ensures named { let links = links_by (contents_in definitions.now) (around_by around.now recipes.entry) in
         IfErr result (Reports (BreaksRecipes (S.answers syntax.now) settings.now links (contents_in definitions.now))) }
 {
     let path = &ast.module_path;
     let linked = link_recipes(alloc, definitions, syntax, settings, path, around, recipes)?;
     let default = default_of(alloc, &linked.standing, ast, syntax, &linked.all)?;
+    let keys = recipe_keys(alloc, &linked.standing)?;
+    let aliases = resolve_aliases(
+        alloc,
+        definitions,
+        &around.notes.absent_modules,
+        &linked.disabled,
+        around.modules.as_slice(),
+        &keys,
+    )?;
     let Linked {
         all,
         disabled,
         standing,
     } = linked;
     let own = OwnRecipes {
+        aliases,
         default,
         disabled,
+        keys,
         standing,
     };
     Ok((own, all))

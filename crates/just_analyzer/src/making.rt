@@ -5,9 +5,11 @@ ghost use Rattle.just_invoke.specs.declared.justfile.Justfile.{out-Justfile};
 ghost use Rattle.just_compiled.specs.Analysis.{HasNoLabel, IsOf, recipe_table};
 ghost use Rattle.just_compiled.specs.Labelled.{notes_in};
 ghost use Rattle.just_module_contents.specs.Definitions.{contents_in, recipes_in};
+ghost use Rattle.just_module_recipes.specs.Aliased.{aliases_of};
+ghost use Rattle.just_analyzer.specs.Parts.{own_targets};
 
 use just_data::{Sequence, Shared, Text};
-use just_invoke::{Disabled, Justfile, RecipeKey};
+use just_invoke::{Aliases, Disabled, Justfile, RecipeKey};
 use just_module_contents::Notes;
 use just_module_contents::definitions::Definitions;
 use just_module_variables::{Constants, Variables};
@@ -15,8 +17,8 @@ use just_parts::layers::{Ast, Name, Number};
 use just_table::Table;
 use std::alloc::{AllocError, Global};
 
-// The keys of the recipes, under their names.
-fn recipe_keys<'a, 'src>(
+/// The keys of the recipes, under their names.
+pub fn recipe_keys<'a, 'src>(
     alloc: Global,
     definitions: &Definitions<'src, 'a>,
 ) -> Result<Table<'src, RecipeKey<'src>>, AllocError>
@@ -65,10 +67,14 @@ pub struct Surroundings<'src> {
 /// What a module has of its recipes.
 #[derive(Drop)]
 pub struct OwnRecipes<'src, 'a> {
+    /// Other names for them, and for the modules.
+    pub aliases: Aliases<'src>,
     /// The one that is run without words.
     pub default: Option<Number>,
     /// Those that something disables, by their names.
     pub disabled: Table<'src, Disabled<'src>>,
+    /// The keys of those that stand, by their names.
+    pub keys: Table<'src, RecipeKey<'src>>,
     /// Those that stand.
     pub standing: Definitions<'src, 'a>,
 }
@@ -84,6 +90,8 @@ pub fn make_justfile<'a, 'src>(
     constants: Constants<'src>,
     surroundings: Surroundings<'src>,
 ) -> Result<Justfile<'src>, AllocError>
+    requires keys { own.keys ≡ recipe_table (recipes_in own.standing) }
+    requires aliases { own.aliases ≡ aliases_of (own_targets surroundings own) (contents_in definitions.now).aliases }
     ensures fields { let is = IsOf (contents_in definitions.now) (recipes_in own.entry.standing) ast.now in
         IfOk result (is surroundings.entry.loaded surroundings.entry.source) }
     ensures label { IfOk result HasNoLabel }
@@ -97,13 +105,14 @@ pub fn make_justfile<'a, 'src>(
     ensures modules { IfOk result (λ j. (out-Justfile j).modules ≡ surroundings.entry.modules) }
     ensures notes { IfOk result (λ j. notes_in j ≡ surroundings.entry.notes) }
 {
-    let recipes = recipe_keys(alloc, &own.standing)?;
     let unexports = copied_names(alloc, definitions.unexports.as_slice())?;
     let module_path = ast.module_path.clone()?;
     let working_directory = ast.working_directory.clone()?;
     let OwnRecipes {
+        aliases,
         default,
         disabled,
+        keys,
         ..
     } = own;
     let Surroundings {
@@ -129,6 +138,7 @@ pub fn make_justfile<'a, 'src>(
     } = variables;
     Ok(Justfile {
         absent_modules,
+        aliases,
         assignments,
         default,
         disabled_recipes: disabled,
@@ -142,7 +152,7 @@ pub fn make_justfile<'a, 'src>(
         name: None,
         overridden: overrides,
         private: false,
-        recipes,
+        recipes: keys,
         settings,
         source,
         unstable_features,

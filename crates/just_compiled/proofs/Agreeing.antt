@@ -88,16 +88,27 @@ module _ (given : Given) (asts : AstKey → Option Ast) (loaded : List Text) (bu
 
   found : (x : Text) {f : Forest} {js : List Justfile} → AreCompiled given asts loaded built f js → SayAll given asts f → FoundAs (find_inner x f) (module_named x js)
   found x none says = neither
-  found x (one {m} {inside} {after} {inner} {js} {j} made there below is rest) says =
+  found x (one {m} {inside} {after} {inner} {js} {j} made there below is aliased rest) says =
       let shows : Shows m inside j = record { made = made; inner = inner; compiled = below; is = is; says = says m inside first; inner_says = λ n under has. says n under (in_it has) } in
       subst (λ y. FoundAs (cond (bytes_eq (name_in m) x) (Some (m, inside)) (find_inner x after)) (cond (bytes_eq y x) (Some j) (module_named x js))) (sym is.name)
       (found_one m inside j (find_inner x after) (module_named x js) (bytes_eq (name_in m) x) shows (found x rest (λ n under has. says n under (after_it has))))
 
   -- places and ends of walks
-  data Agree : Place → End → Type 0 where
+  pub data Agree : Place → End → Type 0 where
     both_inside : {n : Module} {below : Forest} {c : Justfile} → Shows n below c → Agree (trees.In n below) (walks.Inside c)
     both_absent : {names : List Text} → Agree (trees.Missing names) (walks.Absent names)
     both_nowhere : Agree trees.Nowhere walks.Nowhere
+
+  -- both lead nowhere, or neither does
+  pub nowhere_end : {p : Place} {e : End} → Agree p e → p ≡ trees.Nowhere → e ≡ walks.Nowhere
+  nowhere_end (both_inside shows) q = cc
+  nowhere_end both_absent q = cc
+  nowhere_end both_nowhere q = refl
+
+  pub nowhere_place : {p : Place} {e : End} → Agree p e → e ≡ walks.Nowhere → p ≡ trees.Nowhere
+  nowhere_place (both_inside shows) q = cc
+  nowhere_place both_absent q = cc
+  nowhere_place both_nowhere q = refl
 
   agree_beyond : (x : Text) (c : Justfile) {p : Place} {e : End} → Agree p e → Agree (trees.beyond x p) (walks.beyond x c e)
   agree_beyond x c (both_inside shows) = both_inside shows
@@ -117,10 +128,10 @@ module _ (given : Given) (asts : AstKey → Option Ast) (loaded : List Text) (bu
       subst (λ b. Agree (cond (list_any (λ a. bytes_eq a x) own) (trees.Missing (x ∷ [])) trees.Nowhere) (cond b (walks.Absent (x ∷ [])) walks.Nowhere)) (sym e) (agree_cond (list_any (λ a. bytes_eq a x) own) (x ∷ []))
 
   -- a compiled module has the absent modules of its own
-  has_absent : (n : Module) (below : Forest) (c : Justfile) → Shows n below c → HasAbsent (out-Justfile c).absent_modules n
+  pub has_absent : (n : Module) (below : Forest) (c : Justfile) → Shows n below c → HasAbsent (out-Justfile c).absent_modules n
   has_absent n below c shows = absent_noted given asts n (out-Justfile c).absent_modules shows.says (ap (λ notes. notes.absent_modules) shows.is.notes)
 
-  agree : (xs : List Text) (x : Text) (m : Module) (inside : Forest) (absent : List (Text × Text)) (modules js : List Justfile) → HasAbsent absent m → ((name : Text) → module_named name modules ≡ module_named name js)
+  pub agree : (xs : List Text) (x : Text) (m : Module) (inside : Forest) (absent : List (Text × Text)) (modules js : List Justfile) → HasAbsent absent m → ((name : Text) → module_named name modules ≡ module_named name js)
       → AreCompiled given asts loaded built inside js → SayAll given asts inside → Agree (follow (x ∷ xs) m inside) (end_of absent modules (x ∷ xs))
   agree [] x m inside absent modules js exact named compiled says =
       agree_found [] x (absent_in m) absent (exact x) (subst (FoundAs (find_inner x inside)) (sym (named x)) (found x compiled says)) (λ n below c shows. both_inside shows)
@@ -170,7 +181,7 @@ module _ (given : Given) (asts : AstKey → Option Ast) (loaded : List Text) (bu
     | None ↦ option_map (λ (it : Disabled). resolution.Disabled it.modules) q
   ]
 
-  looked : (n : Module) (below : Forest) (c : Justfile) → Shows n below c → (last : Text) (o : Option RecipeKey) (q : Option Disabled) → find last (out-Justfile c).recipes ≡ o → find last (out-Justfile c).disabled_recipes ≡ q → Resolves (trees.In n below) last (answer o q)
+  pub looked : (n : Module) (below : Forest) (c : Justfile) → Shows n below c → (last : Text) (o : Option RecipeKey) (q : Option Disabled) → find last (out-Justfile c).recipes ≡ o → find last (out-Justfile c).disabled_recipes ≡ q → Resolves (trees.In n below) last (answer o q)
   looked n below c shows last (Some key) q f g =
       let is = shows.is in
       let k = key_found is.standing last key (ap (find last) (sym is.fields.recipes_are) ∙ f) in
@@ -220,7 +231,7 @@ module _ (given : Given) (asts : AstKey → Option Ast) (loaded : List Text) (bu
         | inr d ↦ not_found name_of_disabled last [] is.disabled.0 (ap (find last) (sym is.disabled.2) ∙ g) d.0 d.1 (d.2 ∙ sym r.2)
       ]
 
-  resolves : {place : Place} {end : End} → Agree place end → (last : Text) → Resolves place last (recipe_by end [] [] last)
+  pub resolves : {place : Place} {end : End} → Agree place end → (last : Text) → Resolves place last (recipe_by end [] [] last)
   resolves (both_inside {n} {below} {c} shows) last = looked n below c shows last (find last (out-Justfile c).recipes) (find last (out-Justfile c).disabled_recipes) refl refl
   resolves (both_absent {names = own}) last = record {
     some = λ e. cc;

@@ -6,16 +6,18 @@ use Rattle.std.proofs.lemmas.List.{append-nil, get_or_default}
 use Rattle.std.proofs.lemmas.Option.{slice_get_read}
 use Rattle.just_graph.proofs.Index.{some_same}
 use Rattle.just_graph.proofs.Members.{In, contained, from_map, in_map, is_in}
+use Rattle.just_ast_definitions.specs.declared.alias.Alias.{Alias}
 use Rattle.just_ast_definitions.specs.Parameter.{least_arguments, most_arguments}
 use Rattle.just_ast_definitions.specs.declared.parameter.Parameter.{Parameter}
 use Rattle.just_errors.specs.Causes.{Cause}
-use Rattle.just_invoke.specs.Walks.{end_of, path_along, recipe_by}
+use Rattle.just_invoke.specs.Walks.{end_of, module_named, path_along, recipe_by}
 use Rattle.just_invoke.specs.declared.resolution.Resolution.{Resolution}
 use Rattle.just_invoke.specs.declared.resolution.Resolution.TheVariants as resolution
+use Rattle.just_module_contents.specs.Contents.{Contents}
 use Rattle.just_module_contents.specs.Groups.{Group, OfAliases, OfBodies, OfConstants, OfDependencies, OfExpressions, OfHeaders, OfNames}
 use Rattle.just_module_contents.specs.Recipes.{DependsOn, dependency_paths, least_of, most_of, name_of, named_paths, names_of, no_recipe, recipe_at}
 use Rattle.just_module_contents.specs.Resolved.{number_at}
-use Rattle.just_module_contents.specs.Rules.{DependsBy, StandsWith}
+use Rattle.just_module_contents.specs.Rules.{DependsBy, StandsWith, unknown_target}
 use Rattle.just_module_contents.proofs.Keeping.{kept_different}
 use Rattle.just_module_contents.proofs.RecipePlaces.{number_read, one_place}
 use Rattle.just_module_headers.proofs.Holding.{some_value}
@@ -25,7 +27,7 @@ use Rattle.just_module_recipes.specs.Links as links
 use Rattle.just_module_recipes.specs.Links.{Around, BreaksLinks, Disables, HasParameters, Leads, Names, Stands, Takes, by_recipe, by_walk, far, found_by, links_by, near, of_far, of_near}
 use Rattle.just_module_tree.specs.Modules.{Forest, Module, contents_of}
 use Rattle.just_module_tree.specs.Standing as trees
-use Rattle.just_module_tree.specs.Standing.{BreaksDependencies, DisabledBy, EndsWell, LeadsSomewhere, Place, StandsIn, TakesIn, by_disabled, kept_in, leads, links_in, through_absent}
+use Rattle.just_module_tree.specs.Standing.{BreaksDependencies, DisabledBy, EndsWell, HasTarget, LeadsSomewhere, Place, StandsIn, TakesIn, by_disabled, follow, kept_in, leads, links_in, through_absent, to_module, to_recipe}
 use Rattle.just_names.specs.Name.{text_of_name, texts_of_path}
 use Rattle.just_names.specs.Texts.{Text}
 use Rattle.just_names.specs.declared.name.Name.{Name}
@@ -39,8 +41,10 @@ use Rattle.just_recipe.specs.Recipes.{find_number}
 use Rattle.just_recipe.specs.declared.dependency.Dependency.{Dependency}
 use Rattle.just_recipe.specs.declared.dependency.UnresolvedDependency.{UnresolvedDependency}
 use Rattle.just_recipe.specs.declared.recipe.Recipe.{Recipe}
-use Rattle.just_compiled.specs.Justfiles.{Built, HasNumberIn, kept_by, recipes_of_all}
-use Rattle.just_compiled.proofs.Agreeing.{IsBarred, IsNumbered, Meets, Resolves, Through, far_or, stays}
+use Rattle.just_compiled.specs.Justfiles.{Built, HasNumberIn, contents_in, kept_by, recipes_of_all}
+use Rattle.just_compiled.proofs.Agreeing.{Agree, IsBarred, IsNumbered, Meets, Resolves, Through, agree, far_or, nowhere_end, nowhere_place, stays}
+use Rattle.just_compiled.proofs.Meanings.{module_somewhere, somewhere_or}
+use Rattle.just_compiled.proofs.NamedModules.{found_sorted}
 use Rattle.just_compiled.proofs.Saying.{Says}
 use Rattle.just_compiled.proofs.StandingRecipes.{standing_alike}
 
@@ -54,12 +58,12 @@ found_more [] more n x e = cc
 found_more (r ∷ rs) more n x e = one_more (r.number.0 == n) r x (find_number rs n) (find_number (rs ++ more) n) (found_more rs more n x) e
 
 -- a path of one name
-one_text : (front : List Name) (last : Name) (t : Text) → map text_of_name (front ++ last ∷ []) ≡ t ∷ [] → (front ≡ []) × (text_of_name last ≡ t)
+pub one_text : (front : List Name) (last : Name) (t : Text) → map text_of_name (front ++ last ∷ []) ≡ t ∷ [] → (front ≡ []) × (text_of_name last ≡ t)
 one_text [] last t e = (refl, cc)
 one_text (x ∷ []) last t e = cc
 one_text (x ∷ y ∷ front) last t e = cc
 
-texts_one : (d : Namepath) → d.front ≡ [] → texts_of_path d ≡ text_of_name d.last ∷ []
+pub texts_one : (d : Namepath) → d.front ≡ [] → texts_of_path d ≡ text_of_name d.last ∷ []
 texts_one d e = ap (λ front. map text_of_name (front ++ d.last ∷ [])) e
 
 -- paths of dependencies, and their texts
@@ -120,6 +124,13 @@ module _ (given : Given) (asts : AstKey → Option Ast) (loaded : List Text) (bu
   abbrev kept : Module → List (Recipe UnresolvedDependency)
   kept m = kept_by given asts m
 
+  -- what its files say, and the aliases among that
+  abbrev said : Module → Contents
+  said m = contents_in given.syntax.enabled asts m.files
+
+  abbrev aliases_by : Module → List (Alias Namepath)
+  aliases_by m = (said m).aliases
+
   -- what disables through a place is among the paths of the look-up
   barred_of : (place : Place) (last : Text) (path : Modulepath) (r : Option (Resolution Number)) → Resolves given asts loaded built place last r → Through given asts loaded built place last path
       → (set : BTreeSet Modulepath) × (r ≡ Some (resolution.Disabled set)) × Contains set.keys path
@@ -170,7 +181,20 @@ module _ (given : Given) (asts : AstKey → Option Ast) (loaded : List Text) (bu
         by_walk d b.0 (by_files m meets.says name d by) b.1 b.2)
   ]
 
+  -- the recipe that is made of one that a number means
+  module _ (place : Place) (last : Text) (number : Number) (r : IsNumbered given asts loaded built place last number) where
+    pub made_there : (x : Recipe Dependency) × (find_number (recipes_of_all built) number.0 ≡ Some x) × (x.parameters ≡ (recipe_at (kept r.n) r.i).parameters)
+    made_there =
+        let x = r.shows.is.linked.each r.i r.there (subst (StandsIn r.n r.below) (sym r.named) r.stands) in
+        let read : slice_get (kept r.n) r.i ≡ Some (recipe_at (kept r.n) r.i) = slice_get_read (kept r.n) (length (kept r.n)) r.i (recipe_at (kept r.n) r.i) refl r.there (get_or_default (kept r.n) r.i no_recipe (recipe_at (kept r.n) r.i) r.there) in
+        let same : number_at (kept r.n) r.i ≡ number.0 = number_read (kept r.n) r.i (recipe_at (kept r.n) r.i) read ∙ ap (λ (k : Number). k.0) r.number_is in
+        (x.0, ap (find_number (recipes_of_all built)) (sym same) ∙ x.1, x.2.made_of.resolved.parameters)
+
   module _ (m : Module) (inside : Forest) (it : Around) (meets : Meets given asts loaded built m inside it) where
+    -- names lead alike
+    around_agree : (xs : List Text) (x : Text) → Agree given asts loaded built (follow (x ∷ xs) m inside) (end_of it.absent it.modules (x ∷ xs))
+    around_agree xs x = agree given asts loaded built xs x m inside it.absent it.modules meets.inner meets.absent (λ name. ap (module_named name) meets.modules ∙ found_sorted name meets.inner meets.different) meets.compiled meets.inner_says
+
     -- a path of one name leads through no module
     nothing_far : (d : Namepath) → d.front ≡ [] → found_by it d ≡ None
     nothing_far d e = ap (λ front. recipe_by (end_of it.absent it.modules (map text_of_name front)) [] [] (text_of_name d.last)) e
@@ -222,19 +246,11 @@ module _ (given : Given) (asts : AstKey → Option Ast) (loaded : List Text) (bu
       | inr r ↦ far (λ e. let lost : (LeadsSomewhere m inside d → ⊥) = subst (Resolves given asts loaded built (leads m inside d) (text_of_name d.last)) e r in lost l)
     ]
 
-    -- the recipe that is made of one that a number means
+    -- what is held under the number of a recipe that it means has its parameters
     module _ (place : Place) (last : Text) (number : Number) (r : IsNumbered given asts loaded built place last number) where
-      made_there : (x : Recipe Dependency) × (find_number (recipes_of_all built) number.0 ≡ Some x) × (x.parameters ≡ (recipe_at (kept r.n) r.i).parameters)
-      made_there =
-          let x = r.shows.is.linked.each r.i r.there (subst (StandsIn r.n r.below) (sym r.named) r.stands) in
-          let read : slice_get (kept r.n) r.i ≡ Some (recipe_at (kept r.n) r.i) = slice_get_read (kept r.n) (length (kept r.n)) r.i (recipe_at (kept r.n) r.i) refl r.there (get_or_default (kept r.n) r.i no_recipe (recipe_at (kept r.n) r.i) r.there) in
-          let same : number_at (kept r.n) r.i ≡ number.0 = number_read (kept r.n) r.i (recipe_at (kept r.n) r.i) read ∙ ap (λ (k : Number). k.0) r.number_is in
-          (x.0, ap (find_number (recipes_of_all built)) (sym same) ∙ x.1, x.2.made_of.resolved.parameters)
-
-      -- what is held under the number has its parameters
       made_held : (q : Recipe Dependency) → find_number it.held number.0 ≡ Some q → q.parameters ≡ (recipe_at (kept r.n) r.i).parameters
       made_held q e =
-          let x = made_there in
+          let x = made_there place last number r in
           let all : find_number (recipes_of_all built) number.0 ≡ Some q = ap (λ qs. find_number qs number.0) meets.held ∙ found_more it.held meets.rest number.0 q e in
           let same : q ≡ x.0 = some_same (sym all ∙ x.1) in
           ap (λ (k : Recipe Dependency). k.parameters) same ∙ x.2
@@ -281,20 +297,41 @@ module _ (given : Given) (asts : AstKey → Option Ast) (loaded : List Text) (bu
     dependencies_on lists =
         dependencies_alike (kept m) (kept_in m) meets.says.kept (Leads (kept m) it) (LeadsSomewhere m inside) (Stands (kept m) it) (StandsIn m inside) (Takes lists (kept m) it) (TakesIn lists m inside) leads_back stands_on (λ d s. takes_on lists d.recipe) lists
 
-    -- so is what is broken of defaults
-    pub aliases_on : (c : Cause) → links.BreaksAliases (kept m) it c → trees.BreaksAliases m inside c
+    -- all names of a path lead alike
+    names_agree : (front : List Name) (last : Name) → Agree given asts loaded built (follow (map text_of_name (front ++ last ∷ [])) m inside) (end_of it.absent it.modules (map text_of_name (front ++ last ∷ [])))
+    names_agree [] last = around_agree [] (text_of_name last)
+    names_agree (x ∷ front) last = around_agree (map text_of_name (front ++ last ∷ [])) (text_of_name x)
+
+    -- the target of an alias leads to what it leads to in the tree
+    target_on : (d : Namepath) → links.HasTarget (kept m) it d → HasTarget m inside d
+    target_on d (links.to_module some) = to_module (λ p. module_somewhere d it.absent it.modules some (nowhere_end given asts loaded built (names_agree d.front d.last) p))
+    target_on d (links.to_recipe l) = to_recipe (leads_on d l)
+
+    target_back : (d : Namepath) → HasTarget m inside d → links.HasTarget (kept m) it d
+    target_back d (to_module some) = elim (somewhere_or d it.absent it.modules (λ e. some (nowhere_place given asts loaded built (names_agree d.front d.last) e))) [
+      | inl some_module ↦ links.to_module some_module
+      | inr beyond ↦ links.to_recipe (far beyond)
+    ]
+    target_back d (to_recipe l) = links.to_recipe (leads_back d l)
+
+    -- so is what is broken of aliases and of defaults
+    pub aliases_on : (c : Cause) → links.BreaksAliases (kept m) (aliases_by m) it c → trees.BreaksAliases m inside c
+    aliases_on _ (links.of_targets (unknown_target {alias} there lost)) =
+        trees.of_targets (unknown_target (subst (λ xs. Contains xs alias) meets.says.aliases there) (λ h. lost (target_back alias.target h)))
     aliases_on _ (links.of_defaults {c} ss are b) =
         let k = standing_alike (Stands (kept m) it) (StandsIn m inside) stands_on stands_back are (kept_in m) meets.says.kept in
         trees.of_defaults k.0 k.1 (defaults_alike ss k.0 k.2 c b)
 
     -- and the other way
-    pub aliases_back : (c : Cause) → trees.BreaksAliases m inside c → links.BreaksAliases (kept m) it c
+    pub aliases_back : (c : Cause) → trees.BreaksAliases m inside c → links.BreaksAliases (kept m) (aliases_by m) it c
+    aliases_back _ (trees.of_targets (unknown_target {alias} there lost)) =
+        links.of_targets (unknown_target (subst (λ xs. Contains xs alias) (sym meets.says.aliases) there) (λ h. lost (target_on alias.target h)))
     aliases_back _ (trees.of_defaults {c} ss are b) =
         let k = standing_alike (StandsIn m inside) (Stands (kept m) it) stands_back stands_on are (kept m) (sym meets.says.kept) in
         links.of_defaults k.0 k.1 (defaults_alike ss k.0 k.2 c b)
 
     -- so is what is broken of the last groups
-    pub links_on : (lists : Bool) (g : Group) (c : Cause) → links_by (kept m) it lists g c → links_in m inside lists g c
+    pub links_on : (lists : Bool) (g : Group) (c : Cause) → links_by (said m) it lists g c → links_in m inside lists g c
     links_on lists OfHeaders c b = b
     links_on lists OfNames c b = b
     links_on lists OfExpressions c b = b
@@ -385,7 +422,7 @@ module _ (given : Given) (asts : AstKey → Option Ast) (loaded : List Text) (bu
           dependencies_alike (kept_in m) (kept m) (sym meets.says.kept) (LeadsSomewhere m inside) (Leads (kept m) it) (StandsIn m inside) (Stands (kept m) it) (TakesIn lists m inside) (Takes lists (kept m) it) leads_on stands_back (takes_back lists) lists
 
       -- so is what is broken of the last groups
-      pub links_back : (lists : Bool) (g : Group) (c : Cause) → links_in m inside lists g c → links_by (kept m) it lists g c
+      pub links_back : (lists : Bool) (g : Group) (c : Cause) → links_in m inside lists g c → links_by (said m) it lists g c
       links_back lists OfHeaders c b = b
       links_back lists OfNames c b = b
       links_back lists OfExpressions c b = b

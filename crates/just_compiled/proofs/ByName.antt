@@ -101,7 +101,7 @@ module _ (R : Reading) where
     -- the justfiles of a forest have the paths of its headings
     forest_paths : {hs : List Heading} {f : Forest} {js : List Justfile} → AreModules R hs f → AreCompiled given asts loaded built f js → map (λ (j : Justfile). (out-Justfile j).module_path) js ≡ map (λ (h : Heading). h.key.0) hs
     forest_paths no_module none = refl
-    forest_paths (a_module {h = h} {m = m} i inside after) (one made there below is more) =
+    forest_paths (a_module {h = h} {m = m} i inside after) (one made there below is aliased more) =
         λ x. (is.fields.module_path ∙ paths m.heading.key is.own is.own_said ∙ ap (λ (g : Heading). g.key.0) i.heading) x ∷ forest_paths after more x
 
     headed : (subs : List Submodule) → map (λ (h : Heading). h.key.0) (map heading_of subs) ≡ map (λ (s : Submodule). s.key.0) subs

@@ -6,6 +6,7 @@ use Rattle.std.specs.List.{All, Contains}
 use Rattle.std.specs.List.Sorted.{IsStrictlySortedBy}
 use Rattle.std.specs.Ordering.{nat_cmp}
 use Rattle.std.proofs.lemmas.Option.{slice_get_read}
+use Rattle.just_ast_definitions.specs.declared.alias.Alias.{Alias}
 use Rattle.just_names.specs.Name.{text_of_name}
 use Rattle.std.specs.Map.{values_of}
 use Rattle.std.proofs.lemmas.List.{get_or_default, length-map}
@@ -19,7 +20,7 @@ use Rattle.just_parts.specs.Items.{Ast}
 use Rattle.just_recipe.specs.declared.dependency.UnresolvedDependency.{UnresolvedDependency}
 use Rattle.just_names.specs.declared.number.Number.{Number}
 use Rattle.just_recipe.specs.declared.recipe.Recipe.{Recipe}
-use Rattle.just_invoke.specs.Closed.{AreClosed, HasRecipe, IsClosed, StandsIn, all_closed, inside as stands_inside, itself, path_on, recipe_of_key, recipe_of_number}
+use Rattle.just_invoke.specs.Closed.{AreClosed, HasRecipe, IsClosed, StandsIn, all_closed, inside as stands_inside, itself, path_on, recipe_of_alias, recipe_of_key, recipe_of_number}
 use Rattle.just_recipe.specs.Recipes.{IsResolved, find_number}
 use Rattle.just_invoke.specs.Module.{module_name}
 use Rattle.just_invoke.specs.declared.justfile.Justfile.{Justfile, out-Justfile}
@@ -29,7 +30,7 @@ use Rattle.just_compiled.specs.Variables.{HasTables}
 use Rattle.just_compiled.specs.Labelled.{by_name, held_by_name}
 use Rattle.just_compiled.specs.Justfiles.{AreCompiled, Built, Made, IsCompiled, kept_by, none, one, recipes_of_all}
 use Rattle.just_module_headers.specs.Reading.{Reading}
-use Rattle.just_module_tree.specs.Modules.{AreModules, Forest, Heading, Module, a_module, no_module, path_of}
+use Rattle.just_module_tree.specs.Modules.{AreModules, Forest, Heading, Module, a_module, after_it, first, in_it, no_module, path_of}
 use Rattle.just_graph.proofs.Index.{some_same}
 use Rattle.std.specs.Option.{option_map}
 use Rattle.just_module_recipes.proofs.Later.{marked_or_none}
@@ -38,6 +39,8 @@ use Rattle.just_module_contents.proofs.RecipePlaces.{number_read, recipe_read}
 use Rattle.just_module_tree.specs.Standing.{StandsIn as Stands}
 use Rattle.just_compiled.proofs.StandingRecipes.{from_standing}
 use Rattle.just_module_contents.specs.Resolved.{number_at, path_to, unresolved_numbers}
+use Rattle.just_compiled.proofs.Agreeing.{SayAll, Shows}
+use Rattle.just_compiled.proofs.Aliasing.{alias_held, alias_path}
 use Rattle.just_compiled.proofs.ByName.{names_sorted, paths_inside}
 use Rattle.just_compiled.proofs.Placing.{inner_names}
 use Rattle.just_compiled.proofs.RecipeKeys.{key_found}
@@ -118,7 +121,7 @@ module _ (R : Reading) (given : Given) (asts : AstKey → Option Ast) (paths : (
         subst (λ o. IsSome o) (sym (ap (find_number recipes) (number_read is.standing place r read) ∙ x.1)) refl
 
     path_same : (out-Justfile j).module_path ≡ path_of m
-    path_same = is.fields.module_path ∙ paths m.heading.key is.own is.own_said
+    path_same = is.path
 
     key_held : (name : Text) (o : Option RecipeKey) → find name (out-Justfile j).recipes ≡ o → IsSome o → HasRecipe j recipes name
     key_held name None f some = cc
@@ -150,34 +153,42 @@ module _ (R : Reading) (given : Given) (asts : AstKey → Option Ast) (paths : (
       | inr unmarked ↦ own_held o (d.unmarked unmarked) some
     ]
 
-    module_closed : IsClosed j recipes
-    module_closed = record {
+    alias_known : (shows : Shows given asts loaded built m below j) (name : Text) (o : Option (Alias Number)) → find name (out-Justfile j).aliases.recipes ≡ o → IsSome o → IsSome (recipe_of_alias recipes o)
+    alias_known shows name None f some = some
+    alias_known shows name (Some alias) f some =
+        let x = alias_held given asts loaded built m below j shows name alias f in
+        subst (λ o. IsSome o) (sym (ap (λ qs. find_number qs alias.target.0) all ∙ x.1)) refl
+
+    module_closed : Shows given asts loaded built m below j → IsClosed j recipes
+    module_closed shows = record {
       named = λ name some. key_held name (find name (out-Justfile j).recipes) refl some;
       default = default_held (out-Justfile j).default is.default;
+      aliases = λ name some. alias_known shows name (find name (out-Justfile j).aliases.recipes) refl some;
+      modules = alias_path given asts loaded built m below j shows;
       resolved = resolved;
     }
 
   -- the modules of a forest, with those in them
-  pub forest_closed : {hs : List Heading} {f : Forest} {js : List Justfile} → AreModules R hs f → AreCompiled given asts loaded built f js → (j : Justfile) → In j js → AreClosed recipes j
-  forest_closed no_module none j h = absurd h
-  forest_closed (a_module {h = heading} {m = m} i inside more) (one {inner = inner} {j = top} made there below is after) j (inl e) =
+  pub forest_closed : {hs : List Heading} {f : Forest} {js : List Justfile} → AreModules R hs f → AreCompiled given asts loaded built f js → SayAll given asts f → (j : Justfile) → In j js → AreClosed recipes j
+  forest_closed no_module none says j h = absurd h
+  forest_closed (a_module {h = heading} {m = m} i inside more) (one {inside = forest} {inner = inner} {j = top} made there below is aliased after) says j (inl e) =
       let named : (k : Justfile) → Contains (out-Justfile top).modules k → In k inner = λ k c. named_in inner k (subst (In k) is.modules (is_in k _ c)) in
       let path = is.fields.module_path ∙ paths m.heading.key is.own is.own_said ∙ ap (λ (g : Heading). g.key.0) i.heading in
-      subst (AreClosed recipes) (sym e) (all_closed (module_closed is)
+      subst (AreClosed recipes) (sym e) (all_closed (module_closed is (record { made = made; inner = inner; compiled = below; is = is; says = says m forest first; inner_says = λ n under has. says n under (in_it has) }))
       (record {
         names = subst (λ ms. IsStrictlySortedBy (slice_cmp nat_cmp) (map module_name ms)) (sym is.modules) (names_sorted inner);
         paths = λ k c. paths_inside R given asts paths loaded built heading m i inner inside below (inner_names _ m.modules inner is.evaluated.documented) k (named k c) ∙ ap (λ p. path_on p (module_name k)) (sym path);
       })
-      (λ k c. forest_closed inside below k (named k c)))
-  forest_closed (a_module i inside more) (one made there below is after) j (inr h) = forest_closed more after j h
+      (λ k c. forest_closed inside below (λ n under has. says n under (in_it has)) k (named k c)))
+  forest_closed (a_module i inside more) (one made there below is aliased after) says j (inr h) = forest_closed more after (λ n under has. says n under (after_it has)) j h
 
   -- and so it is of their tables
   pub forest_tables : {f : Forest} {js : List Justfile} → AreCompiled given asts loaded built f js → (j : Justfile) → In j js → (k : Justfile) → StandsIn j k → HasTables k
   forest_tables none j h k s = absurd h
-  forest_tables (one made there below is after) j (inl e) k s = elim (stands_cases s) [
+  forest_tables (one made there below is aliased after) j (inl e) k s = elim (stands_cases s) [
     | inl same ↦ subst HasTables (sym e ∙ same) is.tables
     | inr deeper ↦
         forest_tables below deeper.0
         (named_in _ deeper.0 (subst (In deeper.0) is.modules (is_in deeper.0 _ (subst (λ (x : Justfile). Contains (out-Justfile x).modules deeper.0) e deeper.1)))) k deeper.2
   ]
-  forest_tables (one made there below is after) j (inr h) k s = forest_tables after j h k s
+  forest_tables (one made there below is aliased after) j (inr h) k s = forest_tables after j h k s

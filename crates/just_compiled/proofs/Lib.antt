@@ -1,9 +1,12 @@
 pub mod Agreeing
+pub mod AliasTargets
+pub mod Aliasing
 pub mod Bridges
 pub mod ByName
 pub mod Closing
 pub mod Linking
 pub mod Makings
+pub mod Meanings
 pub mod NamedModules
 pub mod NumbersApart
 pub mod OwnNumbers

@@ -71,6 +71,7 @@ module _ (given : Given) (asts : AstKey → Option Ast) (loaded : List Text) (bu
     own_said = is.own_said;
     own_there = is.own_there;
     name = is.name;
+    path = is.path;
     linked = subst (λ all. AreLinked (StandsIn m inside) (HasNumberIn given asts m inside) (out-Justfile j).settings.lists all (kept_by given asts m) (path_of m) made.recipes) (sym recipes_more)
         (linked_same (StandsIn m inside) (StandsIn m inside) (λ name s. s) (λ name s. s) (HasNumberIn given asts m inside) (HasNumberIn given asts m inside) (λ path n h. h) (out-Justfile j).settings.lists (recipes_of_all built) (recipes_of_all more) (kept_by given asts m) (path_of m) made.recipes is.linked);
     standing = is.standing;
@@ -89,8 +90,8 @@ module _ (given : Given) (asts : AstKey → Option Ast) (loaded : List Text) (bu
   -- what is compiled stays so when more is built
   pub compiled_later : {f : Forest} {js : List Justfile} → AreCompiled given asts loaded built f js → AreCompiled given asts loaded (built ++ more) f js
   compiled_later none = none
-  compiled_later (one {m} {inside} {after} {inner} {js} {j} made there below is rest) =
-      one made (contained (m.heading.key, made) (built ++ more) (in_left (m.heading.key, made) built more (is_in (m.heading.key, made) built there))) (compiled_later below) (is_later m inside inner made j is) (compiled_later rest)
+  compiled_later (one {m} {inside} {after} {inner} {js} {j} made there below is aliased rest) =
+      one made (contained (m.heading.key, made) (built ++ more) (in_left (m.heading.key, made) built more (is_in (m.heading.key, made) built there))) (compiled_later below) (is_later m inside inner made j is) aliased (compiled_later rest)
 
 -- What a module's recipes are linked to, of all recipes, as the tree has it.
 pub record HasLinksIn (given : Given) (asts : AstKey → Option Ast) (all : List (Recipe Dependency)) (m : Module) (inside : Forest) (path : Modulepath) (added : List (Recipe Dependency)) (standing : List (Recipe UnresolvedDependency)) (j : Justfile) : Type 0 where

@@ -7,14 +7,16 @@ use Rattle.just_invoke.specs.declared.justfile.Justfile.{Justfile, out-Justfile}
 use Rattle.just_invoke.specs.declared.justfile.RecipeKey.{RecipeKey}
 use Rattle.just_compiled.specs.Analysis.{IsOf, recipe_table}
 use Rattle.just_module_contents.specs.Contents.{Contents}
+use Rattle.just_module_recipes.specs.Aliased.{aliases_of, targets_of}
 
 -- a justfile, by its parts
 pub is_of : (m : Contents) (standing : List (Recipe UnresolvedDependency)) (ast : Ast) (loaded : List (List ℕ)) (source : List ℕ) (j : Justfile)
-    → (keys : List (List ℕ × RecipeKey)) → (out-Justfile j).recipes ≡ keys → keys ≡ recipe_table standing
+    → (keys : List (List ℕ × RecipeKey)) → (out-Justfile j).recipes ≡ keys → keys ≡ recipe_table standing → (out-Justfile j).aliases ≡ aliases_of (targets_of j) m.aliases
     → (out-Justfile j).unexports ≡ m.unexports → (out-Justfile j).loaded ≡ loaded → (out-Justfile j).source ≡ source → (out-Justfile j).module_path ≡ ast.module_path
     → (out-Justfile j).working_directory ≡ ast.working_directory → IsOf m standing ast loaded source j
-is_of m standing ast loaded source j keys keys_are all unexports loaded_is source_is path folder = record {
+is_of m standing ast loaded source j keys keys_are all aliases unexports loaded_is source_is path folder = record {
   recipes_are = keys_are ∙ all;
+  aliases_are = aliases;
   unexports_are = unexports;
   loaded_is = loaded_is;
   source_is = source_is;

@@ -103,13 +103,13 @@ module _ (given : Given) (asts : AstKey → Option Ast) (can : AreAnalyzable giv
     forest_said : {hs : List Heading} {f : Forest} {js : List Justfile} → AreModules R hs f → AreCompiled given asts loaded built f js → (root : Justfile) → In root js → (j : Justfile) → StandsIn root j
         → (x : Text) (a : Assignment) → find x (out-Justfile j).assignments ≡ Some a → IsSaid j x a
     forest_said no_module none root h j s x a found = absurd h
-    forest_said (a_module i inside more) (one {inner = inner} {j = top} made there below is after) root (inl e) j s x a found = elim (stands_cases s) [
+    forest_said (a_module i inside more) (one {inner = inner} {j = top} made there below is aliased after) root (inl e) j s x a found = elim (stands_cases s) [
       | inl same ↦ (let it : top ≡ j = sym e ∙ same in subst (λ (k : Justfile). IsSaid k x a) it (module_said i is x a (subst (λ (k : Justfile). find x (out-Justfile k).assignments ≡ Some a) (sym it) found)))
       | inr deeper ↦
           (let c : Contains (out-Justfile top).modules deeper.0 = subst (λ (k : Justfile). Contains (out-Justfile k).modules deeper.0) e deeper.1 in
           forest_said inside below deeper.0 (named_in inner deeper.0 (subst (In deeper.0) is.modules (is_in deeper.0 (out-Justfile top).modules c))) j deeper.2 x a found)
     ]
-    forest_said (a_module i inside more) (one made there below is after) root (inr h) j s x a found = forest_said more after root h j s x a found
+    forest_said (a_module i inside more) (one made there below is aliased after) root (inr h) j s x a found = forest_said more after root h j s x a found
 
     -- no two variables of modules that stand in what is compiled have one number
     pub own_numbers : {hs : List Heading} {f : Forest} {js : List Justfile} → AreModules R hs f → AreCompiled given asts loaded built f js → (root : Justfile) → In root js → HaveOwnNumbers root

@@ -126,17 +126,17 @@ module _ (given : Given) (asts : AstKey → Option Ast) (paths : (k : AstKey) (a
 
   pub standing : {f : Forest} {js : List Justfile} → AreCompiled given asts loaded built f js → {m : Module} {below : Forest} → HasModule f m below → Standing js m
   standing none has = absurd (nobody has refl)
-  standing (one {m = x} {j = j} made there inner is after) first = record {
+  standing (one {m = x} {j = j} made there inner is aliased after) first = record {
     top = j;
     among = inl refl;
     it = j;
     stands = itself;
     path = is.fields.module_path ∙ paths x.heading.key is.own is.own_said;
   }
-  standing (one {m = x} {inner = inner} {j = j} made there below is after) (in_it has) =
+  standing (one {m = x} {inner = inner} {j = j} made there below is aliased after) (in_it has) =
       let s = standing below has in
       let there : In s.top (out-Justfile j).modules = subst (In s.top) (sym is.modules) (each_named inner is.different s.top s.among) in
       record { top = j; among = inl refl; it = s.it; stands = inside (contained s.top (out-Justfile j).modules there) s.stands; path = s.path }
-  standing (one made there below is after) (after_it has) =
+  standing (one made there below is aliased after) (after_it has) =
       let s = standing after has in
       record { top = s.top; among = inr s.among; it = s.it; stands = s.stands; path = s.path }

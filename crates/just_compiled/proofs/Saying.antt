@@ -5,13 +5,14 @@ use Rattle.std.specs.Option.{option_map}
 use Rattle.std.proofs.lemmas.Grind.{flat_map-append}
 use Rattle.std.proofs.lemmas.List.{map-append, map-id}
 use Rattle.just_ast_items.specs.declared.item.Item.TheVariants as item
+use Rattle.just_module_contents.specs.Named.{alias_by}
 use Rattle.just_module_contents.specs.Notes.{absent_by}
 use Rattle.just_module_contents.specs.Recipes.{recipes_of, recipes_said}
 use Rattle.just_module_contents.specs.Said.{said_in}
 use Rattle.just_module_headers.proofs.Alike.{AreAlike, kept_alike_recipes, outline_of, outlines_of}
 use Rattle.just_module_headers.specs.Reading.{Reading, enabled_items, items_in, located_ast, reading_of}
 use Rattle.just_module_tree.proofs.ModulePlaces.{nobody}
-use Rattle.just_module_tree.proofs.Ready.{recipes_counted, said_append, said_counted}
+use Rattle.just_module_tree.proofs.Ready.{alias_located, recipes_counted, said_append, said_counted}
 use Rattle.just_module_tree.specs.Modules.{AreModules, Forest, HasModule, Heading, IsModule, Module, a_module, after_it, contents_of, first, in_it, items_of, no_module}
 use Rattle.just_module_tree.specs.Standing.{absent_in, kept_in}
 use Rattle.just_parts.specs.Asts.{AstKey}
@@ -20,10 +21,11 @@ use Rattle.just_parts.specs.Layers.{Given}
 use Rattle.just_parts.specs.Located.{located_item}
 use Rattle.just_compiled.specs.Justfiles.{kept_by, recipes_in}
 
--- The recipes of a module that are kept are alike those that its files keep, and its absent modules are those of its files.
+-- The recipes of a module that are kept are alike those that its files keep, and its absent modules and its aliases are those of its files.
 pub record Says (given : Given) (asts : AstKey → Option Ast) (m : Module) : Type 0 where
   pub kept : AreAlike (kept_by given asts m) (kept_in m)
   pub absent : flat_map (λ k. said_in absent_by given.syntax.enabled (asts k)) m.files ≡ absent_in m
+  pub aliases : flat_map (λ k. said_in alias_by given.syntax.enabled (asts k)) m.files ≡ (contents_of m).aliases
 
 absent_located : (i : Item) → absent_by (located_item i) ≡ absent_by i
 absent_located (item.Module name relative None attributes doc true) = refl
@@ -38,21 +40,23 @@ module _ (given : Given) (asts : AstKey → Option Ast) where
   abbrev R : Reading
   R = reading_of enabled asts
 
-  absent_here : (o : Option Ast) (a : Ast) → Some a ≡ option_map (located_ast enabled) o → said_in absent_by enabled o ≡ flat_map absent_by a.items
-  absent_here None a e = cc
-  absent_here (Some ast) a e =
-      let items : a.items ≡ map located_item (enabled_items enabled ast.items) = let same : a ≡ located_ast enabled ast = cc in ap (λ (x : Ast). x.items) same in
-      sym (map-id (said_in absent_by enabled (Some ast))) ∙ sym (said_counted absent_by (λ t. t) (λ i. ap (map (λ t. t)) (absent_located i)) enabled ast.items)
-      ∙ map-id (flat_map absent_by (map located_item (enabled_items enabled ast.items))) ∙ ap (flat_map absent_by) (sym items)
+  -- what files say item by item, where their locations do not matter to it
+  module _ {A : Type 0} (by : Item → List A) (same : (i : Item) → by (located_item i) ≡ by i) where
+    said_here : (o : Option Ast) (a : Ast) → Some a ≡ option_map (located_ast enabled) o → said_in by enabled o ≡ flat_map by a.items
+    said_here None a e = cc
+    said_here (Some ast) a e =
+        let items : a.items ≡ map located_item (enabled_items enabled ast.items) = let same : a ≡ located_ast enabled ast = cc in ap (λ (x : Ast). x.items) same in
+        sym (map-id (said_in by enabled (Some ast))) ∙ sym (said_counted by (λ t. t) (λ i. ap (map (λ t. t)) (same i)) enabled ast.items)
+        ∙ map-id (flat_map by (map located_item (enabled_items enabled ast.items))) ∙ ap (flat_map by) (sym items)
 
-  absent_said : (ks : List AstKey) (said : List Ast) → map Some said ≡ map R ks → flat_map (λ k. said_in absent_by enabled (asts k)) ks ≡ flat_map absent_by (items_of said)
-  absent_said [] [] e = refl
-  absent_said [] (a ∷ said) e = cc
-  absent_said (k ∷ ks) [] e = cc
-  absent_said (k ∷ ks) (a ∷ said) e =
-      let head : Some a ≡ option_map (located_ast enabled) (asts k) = cc in
-      let rest : map Some said ≡ map R ks = cc in
-      (λ i. absent_here (asts k) a head i ++ absent_said ks said rest i) ∙ sym (flat_map-append absent_by a.items (items_of said))
+    all_said : (ks : List AstKey) (said : List Ast) → map Some said ≡ map R ks → flat_map (λ k. said_in by enabled (asts k)) ks ≡ flat_map by (items_of said)
+    all_said [] [] e = refl
+    all_said [] (a ∷ said) e = cc
+    all_said (k ∷ ks) [] e = cc
+    all_said (k ∷ ks) (a ∷ said) e =
+        let head : Some a ≡ option_map (located_ast enabled) (asts k) = cc in
+        let rest : map Some said ≡ map R ks = cc in
+        (λ i. said_here (asts k) a head i ++ all_said ks said rest i) ∙ sym (flat_map-append by a.items (items_of said))
 
   recipes_here : (o : Option Ast) (a : Ast) → Some a ≡ option_map (located_ast enabled) o → AreAlike (recipes_of enabled (items_in o)) (recipes_said a.items)
   recipes_here None a e = cc
@@ -75,7 +79,8 @@ module _ (given : Given) (asts : AstKey → Option Ast) where
   pub module_says : (h : Heading) (m : Module) → IsModule R h m → Says given asts m
   module_says h m is = record {
     kept = kept_alike_recipes (recipes_in enabled asts m.files) (contents_of m).recipes (recipes_all m.files m.asts is.asts);
-    absent = absent_said m.files m.asts is.asts;
+    absent = all_said absent_by absent_located m.files m.asts is.asts;
+    aliases = all_said alias_by alias_located m.files m.asts is.asts;
   }
 
   -- so does each of a forest

@@ -4,12 +4,12 @@ use Rattle.std.specs.BTreeSet.{BTreeSet}
 use Rattle.std.specs.List.{Contains}
 use Rattle.std.specs.Option.{option_map, option_or}
 use Rattle.std.proofs.lemmas.List.Folds.{find-append}
-use Rattle.just_compiled.specs.Analysis.{HasLinks, key_of, recipe_table}
+use Rattle.just_compiled.specs.Analysis.{HasLinks, recipe_table}
 use Rattle.just_compiled.specs.Labelled.{by_name, labelled_as, with_labels}
 use Rattle.just_compiled.specs.Settled.{IsSettled, settled}
 use Rattle.just_compiled.proofs.Closing.{named_in}
 use Rattle.just_compiled.proofs.RecipeKeys.{found_among, key_found}
-use Rattle.just_graph.proofs.Members.{In, contained, is_in}
+use Rattle.just_graph.proofs.Members.{In, is_in}
 use Rattle.just_invoke.specs.Walks.{Absent, End, Here, Inside, Nowhere, beyond, end_of, module_named, only, path_along, recipe_at as key_at, recipe_by}
 use Rattle.just_invoke.specs.declared.disabled.Disabled.{Disabled}
 use Rattle.just_invoke.specs.declared.justfile.Justfile.{Justfile, out-Justfile, out-roll-Justfile}
@@ -22,7 +22,7 @@ use Rattle.just_module_contents.specs.Recipes.{name_of, recipe_at}
 use Rattle.just_module_contents.specs.Resolved.{number_at}
 use Rattle.just_module_contents.specs.Standing.{AreStanding, falls, none, stands}
 use Rattle.just_module_recipes.specs.Linked.{AreDisabled, AreSettled, disabled_table, falls as fallen, name_of_disabled, none as none_disabled, stands as not_disabled}
-use Rattle.just_module_recipes.specs.Links.{Stands, around, around_of, found_by}
+use Rattle.just_module_recipes.specs.Links.{Stands, around, around_of}
 use Rattle.just_names.specs.Name.{text_of_name}
 use Rattle.just_names.specs.Texts.{Text}
 use Rattle.just_names.specs.declared.name.Namepath.{Namepath}

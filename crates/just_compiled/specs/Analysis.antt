@@ -12,6 +12,7 @@ use Rattle.just_compiled.specs.Labelled.{label_in}
 use Rattle.just_module_contents.specs.Contents.{Contents}
 use Rattle.just_paths.specs.declared.modulepath.Modulepath.{Modulepath}
 use Rattle.just_module_contents.specs.Standing.{AreStanding}
+use Rattle.just_module_recipes.specs.Aliased.{aliases_of, targets_of}
 use Rattle.just_module_recipes.specs.Linked.{AreLinked, HasDisabled, HasNumber}
 use Rattle.just_module_recipes.specs.Links.{Disables, Stands, around_of}
 use Rattle.just_recipe.specs.declared.dependency.Dependency.{Dependency}
@@ -42,9 +43,10 @@ pub record HasLinks (recipes : List (Recipe UnresolvedDependency)) (before : Lis
 abbrev pub HasNoLabel : Justfile → Type 0
 HasNoLabel j = label_in j ≡ record { name = None; doc = None; doc_expression = None; groups = []; private = false }
 
--- A module has the table of its recipes that stand, the names that it unexports, the paths that it was given, and what its own file says.
+-- A module has the table of its recipes that stand, its aliases, by what it has, the names that it unexports, the paths that it was given, and what its own file says.
 pub record IsOf (m : Contents) (standing : List (Recipe UnresolvedDependency)) (ast : Ast) (loaded : List Text) (source : Text) (justfile : Justfile) : Type 0 where
   pub recipes_are : (out-Justfile justfile).recipes ≡ recipe_table standing
+  pub aliases_are : (out-Justfile justfile).aliases ≡ aliases_of (targets_of justfile) m.aliases
   pub unexports_are : (out-Justfile justfile).unexports ≡ m.unexports
   pub loaded_is : (out-Justfile justfile).loaded ≡ loaded
   pub source_is : (out-Justfile justfile).source ≡ source

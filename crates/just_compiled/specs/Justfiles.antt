@@ -1,5 +1,5 @@
 -- What modules are compiled to.
-use Rattle.std.specs.Prelude.{◌≡◌, ℕ, ◌<◌, Bool, List, [], ◌∷◌, map, flat_map, length, Option, Some}
+use Rattle.std.specs.Prelude.{◌≡◌, ◌≢◌, ◌↔◌, ℕ, ◌<◌, Bool, List, [], ◌∷◌, map, flat_map, length, Option, Some}
 use Rattle.just_parts.specs.Asts.{AstKey}
 use Rattle.just_names.specs.Texts.{Text}
 use Rattle.just_names.specs.declared.number.Number.{Number}
@@ -8,7 +8,15 @@ use Rattle.just_parts.specs.Items.{Ast, Item}
 use Rattle.just_parts.specs.Layers.{Given, layers_at}
 use Rattle.just_recipe.specs.declared.dependency.UnresolvedDependency.{UnresolvedDependency}
 use Rattle.just_recipe.specs.declared.recipe.Recipe.{Recipe}
+use Rattle.std.specs.BTreeSet.{BTreeSet}
 use Rattle.std.specs.List.{Contains}
+use Rattle.just_ast_definitions.specs.declared.alias.Alias.{Alias}
+use Rattle.just_invoke.specs.Walks.{only, path_along}
+use Rattle.just_invoke.specs.declared.aliases.Aliases.{Aliases}
+use Rattle.just_module_recipes.specs.Aliased.{no_aliases, with_meaning}
+use Rattle.just_module_recipes.specs.declared.aliases.Meaning.{Meaning}
+use Rattle.just_module_recipes.specs.declared.aliases.Meaning.TheVariants as meaning
+use Rattle.just_paths.specs.declared.modulepath.Modulepath.{Modulepath}
 use Rattle.just_invoke.specs.declared.justfile.Justfile.{Justfile, out-Justfile}
 use Rattle.just_compiled.specs.Analysis.{HasDefault, IsOf}
 use Rattle.just_compiled.specs.Labelled.{by_name, label_in, notes_in}
@@ -16,7 +24,7 @@ use Rattle.just_compiled.specs.Evaluated.{IsEvaluatedTo}
 use Rattle.just_module_contents.specs.Labels.{doc_by}
 use Rattle.just_module_contents.specs.Notes.{absent_by, features_by, notes_of, warnings_by}
 use Rattle.just_module_contents.specs.declared.notes.Notes.{Notes}
-use Rattle.just_module_tree.specs.Modules.{Module, Forest, Empty, Tree, path_of}
+use Rattle.just_module_tree.specs.Modules.{Module, Forest, Empty, Tree, contents_of, path_of}
 use Rattle.just_compiled.specs.Variables.{HasTables, HasVariables}
 use Rattle.just_module_contents.specs.Contents.{Contents}
 use Rattle.just_module_contents.specs.Kept.{kept_recipes}
@@ -27,9 +35,9 @@ use Rattle.just_module_headers.specs.Reading.{Submodule, items_in}
 use Rattle.just_module_contents.specs.Standing.{AreStanding}
 use Rattle.just_invoke.specs.Module.{module_name}
 use Rattle.just_module_recipes.specs.Linked.{AreLinked, HasDisabled}
-use Rattle.just_module_tree.specs.Standing.{DisabledBy, In, StandsIn, leads, name_in}
+use Rattle.just_module_tree.specs.Standing.{DisabledBy, In, Missing, Nowhere, StandsIn, follow, leads, name_in}
 use Rattle.just_names.specs.Index.{AreDifferent}
-use Rattle.just_names.specs.Name.{text_of_name}
+use Rattle.just_names.specs.Name.{text_of_name, texts_of_path}
 use Rattle.just_names.specs.declared.name.Namepath.{Namepath}
 
 -- the recipes that files say, file after file
@@ -86,12 +94,30 @@ pub record HasNumberIn (given : Given) (asts : AstKey → Option Ast) (m : Modul
   pub named : name_of (recipe_at (kept_by given asts to) place) ≡ text_of_name path.last
   pub number_is : (recipe_at (kept_by given asts to) place).number ≡ number
 
+-- What a path means from a module as the target of an alias: the module to which it leads; what is disabled where it leads to or through one without a file; or where it leads to no module the kept recipe to which it leads, by its number where that stands, and else with exactly the paths that disable it.
+pub data MeansIn (given : Given) (asts : AstKey → Option Ast) (m : Module) (inside : Forest) (path : Namepath) : Meaning → Type 0 where
+  a_module : (n : Module) (below : Forest) → follow (texts_of_path path) m inside ≡ In n below → MeansIn given asts m inside path (meaning.Module (path_of n))
+  missing : (names : List Text) → follow (texts_of_path path) m inside ≡ Missing names → MeansIn given asts m inside path (meaning.Disabled (only (path_along names)))
+  a_recipe : {number : Number} (h : HasNumberIn given asts m inside path number) → follow (texts_of_path path) m inside ≡ Nowhere → StandsIn h.to h.below (text_of_name path.last) → MeansIn given asts m inside path (meaning.Recipe number)
+  a_disabled : {set : BTreeSet Modulepath} (n : Module) (below : Forest) → follow (texts_of_path path) m inside ≡ Nowhere → leads m inside path ≡ In n below → set.keys ≢ []
+      → ((by : Modulepath) → Contains set.keys by ↔ DisabledBy n below (text_of_name path.last) by) → MeansIn given asts m inside path (meaning.Disabled set)
+
+-- Tables with aliases behind those before, each in the table of its meaning under its name.
+pub data AddAliases (Means : Namepath → Meaning → Type 0) : Aliases → List (Alias Namepath) → Aliases → Type 0 where
+  no_more : {tables : Aliases} → AddAliases Means tables [] tables
+  one_more : {before after : Aliases} {alias : Alias Namepath} {aliases : List (Alias Namepath)} {it : Meaning} → Means alias.target it → AddAliases Means (with_meaning before alias it) aliases after → AddAliases Means before (alias ∷ aliases) after
+
+-- the tables of aliases and of nothing else
+abbrev pub AreAliased : (Namepath → Meaning → Type 0) → List (Alias Namepath) → Aliases → Type 0
+AreAliased Means = AddAliases Means no_aliases
+
 -- What a module is compiled to, of all recipes: its recipes that nothing disables, linked, and after those that they depend on, the others with what disables them, what is evaluated of it, and its justfile, with the modules in it, which have the labels of their declarations.
 pub record IsCompiled (given : Given) (asts : AstKey → Option Ast) (loaded : List Text) (all : List (Recipe Dependency)) (m : Module) (inside : Forest) (inner : List Justfile) (made : Made) (j : Justfile) : Type 0 where
   pub own : Ast
   pub own_said : asts m.heading.key ≡ Some own
   pub own_there : Contains m.files m.heading.key
   pub name : module_name j ≡ name_in m
+  pub path : (out-Justfile j).module_path ≡ path_of m
   pub linked : AreLinked (StandsIn m inside) (HasNumberIn given asts m inside) (out-Justfile j).settings.lists all (kept_by given asts m) (path_of m) made.recipes
   pub standing : List (Recipe UnresolvedDependency)
   pub stand : AreStanding (StandsIn m inside) (kept_by given asts m) standing
@@ -105,8 +131,8 @@ pub record IsCompiled (given : Given) (asts : AstKey → Option Ast) (loaded : L
   pub modules : (out-Justfile j).modules ≡ by_name inner
   pub different : AreDifferent (map module_name inner)
 
--- The modules of a forest are compiled to justfiles, one by one.
+-- The modules of a forest are compiled to justfiles, one by one, each with its aliases.
 pub data AreCompiled (given : Given) (asts : AstKey → Option Ast) (loaded : List Text) (built : List Built) : Forest → List Justfile → Type 0 where
   none : AreCompiled given asts loaded built Empty []
   one : {m : Module} {inside after : Forest} {inner js : List Justfile} {j : Justfile} (made : Made) → Contains built (m.heading.key, made) → AreCompiled given asts loaded built inside inner
-      → IsCompiled given asts loaded (recipes_of_all built) m inside inner made j → AreCompiled given asts loaded built after js → AreCompiled given asts loaded built (Tree m inside after) (j ∷ js)
+      → IsCompiled given asts loaded (recipes_of_all built) m inside inner made j → AreAliased (MeansIn given asts m inside) (contents_of m).aliases (out-Justfile j).aliases → AreCompiled given asts loaded built after js → AreCompiled given asts loaded built (Tree m inside after) (j ∷ js)

@@ -1,6 +1,6 @@
 -- Where walks end, and what is found there.
-use Rattle.std.proofs.Common.{◌≡◌, ℕ, Bool, true, false, cond, List, [], ◌∷◌, map, is_some, if◌then◌else◌, IsSome, Option, Some, None, refl, sym, ◌∙◌, ap, subst, inl, inr}
-use Rattle.std.specs.List.{Contains, find as first_of}
+use Rattle.std.proofs.Common.{◌≡◌, Bool, true, false, cond, List, [], ◌∷◌, map, is_some, if◌then◌else◌, IsSome, Option, Some, None, refl, sym, ◌∙◌, ap, subst}
+use Rattle.std.specs.List.{Contains}
 use Rattle.std.specs.Option.{option_map}
 use Rattle.std.specs.Str.{bytes_eq}
 use Rattle.just_names.specs.Name.{text_of_name}
@@ -12,7 +12,7 @@ use Rattle.just_recipe.specs.declared.dependency.Dependency.{Dependency}
 use Rattle.just_recipe.specs.declared.recipe.Recipe.{Recipe}
 use Rattle.just_recipe.specs.Recipes.{find_number}
 use Rattle.just_table.specs.Entries.{find}
-use Rattle.just_invoke.specs.Closed.{AreClosed, HasRecipe, StandsIn, inner_closed, inside, is_closed, itself, recipe_of_key}
+use Rattle.just_invoke.specs.Closed.{AreClosed, StandsIn, inner_closed, inside, is_closed, itself, recipe_of_key}
 use Rattle.just_invoke.specs.Module.{module_name}
 use Rattle.just_invoke.specs.declared.disabled.Disabled.{Disabled}
 use Rattle.just_invoke.specs.declared.justfile.Justfile.{Justfile, out-Justfile}

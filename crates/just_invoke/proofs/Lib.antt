@@ -7,6 +7,7 @@ pub mod Namings
 pub mod Outcomes
 pub mod Resolving
 pub mod Scoping
+pub mod Returning
 pub mod SplitLemmas
 pub mod TailLemmas
 pub mod Unique

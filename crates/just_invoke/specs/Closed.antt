@@ -4,6 +4,7 @@ use Rattle.std.specs.Cmp.Lexicographic.{slice_cmp}
 use Rattle.std.specs.List.{All, Contains}
 use Rattle.std.specs.List.Sorted.{IsStrictlySortedBy}
 use Rattle.std.specs.Ordering.{nat_cmp}
+use Rattle.just_ast_definitions.specs.declared.alias.Alias.{Alias}
 use Rattle.just_table.specs.Entries.{find}
 use Rattle.just_names.specs.Texts.{Text}
 use Rattle.just_names.specs.Token.{lexeme}
@@ -28,6 +29,22 @@ recipe_of_key recipes (Some key) = find_number recipes key.number.0
 abbrev pub recipe_named : Justfile → List (Recipe Dependency) → List ℕ → Option (Recipe Dependency)
 recipe_named justfile recipes name = recipe_of_key recipes (find name (out-Justfile justfile).recipes)
 
+-- the recipe for which an alias of a name stands
+abbrev pub recipe_of_alias : List (Recipe Dependency) → Option (Alias Number) → Option (Recipe Dependency)
+recipe_of_alias recipes None = None
+recipe_of_alias recipes (Some alias) = find_number recipes alias.target.0
+
+abbrev pub recipe_aliased : Justfile → List (Recipe Dependency) → List ℕ → Option (Recipe Dependency)
+recipe_aliased justfile recipes name = recipe_of_alias recipes (find name (out-Justfile justfile).aliases.recipes)
+
+-- the recipe of a name: the module's own, or else that for which an alias stands
+abbrev pub own_or : Option (Recipe Dependency) → Option (Recipe Dependency) → Option (Recipe Dependency)
+own_or None other = other
+own_or (Some recipe) other = Some recipe
+
+abbrev pub recipe_called : Justfile → List (Recipe Dependency) → List ℕ → Option (Recipe Dependency)
+recipe_called justfile recipes name = own_or (recipe_named justfile recipes name) (recipe_aliased justfile recipes name)
+
 abbrev pub recipe_of_number : List (Recipe Dependency) → Option Number → Option (Recipe Dependency)
 recipe_of_number recipes None = None
 recipe_of_number recipes (Some number) = find_number recipes number.0
@@ -50,10 +67,21 @@ pub record IsRecipeOf (justfile : Justfile) (name : Text) (recipe : Recipe Depen
 abbrev pub HasRecipe : Justfile → List (Recipe Dependency) → Text → Type 0
 HasRecipe justfile recipes name = (r : Recipe Dependency) × (recipe_named justfile recipes name ≡ Some r) × IsRecipeOf justfile name r
 
--- Each name in the module's table of recipes leads to a held recipe, which is that of the name in the module, its default is that of a recipe that is held, and the held recipes are resolved.
+-- A module stands in another one: it is that one, or stands in a module of it.
+pub data StandsIn : Justfile → Justfile → Type 0 where
+  itself : {root : Justfile} → StandsIn root root
+  inside : {root inner j : Justfile} → Contains (out-Justfile root).modules inner → StandsIn inner j → StandsIn root j
+
+-- the path is that of a module that stands in one
+abbrev pub IsPathIn : Justfile → Modulepath → Type 0
+IsPathIn justfile path = (inner : Justfile) × StandsIn justfile inner × (path ≡ (out-Justfile inner).module_path)
+
+-- Each name in the module's table of recipes leads to a held recipe, which is that of the name in the module; its default is that of a recipe that is held, and so is what an alias of a recipe stands for; an alias of a module has the path of a module that stands in it; and the held recipes are resolved.
 pub record IsClosed (justfile : Justfile) (recipes : List (Recipe Dependency)) : Type 0 where
   pub named : (name : Text) → IsSome (find name (out-Justfile justfile).recipes) → HasRecipe justfile recipes name
   pub default : IsSome (out-Justfile justfile).default → IsSome (default_recipe justfile recipes)
+  pub aliases : (name : Text) → IsSome (find name (out-Justfile justfile).aliases.recipes) → IsSome (recipe_aliased justfile recipes name)
+  pub modules : (name : Text) (alias : Alias Modulepath) → find name (out-Justfile justfile).aliases.modules ≡ Some alias → IsPathIn justfile alias.target
   pub resolved : All IsResolved recipes
 
 -- The modules in a module: their names rise in byte order, so that each stands once, and the path of each leads from the module's one name on.
@@ -78,11 +106,6 @@ have_names (all_closed closed names below) = names
 pub inner_closed : {recipes : List (Recipe Dependency)} {justfile : Justfile} → AreClosed recipes justfile →
     (inner : Justfile) → Contains (out-Justfile justfile).modules inner → AreClosed recipes inner
 inner_closed (all_closed closed names below) = below
-
--- A module stands in another one: it is that one, or stands in a module of it.
-pub data StandsIn : Justfile → Justfile → Type 0 where
-  itself : {root : Justfile} → StandsIn root root
-  inside : {root inner j : Justfile} → Contains (out-Justfile root).modules inner → StandsIn inner j → StandsIn root j
 
 -- these are the modules that stand in the root
 abbrev pub AreModulesIn : Justfile → List Justfile → Type 0

@@ -163,7 +163,7 @@ fn walk<'run, 'src>(
         let recipe = take_default(root, recipes)?;
         return Ok((recipe, 0));
     };
-    let found = root.recipe(recipes, name);
+    let found = root.own_recipe(recipes, name);
     let recipe = end_head(alloc, found, one, goes_on(one, rest), name)?;
     Ok((recipe, 1))
 }

@@ -1,4 +1,5 @@
 //! Compiled modules, and their run.
+use crate::aliases::{Aliases, RecipeAlias};
 use crate::disabled::Disabled;
 use crate::invocation_parser::InvocationParser;
 use crate::resolution::module_along;
@@ -11,7 +12,7 @@ use just_name_resolution::{Tables, assignment_references};
 use just_parts::Recipe;
 use just_parts::layers::{
     Assignment, Config, Error, Evaluation, FunctionDefinition, Host, Name, Number, Output,
-    RunError, Settings, StringLiteral, Syntax, UnstableFeature, Warning,
+    RunError, Settings, StringLiteral, Syntax, Warning,
 };
 use just_paths::Modulepath;
 use just_table::{Keyed, Table};
@@ -48,6 +49,8 @@ impl<'src> Exact for RecipeKey<'src> {
 pub struct Justfile<'src> {
     /// The names of the optional modules that have no file.
     pub absent_modules: Table<'src, BorrowedText<'src>>,
+    /// Other names for recipes and modules.
+    pub aliases: Aliases<'src>,
     /// The variables of the module, by their names: of several of one name the one that is kept. Each variable in their
     /// values has the number of what it means.
     pub assignments: Table<'src, Assignment<'src>>,
@@ -81,8 +84,8 @@ pub struct Justfile<'src> {
     pub settings: Settings,
     /// The path of the module's own file.
     pub source: Text,
-    /// The features that the module's files use and that are not stable, by their names.
-    pub unstable_features: Table<'src, UnstableFeature<'src>>,
+    /// The names of the features that the module's files use and that are not stable.
+    pub unstable_features: Table<'src, BorrowedText<'src>>,
     /// The names of the variables that recipes do not have in their environment, each once, in the order of the module's
     /// files.
     pub unexports: Sequence<Name<'src>>,
@@ -128,7 +131,9 @@ impl<'src> Justfile<'src> {
 impl<'src> Justfile<'src> {
     ghost use Rattle.std.specs.Prelude.{◌≡◌, IfSome};
     ghost use Rattle.std.specs.Option.{option_copied};
-    ghost use Rattle.just_invoke.specs.Closed.{IsHeld, recipe_named};
+    ghost use Rattle.just_invoke.specs.Closed.{IsHeld, recipe_called, recipe_named};
+    ghost use Rattle.just_invoke.specs.declared.justfile.Justfile.{out-Justfile};
+    ghost use Rattle.just_table.specs.Entries.{find};
     ghost use Rattle.just_invoke.specs.Walks.{inner_along};
 
     /// The module to which the names of a path lead from this one, each in the module of the one before it; this one where
@@ -139,8 +144,8 @@ impl<'src> Justfile<'src> {
         module_along(self, path.components.as_slice())
     }
 
-    /// The recipe of a name in the module, of these recipes; none where the module has none of the name.
-    pub fn recipe<'run>(
+    /// The recipe that the module has under a name of its own, of these recipes; none where it has none of the name.
+    pub(crate) fn own_recipe<'run>(
         &self,
         recipes: &'run Recipes<'src>,
         name: &str,
@@ -150,6 +155,32 @@ impl<'src> Justfile<'src> {
     {
         match self.recipes.get(name) {
             Some(key) => recipes.get(key.number),
+            None => None,
+        }
+    }
+
+    /// The alias of a recipe that has a name in the module.
+    pub fn recipe_alias(&self, name: &str) -> Option<&RecipeAlias<'src>>
+        ensures { option_copied result ≡ find name.now (out-Justfile self.now).aliases.recipes }
+    {
+        self.aliases.recipes.get(name)
+    }
+
+    /// The recipe of a name in the module, of these recipes: its own, or else the one that an alias of the name stands for;
+    /// none where the module has neither.
+    pub fn recipe<'run>(
+        &self,
+        recipes: &'run Recipes<'src>,
+        name: &str,
+    ) -> Option<&'run Recipe<'src>>
+        ensures found { option_copied result ≡ recipe_called self.now recipes.now name.now }
+        ensures held { IfSome result (λ r. IsHeld recipes.now r.now) }
+    {
+        if let Some(recipe) = self.own_recipe(recipes, name) {
+            return Some(recipe);
+        }
+        match self.recipe_alias(name) {
+            Some(alias) => recipes.get(alias.target),
             None => None,
         }
     }

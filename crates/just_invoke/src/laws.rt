@@ -33,6 +33,13 @@ pub fn leads_inside()
     ensures led { (root j : Justfile) (name : _) (names : Words) → inner_along root (name ∷ names) ≡ Some j → end_from root (name ∷ names) ≡ Inside j }
 {}
 
+/// Where the root and the modules below it are closed, and the root's path has no names, each module that stands in the root is
+/// found from there by its own path: so is the module of an alias.
+pub fn is_found_by_its_path()
+    ensures { (recipes : Held) (root j : Justfile) → AreClosed recipes root → (out-Justfile root).module_path.components ≡ [] → StandsIn root j →
+        inner_along root (out-Justfile j).module_path.components ≡ Some j }
+{}
+
 /// Where a module and those below it are closed, the number to which a path resolves from it is that of a held recipe, whose name
 /// is the last of the path.
 pub fn resolves_to_held()

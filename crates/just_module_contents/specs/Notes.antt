@@ -1,5 +1,5 @@
 -- What files say of their module that no rule reads.
-use Rattle.std.specs.Prelude.{Bool, true, List, [], ◌∷◌, ◌++◌, Option, None, Some}
+use Rattle.std.specs.Prelude.{Bool, true, List, [], ◌∷◌, ◌++◌, map, Option, None, Some}
 use Rattle.just_names.specs.Texts.{Text}
 use Rattle.just_names.specs.Name.{text_of_name}
 use Rattle.just_parts.specs.Items.{Ast, Item}
@@ -15,20 +15,20 @@ abbrev pub absent_by : Item → List Text
 absent_by (item.Module name relative None attributes doc true) = text_of_name name ∷ []
 absent_by _ = []
 
--- the features that a file uses, and what a front is told of it
-abbrev pub features_by : Option Ast → List UnstableFeature
+-- the names of the features that a file uses and that are not stable, and what a front is told of it
+abbrev pub features_by : Option Ast → List Text
 features_by None = []
-features_by (Some ast) = ast.unstable_features
+features_by (Some ast) = map (λ (f : UnstableFeature). f.name) ast.unstable_features
 
 abbrev pub warnings_by : Option Ast → List Warning
 warnings_by None = []
 warnings_by (Some ast) = ast.warnings
 
 -- what is noted of these modules, features and warnings: each name once
-abbrev pub notes_of : List Text → List UnstableFeature → List Warning → Notes
+abbrev pub notes_of : List Text → List Text → List Warning → Notes
 notes_of absent features warnings = record {
   absent_modules = put_all (λ t. t) [] absent;
-  unstable_features = put_all (λ f. f.name) [] features;
+  unstable_features = put_all (λ t. t) [] features;
   warnings = warnings;
 }
 
@@ -39,6 +39,6 @@ no_notes = notes_of [] [] []
 abbrev pub noted : (Item → Bool) → Notes → Ast → Notes
 noted enabled notes ast = record {
   absent_modules = put_all (λ t. t) notes.absent_modules (said absent_by enabled ast.items);
-  unstable_features = put_all (λ f. f.name) notes.unstable_features ast.unstable_features;
+  unstable_features = put_all (λ t. t) notes.unstable_features (map (λ (f : UnstableFeature). f.name) ast.unstable_features);
   warnings = notes.warnings ++ ast.warnings;
 }

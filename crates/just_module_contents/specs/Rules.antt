@@ -11,6 +11,7 @@ use Rattle.just_errors.specs.declared.error.CompileErrorKind.{CompileErrorKind}
 use Rattle.just_errors.specs.declared.error.CompileErrorKind.TheVariants as kind
 use Rattle.just_errors.specs.declared.error.Definition.TheVariants as definition
 use Rattle.just_names.specs.declared.name.Name.{Name}
+use Rattle.just_ast_definitions.specs.declared.alias.Alias.{Alias}
 use Rattle.just_ast_expressions.specs.declared.list_use.ListUse.{ListUse}
 use Rattle.just_ast_definitions.specs.declared.setting.Set.{Set}
 use Rattle.just_ast_expressions.specs.declared.settings.Settings.{Settings}
@@ -181,3 +182,7 @@ module _ (Leads : Namepath → Type 0) (Stands : Text → Type 0) (Takes : Namep
         → Dependencies lists recipes (Broken d.recipe.last.token kind.MappedDependencyWithoutListsSetting)
     argument_count : {d : UnresolvedDependency} {found least most : ℕ} → StandsWith Stands recipes d → Takes d.recipe least most → length d.arguments ≡ found → IsOutside found least most
         → Dependencies lists recipes (Broken d.recipe.last.token (kind.DependencyArgumentCountMismatch d.recipe found least most))
+
+-- The target of one of these aliases leads to nothing. It is told at the alias's name.
+pub data Aliases (Leads : Namepath → Type 0) (aliases : List (Alias Namepath)) : Cause → Type 0 where
+  unknown_target : {alias : Alias Namepath} → Contains aliases alias → (Leads alias.target → ⊥) → Aliases Leads aliases (Broken alias.name.token (kind.UnknownAliasTarget (text_of_name alias.name) alias.target))

@@ -1,5 +1,5 @@
 //! What files say of their module that no rule reads.
-ghost use Rattle.std.specs.Prelude.{◌≡◌, ◌++◌, OnOk};
+ghost use Rattle.std.specs.Prelude.{◌≡◌, ◌++◌, OnOk, map};
 ghost use Rattle.just_table.specs.Entries.{put_all};
 ghost use Rattle.just_module_contents.specs.Notes.{absent_by, no_notes, noted};
 ghost use Rattle.just_module_contents.specs.Said.{said};
@@ -15,8 +15,8 @@ use std::alloc::{AllocError, Global};
 pub struct Notes<'src> {
     /// The names of the optional modules that have no file.
     pub absent_modules: Table<'src, BorrowedText<'src>>,
-    /// The features that they use and that are not stable, by their names.
-    pub unstable_features: Table<'src, UnstableFeature<'src>>,
+    /// The names of the features that they use and that are not stable.
+    pub unstable_features: Table<'src, BorrowedText<'src>>,
     /// What a front is told of them, file after file.
     pub warnings: Sequence<Warning>,
 }
@@ -48,15 +48,15 @@ fn add_absent<'src, S: Syntax>(
     Ok(())
 }
 
-// Adds features.
+// Adds the names of features.
 fn add_features<'src>(
-    table: &mut Table<'src, UnstableFeature<'src>>,
+    names: &mut Table<'src, BorrowedText<'src>>,
     features: &[UnstableFeature<'src>],
 ) -> Result<(), AllocError>
-    ensures { OnOk result (table.new ≡ put_all (λ f. f.name) table.old features.now) }
+    ensures { OnOk result (names.new ≡ put_all (λ t. t) names.old (map (λ f. f.name) features.now)) }
 {
     for feature in features {
-        table.insert(feature.clone()?)?;
+        names.insert(BorrowedText::new(feature.name.as_str()))?;
     }
     Ok(())
 }

@@ -11,7 +11,7 @@ use Rattle.just_module_contents.specs.Labels.{label_by}
 use Rattle.just_module_contents.specs.declared.labels.Label.{Label}
 use Rattle.just_module_contents.specs.Contents.{Contents, texts_of_named}
 use Rattle.just_module_contents.specs.declared.definitions.Naming.{Naming}
-use Rattle.just_names.specs.Index.{texts_of_names, AreDifferent}
+use Rattle.just_names.specs.Index.{AreDifferent}
 use Rattle.just_module_headers.specs.Files.{asts_in}
 use Rattle.just_module_contents.specs.Named.{contents_from, name_by, naming_by, said_from, recipes_from}
 use Rattle.just_module_contents.specs.Rules.{Named}
@@ -50,7 +50,3 @@ HaveFiles files joined order = (k : ℕ) → k < length order → All (λ q. q <
 -- the modules and the aliases in each module of an order have different names
 abbrev pub HaveNames : (Item → Bool) → Files → Joined → List ℕ → Type 0
 HaveNames enabled files joined order = (k : ℕ) → k < length order → AreDifferent (texts_of_named (namings_of_place enabled files joined (slice_index order k)))
-
--- the modules in each module of an order have different names
-abbrev pub HaveModuleNames : (Item → Bool) → Files → Joined → List ℕ → Type 0
-HaveModuleNames enabled files joined order = (k : ℕ) → k < length order → AreDifferent (texts_of_names (names_of_place enabled files joined (slice_index order k)))

@@ -6,7 +6,7 @@ ghost use Rattle.just_errors.specs.Causes.{Reports};
 ghost use Rattle.just_module_headers.specs.Files.{asts_in};
 ghost use Rattle.just_module_contents.specs.Named.{naming_by, said_from};
 ghost use Rattle.just_module_contents.specs.Said.{said};
-ghost use Rattle.just_module_headers.specs.OfPlaces.{HaveFiles, HaveModuleNames, HaveNames, RepeatsNames};
+ghost use Rattle.just_module_headers.specs.OfPlaces.{HaveFiles, HaveNames, RepeatsNames};
 
 use crate::files::Files;
 use crate::headers::check_named;
@@ -64,7 +64,6 @@ pub fn check_module_names<'a, 'src, S: Syntax>(
     requires places { All (λ p. p < length joined.now.files.items) order.now }
     requires files { HaveFiles files.now joined.now order.now }
     ensures kept { OnOk result (HaveNames (S.answers syntax.now).enabled files.now joined.now order.now) }
-    ensures modules { OnOk result (HaveModuleNames (S.answers syntax.now).enabled files.now joined.now order.now) }
     ensures named { IfErr result (Reports (RepeatsNames (S.answers syntax.now).enabled files.now joined.now order.now)) }
 {
     for place in order {

@@ -1,17 +1,19 @@
 -- Aliases, one after another.
-use Rattle.std.proofs.Common.{◌≡◌, ℕ, ◌+◌, ◌<◌, List, [], ◌∷◌, ◌++◌, length, drop, get_or, None, Some, inl, inr, refl, sym, ap, subst, ◌∙◌, arith}
+use Rattle.std.proofs.Common.{◌≡◌, ◌≢◌, ℕ, ◌+◌, ◌<◌, List, [], ◌∷◌, ◌++◌, length, drop, get_or, Option, None, Some, inl, inr, refl, sym, ap, subst, ◌∙◌, arith}
 use Rattle.std.specs.Borrow.{Bor}
 use Rattle.std.specs.List.{Contains}
 use Rattle.std.proofs.lemmas.List.{drop_more, get_or-map}
 use Rattle.just_ast_definitions.specs.declared.alias.Alias.{Alias}
-use Rattle.just_errors.specs.Causes.{Broken, Keeps}
+use Rattle.just_errors.specs.Causes.{Broken, Cause, Keeps}
 use Rattle.just_errors.specs.declared.error.CompileErrorKind.TheVariants as kind
 use Rattle.just_graph.proofs.Members.{contained, is_in}
 use Rattle.just_invoke.specs.declared.aliases.Aliases.{Aliases}
 use Rattle.just_module_contents.specs.Recipes.{lent}
+use Rattle.just_module_contents.specs.Rules.{unknown_target}
 use Rattle.just_module_contents.proofs.RecipePlaces.{length-lent}
-use Rattle.just_module_recipes.specs.Aliased.{IsAdded, Targets, UnknownTarget, UnknownTargets, aliases_of, aliases_onto, as_disabled, as_module_alias, as_recipe_alias, disabled_among, meant, modules_among, name_of_alias, no_aliases, of_alias, recipes_among, unknown_target}
+use Rattle.just_module_recipes.specs.Aliased.{IsAdded, Targets, UnknownTarget, UnknownTargets, aliases_of, aliases_onto, as_disabled, as_module_alias, as_recipe_alias, disabled_among, meant, modules_among, name_of_alias, no_aliases, no_meaning, recipes_among}
 use Rattle.just_module_recipes.specs.Linked.{name_of_disabled}
+use Rattle.just_module_recipes.specs.declared.aliases.Meaning.{Meaning}
 use Rattle.just_names.specs.Name.{text_of_name}
 use Rattle.just_names.specs.Texts.{Text}
 use Rattle.just_names.specs.Token.{Place}
@@ -23,9 +25,14 @@ module _ {V : Type 0} (key : V → Text) where
   put_append es [] ws = refl
   put_append es (v ∷ vs) ws = put_append (put (key v) v es) vs ws
 
+-- what is not there is none
+pub means_none : (o : Option Meaning) → (o ≢ None → ⊥) → o ≡ None
+means_none None means = refl
+means_none (Some it) means = absurd (means (λ e. cc))
+
 module _ (t : Targets) where
   -- one alias, and then the others
-  one_added : (before after : Aliases) (alias : Alias Namepath) (aliases : List (Alias Namepath)) → IsAdded t alias before after → aliases_onto t before (alias ∷ aliases) ≡ aliases_onto t after aliases
+  pub one_added : (before after : Aliases) (alias : Alias Namepath) (aliases : List (Alias Namepath)) → IsAdded t alias before after → aliases_onto t before (alias ∷ aliases) ≡ aliases_onto t after aliases
   one_added before after alias aliases added =
       (λ i. record {
         disabled = (put_append name_of_disabled before.disabled (as_disabled alias (meant t alias.target)) (disabled_among t aliases)
@@ -65,12 +72,16 @@ module _ (t : Targets) where
   -- one of which the target is unknown
   pub refused : (alias : Alias Namepath) (place : Place) (name : Text) (target : Namepath) → meant t alias.target ≡ None → place ≡ alias.name.token → name ≡ text_of_name alias.name → target ≡ alias.target
       → UnknownTarget t alias (Broken place (kind.UnknownAliasTarget name target))
-  refused alias place name target unknown at named aims = subst (UnknownTarget t alias) (λ i. Broken (sym at i) (kind.UnknownAliasTarget (sym named i) (sym aims i))) (unknown_target unknown)
+  refused alias place name target unknown at named aims = subst (UnknownTarget t alias) (λ i. Broken (sym at i) (kind.UnknownAliasTarget (sym named i) (sym aims i))) (no_meaning unknown)
+
+  -- it is one of all
+  pub told : (aliases : List (Alias Namepath)) (alias : Alias Namepath) (c : Cause) → Contains aliases alias → UnknownTarget t alias c → UnknownTargets t aliases c
+  told aliases alias _ there (no_meaning unknown) = unknown_target there (λ means. means unknown)
 
   -- all of them
   pub all_kept : (aliases : List (Bor (Alias Namepath))) (n : ℕ) (made : Aliases) → drop n aliases ≡ [] → AreAdded aliases n made → Keeps (UnknownTargets t (lent aliases))
-  all_kept aliases n made end so _ (of_alias {alias} there (unknown_target unknown)) =
-      is_in alias [] (subst (λ bs. Contains (lent bs) alias) end (so.left alias there unknown))
+  all_kept aliases n made end so _ (unknown_target {alias} there means) =
+      is_in alias [] (subst (λ bs. Contains (lent bs) alias) end (so.left alias there (means_none (meant t alias.target) means)))
 
   pub all_added : (aliases : List (Bor (Alias Namepath))) (n : ℕ) (made : Aliases) → drop n aliases ≡ [] → AreAdded aliases n made → made ≡ aliases_of t (lent aliases)
   all_added aliases n made end so = sym (so.rest ∙ ap (λ bs. aliases_onto t made (lent bs)) end)

@@ -1,6 +1,5 @@
 -- What the aliases of a module mean, over what the module has and the compiled modules in it.
-use Rattle.std.specs.Prelude.{◌≡◌, List, [], ◌∷◌, flat_map, Option, None, Some}
-use Rattle.std.specs.List.{Contains}
+use Rattle.std.specs.Prelude.{◌≡◌, ◌≢◌, List, [], ◌∷◌, flat_map, Option, None, Some}
 use Rattle.just_ast_definitions.specs.declared.alias.Alias.{Alias}
 use Rattle.just_errors.specs.Causes.{Cause, Broken}
 use Rattle.just_errors.specs.declared.error.CompileErrorKind.TheVariants as kind
@@ -11,6 +10,7 @@ use Rattle.just_invoke.specs.declared.justfile.Justfile.{Justfile, out-Justfile}
 use Rattle.just_invoke.specs.declared.justfile.RecipeKey.{RecipeKey}
 use Rattle.just_invoke.specs.declared.resolution.Resolution.{Resolution}
 use Rattle.just_invoke.specs.declared.resolution.Resolution.TheVariants as resolution
+use Rattle.just_module_contents.specs.Rules.{Aliases as BreaksTargets}
 use Rattle.just_module_recipes.specs.Linked.{name_of_disabled}
 use Rattle.just_module_recipes.specs.declared.aliases.Meaning.{Meaning}
 use Rattle.just_module_recipes.specs.declared.aliases.Meaning.TheVariants as meaning
@@ -110,10 +110,10 @@ pub record IsAdded (t : Targets) (alias : Alias Namepath) (before after : Aliase
   pub means : meant t alias.target ≡ Some it
   pub is : after ≡ with_meaning before alias it
 
--- The target of an alias leads to neither a module nor a recipe. It is told at the alias's name.
+-- The target of an alias means nothing. It is told at the alias's name.
 pub data UnknownTarget (t : Targets) (alias : Alias Namepath) : Cause → Type 0 where
-  unknown_target : meant t alias.target ≡ None → UnknownTarget t alias (Broken alias.name.token (kind.UnknownAliasTarget (text_of_name alias.name) alias.target))
+  no_meaning : meant t alias.target ≡ None → UnknownTarget t alias (Broken alias.name.token (kind.UnknownAliasTarget (text_of_name alias.name) alias.target))
 
--- That of one of these aliases does.
-pub data UnknownTargets (t : Targets) (aliases : List (Alias Namepath)) : Cause → Type 0 where
-  of_alias : {alias : Alias Namepath} {c : Cause} → Contains aliases alias → UnknownTarget t alias c → UnknownTargets t aliases c
+-- that of one of these aliases does
+abbrev pub UnknownTargets : Targets → List (Alias Namepath) → Cause → Type 0
+UnknownTargets t aliases = BreaksTargets (λ path. meant t path ≢ None) aliases

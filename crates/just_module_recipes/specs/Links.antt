@@ -2,17 +2,20 @@
 use Rattle.std.specs.Prelude.{◌≡◌, ◌≢◌, ℕ, ◌<◌, Bool, List, [], ◌∷◌, length, Option, None, Some}
 use Rattle.std.specs.BTreeSet.{BTreeSet}
 use Rattle.std.specs.List.{Contains}
+use Rattle.just_ast_definitions.specs.declared.alias.Alias.{Alias}
 use Rattle.just_ast_definitions.specs.Parameter.{least_arguments, most_arguments}
 use Rattle.just_ast_definitions.specs.declared.parameter.Parameter.{Parameter}
 use Rattle.just_errors.specs.Causes.{Cause}
-use Rattle.just_invoke.specs.Walks.{resolved_recipe}
+use Rattle.just_invoke.specs.Walks.{resolved_module, resolved_recipe}
 use Rattle.just_invoke.specs.declared.justfile.Justfile.{Justfile, out-Justfile}
 use Rattle.just_invoke.specs.declared.resolution.Resolution.{Resolution}
 use Rattle.just_invoke.specs.declared.resolution.Resolution.TheVariants as resolution
+use Rattle.just_module_contents.specs.Contents.{Contents}
 use Rattle.just_module_contents.specs.Defaults.{Defaults}
 use Rattle.just_module_contents.specs.Groups.{Links, OfAliases, OfDependencies}
+use Rattle.just_module_contents.specs.Kept.{kept_recipes}
 use Rattle.just_module_contents.specs.Recipes.{DependsOn, name_of, recipe_at}
-use Rattle.just_module_contents.specs.Rules.{Dependencies, DependsBy}
+use Rattle.just_module_contents.specs.Rules.{Aliases, Dependencies, DependsBy}
 use Rattle.just_module_contents.specs.Standing.{AreStanding}
 use Rattle.just_names.specs.Name.{texts_of_path}
 use Rattle.just_names.specs.Texts.{Text}
@@ -76,12 +79,18 @@ pub record Takes (lists : Bool) (recipes : List (Recipe UnresolvedDependency)) (
 abbrev pub BreaksLinks : Bool → List (Recipe UnresolvedDependency) → Around → Cause → Type 0
 BreaksLinks lists recipes it = Dependencies (Leads recipes it) (Stands recipes it) (Takes lists recipes it) lists recipes
 
--- Of the recipes that stand two have the attribute `default`.
-pub data BreaksAliases (recipes : List (Recipe UnresolvedDependency)) (it : Around) : Cause → Type 0 where
-  of_defaults : {c : Cause} (standing : List (Recipe UnresolvedDependency)) → AreStanding (Stands recipes it) recipes standing → Defaults standing c → BreaksAliases recipes it c
+-- The target of an alias leads to a module, or to a recipe.
+pub data HasTarget (recipes : List (Recipe UnresolvedDependency)) (it : Around) (path : Namepath) : Type 0 where
+  to_module : resolved_module it.absent it.modules path ≢ None → HasTarget recipes it path
+  to_recipe : Leads recipes it path → HasTarget recipes it path
+
+-- The target of an alias leads to nothing, or of the recipes that stand two have the attribute `default`.
+pub data BreaksAliases (recipes : List (Recipe UnresolvedDependency)) (aliases : List (Alias Namepath)) (it : Around) : Cause → Type 0 where
+  of_targets : {c : Cause} → Aliases (HasTarget recipes it) aliases c → BreaksAliases recipes aliases it c
+  of_defaults : {c : Cause} (standing : List (Recipe UnresolvedDependency)) → AreStanding (Stands recipes it) recipes standing → Defaults standing c → BreaksAliases recipes aliases it c
 
 -- what is broken of the last groups
-abbrev pub links_by : List (Recipe UnresolvedDependency) → Around → Links
-links_by recipes it lists OfDependencies = BreaksLinks lists recipes it
-links_by recipes it lists OfAliases = BreaksAliases recipes it
-links_by recipes it lists _ = λ c. ⊥
+abbrev pub links_by : Contents → Around → Links
+links_by m it lists OfDependencies = BreaksLinks lists (kept_recipes m.recipes) it
+links_by m it lists OfAliases = BreaksAliases (kept_recipes m.recipes) m.aliases it
+links_by m it lists _ = λ c. ⊥

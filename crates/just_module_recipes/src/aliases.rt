@@ -2,26 +2,27 @@
 
 ghost use Rattle.std.specs.Prelude.{◌≡◌, IfErr, IfOk, OnOk};
 ghost use Rattle.just_errors.specs.Causes.{Keeps, Reports};
-ghost use Rattle.just_module_contents.specs.Recipes.{lent};
+ghost use Rattle.just_module_contents.specs.Definitions.{aliases_in};
 ghost use Rattle.just_module_recipes.specs.Aliased.{IsAdded, UnknownTarget, UnknownTargets, aliases_of, as_recipe, meant, targets, with_meaning};
 ghost use Rattle.just_invoke.specs.Walks.{resolved_recipe};
 
 use just_data::BorrowedText;
 use just_invoke::{Aliases, Disabled, Justfile, RecipeKey, Resolution};
+use just_module_contents::definitions::Definitions;
 use just_parts::layers::{Alias, CompileError, CompileErrorKind, Error, Namepath, Number};
 use just_paths::Modulepath;
 use just_table::Table;
 use std::alloc::{AllocError, Global};
 use std::collections::BTreeSet;
 
-// What an alias is another name for.
+/// What an alias is another name for.
 #[derive(Drop)]
-enum Meaning {
-    // What is not there, since these optional modules have no file.
+pub enum Meaning {
+    /// What is not there, since these optional modules have no file.
     Disabled(BTreeSet<Modulepath>),
-    // The module at this path from the root.
+    /// The module at this path from the root.
     Module(Modulepath),
-    // The recipe of this number.
+    /// The recipe of this number.
     Recipe(Number),
 }
 
@@ -123,31 +124,32 @@ fn add_alias<'src>(
     }
 }
 
-/// The aliases of a module, by what it has: its optional modules without a file, its disabled recipes, the modules in it and
-/// its recipes. Each is another name for the module that its target leads to, or where that leads to none for the recipe, or
-/// it is disabled. An alias of an alias is unknown, since aliases are not looked at. An error tells the first alias whose
-/// target is unknown, at its name.
-pub fn resolve_aliases<'src>(
+/// The aliases that a module with these definitions has, by what else it has: its optional modules without a file, its
+/// disabled recipes, the modules in it and its recipes. Each is another name for the module that its target leads to, or
+/// where that leads to none for the recipe, or it is disabled. An alias of an alias is unknown, since aliases are not looked
+/// at. An error tells the first alias whose target is unknown, at its name.
+pub fn resolve_aliases<'a, 'src>(
     alloc: Global,
-    aliases: &[&Alias<'src>],
+    definitions: &Definitions<'src, 'a>,
     absent: &Table<'src, BorrowedText<'src>>,
     disabled: &Table<'src, Disabled<'src>>,
     modules: &[Justfile<'src>],
     recipes: &Table<'src, RecipeKey<'src>>,
 ) -> Result<Aliases<'src>, Error<'src>>
     ensures kept { let t = targets absent.now disabled.now modules.now recipes.now in
-        OnOk result (Keeps (UnknownTargets t (lent aliases.now))) }
+        OnOk result (Keeps (UnknownTargets t (aliases_in definitions.now))) }
     ensures aliases { let t = targets absent.now disabled.now modules.now recipes.now in
-        IfOk result (λ made. made ≡ aliases_of t (lent aliases.now)) }
+        IfOk result (λ made. made ≡ aliases_of t (aliases_in definitions.now)) }
     ensures named { let t = targets absent.now disabled.now modules.now recipes.now in
-        IfErr result (Reports (UnknownTargets t (lent aliases.now))) }
+        IfErr result (Reports (UnknownTargets t (aliases_in definitions.now))) }
 {
     let mut made = Aliases {
         disabled: Table::new(alloc),
         modules: Table::new(alloc),
         recipes: Table::new(alloc),
     };
-    for alias in aliases {
+    for place in 0..definitions.aliases.len() {
+        let alias = &*definitions.aliases[place];
         add_alias(alloc, &mut made, alias, absent, disabled, modules, recipes)?;
     }
     Ok(made)

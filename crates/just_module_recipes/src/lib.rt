@@ -2,7 +2,7 @@
 //! resolved to; and what the aliases mean.
 #![tactic(auto)]
 
-mod aliases;
+pub mod aliases;
 mod bodies;
 mod chosen;
 mod counts;

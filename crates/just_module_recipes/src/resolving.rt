@@ -113,7 +113,8 @@ fn resolve_one<'a, 'src>(
     requires place { place < length kept.now.recipes.items }
     requires count { length row.now ≡ length (recipe_at (recipes_in kept.now) place).dependencies }
     requires there { All (IsThere (recipes_in kept.now) recipes.now) row.now }
-    ensures { IfOk result (λ made. made ≡ made_of settings.now.lists (recipes_in kept.now) recipes.now module_path.now (recipe_at (recipes_in kept.now) place) row.now) }
+    ensures { let of = made_of settings.now.lists (recipes_in kept.now) recipes.now module_path.now in
+        IfOk result (λ made. made ≡ of (recipe_at (recipes_in kept.now) place) row.now) }
 {
     let recipe = kept.recipe_at(place);
     let dependencies = recipe.dependencies.as_slice();

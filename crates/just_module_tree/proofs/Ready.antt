@@ -72,7 +72,7 @@ unexport_located : (i : Item) → unexported_by (located_item i) ≡ unexported_
 unexport_located (item.Unexport name) = refl
 unexport_located _ = refl
 
-alias_located : (i : Item) → alias_by (located_item i) ≡ alias_by i
+pub alias_located : (i : Item) → alias_by (located_item i) ≡ alias_by i
 alias_located (item.Alias a) = refl
 alias_located _ = refl
 

@@ -1,5 +1,5 @@
 -- Where paths lead in a tree of modules, which recipes stand in it, and what is broken of what they depend on.
-use Rattle.std.specs.Prelude.{◌≡◌, ℕ, ◌<◌, Bool, false, List, [], ◌∷◌, map, flat_map, length, Option, None, Some, if◌then◌else◌}
+use Rattle.std.specs.Prelude.{◌≡◌, ◌≢◌, ℕ, ◌<◌, Bool, false, List, [], ◌∷◌, map, flat_map, length, Option, None, Some, if◌then◌else◌}
 use Rattle.std.specs.List.{Contains, list_any}
 use Rattle.std.specs.Str.{bytes_eq}
 use Rattle.just_errors.specs.Causes.{Cause}
@@ -8,10 +8,10 @@ use Rattle.just_module_contents.specs.Groups.{Links, OfAliases, OfDependencies}
 use Rattle.just_module_contents.specs.Kept.{kept_recipes}
 use Rattle.just_module_contents.specs.Notes.{absent_by}
 use Rattle.just_module_contents.specs.Recipes.{least_of, most_of, name_of, names_of, recipe_at}
-use Rattle.just_module_contents.specs.Rules.{Dependencies, DependsBy}
+use Rattle.just_module_contents.specs.Rules.{Aliases, Dependencies, DependsBy}
 use Rattle.just_module_contents.specs.Standing.{AreStanding}
 use Rattle.just_module_tree.specs.Modules.{Empty, Forest, Module, Tree, contents_of, items_of}
-use Rattle.just_names.specs.Name.{text_if_named, text_of_name}
+use Rattle.just_names.specs.Name.{text_if_named, text_of_name, texts_of_path}
 use Rattle.just_names.specs.Texts.{Text}
 use Rattle.just_names.specs.declared.name.Namepath.{Namepath}
 use Rattle.just_paths.specs.declared.modulepath.Modulepath.{Modulepath}
@@ -92,8 +92,14 @@ pub record TakesIn (lists : Bool) (m : Module) (inside : Forest) (path : Namepat
 abbrev pub BreaksDependencies : Bool → Module → Forest → Cause → Type 0
 BreaksDependencies lists m inside = Dependencies (LeadsSomewhere m inside) (StandsIn m inside) (TakesIn lists m inside) lists (kept_in m)
 
--- Of the recipes that stand two have the attribute `default`.
+-- The target of an alias leads to a module, to one without a file, or to a kept recipe.
+pub data HasTarget (m : Module) (inside : Forest) (path : Namepath) : Type 0 where
+  to_module : follow (texts_of_path path) m inside ≢ Nowhere → HasTarget m inside path
+  to_recipe : LeadsSomewhere m inside path → HasTarget m inside path
+
+-- The target of an alias leads to nothing, or of the recipes that stand two have the attribute `default`.
 pub data BreaksAliases (m : Module) (inside : Forest) : Cause → Type 0 where
+  of_targets : {c : Cause} → Aliases (HasTarget m inside) (contents_of m).aliases c → BreaksAliases m inside c
   of_defaults : {c : Cause} (standing : List (Recipe UnresolvedDependency)) → AreStanding (StandsIn m inside) (kept_in m) standing → Defaults standing c → BreaksAliases m inside c
 
 -- what is broken of the last groups in a module with those in it

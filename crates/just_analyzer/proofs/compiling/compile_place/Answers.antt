@@ -13,7 +13,8 @@ use Rattle.just_module_contents.specs.Groups.{BreaksContents}
 use Rattle.just_analyzer.specs.Checked.{no_links}
 use Rattle.just_analyzer.specs.Noted.{notes_of_place}
 use Rattle.just_analyzer.specs.Parts.{around_by}
-use Rattle.just_analyzer.specs.Steps.{BreaksOver, BreaksPlace, kept_of_place, made_in}
+use Rattle.just_analyzer.specs.Steps.{BreaksOver, BreaksPlace, made_in}
+use Rattle.just_module_headers.specs.OfPlaces.{contents_of_place}
 use Rattle.just_analyzer.proofs.Linking.{links_of, recipes_kept_over}
 use Rattle.just_compiled.proofs.Settling.{around_settled, named_settled}
 use Rattle.just_graph.proofs.Members.{contained}
@@ -99,7 +100,7 @@ returns-in_err-justfile-clause-named g c =
     let around = c.in_ok-surroundings.surroundings in
     let there = c.in_ok-surroundings.ensures.made in
     let m = contents_are (given_by g.S.Syntax.answers g.E.Evaluation.answers c.args.given.now) c.args.files.now c.args.joined.now c.args.place c.as_slice-row.result.now row c.ast_at-ast.result.now c.ast_at-ast.ensures c.in_ok-checked.checked c.in_ok-checked.ensures.checked c.in_ok-checked.ensures.kept in
-    let links = links_by (kept_recipes (recipes_in checked.definitions)) (around_by around c.args.gathered.recipes) in
+    let links = links_by (contents_in checked.definitions) (around_by around c.args.gathered.recipes) in
     let breaks = BreaksRecipes (g.S.Syntax.answers c.args.given.now.syntax.now) checked.constants.settings links (contents_in checked.definitions) in
     let over = BreaksOver (given_by g.S.Syntax.answers g.E.Evaluation.answers c.args.given.now) c.args.files.now c.args.joined.now c.args.place c.args.slots.now.items c.args.gathered.recipes in
     IfErr-weaker c.from_residual-in_err-justfile.result (Reports breaks) _
@@ -109,8 +110,8 @@ returns-in_err-justfile-clause-named g c =
       broken = λ inner same.
           let about : around_by around c.args.gathered.recipes ≡ around_made (notes_of_place (g.S.Syntax.answers c.args.given.now.syntax.now).enabled c.args.files.now c.args.joined.now c.args.place).absent_modules (by_name (with_labels inner checked.labels.items)) c.args.gathered.recipes =
           λ i. around_made (ap (λ (n : Notes). n.absent_modules) there.notes_are i) ((there.modules_are inner same ∙ ap (λ labels. by_name (with_labels inner labels)) c.as_slice.ensures.value) i) c.args.gathered.recipes in
-          subst (λ (x : Around). BreaksPlace (given_by g.S.Syntax.answers g.E.Evaluation.answers c.args.given.now) c.args.files.now c.args.joined.now c.args.place (links_by (kept_of_place (g.S.Syntax.answers c.args.given.now.syntax.now).enabled c.args.files.now c.args.joined.now c.args.place) x) e) about
-          (subst (λ (n : Contents). BreaksPlace (given_by g.S.Syntax.answers g.E.Evaluation.answers c.args.given.now) c.args.files.now c.args.joined.now c.args.place (links_by (kept_recipes n.recipes) (around_by around c.args.gathered.recipes)) e) m
+          subst (λ (x : Around). BreaksPlace (given_by g.S.Syntax.answers g.E.Evaluation.answers c.args.given.now) c.args.files.now c.args.joined.now c.args.place (links_by (contents_of_place (g.S.Syntax.answers c.args.given.now.syntax.now).enabled c.args.files.now c.args.joined.now c.args.place) x) e) about
+          (subst (λ (n : Contents). BreaksPlace (given_by g.S.Syntax.answers g.E.Evaluation.answers c.args.given.now) c.args.files.now c.args.joined.now c.args.place (links_by n (around_by around c.args.gathered.recipes)) e) m
           (breaks_recipes (given_by g.S.Syntax.answers g.E.Evaluation.answers c.args.given.now) c.args.files.now c.args.joined.now c.args.place c.as_slice-row.result.now row c.ast_at-ast.result.now c.ast_at-ast.ensures c.in_ok-checked.checked c.in_ok-checked.ensures.checked c.in_ok-checked.ensures.kept links e b));
     }) told h) (search rules)
 

@@ -1,15 +1,19 @@
-use Rattle.std.proofs.Common.{List, Some, subst, sym, rules}
+use Rattle.std.proofs.Common.{◌≡◌, ◌∙◌, List, Some, ap, subst, sym, rules}
 use Rattle.std.proofs.lemmas.Result.{IfErr-weaker}
+use Rattle.just_ast_definitions.specs.declared.alias.Alias.{Alias}
 use Rattle.just_errors.specs.Causes.{Keeps, Reports}
 use Rattle.just_errors.proofs.Lifts.{reports_by}
 use Rattle.just_analyzer.specs.Parts.{around_by}
 use Rattle.just_analyzer.proofs.OwnNumbers.{default_standing, recipes_kept}
+use Rattle.just_compiled.proofs.AliasTargets.{targets_known, unknown_on}
+use Rattle.just_compiled.specs.Analysis.{recipe_table}
 use Rattle.just_module_contents.specs.Defaults.{Defaults}
-use Rattle.just_module_contents.specs.Definitions.{contents_in, recipes_in}
+use Rattle.just_module_contents.specs.Definitions.{aliases_in, contents_in, recipes_in}
 use Rattle.just_module_contents.specs.Kept.{kept_recipes}
 use Rattle.just_module_contents.specs.Named.{recipes_by}
+use Rattle.just_module_recipes.specs.Aliased.{Targets, UnknownTargets, aliases_of, targets}
 use Rattle.just_module_recipes.specs.Broken.{BreaksRecipes, in_aliases}
-use Rattle.just_module_recipes.specs.Links.{links_by, of_defaults}
+use Rattle.just_module_recipes.specs.Links.{links_by, of_defaults, of_targets}
 use Rattle.just_analyzer.proofs.groups.add_recipes.Goals as goal
 
 pub returns-in_err-default-clause-named : goal.returns-in_err-default-clause-named
@@ -21,10 +25,37 @@ returns-in_err-default-clause-named g c =
     (λ x k. in_aliases c.in_ok-linked.ensures.bodies c.in_ok-linked.ensures.kept (of_defaults standing c.in_ok-linked.ensures.linked.stand k)) e h)
     (search (rules, named, c.from_residual-in_err-default.ensures.1, c.from_residual-in_err-default.ensures.0))
 
+pub returns-in_err-aliases-clause-named : goal.returns-in_err-aliases-clause-named
+returns-in_err-aliases-clause-named g c =
+    let kept = kept_recipes (recipes_in c.args.definitions.now) in
+    let standing = recipes_in c.in_ok-linked.linked.standing in
+    let it = around_by c.args.around.now c.args.recipes in
+    let disabled = c.in_ok-linked.linked.disabled in
+    let known = aliases_in c.args.definitions.now in
+    let t = targets it.absent disabled it.modules (recipe_table standing) in
+    let same : targets it.absent disabled c.as_slice.result.now c.in_ok-keys.keys ≡ t = (λ i. targets it.absent disabled (c.as_slice.ensures i) (c.in_ok-keys.ensures i)) in
+    let named : Reports (UnknownTargets t known) c.in_err-aliases.field-0.0 = subst (λ (x : Targets). Reports (UnknownTargets x known) c.in_err-aliases.field-0.0) same c.in_err-aliases.ensures.named in
+    IfErr-weaker c.from_residual-in_err-aliases.result (Reports (UnknownTargets t known)) _
+    (λ e h. reports_by (UnknownTargets t known) (BreaksRecipes _ _ _ _)
+    (λ x k. in_aliases c.in_ok-linked.ensures.bodies c.in_ok-linked.ensures.kept (of_targets (unknown_on kept standing it disabled c.in_ok-linked.ensures.linked.stand c.in_ok-linked.ensures.linked.disabled_are known x k))) e h)
+    (search (rules, named, c.from_residual-in_err-aliases.ensures.1, c.from_residual-in_err-aliases.ensures.0))
+
 pub returns-clause-kept : goal.returns-clause-kept
 returns-clause-kept g c =
-    recipes_kept (g.S.Syntax.answers c.args.syntax.now) c.args.settings.now (contents_in c.args.definitions.now) (kept_recipes (recipes_in c.args.definitions.now)) (recipes_in c.in_ok-linked.linked.standing) (around_by c.args.around.now c.args.recipes)
+    let kept = kept_recipes (recipes_in c.args.definitions.now) in
+    let standing = recipes_in c.in_ok-linked.linked.standing in
+    let it = around_by c.args.around.now c.args.recipes in
+    let disabled = c.in_ok-linked.linked.disabled in
+    let known = aliases_in c.args.definitions.now in
+    let same : targets it.absent disabled c.as_slice.result.now c.in_ok-keys.keys ≡ targets it.absent disabled it.modules (recipe_table standing) = (λ i. targets it.absent disabled (c.as_slice.ensures i) (c.in_ok-keys.ensures i)) in
+    recipes_kept (g.S.Syntax.answers c.args.syntax.now) c.args.settings.now (contents_in c.args.definitions.now) standing it
     c.in_ok-linked.ensures.bodies c.in_ok-linked.ensures.kept c.in_ok-linked.ensures.linked.stand c.in_ok-default.ensures.kept
+    (targets_known kept standing it disabled c.in_ok-linked.ensures.linked.stand c.in_ok-linked.ensures.linked.disabled_are known
+    (subst (λ (x : Targets). Keeps (UnknownTargets x known)) same c.in_ok-aliases.ensures.kept))
+
+pub returns-clause-aliases : goal.returns-clause-aliases
+returns-clause-aliases g c =
+    c.in_ok-aliases.ensures.aliases ∙ ap (λ ms. aliases_of (targets c.args.around.now.notes.absent_modules c.in_ok-linked.linked.disabled ms c.in_ok-keys.keys) (aliases_in c.args.definitions.now)) c.as_slice.ensures
 
 pub returns-clause-default : goal.returns-clause-default
 returns-clause-default g c =

@@ -49,6 +49,6 @@ returns-clause-named g c =
     let lent = around absent c.as_slice.result.now c.args.recipes in
     let same : lent ≡ it = ap (λ ms. around absent ms c.args.recipes) c.as_slice.ensures in
     IfErr-weaker c.link.result (Reports (BreaksLinks settings.lists recipes it)) _
-    (λ e h. reports_by (BreaksLinks settings.lists recipes it) (BreaksRecipes answers settings (links_by recipes it) m) (λ x k. in_dependencies c.in_ok-check_bodies.ensures.kept k) e h)
+    (λ e h. reports_by (BreaksLinks settings.lists recipes it) (BreaksRecipes answers settings (links_by m it) m) (λ x k. in_dependencies c.in_ok-check_bodies.ensures.kept k) e h)
     (subst (λ (x : Around). IfErr c.link.result (Reports (BreaksLinks settings.lists recipes x))) same
     (subst (λ rs. IfErr c.link.result (Reports (BreaksLinks settings.lists rs lent))) c.in_ok-kept.ensures c.link.ensures.named))

@@ -1,14 +1,29 @@
-use Rattle.std.proofs.Common.{ap, rules}
-use Rattle.just_invoke.specs.declared.justfile.Justfile.{Justfile, Justfile-F, out-roll-Justfile}
+use Rattle.std.proofs.Common.{◌≡◌, ◌∙◌, List, ap, sym, rules}
+use Rattle.just_invoke.specs.declared.aliases.Aliases.{Aliases}
+use Rattle.just_invoke.specs.declared.disabled.Disabled.{Disabled}
+use Rattle.just_invoke.specs.declared.justfile.Justfile.{Justfile, Justfile-F, out-Justfile, out-roll-Justfile}
+use Rattle.just_invoke.specs.declared.justfile.RecipeKey.{RecipeKey}
 use Rattle.just_invoke.specs.declared.justfile.Justfile.TheViews.{the_lemmas}
+use Rattle.just_module_contents.specs.Contents.{Contents}
 use Rattle.just_module_contents.specs.Definitions.{contents_in, recipes_in}
+use Rattle.just_module_recipes.specs.Aliased.{aliases_of, targets, targets_of}
+use Rattle.just_names.specs.Texts.{Text}
 use Rattle.just_compiled.proofs.Makings.{is_of}
 use Rattle.just_analyzer.proofs.making.make_justfile.Goals as goal
+
+-- the aliases are those of what the justfile has
+own_aliases : (j : Justfile) (m : Contents) (own : Aliases) (absent : List (Text × Text)) (disabled : List (Text × Disabled)) (modules : List Justfile) (keys : List (Text × RecipeKey)) → (out-Justfile j).aliases ≡ own
+    → own ≡ aliases_of (targets absent disabled modules keys) m.aliases → (out-Justfile j).absent_modules ≡ absent → (out-Justfile j).disabled_recipes ≡ disabled → (out-Justfile j).modules ≡ modules → (out-Justfile j).recipes ≡ keys
+    → (out-Justfile j).aliases ≡ aliases_of (targets_of j) m.aliases
+own_aliases j m own absent disabled modules keys is all a d ms ks = is ∙ all ∙ (λ i. aliases_of (targets (sym a i) (sym d i) (sym ms i) (sym ks i)) m.aliases)
 
 pub returns-clause-fields : goal.returns-clause-fields
 returns-clause-fields c =
     is_of (contents_in c.args.definitions.now) (recipes_in c.args.own.standing) c.args.ast.now c.args.surroundings.loaded c.args.surroundings.source _
-    c.in_ok-recipes.recipes (search (rules, the_lemmas)) c.in_ok-recipes.ensures
+    c.args.own.keys (ap (λ (j : Justfile-F Justfile). j.recipes) (out-roll-Justfile _)) c.requires.keys
+    (own_aliases _ (contents_in c.args.definitions.now) c.args.own.aliases c.args.surroundings.notes.absent_modules c.args.own.disabled c.args.surroundings.modules c.args.own.keys (ap (λ (j : Justfile-F Justfile). j.aliases) (out-roll-Justfile _)) c.requires.aliases
+    (ap (λ (j : Justfile-F Justfile). j.absent_modules) (out-roll-Justfile _)) (ap (λ (j : Justfile-F Justfile). j.disabled_recipes) (out-roll-Justfile _)) (ap (λ (j : Justfile-F Justfile). j.modules) (out-roll-Justfile _))
+    (ap (λ (j : Justfile-F Justfile). j.recipes) (out-roll-Justfile _)))
     (search (rules, the_lemmas)) (search (rules, the_lemmas)) (search (rules, the_lemmas)) (search (rules, the_lemmas)) (search (rules, the_lemmas))
 
 pub returns-clause-disabled : goal.returns-clause-disabled

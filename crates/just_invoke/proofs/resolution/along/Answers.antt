@@ -1,4 +1,4 @@
-use Rattle.std.proofs.Common.{◌≡◌, ◌∙◌}
+use Rattle.std.proofs.Common.{◌∙◌}
 use Rattle.just_names.specs.Name.{text_of_name}
 use Rattle.just_execution.proofs.Places.{map-more}
 use Rattle.just_invoke.proofs.resolution.along.Goals as goal

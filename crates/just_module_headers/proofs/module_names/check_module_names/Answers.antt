@@ -11,9 +11,7 @@ use Rattle.just_module_headers.specs.Files.{asts_in}
 use Rattle.just_module_contents.specs.Named.{naming_by, said_from}
 use Rattle.just_module_contents.specs.Rules.{Named}
 use Rattle.just_module_headers.specs.OfPlaces.{RepeatsNames, namings_of_place}
-use Rattle.just_graph.specs.Graph.{targets}
 use Rattle.just_module_headers.proofs.Joining.{row_lent}
-use Rattle.just_module_headers.proofs.ModuleNames.{modules_different}
 use Rattle.just_module_headers.proofs.module_names.check_module_names.Goals as goal
 
 pub module_namings-requires : goal.module_namings-requires
@@ -49,8 +47,3 @@ loop-place-preserved g c = λ k l.
 
 pub returns-clause-kept : goal.returns-clause-kept
 returns-clause-kept g c = λ k l. c.loop-place.invariant k (omega (arith, l))
-
-pub returns-clause-modules : goal.returns-clause-modules
-returns-clause-modules g c = λ k l.
-    let enabled = (g.S.Syntax.answers c.args.syntax.now).enabled in
-    modules_different enabled (asts_in c.args.files.now) (targets c.args.joined.now.files.items (slice_index c.args.order.now k)) (c.loop-place.invariant k (omega (arith, l)))
