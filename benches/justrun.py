@@ -281,6 +281,13 @@ def disabled_by_many(count):
     return bundle("a:", *(f"mod? m{n}" for n in range(count)), *rows), ["a"]
 
 
+def aliases(count):
+    """Many aliases: of half as many modules, and of a recipe in each."""
+    modules = range(count // 2)
+    root = [line for n in modules for line in (f"mod m{n}", f"alias x{n} := m{n}", f"alias y{n} := m{n}::b")]
+    return listed(root + ["a:"], [(f"/m{n}.just", "b:") for n in modules]), ["a"]
+
+
 def dependency_arguments(count):
     """A dependency with many arguments. Nothing is run where there are arguments, so the program refuses the word."""
     return bundle("d *x:", "a: (d " + " ".join(f"'{n}'" for n in range(count)) + ")"), ["a"]
@@ -341,6 +348,7 @@ INPUTS = {
     "2,000 disabled recipes in a chain, by one module": disabled_chain(2_000),
     "20,000 disabled recipes in a chain, by one module": disabled_chain(20_000),
     "2,000 disabled recipes in a chain, by 2,000 modules": disabled_by_many(2_000),
+    "2,000 aliases, of 1,000 modules and of a recipe in each": aliases(2_000),
     "dependency with 10,000 arguments": dependency_arguments(10_000),
 }
 

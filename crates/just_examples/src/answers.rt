@@ -58,6 +58,7 @@ fn add_compilation(
         "Compilation::root_ast" => add_items(text, compilation.root_ast().items.as_slice()),
         "Justfile::name" | "Justfile::is_submodule" => add_justfile(justfile, kind, text),
         "Justfile::recipe"
+        | "Justfile::recipe_alias"
         | "Justfile::submodule"
         | "Resolution::resolve_recipe"
         | "Resolution::resolve_module" => add_walk(justfile, recipes, alloc, kind, word, text),
@@ -111,6 +112,7 @@ pub fn answer(alloc: Global, bundle: &str, question: &str) -> Result<Option<Stri
         | "Justfile::name"
         | "Justfile::is_submodule"
         | "Justfile::recipe"
+        | "Justfile::recipe_alias"
         | "Justfile::submodule"
         | "Recipes::len"
         | "Recipes::is_empty"

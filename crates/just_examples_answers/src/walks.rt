@@ -1,6 +1,6 @@
 //! Where paths lead from the root's module of a compilation. The names of a path are those of the parameters of a recipe.
 use just_data::Sequence;
-use just_invoke::{Justfile, Recipes, Resolution};
+use just_invoke::{Justfile, RecipeAlias, Recipes, Resolution};
 use just_parts::Recipe;
 use just_parts::layers::{Namepath, Parameter};
 use just_paths::Modulepath;
@@ -43,6 +43,19 @@ fn add_recipe(recipe: Option<&Recipe>, text: &mut String) -> Result<(), AllocErr
         },
         None => text.push_str("nothing\n"),
     }
+}
+
+// Adds an alias of a recipe, and that recipe.
+fn add_alias<'src>(
+    alias: Option<&RecipeAlias<'src>>,
+    recipes: &Recipes<'src>,
+    text: &mut String,
+) -> Result<(), AllocError> {
+    let Some(alias) = alias else {
+        return text.push_str("nothing\n");
+    };
+    write!(text, "alias {} ", alias.name)?;
+    add_recipe(recipes.get(alias.target), text)
 }
 
 // Adds the recipe to which a path resolves.
@@ -98,7 +111,7 @@ fn add_submodule<'src>(
 }
 
 /// Adds what a call gives for the path of the names of the parameters of a recipe of the root's module: `Resolution::resolve_recipe`,
-/// `Resolution::resolve_module`, `Justfile::submodule`; `Justfile::recipe` is given the name of the recipe.
+/// `Resolution::resolve_module`, `Justfile::submodule`; `Justfile::recipe` and `Justfile::recipe_alias` are given the name.
 pub fn add_walk<'src>(
     root: &Justfile<'src>,
     recipes: &Recipes<'src>,
@@ -107,8 +120,10 @@ pub fn add_walk<'src>(
     name: &str,
     text: &mut String,
 ) -> Result<(), AllocError> {
-    if call == "Justfile::recipe" {
-        return add_recipe(root.recipe(recipes, name), text);
+    match call {
+        "Justfile::recipe" => return add_recipe(root.recipe(recipes, name), text),
+        "Justfile::recipe_alias" => return add_alias(root.recipe_alias(name), recipes, text),
+        _ => {}
     }
     let Some(recipe) = root.recipe(recipes, name) else {
         return text.push_str("no recipe\n");

@@ -1,4 +1,4 @@
-//! The lines that tell what recipes depend on, and which are disabled.
+//! The lines that tell what recipes depend on, which are disabled, and what aliases mean.
 use crate::modules::{add_path, add_source};
 use just_invoke::{Disabled, Justfile, Recipes};
 use just_parts::layers::{DependencyArgument, Number};
@@ -33,6 +33,42 @@ fn add_target<'src>(
         Some(recipe) => add_path(recipe, text),
         None => text.push('?'),
     }
+}
+
+// Adds aliases of recipes, each with the path of its recipe.
+fn add_recipe_aliases<'src>(
+    module: &Justfile<'src>,
+    recipes: &Recipes<'src>,
+    text: &mut String,
+) -> Result<(), AllocError> {
+    for alias in module.aliases.recipes.values() {
+        write!(text, " {}=", alias.name)?;
+        add_target(alias.target, recipes, text)?;
+    }
+    Ok(())
+}
+
+// Adds aliases of modules, each with the path of its module and `::`.
+fn add_module_aliases(module: &Justfile, text: &mut String) -> Result<(), AllocError> {
+    for alias in module.aliases.modules.values() {
+        write!(text, " {}={}::", alias.name, alias.target)?;
+    }
+    Ok(())
+}
+
+/// Adds the aliases of a module, behind its own file: those of recipes, those of modules, and the disabled ones.
+pub fn add_aliases<'src>(
+    module: &Justfile<'src>,
+    recipes: &Recipes<'src>,
+    text: &mut String,
+) -> Result<(), AllocError> {
+    add_source(module, text)?;
+    add_recipe_aliases(module, recipes, text)?;
+    add_module_aliases(module, text)?;
+    for disabled in module.aliases.disabled.values() {
+        add_disabled_name(disabled, text)?;
+    }
+    Ok(())
 }
 
 // Adds arguments in brackets.

@@ -1,5 +1,5 @@
 //! The lines that tell what a compilation has.
-use crate::links::{add_dependencies, add_disabled};
+use crate::links::{add_aliases, add_dependencies, add_disabled};
 use crate::lists::{add_list, next};
 use just_data::Text;
 use just_invoke::{Justfile, RecipeKey, Recipes};
@@ -16,6 +16,7 @@ struct Lines {
     docs: String,
     absent: String,
     disabled: String,
+    aliases: String,
     settings: String,
     shells: String,
     scripts: String,
@@ -39,6 +40,7 @@ impl Lines {
             docs: String::new(alloc),
             absent: String::new(alloc),
             disabled: String::new(alloc),
+            aliases: String::new(alloc),
             settings: String::new(alloc),
             shells: String::new(alloc),
             scripts: String::new(alloc),
@@ -250,6 +252,7 @@ fn add_whole<'src>(
     add_doc(module, &mut lines.docs)?;
     add_absent(module, &mut lines.absent)?;
     add_disabled(module, &mut lines.disabled)?;
+    add_aliases(module, recipes, &mut lines.aliases)?;
     add_settings(module, &mut lines.settings)?;
     add_program(module, &settings.shell, &mut lines.shells)?;
     add_program(module, &settings.script_interpreter, &mut lines.scripts)?;
@@ -287,6 +290,7 @@ fn add_lines(lines: &Lines, text: &mut String) -> Result<(), AllocError> {
     writeln!(text, "docs{}", lines.docs)?;
     writeln!(text, "absent{}", lines.absent)?;
     writeln!(text, "disabled{}", lines.disabled)?;
+    writeln!(text, "aliases{}", lines.aliases)?;
     writeln!(text, "settings{}", lines.settings)?;
     writeln!(text, "shells{}", lines.shells)?;
     writeln!(text, "scripts{}", lines.scripts)?;
@@ -301,8 +305,8 @@ fn add_lines(lines: &Lines, text: &mut String) -> Result<(), AllocError> {
 }
 
 /// Adds what the root's module and those in it have: their files, docs, settings and variables, which recipes are disabled,
-/// and of the other recipes the depths, the files, what they depend on, how many different numbers they have, and
-/// how many could be copied.
+/// what aliases mean, and of the other recipes the depths, the files, what they depend on, how many different numbers they
+/// have, and how many could be copied.
 pub fn add_modules<'src>(
     root: &Justfile<'src>,
     recipes: &Recipes<'src>,
