@@ -1,0 +1,3 @@
+pub mod Names
+pub mod Numbered
+pub mod Steps

@@ -1,0 +1,13 @@
+//! The names in a recipe, as a text says it: whether they stand for something, and the numbers of what they mean.
+#![tactic(auto)]
+
+mod attributes;
+mod body;
+mod checking;
+mod hiding;
+mod lines;
+mod numbering;
+pub mod steps;
+
+pub use checking::check_recipe;
+pub use numbering::numbered_recipe;
