@@ -1,5 +1,5 @@
 -- What an analysis answers, from what is compiled in an order.
-use Rattle.std.proofs.Common.{◌≡◌, ◌<◌, ◌≤◌, ℕ, List, [], ◌∷◌, ◌++◌, map, take, length, get_or, slice_index, Option, None, Some, refl, sym, ap, subst, ◌∙◌, inl, inr, arith}
+use Rattle.std.proofs.Common.{◌≡◌, ◌<◌, ℕ, List, [], ◌∷◌, ◌++◌, map, take, length, get_or, slice_index, Option, None, Some, refl, sym, ap, subst, ◌∙◌, inl, inr, arith}
 use Rattle.std.specs.Prelude.{flat_map, slice_get}
 use Rattle.std.specs.List.{All, Contains}
 use Rattle.std.specs.Map.{keys_of, lookup}
@@ -30,7 +30,7 @@ use Rattle.just_module_headers.specs.Joined.{AreArranged, AreJoined, GoDeeper, I
 use Rattle.just_compiled.specs.Labelled.{label_in, labelled_as, slot, by_name, with_labels}
 use Rattle.just_compiled.specs.Justfiles.{AreCompiled, Built, Made, recipes_of_all, none}
 use Rattle.just_module_contents.specs.declared.labels.Label.{Label}
-use Rattle.just_module_tree.specs.Modules.{AreModules, Empty, Forest, Heading, IsHeading, Module, Tree, first, no_module}
+use Rattle.just_module_tree.specs.Modules.{AreModules, Empty, Forest, Heading, IsHeading, Module, Tree, no_module}
 use Rattle.just_module_headers.specs.Reading.{Reading, Submodule, reading_of}
 use Rattle.just_module_headers.specs.OfPlaces.{RepeatsNames, labels_of_place, namings_of_place}
 use Rattle.just_analyzer.specs.Steps.{BreaksInOrder, CanCompileAll, HaveCompiled, BreaksOver, HaveCompiledSoFar, not_yet, so_far}

@@ -1,6 +1,6 @@
 -- The modules of headings are compiled to the justfiles at their places.
 use Rattle.just_module_headers.proofs.Alike.{kept_alike}
-use Rattle.std.proofs.Common.{◌≡◌, ◌≢◌, true, ◌<◌, ℕ, suc, List, [], ◌∷◌, ◌++◌, map, length, get_or, slice_index, Option, None, Some, refl, sym, ap, subst, ◌∙◌, inl, inr, arith, append_assoc, take, zero, ◌≤◌, ◌+◌, ◌-◌}
+use Rattle.std.proofs.Common.{◌≡◌, ◌≢◌, ◌<◌, ℕ, suc, List, [], ◌∷◌, ◌++◌, map, length, get_or, slice_index, Option, None, Some, refl, sym, ap, subst, ◌∙◌, inl, inr, arith, append_assoc, take, zero, ◌≤◌, ◌+◌, ◌-◌}
 use Rattle.std.specs.Prelude.{flat_map, slice_get}
 use Rattle.std.specs.HashMap.{get}
 use Rattle.just_parts.specs.Needs.{same_number}
@@ -317,12 +317,12 @@ module _ (given : Given) (entries : List (AstKey × Ast)) (d : AstKey) (files : 
       keeps_here g =
           kept_alike (layers_at given h.key.0) (links_by (contents_of_place given.syntax.enabled files joined p) over) (links_in m inside) (contents_of_place given.syntax.enabled files joined p) (contents_of m)
           (alike_at given entries d files placed rows are paths joined order below joins lists_first k l h)
-          (λ lists f c broken. subst (λ n. links_by n over lists f c) (sym cs_same) (links_back given asts loaded built m inside over meets_over settled_over lists f c broken))
+          (λ e f c broken. subst (λ n. links_by n over (layers_at given h.key.0) e f c) (sym cs_same) (links_back given asts loaded built m inside over meets_over settled_over (layers_at given h.key.0) e f c broken))
           g (subst (λ (x : Layers). KeepsContents x (links_by (contents_of_place given.syntax.enabled files joined p) over) (contents_of_place given.syntax.enabled files joined p)) layers_same at.kept g)
 
       -- no target of its aliases is unknown
       targets_there : Keeps (Aliases (HasTarget m inside) (contents_of m).aliases)
-      targets_there c broken = at.kept OfAliases c (under at.evaluated.evaluated (subst (λ n. links_by n over true OfAliases c) (sym cs_same) (aliases_back given asts loaded built m inside over meets_over c (of_targets broken))))
+      targets_there c broken = at.kept OfAliases c (under at.evaluated.evaluated (subst (λ n. links_by n over (layers_at given (path_at files p)) at.evaluated.it OfAliases c) (sym cs_same) (aliases_back given asts loaded built m inside over meets_over c (of_targets broken))))
 
       -- so it has its aliases
       pub is_aliased : (label : Label) → module_name (j label) ≡ name_in m → AreAliased (MeansIn given asts m inside) (contents_of m).aliases (out-Justfile (j label)).aliases

@@ -4,7 +4,7 @@ use Rattle.just_errors.specs.Causes.{Cause, Keeps}
 use Rattle.just_module_contents.specs.Constants.{Docs, Evaluated, IsEvaluated}
 use Rattle.just_module_contents.specs.Contents.{Contents}
 use Rattle.just_analyzer.specs.Checked.{no_links}
-use Rattle.just_module_contents.specs.Groups.{Breaks, BreaksContents, Group, KeepsBefore, Links, OfAliases, OfBodies, OfConstants, OfDependencies, OfExpressions, OfHeaders, OfNames, in_docs, rank}
+use Rattle.just_module_contents.specs.Groups.{Breaks, BreaksContents, Group, KeepsBefore, Links, OfAliases, OfBodies, OfConstants, OfDependencies, OfExpressions, OfHeaders, OfNames, OfRecipes, in_docs, rank}
 use Rattle.just_module_contents.specs.Rules.{Under, under}
 use Rattle.just_parts.specs.Layers.{Layers}
 
@@ -16,6 +16,7 @@ module _ (layers : Layers) (links : Links) (m : Contents) where
   before_names headers OfConstants lt = absurd (omega (arith, lt))
   before_names headers OfBodies lt = absurd (omega (arith, lt))
   before_names headers OfDependencies lt = absurd (omega (arith, lt))
+  before_names headers OfRecipes lt = absurd (omega (arith, lt))
   before_names headers OfAliases lt = absurd (omega (arith, lt))
 
   pub before_expressions : Keeps (Breaks layers links OfHeaders m) → Keeps (Breaks layers links OfNames m) → KeepsBefore layers links OfExpressions m
@@ -25,6 +26,7 @@ module _ (layers : Layers) (links : Links) (m : Contents) where
   before_expressions headers names OfConstants lt = absurd (omega (arith, lt))
   before_expressions headers names OfBodies lt = absurd (omega (arith, lt))
   before_expressions headers names OfDependencies lt = absurd (omega (arith, lt))
+  before_expressions headers names OfRecipes lt = absurd (omega (arith, lt))
   before_expressions headers names OfAliases lt = absurd (omega (arith, lt))
 
   pub before_constants : Keeps (Breaks layers links OfHeaders m) → Keeps (Breaks layers links OfNames m) → Keeps (Breaks layers links OfExpressions m) → KeepsBefore layers links OfConstants m
@@ -34,6 +36,7 @@ module _ (layers : Layers) (links : Links) (m : Contents) where
   before_constants headers names expressions OfConstants lt = absurd (omega (arith, lt))
   before_constants headers names expressions OfBodies lt = absurd (omega (arith, lt))
   before_constants headers names expressions OfDependencies lt = absurd (omega (arith, lt))
+  before_constants headers names expressions OfRecipes lt = absurd (omega (arith, lt))
   before_constants headers names expressions OfAliases lt = absurd (omega (arith, lt))
 
   pub before_bodies : Keeps (Breaks layers links OfHeaders m) → Keeps (Breaks layers links OfNames m) → Keeps (Breaks layers links OfExpressions m) → Keeps (Breaks layers links OfConstants m) → KeepsBefore layers links OfBodies m
@@ -43,6 +46,7 @@ module _ (layers : Layers) (links : Links) (m : Contents) where
   before_bodies headers names expressions constants OfConstants lt = constants
   before_bodies headers names expressions constants OfBodies lt = absurd (omega (arith, lt))
   before_bodies headers names expressions constants OfDependencies lt = absurd (omega (arith, lt))
+  before_bodies headers names expressions constants OfRecipes lt = absurd (omega (arith, lt))
   before_bodies headers names expressions constants OfAliases lt = absurd (omega (arith, lt))
 
   -- what is broken of docs is broken of the module
@@ -58,6 +62,7 @@ module _ (layers : Layers) (links other : Links) (m : Contents) where
   before_any kept OfConstants lt = kept OfConstants lt
   before_any kept OfBodies lt = absurd (omega (arith, lt))
   before_any kept OfDependencies lt = absurd (omega (arith, lt))
+  before_any kept OfRecipes lt = absurd (omega (arith, lt))
   before_any kept OfAliases lt = absurd (omega (arith, lt))
 
   earlier_any : (g : Group) → rank g < 5 → KeepsBefore layers links g m → KeepsBefore layers other g m
@@ -67,15 +72,13 @@ module _ (layers : Layers) (links other : Links) (m : Contents) where
   earlier_any g small kept OfConstants lt = kept OfConstants lt
   earlier_any g small kept OfBodies lt = kept OfBodies lt
   earlier_any g small kept OfDependencies lt = absurd (omega (arith, lt, small))
+  earlier_any g small kept OfRecipes lt = absurd (omega (arith, lt, small))
   earlier_any g small kept OfAliases lt = absurd (omega (arith, lt, small))
 
 -- what is broken without links is broken with any
 module _ (layers : Layers) (links : Links) (m : Contents) (c : Cause) where
-  nothing_under : Under (IsEvaluated layers m) (λ (it : Evaluated). no_links it.settings.lists OfDependencies) c → ⊥
-  nothing_under (under is b) = b
-
-  nothing_last : Under (IsEvaluated layers m) (λ (it : Evaluated). no_links it.settings.lists OfAliases) c → ⊥
-  nothing_last (under is b) = b
+  nothing_under : (g : Group) → Under (IsEvaluated layers m) (λ (it : Evaluated). no_links layers it g) c → ⊥
+  nothing_under g (under is b) = b
 
   of_group : (g : Group) → KeepsBefore layers no_links g m → Breaks layers no_links g m c → BreaksContents layers links m c
   of_group OfHeaders earlier b = record { group = OfHeaders; earlier = earlier_any layers no_links links m OfHeaders (omega arith) earlier; broken = b }
@@ -83,8 +86,9 @@ module _ (layers : Layers) (links : Links) (m : Contents) (c : Cause) where
   of_group OfExpressions earlier b = record { group = OfExpressions; earlier = earlier_any layers no_links links m OfExpressions (omega arith) earlier; broken = b }
   of_group OfConstants earlier b = record { group = OfConstants; earlier = earlier_any layers no_links links m OfConstants (omega arith) earlier; broken = b }
   of_group OfBodies earlier b = record { group = OfBodies; earlier = earlier_any layers no_links links m OfBodies (omega arith) earlier; broken = b }
-  of_group OfDependencies earlier b = absurd (nothing_under b)
-  of_group OfAliases earlier b = absurd (nothing_last b)
+  of_group OfDependencies earlier b = absurd (nothing_under OfDependencies b)
+  of_group OfRecipes earlier b = absurd (nothing_under OfRecipes b)
+  of_group OfAliases earlier b = absurd (nothing_under OfAliases b)
 
   pub broken_any : BreaksContents layers no_links m c → BreaksContents layers links m c
   broken_any b = of_group b.group b.earlier b.broken

@@ -10,6 +10,7 @@ pub mod Inserting
 pub mod Keeping
 pub mod Linking
 pub mod Meeting
+pub mod NamesRead
 pub mod Numbers
 pub mod Ordered
 pub mod OwnNumbers

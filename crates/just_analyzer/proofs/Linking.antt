@@ -1,5 +1,5 @@
 -- What a module that is analyzed is linked to, by what its justfile has.
-use Rattle.std.proofs.Common.{◌≡◌, ◌∙◌, Bool, List, ◌++◌, sym, ap, subst}
+use Rattle.std.proofs.Common.{◌≡◌, List, ◌++◌, sym, ap, subst}
 use Rattle.just_analyzer.specs.Parts.{IsAnalyzedFrom, around_by}
 use Rattle.just_analyzer.specs.declared.groups.Checked.{Checked}
 use Rattle.just_analyzer.specs.declared.making.Surroundings.{Surroundings}
@@ -17,12 +17,13 @@ use Rattle.just_module_recipes.specs.Broken.{BreaksRecipes}
 use Rattle.just_module_recipes.specs.Linked.{AreLinked, HasDisabled, HasNumber}
 use Rattle.just_module_recipes.specs.Links.{Around, Disables, Stands, around, around_of, links_by}
 use Rattle.just_parts.specs.Items.{Ast}
-use Rattle.just_parts.specs.Syntax.{SyntaxAnswers}
+use Rattle.just_module_variables.specs.Constants.{evaluated_in}
+use Rattle.just_parts.specs.Layers.{Layers}
 use Rattle.just_recipe.specs.declared.dependency.Dependency.{Dependency}
 use Rattle.just_recipe.specs.declared.dependency.UnresolvedDependency.{UnresolvedDependency}
 use Rattle.just_recipe.specs.declared.recipe.Recipe.{Recipe}
 
-module _ (answers : SyntaxAnswers) (own : Ast) (it : Checked) (about : Surroundings) (before after : Made) (j : Justfile) (is : IsAnalyzedFrom answers own it about before after j) where
+module _ (layers : Layers) (own : Ast) (it : Checked) (about : Surroundings) (before after : Made) (j : Justfile) (is : IsAnalyzedFrom layers own it about before after j) where
   abbrev rs : List (Recipe UnresolvedDependency)
   rs = kept_recipes (recipes_in it.definitions)
 
@@ -49,7 +50,7 @@ module _ (answers : SyntaxAnswers) (own : Ast) (it : Checked) (about : Surroundi
   links_of m same = subst (λ (x : Contents). HasLinks (kept_recipes x.recipes) before.recipes own.module_path added is.standing j) same has_links
 
   -- and keeps its rules over them
-  pub recipes_kept_over : (m : Contents) → contents_in it.definitions ≡ m → Keeps (BreaksRecipes answers it.constants.settings (links_by m (around_of j before.recipes)) (contents_in it.definitions))
+  pub recipes_kept_over : (m : Contents) → contents_in it.definitions ≡ m → Keeps (BreaksRecipes layers (evaluated_in it.constants) (links_by m (around_of j before.recipes)) (contents_in it.definitions))
   recipes_kept_over m same =
-      subst (λ (x : Contents). Keeps (BreaksRecipes answers it.constants.settings (links_by x (around_of j before.recipes)) (contents_in it.definitions))) same
-      (subst (λ (x : Around). Keeps (BreaksRecipes answers it.constants.settings (links_by (contents_in it.definitions) x) (contents_in it.definitions))) around_is is.kept)
+      subst (λ (x : Contents). Keeps (BreaksRecipes layers (evaluated_in it.constants) (links_by x (around_of j before.recipes)) (contents_in it.definitions))) same
+      (subst (λ (x : Around). Keeps (BreaksRecipes layers (evaluated_in it.constants) (links_by (contents_in it.definitions) x) (contents_in it.definitions))) around_is is.kept)

@@ -1,6 +1,6 @@
 -- The module at a place, over the justfiles of the modules in it.
 use Rattle.just_module_headers.proofs.Alike.{kept_alike, breaks_alike}
-use Rattle.std.proofs.Common.{◌≡◌, ◌<◌, ℕ, List, [], ◌∷◌, ◌++◌, map, length, get_or, slice_index, Option, None, Some, refl, sym, ap, subst, ◌∙◌, inl, inr, arith, Bool}
+use Rattle.std.proofs.Common.{◌≡◌, ◌<◌, ℕ, List, [], ◌∷◌, ◌++◌, map, length, get_or, slice_index, Option, None, Some, refl, sym, ap, subst, ◌∙◌, inl, inr, arith}
 use Rattle.std.specs.Prelude.{flat_map, slice_get, is_some}
 use Rattle.std.specs.List.{Contains, list_any}
 use Rattle.std.specs.Map.{keys_of, lookup}
@@ -18,14 +18,14 @@ use Rattle.just_compiled.specs.Labelled.{with_labels, by_name, slot}
 use Rattle.just_compiled.specs.Justfiles.{AreCompiled, Built, contents_in, notes_said, recipes_in, recipes_of_all}
 use Rattle.just_analyzer.specs.Noted.{notes_from, notes_of_place}
 use Rattle.just_module_tree.specs.Modules.{Forest, Heading, Module, headings_in, AreModules, IsHeading, IsModule, a_module, contents_of, heading_of, no_module}
+use Rattle.just_module_contents.specs.Constants.{Evaluated}
 use Rattle.just_module_contents.specs.Contents.{Contents}
-use Rattle.just_module_contents.specs.Kept.{kept_recipes}
 use Rattle.just_module_contents.specs.Named.{alias_by, contents_from, function_by, lists_by, name_by, naming_by, said_from, recipes_by, recipes_from, set_by, unexported_by, variable_by}
 use Rattle.just_module_contents.specs.Said.{said_in}
 use Rattle.just_module_contents.specs.Recipes.{recipes_of}
 use Rattle.just_module_headers.specs.Reading.{Submodule, items_in, Reading, reading_of}
 use Rattle.just_module_headers.specs.OfPlaces.{contents_of_place, labels_of_place}
-use Rattle.just_analyzer.specs.Steps.{BreaksOver, kept_of_place, names_of_labels}
+use Rattle.just_analyzer.specs.Steps.{BreaksOver, names_of_labels}
 use Rattle.just_module_headers.specs.declared.files.Files.{Files}
 use Rattle.just_module_contents.specs.declared.labels.Label.{Label}
 use Rattle.just_module_contents.specs.declared.notes.Notes.{Notes}
@@ -198,10 +198,11 @@ module _ (given : Given) (entries : List (AstKey × Ast)) (d : AstKey) (files : 
             let b : BreaksContents (layers_at given h.key.0) (links_by ms it) (contents_of_place given.syntax.enabled files joined p) c =
             subst (λ (x : Layers). BreaksContents x (links_by ms it) (contents_of_place given.syntax.enabled files joined p) c) (layers_there given entries d files placed rows are paths joined order below joins lists_first k l h e) (broken.broken js there) in
             let are_settled = around_settled held it.absent it.modules (settled broken.labels) in
-            let on : (lists : Bool) (g : Group) (x : Cause) → links_by ms it lists g x → links_in m inside lists g x = λ lists g x r.
-            links_on given asts loaded built m inside it meets lists g x (subst (λ (n : Contents). links_by n it lists g x) cs r) in
-            let back : (lists : Bool) (g : Group) (x : Cause) → links_in m inside lists g x → links_by ms it lists g x = λ lists g x r.
-            subst (λ (n : Contents). links_by n it lists g x) (sym cs) (links_back given asts loaded built m inside it meets are_settled lists g x r) in
+            let here = layers_at given h.key.0 in
+            let on : (e : Evaluated) (g : Group) (x : Cause) → links_by ms it here e g x → links_in m inside here e g x = λ e g x r.
+            links_on given asts loaded built m inside it meets here e g x (subst (λ (n : Contents). links_by n it here e g x) cs r) in
+            let back : (e : Evaluated) (g : Group) (x : Cause) → links_in m inside here e g x → links_by ms it here e g x = λ e g x r.
+            subst (λ (n : Contents). links_by n it here e g x) (sym cs) (links_back given asts loaded built m inside it meets are_settled here e g x r) in
             let ground : HasGround given b.group m inside = record {
               earlier = λ f lt. kept_alike (layers_at given h.key.0) (links_by ms it) (links_in m inside) (contents_of_place given.syntax.enabled files joined p) (contents_of m) alike back f (b.earlier f lt);
               below = λ ne. kept_inside;

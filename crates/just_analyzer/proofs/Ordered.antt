@@ -15,11 +15,13 @@ use Rattle.just_errors.specs.declared.error.Error.{Error}
 use Rattle.just_errors.proofs.Lifts.{reports_by}
 use Rattle.just_recipe.specs.declared.recipe.Recipe.{Recipe}
 use Rattle.just_recipe.specs.Recipes.{numbers}
+use Rattle.just_invoke.specs.Walks.{NamesRise}
 use Rattle.just_invoke.specs.declared.justfile.Justfile.{Justfile}
 use Rattle.just_compiled.specs.Labelled.{by_name, slot, with_labels}
 use Rattle.just_module_contents.specs.declared.labels.Label.{Label}
 use Rattle.just_compiled.specs.Justfiles.{Made}
 use Rattle.just_compiled.specs.Settled.{AreInnerSettled, IsSettled}
+use Rattle.just_compiled.proofs.ByName.{names_sorted}
 use Rattle.just_compiled.proofs.Settling.{module_settled, named_settled, settled_more}
 use Rattle.just_module_contents.proofs.Keeping.{kept_number}
 use Rattle.just_module_contents.specs.Resolved.{unresolved_numbers}
@@ -234,6 +236,7 @@ module _ (given : Given) (files : Files) (joined : Joined) (loaded : List Text) 
       subst (IsSettled (made_before made order k)) (ap justfile x.2 ∙ sym q.2) (settled_to (x.0 + 1) k (justfile (slice_index order x.0)) (omega (arith, x.1)) (omega (arith, l)) (settled_at fuel x.0 (omega (arith, x.1, less)) (omega (arith, x.1, l)))) in
       subst (λ rs. IsSettled rs (justfile p)) (sym here)
       (module_settled (kept_of_place given.syntax.enabled files joined p) at.standing (made_before made order k) (made p).recipes at.own.module_path (justfile p) at.links at.fields.recipes_are
+      (subst NamesRise (sym at.modules) (names_sorted (with_labels (map justfile (targets joined.modules.items p)) at.labels)))
       (λ x c. named_settled (made_before made order k) (map justfile (targets joined.modules.items p)) at.labels inner x (subst (λ ms. Contains ms x) at.modules c)))
 
   pub held_settled : (m k : ℕ) → k < length order → k < m → m < n + 1 → IsSettled (made_before made order m) (justfile (slice_index order k))

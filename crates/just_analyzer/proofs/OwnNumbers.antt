@@ -1,24 +1,27 @@
 -- The numbers of a module's own recipes among those of all.
-use Rattle.std.proofs.Common.{◌≡◌, ◌∙◌, ℕ, zero, suc, ◌<◌, ◌==◌, Bool, true, false, cond, List, [], ◌∷◌, ◌++◌, length, Option, None, Some, refl, sym, ap, subst, inl, inr, arith}
+use Rattle.std.proofs.Common.{◌≡◌, ◌∙◌, ℕ, zero, suc, ◌<◌, ◌==◌, Bool, true, false, cond, List, [], ◌∷◌, length, Option, None, Some, refl, sym, ap, subst, inl, inr, arith}
 use Rattle.std.specs.List.{Contains}
 use Rattle.std.proofs.lemmas.Bool.{eqb-true}
 use Rattle.std.proofs.lemmas.List.Elements.{Contains-get_or}
-use Rattle.just_ast_expressions.specs.declared.settings.Settings.{Settings}
 use Rattle.just_compiled.proofs.Settling.{place_in, standing_in}
-use Rattle.just_errors.specs.Causes.{Cause, Keeps}
+use Rattle.just_errors.specs.Causes.{Keeps}
 use Rattle.just_graph.proofs.Members.{In, contained, from_map, in_cases, in_map, is_in}
+use Rattle.just_module_contents.specs.Constants.{Evaluated}
 use Rattle.just_module_contents.specs.Contents.{Contents}
-use Rattle.just_module_contents.specs.Defaults.{Defaults, IsDefault, IsDefaultAmong, IsDefaultBy, IsDefaultOf}
+use Rattle.just_module_contents.specs.Defaults.{Defaults, IsDefaultAmong, IsDefaultBy, IsDefaultOf}
 use Rattle.just_module_contents.specs.Recipes.{name_of, no_recipe, recipe_at}
 use Rattle.just_module_contents.specs.Resolved.{AreNew, number_at, unresolved_numbers}
 use Rattle.just_module_contents.specs.Kept.{kept_recipes}
+use Rattle.just_module_contents.specs.Known.{known_of}
+use Rattle.just_module_contents.specs.RecipeNames.{ReadNames, of_standing}
 use Rattle.just_module_contents.specs.Rules.{Aliases, Bodies}
 use Rattle.just_module_contents.specs.Standing.{AreStanding, falls, none, stands}
-use Rattle.just_module_recipes.specs.Broken.{BreaksRecipes, in_aliases, in_bodies, in_dependencies}
+use Rattle.just_module_recipes.specs.Broken.{BreaksRecipes}
+use Rattle.just_module_recipes.proofs.Grounds.{recipes_kept}
 use Rattle.just_module_recipes.specs.Linked.{AddsLinked}
-use Rattle.just_module_recipes.specs.Links.{Around, BreaksAliases, BreaksLinks, HasTarget, Stands, links_by, of_defaults, of_targets}
+use Rattle.just_module_recipes.specs.Links.{Around, BreaksAliases, BreaksLinks, BreaksRecipeNames, HasTarget, Stands, links_by, of_defaults, of_targets}
 use Rattle.just_names.specs.declared.number.Number.{Number}
-use Rattle.just_parts.specs.Syntax.{SyntaxAnswers}
+use Rattle.just_parts.specs.Layers.{Layers}
 use Rattle.just_paths.specs.declared.modulepath.Modulepath.{Modulepath}
 use Rattle.just_recipe.specs.Recipes.{find_number, numbers}
 use Rattle.just_recipe.specs.declared.dependency.Dependency.{Dependency}
@@ -43,16 +46,24 @@ one_standing a b = go a b refl
     go {P} (falls {r} isnt all) (stands {r = q} is more) e = let head : r ≡ q = cc in absurd (isnt (subst (λ (x : Recipe UnresolvedDependency). P (name_of x)) (sym head) is))
     go (falls {rs} isnt all) (falls {rs = qs} other more) e = let rest : rs ≡ qs = cc in go all more rest
 
+-- no name is at fault in what those read that stand where none is in what these read, which are those
+pub names_kept : (layers : Layers) (e : Evaluated) (m : Contents) (standing : List (Recipe UnresolvedDependency)) (it : Around) → AreStanding (Stands (kept_recipes m.recipes) it) (kept_recipes m.recipes) standing
+    → Keeps (ReadNames layers.syntax (known_of layers.syntax m) e.settings standing) → Keeps (BreaksRecipeNames layers e m it)
+names_kept layers e m standing it stand names c (of_standing other is b) =
+    names c (subst (λ (rs : List (Recipe UnresolvedDependency)). ReadNames layers.syntax (known_of layers.syntax m) e.settings rs c) (one_standing is stand) b)
+
+-- so are defaults
+aliases_kept : (m : Contents) (standing : List (Recipe UnresolvedDependency)) (it : Around) → AreStanding (Stands (kept_recipes m.recipes) it) (kept_recipes m.recipes) standing
+    → Keeps (Defaults standing) → Keeps (Aliases (HasTarget (kept_recipes m.recipes) it) m.aliases) → Keeps (BreaksAliases (kept_recipes m.recipes) m.aliases it)
+aliases_kept m standing it stand defaults targets c (of_targets k) = targets c k
+aliases_kept m standing it stand defaults targets c (of_defaults other is k) = defaults c (subst (λ (rs : List (Recipe UnresolvedDependency)). Defaults rs c) (one_standing is stand) k)
+
 -- what is kept of the recipes of a module
-pub recipes_kept : (answers : SyntaxAnswers) (s : Settings) (m : Contents) (standing : List (Recipe UnresolvedDependency)) (it : Around) → Keeps (Bodies answers s m) → Keeps (BreaksLinks s.lists (kept_recipes m.recipes) it)
-    → AreStanding (Stands (kept_recipes m.recipes) it) (kept_recipes m.recipes) standing → Keeps (Defaults standing) → Keeps (Aliases (HasTarget (kept_recipes m.recipes) it) m.aliases) → Keeps (BreaksRecipes answers s (links_by m it) m)
-recipes_kept answers s m standing it bodies dependencies stand defaults targets c (in_bodies b) = bodies c b
-recipes_kept answers s m standing it bodies dependencies stand defaults targets c (in_dependencies kept b) = dependencies c b
-recipes_kept answers s m standing it bodies dependencies stand defaults targets c (in_aliases kept also b) = go b
-  where
-    go : BreaksAliases (kept_recipes m.recipes) m.aliases it c → ⊥
-    go (of_targets k) = targets c k
-    go (of_defaults other is k) = defaults c (subst (λ (rs : List (Recipe UnresolvedDependency)). Defaults rs c) (one_standing is stand) k)
+pub all_recipes_kept : (layers : Layers) (e : Evaluated) (m : Contents) (standing : List (Recipe UnresolvedDependency)) (it : Around) → Keeps (Bodies layers.syntax e.settings m) → Keeps (BreaksLinks e.settings.lists (kept_recipes m.recipes) it)
+    → AreStanding (Stands (kept_recipes m.recipes) it) (kept_recipes m.recipes) standing → Keeps (ReadNames layers.syntax (known_of layers.syntax m) e.settings standing) → Keeps (Defaults standing)
+    → Keeps (Aliases (HasTarget (kept_recipes m.recipes) it) m.aliases) → Keeps (BreaksRecipes layers e (links_by m it) m)
+all_recipes_kept layers e m standing it bodies dependencies stand names defaults targets =
+    recipes_kept layers e (links_by m it) m bodies dependencies (names_kept layers e m standing it stand names) (aliases_kept m standing it stand defaults targets)
 
 -- a default of numbers is one of others that agree on the own recipes
 module _ (ns ms : List ℕ) (own : List (Recipe UnresolvedDependency)) (into : (k : ℕ) → k < length own → Contains ns (number_at own k) → Contains ms (number_at own k)) (back : (k : ℕ) → k < length own → Contains ms (number_at own k) → Contains ns (number_at own k)) where

@@ -90,11 +90,15 @@ module _ (given : Given) (files : Files) (joined : Joined) (p : ℕ) (row : List
     labels_named = named_alike _ (labels_of_place given.syntax.enabled files joined p) it.labels.items is.labels
 
     -- so is what is broken of its recipes
-    pub breaks_recipes : (links : Links) (c : Cause) → BreaksRecipes given.syntax it.constants.settings links (contents_in it.definitions) c → BreaksPlace given files joined p links c
-    breaks_recipes links c b = recipes_broken layers links m (evaluated_in it.constants) is.constants.evaluated (earlier links) is.docs c (subst (λ n. BreaksRecipes given.syntax it.constants.settings links n c) is.contents b)
+    pub breaks_recipes : (links : Links) (c : Cause) → BreaksRecipes (layers_at given own.module_path) (evaluated_in it.constants) links (contents_in it.definitions) c → BreaksPlace given files joined p links c
+    breaks_recipes links c b =
+        recipes_broken layers links m (evaluated_in it.constants) is.constants.evaluated (earlier links) is.docs c
+        (subst (λ (x : Layers). BreaksRecipes x (evaluated_in it.constants) links m c) layers_same (subst (λ n. BreaksRecipes (layers_at given own.module_path) (evaluated_in it.constants) links n c) is.contents b))
 
-    pub keeps_place : (links : Links) → Keeps (BreaksRecipes given.syntax it.constants.settings links (contents_in it.definitions)) → KeepsPlace given files joined p links
-    keeps_place links recipes = all_kept layers links m (evaluated_in it.constants) is.constants.evaluated (earlier links) is.docs (subst (λ n. Keeps (BreaksRecipes given.syntax it.constants.settings links n)) is.contents recipes)
+    pub keeps_place : (links : Links) → Keeps (BreaksRecipes (layers_at given own.module_path) (evaluated_in it.constants) links (contents_in it.definitions)) → KeepsPlace given files joined p links
+    keeps_place links recipes =
+        all_kept layers links m (evaluated_in it.constants) is.constants.evaluated (earlier links) is.docs
+        (subst (λ (x : Layers). Keeps (BreaksRecipes x (evaluated_in it.constants) links m)) layers_same (subst (λ n. Keeps (BreaksRecipes (layers_at given own.module_path) (evaluated_in it.constants) links n)) is.contents recipes))
 
     -- what is evaluated of it
     pub evaluated_to : (j : Justfile) → (out-Justfile j).settings ≡ it.constants.settings → (out-Justfile j).overridden ≡ it.constants.overrides

@@ -21,7 +21,7 @@ use Rattle.just_parts.specs.Needs.{same_number}
 
 -- nothing is broken of the last groups, which read the modules in a module as well
 abbrev pub no_links : Links
-no_links lists g c = ⊥
+no_links layers it g c = ⊥
 
 -- The variables of a module are resolved, it has these constants and settings, with values for whatever is evaluated while compiling, and these values override its variables, also by their numbers.
 pub record HasConstants (layers : Layers) (m : Contents) (variables : Variables) (constants : Constants) : Type 0 where

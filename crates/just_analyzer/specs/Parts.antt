@@ -1,6 +1,6 @@
 -- The steps by which one module is compiled.
 use Rattle.std.specs.Prelude.{◌≡◌, ◌++◌, ℕ, Bool, List, map, slice_get, Option, Some}
-use Rattle.just_errors.specs.Causes.{Keeps}
+use Rattle.just_errors.specs.Causes.{Cause, Keeps}
 use Rattle.just_graph.specs.Graph.{targets}
 use Rattle.just_invoke.specs.declared.justfile.Justfile.{Justfile, out-Justfile}
 use Rattle.just_module_contents.specs.Definitions.{contents_in, recipes_in}
@@ -30,7 +30,8 @@ use Rattle.just_names.specs.Texts.{Text}
 use Rattle.just_module_contents.specs.declared.labels.Label.{Label}
 use Rattle.just_parts.specs.Asts.{AstKey}
 use Rattle.just_parts.specs.Items.{Ast, Item}
-use Rattle.just_parts.specs.Syntax.{SyntaxAnswers}
+use Rattle.just_parts.specs.Layers.{Layers}
+use Rattle.just_module_variables.specs.Constants.{evaluated_in}
 use Rattle.just_module_recipes.specs.Broken.{BreaksRecipes}
 
 -- What the module at a place has besides its recipes: the list of loaded files, its own file, what is noted of its files, and the modules in it, which were held, under labels.
@@ -50,6 +51,10 @@ around_by it held = around_made it.notes.absent_modules it.modules held
 abbrev pub own_targets : Surroundings → OwnRecipes → Targets
 own_targets it own = targets_made it.notes.absent_modules own.disabled it.modules own.keys
 
+-- what is broken of the recipes of a module that is checked, over what is around them
+abbrev pub BreaksChecked : Layers → Checked → Around → Cause → Type 0
+BreaksChecked layers it about = BreaksRecipes layers (evaluated_in it.constants) (links_by (contents_in it.definitions) about) (contents_in it.definitions)
+
 -- The kept recipes of a module are linked over what is around them: those that stand, the table of the others, and all recipes, of which these are added.
 pub record AreLinkedOver (lists : Bool) (recipes : List (Recipe UnresolvedDependency)) (it : Around) (path : Modulepath) (standing : List (Recipe UnresolvedDependency)) (disabled : List (Text × Disabled)) (all : List (Recipe Dependency)) : Type 0 where
   pub stand : AreStanding (Stands recipes it) recipes standing
@@ -57,15 +62,15 @@ pub record AreLinkedOver (lists : Bool) (recipes : List (Recipe UnresolvedDepend
   pub linked : AddsLinked lists recipes it path all
 
 -- What a module is analyzed to that is checked, and what it adds.
-pub record IsAnalyzedFrom (answers : SyntaxAnswers) (own : Ast) (it : Checked) (around : Surroundings) (before after : Made) (j : Justfile) : Type 0 where
-  pub kept : Keeps (BreaksRecipes answers it.constants.settings (links_by (contents_in it.definitions) (around_by around before.recipes)) (contents_in it.definitions))
+pub record IsAnalyzedFrom (layers : Layers) (own : Ast) (it : Checked) (around : Surroundings) (before after : Made) (j : Justfile) : Type 0 where
+  pub kept : Keeps (BreaksChecked layers it (around_by around before.recipes))
   pub standing : List (Recipe UnresolvedDependency)
   pub linked : AreLinkedOver it.constants.settings.lists (kept_recipes (recipes_in it.definitions)) (around_by around before.recipes) own.module_path standing (out-Justfile j).disabled_recipes after.recipes
   pub overridden : after.overridden ≡ before.overridden ++ it.constants.overridden.items
   pub fields : IsOf (contents_in it.definitions) standing own around.loaded around.source j
-  pub default : HasDefault standing (recipes_by answers.enabled (Some own)) j
+  pub default : HasDefault standing (recipes_by layers.syntax.enabled (Some own)) j
   pub settings : (out-Justfile j).settings ≡ it.constants.settings
   pub own_overrides : (out-Justfile j).overridden ≡ it.constants.overrides
-  pub variables : HasVariables answers (contents_in it.definitions) j
+  pub variables : HasVariables layers.syntax (contents_in it.definitions) j
   pub modules : (out-Justfile j).modules ≡ around.modules
   pub notes : notes_in j ≡ around.notes

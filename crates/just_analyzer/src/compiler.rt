@@ -34,8 +34,8 @@ impl Compiler {
     }
 
     /// Compiles the file at `root` and those that it reaches, or names a rule that is broken. Where it succeeds no rule
-    /// is broken, and each recipe that the compilation names is held, after those that it depends on. What the expressions of
-    /// recipes and of their attributes read is not judged yet.
+    /// is broken, and each recipe that the compilation names is held, after those that it depends on. Whether the docs, helps
+    /// and patterns of recipes have values, and whether overrides name variables, is not judged yet.
     ///
     /// The evaluation is asked for the constants of each module: the values of the variables that its settings need, and
     /// the docs, helps and patterns of its attributes, each with whatever it reads. A variable that the configuration

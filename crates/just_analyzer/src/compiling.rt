@@ -6,18 +6,17 @@ ghost use Rattle.just_module_variables.specs.Variables.{AreVariablesOf};
 ghost use Rattle.just_graph.specs.Graph.{targets};
 ghost use Rattle.just_graph.specs.Steps.{IsOnce};
 ghost use Rattle.just_errors.specs.Causes.{Reports};
+ghost use Rattle.just_invoke.specs.Walks.{AreOrdered};
 ghost use Rattle.just_invoke.specs.declared.justfile.Justfile.{Justfile};
 ghost use Rattle.just_compiled.specs.Labelled.{slot};
-ghost use Rattle.just_parts.specs.Layers.{given_by};
+ghost use Rattle.just_parts.specs.Layers.{given_by, layers_at};
 ghost use Rattle.just_module_contents.specs.Definitions.{contents_in, recipes_in};
 ghost use Rattle.just_module_contents.specs.Resolved.{AreNew, HasPriors, unresolved_numbers};
 ghost use Rattle.just_module_headers.specs.OfPlaces.{recipes_of_place};
 ghost use Rattle.just_module_contents.specs.Kept.{kept_recipes};
 ghost use Rattle.just_module_contents.specs.Named.{recipes_by};
-ghost use Rattle.just_module_recipes.specs.Broken.{BreaksRecipes};
 ghost use Rattle.just_module_recipes.specs.Linked.{AreSettled};
-ghost use Rattle.just_module_recipes.specs.Links.{links_by};
-ghost use Rattle.just_analyzer.specs.Parts.{AreSurroundings, IsAnalyzedFrom, around_by};
+ghost use Rattle.just_analyzer.specs.Parts.{AreSurroundings, BreaksChecked, IsAnalyzedFrom, around_by};
 ghost use Rattle.just_compiled.specs.Settled.{AreInnerSettled};
 ghost use Rattle.just_analyzer.specs.Steps.{BreaksInOrder, BreaksOver, CanCompileAll, CompilesAt, FitsFiles, HaveCompiledAll, made_in};
 
@@ -79,10 +78,9 @@ fn surroundings_at<'a, 'src, S: Syntax, E: Evaluation>(
 
 // The justfile of a module that is checked, of which `ast` says its own file, and what is gathered: its recipes, and the
 // values that override its variables, are added.
-fn analyze_checked<'b, 'src, S: Syntax>(
-    alloc: Global,
+fn analyze_checked<'b, 'src, S: Syntax, E: Evaluation>(
+    given: &Given<S, E>,
     ast: &Ast<'src>,
-    syntax: &S,
     mut checked: Checked<'src, 'b>,
     surroundings: Surroundings<'src>,
     gathered: Gathered<'src>,
@@ -90,29 +88,22 @@ fn analyze_checked<'b, 'src, S: Syntax>(
     requires once { IsOnce (unresolved_numbers (recipes_in checked.definitions)) }
     requires priors { All HasPriors (recipes_in checked.definitions) }
     requires apart { AreNew gathered.recipes (recipes_in checked.definitions) }
-    requires own { AreNew gathered.recipes (recipes_by (S.answers syntax.now).enabled (Some ast.now)) }
+    requires own { AreNew gathered.recipes (recipes_by (S.answers given.now.syntax.now).enabled (Some ast.now)) }
+    requires ordered { AreOrdered surroundings.modules }
     requires settled { AreSettled (around_by surroundings gathered.recipes) }
-    requires variables { AreVariablesOf (S.answers syntax.now) (contents_in checked.definitions) checked.variables }
-    ensures analyzed { let is = IsAnalyzedFrom (S.answers syntax.now) ast.now checked.entry surroundings.entry in
+    requires variables { AreVariablesOf (S.answers given.now.syntax.now) (contents_in checked.definitions) checked.variables }
+    ensures analyzed { let layers = layers_at (given_by S.answers E.answers given.now) ast.now.module_path in
+        let is = IsAnalyzedFrom layers ast.now checked.entry surroundings.entry in
         IfOk result (λ made. is (made_in gathered.entry) (made_in made.1) made.0) }
-    ensures named { let links = links_by (contents_in checked.entry.definitions) (around_by surroundings.entry gathered.entry.recipes) in
-        let breaks = BreaksRecipes (S.answers syntax.now) checked.entry.constants.settings links in
-        IfErr result (Reports (breaks (contents_in checked.entry.definitions))) }
+    ensures named { let layers = layers_at (given_by S.answers E.answers given.now) ast.now.module_path in
+        IfErr result (Reports (BreaksChecked layers checked.entry (around_by surroundings.entry gathered.entry.recipes))) }
 {
     let Gathered {
         recipes,
         mut overridden,
     } = gathered;
     overridden.append(&mut checked.constants.overridden)?;
-    let (own, recipes) = add_recipes(
-        alloc,
-        &checked.definitions,
-        ast,
-        syntax,
-        &checked.constants.settings,
-        &surroundings,
-        recipes,
-    )?;
+    let (own, recipes) = add_recipes(given, &checked, ast, &surroundings, recipes)?;
     let Checked {
         definitions,
         variables,
@@ -120,7 +111,7 @@ fn analyze_checked<'b, 'src, S: Syntax>(
         ..
     } = checked;
     let justfile = make_justfile(
-        alloc,
+        given.alloc,
         &definitions,
         ast,
         own,
@@ -167,14 +158,7 @@ fn compile_place<'a, 'src, S: Syntax, E: Evaluation>(
         checked.labels.as_slice(),
         slots,
     )?;
-    let (justfile, gathered) = analyze_checked(
-        given.alloc,
-        ast,
-        given.syntax,
-        checked,
-        surroundings,
-        gathered,
-    )?;
+    let (justfile, gathered) = analyze_checked(given, ast, checked, surroundings, gathered)?;
     slots[place] = Some(justfile);
     Ok(gathered)
 }

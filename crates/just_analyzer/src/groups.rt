@@ -1,29 +1,32 @@
 //! The analysis of one module, which goes by groups of rules, in this order: headers, names, variables, constants, docs;
-//! then bodies, dependencies, aliases and the default. A group is checked where the ones before it are kept.
+//! then bodies, dependencies, the names in recipes, aliases and the default. A group is checked where the ones before it are
+//! kept.
 
-ghost use Rattle.std.specs.Prelude.{◌≡◌, ◌<◌, IfErr, IfOk, Some, length};
+ghost use Rattle.std.specs.Prelude.{◌≡◌, ◌<◌, IfErr, IfOk, OnOk, Some, length};
 ghost use Rattle.std.specs.List.{All};
 ghost use Rattle.just_analyzer.specs.Checked.{HasConstants, IsChecked, no_links};
-ghost use Rattle.just_analyzer.specs.Parts.{AreLinkedOver, around_by, own_targets};
+ghost use Rattle.just_analyzer.specs.Parts.{AreLinkedOver, BreaksChecked, around_by, own_targets};
 ghost use Rattle.just_errors.specs.Causes.{Keeps, Reports};
 ghost use Rattle.just_graph.specs.Steps.{IsOnce};
+ghost use Rattle.just_invoke.specs.Walks.{AreOrdered};
 ghost use Rattle.just_module_contents.specs.Constants.{Docs, constant_expressions};
 ghost use Rattle.just_module_contents.specs.Contents.{texts_of_named};
 ghost use Rattle.just_module_contents.specs.Defaults.{IsDefaultAmong};
 ghost use Rattle.just_module_contents.specs.Definitions.{contents_in, recipes_in, variables_in};
 ghost use Rattle.just_module_contents.specs.Groups.{BreaksContents, KeepsBefore, OfBodies};
 ghost use Rattle.just_module_contents.specs.Kept.{kept_recipes};
+ghost use Rattle.just_module_contents.specs.Known.{known_of};
 ghost use Rattle.just_module_contents.specs.Labels.{label_by};
 ghost use Rattle.just_module_contents.specs.Named.{contents_from, naming_by, recipes_by, said_from, variable_by};
+ghost use Rattle.just_module_contents.specs.RecipeNames.{ReadNames};
 ghost use Rattle.just_module_contents.specs.Resolved.{AreNew, HasPriors, unresolved_numbers};
 ghost use Rattle.just_module_contents.specs.Rules.{Bodies};
 ghost use Rattle.just_module_headers.specs.Analyzable.{assignment_numbers};
 ghost use Rattle.just_module_headers.specs.Files.{asts_in};
 ghost use Rattle.just_compiled.specs.Analysis.{recipe_table};
 ghost use Rattle.just_module_recipes.specs.Aliased.{aliases_of};
-ghost use Rattle.just_module_recipes.specs.Broken.{BreaksRecipes};
 ghost use Rattle.just_module_recipes.specs.Linked.{AreSettled};
-ghost use Rattle.just_module_recipes.specs.Links.{BreaksLinks, links_by};
+ghost use Rattle.just_module_recipes.specs.Links.{BreaksLinks};
 ghost use Rattle.just_module_variables.specs.Constants.{CoversAll};
 ghost use Rattle.just_module_variables.specs.Documented.{AreDocumentedIn};
 ghost use Rattle.just_module_variables.specs.Variables.{AreVariablesOf};
@@ -44,8 +47,10 @@ use just_module_recipes::{Linked, check_bodies, default_of, link, resolve_aliase
 use just_module_variables::{
     Constants, Variables, document, evaluate_constants, resolve_variables,
 };
-use just_parts::layers::{Ast, Error, Evaluation, Given, Settings, Syntax};
+use just_name_resolution::Known;
+use just_parts::layers::{Ast, Error, Evaluation, Given, Syntax};
 use just_paths::Modulepath;
+use just_recipe_names::check_recipes;
 use std::alloc::{AllocError, Global};
 
 /// What is found of a module before its recipes are resolved.
@@ -175,34 +180,35 @@ pub fn check_files<'b, 'a, 'src, S: Syntax, E: Evaluation>(
     })
 }
 
-// Links the recipes of the module at a path that are kept, under its settings, over what is around them. An error names a
-// rule that is broken in its bodies, or where these are kept in its dependencies.
-fn link_recipes<'src, 'a, S: Syntax>(
-    alloc: Global,
-    definitions: &Definitions<'src, 'a>,
-    syntax: &S,
-    settings: &Settings,
+// Links the recipes of a checked module at a path that are kept, under its settings, over what is around them. An error
+// names a rule that is broken in its bodies, or where these are kept in its dependencies.
+fn link_recipes<'src, 'a, S: Syntax, E: Evaluation>(
+    given: &Given<S, E>,
+    checked: &Checked<'src, 'a>,
     path: &Modulepath,
     around: &Surroundings<'src>,
     recipes: Recipes<'src>,
 ) -> Result<Linked<'src, 'a>, Error<'src>>
-    requires once { IsOnce (unresolved_numbers (recipes_in definitions.now)) }
-    requires priors { All HasPriors (recipes_in definitions.now) }
-    requires apart { AreNew recipes (recipes_in definitions.now) }
+    requires once { IsOnce (unresolved_numbers (recipes_in checked.now.definitions)) }
+    requires priors { All HasPriors (recipes_in checked.now.definitions) }
+    requires apart { AreNew recipes (recipes_in checked.now.definitions) }
+    requires ordered { AreOrdered around.now.modules }
     requires settled { AreSettled (around_by around.now recipes) }
-    ensures bodies { IfOk result (λ _. Keeps (Bodies (S.answers syntax.now) settings.now (contents_in definitions.now))) }
-    ensures kept { let kept = kept_recipes (recipes_in definitions.now) in
-        IfOk result (λ _. Keeps (BreaksLinks settings.now.lists kept (around_by around.now recipes.entry))) }
-    ensures linked { let kept = kept_recipes (recipes_in definitions.now) in
-        let linked = AreLinkedOver settings.now.lists kept (around_by around.now recipes.entry) path.now in
+    ensures bodies { let it = checked.now in
+        IfOk result (λ _. Keeps (Bodies (S.answers given.now.syntax.now) it.constants.settings (contents_in it.definitions))) }
+    ensures kept { let kept = kept_recipes (recipes_in checked.now.definitions) in
+        IfOk result (λ _. Keeps (BreaksLinks checked.now.constants.settings.lists kept (around_by around.now recipes.entry))) }
+    ensures linked { let kept = kept_recipes (recipes_in checked.now.definitions) in
+        let linked = AreLinkedOver checked.now.constants.settings.lists kept (around_by around.now recipes.entry) path.now in
         IfOk result (λ made. linked (recipes_in made.standing) made.disabled made.all) }
-    ensures named { let links = links_by (contents_in definitions.now) (around_by around.now recipes.entry) in
-        IfErr result (Reports (BreaksRecipes (S.answers syntax.now) settings.now links (contents_in definitions.now))) }
+    ensures named { let layers = layers_at (given_by S.answers E.answers given.now) path.now in
+        IfErr result (Reports (BreaksChecked layers checked.now (around_by around.now recipes.entry))) }
 {
-    check_bodies(alloc, syntax, definitions, settings)?;
-    let kept = keep_recipes(alloc, definitions)?;
+    let settings = &checked.constants.settings;
+    check_bodies(given.alloc, given.syntax, &checked.definitions, settings)?;
+    let kept = keep_recipes(given.alloc, &checked.definitions)?;
     link(
-        alloc,
+        given.alloc,
         &kept,
         settings,
         path,
@@ -212,43 +218,72 @@ fn link_recipes<'src, 'a, S: Syntax>(
     )
 }
 
-/// Checks the recipes of a module with these definitions, of which `ast` says its own file, under its settings, and links
-/// those that are kept over what is around them: those that stand are put behind the recipes that are resolved so far. It
-/// answers what its justfile has of them, with its aliases, and all recipes. An error names a rule that is broken; the recipes are dropped
-/// then.
-pub fn add_recipes<'src, 'a, S: Syntax>(
-    alloc: Global,
-    definitions: &Definitions<'src, 'a>,
+// Checks the names in what these recipes of a checked module read, among its variables and functions.
+fn check_names_read<'src, 'a, 'b, S: Syntax, E: Evaluation>(
+    given: &Given<S, E>,
+    checked: &Checked<'src, 'a>,
+    recipes: &Definitions<'src, 'b>,
+) -> Result<(), Error<'src>>
+    requires { AreVariablesOf (S.answers given.now.syntax.now) (contents_in checked.now.definitions) checked.now.variables }
+    ensures kept { let answers = S.answers given.now.syntax.now in
+        let known = known_of answers (contents_in checked.now.definitions) in
+        OnOk result (Keeps (ReadNames answers known checked.now.constants.settings (recipes_in recipes.now))) }
+    ensures named { let answers = S.answers given.now.syntax.now in
+        let known = known_of answers (contents_in checked.now.definitions) in
+        IfErr result (Reports (ReadNames answers known checked.now.constants.settings (recipes_in recipes.now))) }
+{
+    let known = Known {
+        assignments: &checked.variables.assignments,
+        functions: &checked.variables.functions,
+        syntax: given.syntax,
+    };
+    check_recipes(given.alloc, &known, &checked.constants.settings, recipes)
+}
+
+/// Checks the recipes of a module that is checked, of which `ast` says its own file, under its settings, and links those
+/// that are kept over what is around them: those that stand are put behind the recipes that are resolved so far. It answers
+/// what its justfile has of them, with its aliases, and all recipes. An error names a rule that is broken; the recipes are
+/// dropped then.
+pub fn add_recipes<'src, 'a, S: Syntax, E: Evaluation>(
+    given: &Given<S, E>,
+    checked: &Checked<'src, 'a>,
     ast: &Ast<'src>,
-    syntax: &S,
-    settings: &Settings,
     around: &Surroundings<'src>,
     recipes: Recipes<'src>,
 ) -> Result<(OwnRecipes<'src, 'a>, Recipes<'src>), Error<'src>>
-    requires once { IsOnce (unresolved_numbers (recipes_in definitions.now)) }
-    requires priors { All HasPriors (recipes_in definitions.now) }
-    requires apart { AreNew recipes (recipes_in definitions.now) }
-    requires own { AreNew recipes (recipes_by (S.answers syntax.now).enabled (Some ast.now)) }
+    requires once { IsOnce (unresolved_numbers (recipes_in checked.now.definitions)) }
+    requires priors { All HasPriors (recipes_in checked.now.definitions) }
+    requires apart { AreNew recipes (recipes_in checked.now.definitions) }
+    requires own { AreNew recipes (recipes_by (S.answers given.now.syntax.now).enabled (Some ast.now)) }
+    requires ordered { AreOrdered around.now.modules }
     requires settled { AreSettled (around_by around.now recipes) }
-    ensures kept { let links = links_by (contents_in definitions.now) (around_by around.now recipes.entry) in
-        IfOk result (λ _. Keeps (BreaksRecipes (S.answers syntax.now) settings.now links (contents_in definitions.now))) }
-    ensures linked { let kept = kept_recipes (recipes_in definitions.now) in
-        let linked = AreLinkedOver settings.now.lists kept (around_by around.now recipes.entry) ast.now.module_path in
+    requires variables { AreVariablesOf (S.answers given.now.syntax.now) (contents_in checked.now.definitions) checked.now.variables }
+    ensures kept { let layers = layers_at (given_by S.answers E.answers given.now) ast.now.module_path in
+        IfOk result (λ _. Keeps (BreaksChecked layers checked.now (around_by around.now recipes.entry))) }
+    ensures linked { let kept = kept_recipes (recipes_in checked.now.definitions) in
+        let linked = AreLinkedOver checked.now.constants.settings.lists kept (around_by around.now recipes.entry) ast.now.module_path in
         IfOk result (λ made. linked (recipes_in made.0.standing) made.0.disabled made.1) }
     ensures keys { IfOk result (λ made. made.0.keys ≡ recipe_table (recipes_in made.0.standing)) }
-    ensures aliases { IfOk result (λ made. made.0.aliases ≡ aliases_of (own_targets around.now made.0) (contents_in definitions.now).aliases) }
-    ensures default { let own = recipes_by (S.answers syntax.now).enabled (Some ast.now) in
+    ensures aliases { let aliases = (contents_in checked.now.definitions).aliases in
+        IfOk result (λ made. made.0.aliases ≡ aliases_of (own_targets around.now made.0) aliases) }
+    ensures default { let own = recipes_by (S.answers given.now.syntax.now).enabled (Some ast.now) in
         IfOk result (λ made. IsDefaultAmong (recipes_in made.0.standing) own made.0.default) }
-    ensures named { let links = links_by (contents_in definitions.now) (around_by around.now recipes.entry) in
-        IfErr result (Reports (BreaksRecipes (S.answers syntax.now) settings.now links (contents_in definitions.now))) }
+    ensures named { let layers = layers_at (given_by S.answers E.answers given.now) ast.now.module_path in
+        IfErr result (Reports (BreaksChecked layers checked.now (around_by around.now recipes.entry))) }
 {
-    let path = &ast.module_path;
-    let linked = link_recipes(alloc, definitions, syntax, settings, path, around, recipes)?;
-    let default = default_of(alloc, &linked.standing, ast, syntax, &linked.all)?;
-    let keys = recipe_keys(alloc, &linked.standing)?;
+    let linked = link_recipes(given, checked, &ast.module_path, around, recipes)?;
+    check_names_read(given, checked, &linked.standing)?;
+    let default = default_of(
+        given.alloc,
+        &linked.standing,
+        ast,
+        given.syntax,
+        &linked.all,
+    )?;
+    let keys = recipe_keys(given.alloc, &linked.standing)?;
     let aliases = resolve_aliases(
-        alloc,
-        definitions,
+        given.alloc,
+        &checked.definitions,
         &around.notes.absent_modules,
         &linked.disabled,
         around.modules.as_slice(),

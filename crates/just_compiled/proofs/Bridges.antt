@@ -13,15 +13,18 @@ use Rattle.just_errors.specs.Causes.{Cause}
 use Rattle.just_invoke.specs.Walks.{end_of, module_named, path_along, recipe_by}
 use Rattle.just_invoke.specs.declared.resolution.Resolution.{Resolution}
 use Rattle.just_invoke.specs.declared.resolution.Resolution.TheVariants as resolution
+use Rattle.just_module_contents.specs.Constants.{Evaluated}
 use Rattle.just_module_contents.specs.Contents.{Contents}
-use Rattle.just_module_contents.specs.Groups.{Group, OfAliases, OfBodies, OfConstants, OfDependencies, OfExpressions, OfHeaders, OfNames}
+use Rattle.just_module_contents.specs.Groups.{Group, OfAliases, OfBodies, OfConstants, OfDependencies, OfExpressions, OfHeaders, OfNames, OfRecipes}
+use Rattle.just_module_contents.specs.Known.{known_of}
+use Rattle.just_module_contents.specs.RecipeNames.{ReadNames, of_standing}
 use Rattle.just_module_contents.specs.Recipes.{DependsOn, dependency_paths, least_of, most_of, name_of, named_paths, names_of, no_recipe, recipe_at}
 use Rattle.just_module_contents.specs.Resolved.{number_at}
 use Rattle.just_module_contents.specs.Rules.{DependsBy, StandsWith, unknown_target}
 use Rattle.just_module_contents.proofs.Keeping.{kept_different}
 use Rattle.just_module_contents.proofs.RecipePlaces.{number_read, one_place}
 use Rattle.just_module_headers.proofs.Holding.{some_value}
-use Rattle.just_module_headers.proofs.Alike.{Outline, at as outline_at, defaults_alike, dependencies_alike, depends_by_alike, many, name as name_at, same_names}
+use Rattle.just_module_headers.proofs.Alike.{Outline, at as outline_at, defaults_alike, dependencies_alike, depends_by_alike, many, name as name_at, read_names_alike, same_names}
 use Rattle.just_module_recipes.specs.Linked.{AreSettled, HasNumber, of_far as far_number, of_near as near_number}
 use Rattle.just_module_recipes.specs.Links as links
 use Rattle.just_module_recipes.specs.Links.{Around, BreaksLinks, Disables, HasParameters, Leads, Names, Stands, Takes, by_recipe, by_walk, far, found_by, links_by, near, of_far, of_near}
@@ -35,7 +38,8 @@ use Rattle.just_names.specs.declared.name.Namepath.{Namepath}
 use Rattle.just_names.specs.declared.number.Number.{Number}
 use Rattle.just_parts.specs.Asts.{AstKey}
 use Rattle.just_parts.specs.Items.{Ast}
-use Rattle.just_parts.specs.Layers.{Given}
+use Rattle.just_parts.specs.Known.{Known}
+use Rattle.just_parts.specs.Layers.{Given, Layers}
 use Rattle.just_paths.specs.declared.modulepath.Modulepath.{Modulepath}
 use Rattle.just_recipe.specs.Recipes.{find_number}
 use Rattle.just_recipe.specs.declared.dependency.Dependency.{Dependency}
@@ -330,15 +334,27 @@ module _ (given : Given) (asts : AstKey → Option Ast) (loaded : List Text) (bu
         let k = standing_alike (StandsIn m inside) (Stands (kept m) it) stands_back stands_on are (kept m) (sym meets.says.kept) in
         links.of_defaults k.0 k.1 (defaults_alike ss k.0 k.2 c b)
 
+    -- the same names are at fault in what those read that stand
+    names_on : (layers : Layers) (e : Evaluated) (c : Cause) → links.BreaksRecipeNames layers e (said m) it c → trees.BreaksRecipeNames layers e m inside c
+    names_on layers e c (of_standing ss are b) =
+        let k = standing_alike (Stands (kept m) it) (StandsIn m inside) stands_on stands_back are (kept_in m) meets.says.kept in
+        of_standing k.0 k.1 (subst (λ (x : Known). ReadNames layers.syntax x e.settings k.0 c) (meets.says.known layers.syntax) (read_names_alike ss k.0 k.2 layers.syntax (known_of layers.syntax (said m)) e.settings c b))
+
+    names_back : (layers : Layers) (e : Evaluated) (c : Cause) → trees.BreaksRecipeNames layers e m inside c → links.BreaksRecipeNames layers e (said m) it c
+    names_back layers e c (of_standing ss are b) =
+        let k = standing_alike (StandsIn m inside) (Stands (kept m) it) stands_back stands_on are (kept m) (sym meets.says.kept) in
+        of_standing k.0 k.1 (subst (λ (x : Known). ReadNames layers.syntax x e.settings k.0 c) (sym (meets.says.known layers.syntax)) (read_names_alike ss k.0 k.2 layers.syntax (known_of layers.syntax (contents_of m)) e.settings c b))
+
     -- so is what is broken of the last groups
-    pub links_on : (lists : Bool) (g : Group) (c : Cause) → links_by (said m) it lists g c → links_in m inside lists g c
-    links_on lists OfHeaders c b = b
-    links_on lists OfNames c b = b
-    links_on lists OfExpressions c b = b
-    links_on lists OfConstants c b = b
-    links_on lists OfBodies c b = b
-    links_on lists OfDependencies c b = dependencies_on lists c b
-    links_on lists OfAliases c b = aliases_on c b
+    pub links_on : (layers : Layers) (e : Evaluated) (g : Group) (c : Cause) → links_by (said m) it layers e g c → links_in m inside layers e g c
+    links_on layers e OfHeaders c b = b
+    links_on layers e OfNames c b = b
+    links_on layers e OfExpressions c b = b
+    links_on layers e OfConstants c b = b
+    links_on layers e OfBodies c b = b
+    links_on layers e OfDependencies c b = dependencies_on e.settings.lists c b
+    links_on layers e OfRecipes c b = names_on layers e c b
+    links_on layers e OfAliases c b = aliases_on c b
 
     -- the number that a path leads to is that of the tree
     pub number_on : (d : Namepath) (n : Number) → HasNumber (kept m) it d n → HasNumberIn given asts m inside d n
@@ -422,11 +438,12 @@ module _ (given : Given) (asts : AstKey → Option Ast) (loaded : List Text) (bu
           dependencies_alike (kept_in m) (kept m) (sym meets.says.kept) (LeadsSomewhere m inside) (Leads (kept m) it) (StandsIn m inside) (Stands (kept m) it) (TakesIn lists m inside) (Takes lists (kept m) it) leads_on stands_back (takes_back lists) lists
 
       -- so is what is broken of the last groups
-      pub links_back : (lists : Bool) (g : Group) (c : Cause) → links_in m inside lists g c → links_by (said m) it lists g c
-      links_back lists OfHeaders c b = b
-      links_back lists OfNames c b = b
-      links_back lists OfExpressions c b = b
-      links_back lists OfConstants c b = b
-      links_back lists OfBodies c b = b
-      links_back lists OfDependencies c b = dependencies_back lists c b
-      links_back lists OfAliases c b = aliases_back c b
+      pub links_back : (layers : Layers) (e : Evaluated) (g : Group) (c : Cause) → links_in m inside layers e g c → links_by (said m) it layers e g c
+      links_back layers e OfHeaders c b = b
+      links_back layers e OfNames c b = b
+      links_back layers e OfExpressions c b = b
+      links_back layers e OfConstants c b = b
+      links_back layers e OfBodies c b = b
+      links_back layers e OfDependencies c b = dependencies_back e.settings.lists c b
+      links_back layers e OfRecipes c b = names_back layers e c b
+      links_back layers e OfAliases c b = aliases_back c b

@@ -7,10 +7,11 @@ use Rattle.std.proofs.lemmas.List.Folds.{find-append}
 use Rattle.just_compiled.specs.Analysis.{HasLinks, recipe_table}
 use Rattle.just_compiled.specs.Labelled.{by_name, labelled_as, with_labels}
 use Rattle.just_compiled.specs.Settled.{IsSettled, settled}
+use Rattle.just_compiled.proofs.ByName.{names_sorted}
 use Rattle.just_compiled.proofs.Closing.{named_in}
 use Rattle.just_compiled.proofs.RecipeKeys.{found_among, key_found}
 use Rattle.just_graph.proofs.Members.{In, is_in}
-use Rattle.just_invoke.specs.Walks.{Absent, End, Here, Inside, Nowhere, beyond, end_of, module_named, only, path_along, recipe_at as key_at, recipe_by}
+use Rattle.just_invoke.specs.Walks.{Absent, AreOrdered, End, Here, Inside, IsOrdered, NamesRise, Nowhere, beyond, end_of, in_order, module_named, only, path_along, recipe_at as key_at, recipe_by}
 use Rattle.just_invoke.specs.declared.disabled.Disabled.{Disabled}
 use Rattle.just_invoke.specs.declared.justfile.Justfile.{Justfile, out-Justfile, out-roll-Justfile}
 use Rattle.just_invoke.specs.declared.justfile.RecipeKey.{RecipeKey}
@@ -80,17 +81,21 @@ pub held_more : (held rest : List (Recipe Dependency)) (n : ℕ) → IsSome (fin
 held_more held rest n some = subst IsSome (sym (find-append _ held rest)) (some_more (find_number held n) (find_number rest n) some)
 
 pub settled_more : {held : List (Recipe Dependency)} {j : Justfile} (rest : List (Recipe Dependency)) → IsSettled held j → IsSettled (held ++ rest) j
-settled_more {held} rest (settled recipes disabled inner) = settled (λ name key e. held_more held rest key.number.0 (recipes name key e)) disabled (λ i c. settled_more rest (inner i c))
+settled_more {held} rest (settled recipes disabled rise inner) = settled (λ name key e. held_more held rest key.number.0 (recipes name key e)) disabled rise (λ i c. settled_more rest (inner i c))
+
+-- the names of the modules in a settled one rise, in each module
+pub settled_ordered : {held : List (Recipe Dependency)} {j : Justfile} → IsSettled held j → IsOrdered j
+settled_ordered (settled recipes disabled rise inner) = in_order rise (λ i c. settled_ordered (inner i c))
 
 module _ (held : List (Recipe Dependency)) where
   inner_settled : {j : Justfile} → IsSettled held j → (inner : Justfile) → Contains (out-Justfile j).modules inner → IsSettled held inner
-  inner_settled (settled recipes disabled inner) = inner
+  inner_settled (settled recipes disabled rise inner) = inner
 
   recipes_held : {j : Justfile} → IsSettled held j → (name : Text) (key : RecipeKey) → find name (out-Justfile j).recipes ≡ Some key → IsSome (find_number held key.number.0)
-  recipes_held (settled recipes disabled inner) = recipes
+  recipes_held (settled recipes disabled rise inner) = recipes
 
   all_disabled : {j : Justfile} → IsSettled held j → (name : Text) (d : Disabled) → find name (out-Justfile j).disabled_recipes ≡ Some d → d.modules.keys ≢ []
-  all_disabled (settled recipes disabled inner) = disabled
+  all_disabled (settled recipes disabled rise inner) = disabled
 
   beyond_settled : (name : Text) (names : List Text) (inner j : Justfile) → IsSettled held inner → (end_of (out-Justfile inner).absent_modules (out-Justfile inner).modules names ≡ Inside j → IsSettled held j)
       → (end : End) → end_of (out-Justfile inner).absent_modules (out-Justfile inner).modules names ≡ end → beyond name inner end ≡ Inside j → IsSettled held j
@@ -175,8 +180,8 @@ some_number o r e = subst IsSome (sym e) refl
 
 -- a module that is linked over settled ones is settled
 pub module_settled : (recipes standing : List (Recipe UnresolvedDependency)) (before added : List (Recipe Dependency)) (path : Modulepath) (j : Justfile) → HasLinks recipes before path added standing j
-    → (out-Justfile j).recipes ≡ recipe_table standing → ((inner : Justfile) → Contains (out-Justfile j).modules inner → IsSettled before inner) → IsSettled (before ++ added) j
-module_settled recipes standing before added path j links are inner = settled numbers sets (λ i c. settled_more added (inner i c))
+    → (out-Justfile j).recipes ≡ recipe_table standing → NamesRise (out-Justfile j).modules → ((inner : Justfile) → Contains (out-Justfile j).modules inner → IsSettled before inner) → IsSettled (before ++ added) j
+module_settled recipes standing before added path j links are rise inner = settled numbers sets rise (λ i c. settled_more added (inner i c))
   where
     numbers : (name : Text) (key : RecipeKey) → find name (out-Justfile j).recipes ≡ Some key → IsSome (find_number (before ++ added) key.number.0)
     numbers name key e =
@@ -192,10 +197,10 @@ module_settled recipes standing before added path j links are inner = settled nu
 
 -- a label changes nothing of that
 pub settled_labelled : {held : List (Recipe Dependency)} {j : Justfile} (label : Label) → IsSettled held j → IsSettled held (labelled_as label j)
-settled_labelled {held} {j} label (settled recipes disabled inner) =
+settled_labelled {held} {j} label (settled recipes disabled rise inner) =
     let out = out-roll-Justfile (record (out-Justfile j) { name = label.name; doc = label.doc; groups = label.groups; private = label.private }) in
     settled (λ name key e. recipes name key (ap (λ x. find name x.recipes) (sym out) ∙ e)) (λ name d e. disabled name d (ap (λ x. find name x.disabled_recipes) (sym out) ∙ e))
-    (λ i c. inner i (subst (λ x. Contains x.modules i) out c))
+    (subst (λ x. NamesRise x.modules) (sym out) rise) (λ i c. inner i (subst (λ x. Contains x.modules i) out c))
 
 labelled_in : (js : List Justfile) (labels : List Label) (x : Justfile) → In x (with_labels js labels) → (j : Justfile) × (label : Label) × In j js × (x ≡ labelled_as label j)
 labelled_in [] labels x h = absurd h
@@ -208,3 +213,10 @@ pub named_settled : (held : List (Recipe Dependency)) (js : List Justfile) (labe
 named_settled held js labels all x c =
     let r = labelled_in js labels x (named_in (with_labels js labels) x (is_in x (by_name (with_labels js labels)) c)) in
     subst (IsSettled held) (sym r.3) (settled_labelled r.1 (all r.0 r.2))
+
+-- of modules in which the names of the modules rise, under labels, by their names, all names rise
+pub ordered_by_name : (js : List Justfile) (labels : List Label) → ((j : Justfile) → In j js → IsOrdered j) → AreOrdered (by_name (with_labels js labels))
+ordered_by_name js labels all = in_order (names_sorted (with_labels js labels)) (λ x c.
+    let r = labelled_in js labels x (named_in (with_labels js labels) x (is_in x (by_name (with_labels js labels)) c)) in
+    let out = out-roll-Justfile (record (out-Justfile r.0) { name = r.1.name; doc = r.1.doc; groups = r.1.groups; private = r.1.private }) in
+    subst IsOrdered (sym r.3) (subst (λ k. AreOrdered k.modules) (sym out) (all r.0 r.2)))

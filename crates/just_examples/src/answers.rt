@@ -1,7 +1,7 @@
 //! What is answered to the questions of a case.
 ghost use Rattle.std.specs.Prelude.{IfOk, IsSome};
 ghost use Rattle.std.specs.HashMap.{get};
-ghost use Rattle.just_analyzer.specs.Words.{IsClean, IsRooted, root_ast_key, same_ast_key};
+ghost use Rattle.just_analyzer.specs.Words.{IsClean, IsOrdered, IsRooted, root_ast_key, same_ast_key};
 
 use crate::find::answer_find;
 use just_analyzer::layers::{Config, Error};
@@ -27,6 +27,7 @@ fn compile<'src>(
 ) -> Result<Compilation<'src>, Error<'src>>
     requires { IsClean root.now }
     ensures rooted { IfOk result (λ c. IsRooted c.justfile c.recipes) }
+    ensures ordered { IfOk result (λ c. IsOrdered c.justfile) }
     ensures root_ast { IfOk result (λ c. IsSome (get same_ast_key c.asts (root_ast_key c.root))) }
 {
     Compiler::compile(alloc, config, syntax, &PlainEvaluation, sources, root)
@@ -42,6 +43,7 @@ fn add_compilation(
     asked: &Asked,
 ) -> Result<(), AllocError>
     requires rooted { IsRooted compilation.now.justfile compilation.now.recipes }
+    requires ordered { IsOrdered compilation.now.justfile }
     requires root_ast { IsSome (get same_ast_key compilation.now.asts (root_ast_key compilation.now.root)) }
 {
     let Compilation {

@@ -1,4 +1,6 @@
 //! Where paths lead from the root's module of a compilation. The names of a path are those of the parameters of a recipe.
+ghost use Rattle.just_invoke.specs.Walks.{IsOrdered};
+
 use just_data::Sequence;
 use just_invoke::{Justfile, RecipeAlias, Recipes, Resolution};
 use just_parts::Recipe;
@@ -65,7 +67,9 @@ fn add_resolved_recipe<'src>(
     alloc: Global,
     path: &Namepath<'src>,
     text: &mut String,
-) -> Result<(), AllocError> {
+) -> Result<(), AllocError>
+    requires { IsOrdered root.now }
+{
     let found = Resolution::resolve_recipe(
         alloc,
         path,
@@ -87,7 +91,9 @@ fn add_resolved_module<'src>(
     alloc: Global,
     path: &Namepath<'src>,
     text: &mut String,
-) -> Result<(), AllocError> {
+) -> Result<(), AllocError>
+    requires { IsOrdered root.now }
+{
     let modules = root.modules.as_slice();
     match Resolution::resolve_module(alloc, path, &root.absent_modules, modules)? {
         Some(Resolution::Disabled(modules)) => add_disabled(&modules, text),
@@ -102,7 +108,9 @@ fn add_submodule<'src>(
     alloc: Global,
     path: &Namepath<'src>,
     text: &mut String,
-) -> Result<(), AllocError> {
+) -> Result<(), AllocError>
+    requires { IsOrdered root.now }
+{
     let path = Modulepath::from_namepath(alloc, path)?;
     match root.submodule(&path) {
         Some(module) => writeln!(text, "module {}", module.source),
@@ -119,7 +127,9 @@ pub fn add_walk<'src>(
     call: &str,
     name: &str,
     text: &mut String,
-) -> Result<(), AllocError> {
+) -> Result<(), AllocError>
+    requires { IsOrdered root.now }
+{
     match call {
         "Justfile::recipe" => return add_recipe(root.recipe(recipes, name), text),
         "Justfile::recipe_alias" => return add_alias(root.recipe_alias(name), recipes, text),

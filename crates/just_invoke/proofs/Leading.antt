@@ -1,7 +1,8 @@
 -- Where walks end, and what is found there.
-use Rattle.std.proofs.Common.{◌≡◌, Bool, true, false, cond, List, [], ◌∷◌, map, is_some, if◌then◌else◌, IsSome, Option, Some, None, refl, sym, ◌∙◌, ap, subst}
+use Rattle.std.proofs.Common.{◌≡◌, Bool, true, false, cond, List, [], ◌∷◌, map, is_some, if◌then◌else◌, IfSome, IsSome, Option, Some, None, refl, sym, ◌∙◌, ap, subst}
+use Rattle.std.specs.Borrow.{Bor}
 use Rattle.std.specs.List.{Contains}
-use Rattle.std.specs.Option.{option_map}
+use Rattle.std.specs.Option.{option_copied, option_map}
 use Rattle.std.specs.Str.{bytes_eq}
 use Rattle.just_names.specs.Name.{text_of_name}
 use Rattle.just_names.specs.Texts.{Text}
@@ -19,7 +20,7 @@ use Rattle.just_invoke.specs.declared.justfile.Justfile.{Justfile, out-Justfile}
 use Rattle.just_invoke.specs.declared.justfile.RecipeKey.{RecipeKey}
 use Rattle.just_invoke.specs.declared.resolution.Resolution.{Resolution}
 use Rattle.just_invoke.specs.declared.resolution.Resolution.TheVariants as resolution
-use Rattle.just_invoke.specs.Walks.{Absent, End, Here, Inside, Nowhere, beyond, end_from, end_of, inner_along, module_named, recipe_at, recipe_by, recipe_from}
+use Rattle.just_invoke.specs.Walks.{Absent, AreOrdered, End, Here, Inside, IsOrdered, Nowhere, beyond, end_from, end_of, inner_along, inner_ordered, module_named, recipe_at, recipe_by, recipe_from}
 use Rattle.std.proofs.lemmas.List.Elements.{Contains-append_left, Contains-append_right, Contains-push}
 
 found_by : (b : Bool) (x j : Justfile) (rest : Option Justfile) (xs : List Justfile) → cond b (Some x) rest ≡ Some j → (rest ≡ Some j → Contains xs j) → Contains (x ∷ xs) j
@@ -30,6 +31,14 @@ found_by false x j rest xs e more = Contains-append_right (x ∷ []) xs j (more 
 pub named_there : (name : Text) (modules : List Justfile) (j : Justfile) → module_named name modules ≡ Some j → Contains modules j
 named_there name [] j e = cc
 named_there name (x ∷ modules) j e = found_by (bytes_eq (module_name x) name) x j (module_named name modules) modules e (named_there name modules j)
+
+-- and the names of those in it rise
+pub named_ordered : (name : Text) (modules : List Justfile) (j : Justfile) → AreOrdered modules → module_named name modules ≡ Some j → IsOrdered j
+named_ordered name modules j order e = inner_ordered order j (named_there name modules j e)
+
+pub found_ordered : (name : Text) (modules : List Justfile) (o : Option (Bor Justfile)) → AreOrdered modules → option_copied o ≡ module_named name modules → IfSome o (λ j. IsOrdered j.now)
+found_ordered name modules None order e = tt
+found_ordered name modules (Some j) order e = named_ordered name modules j.now order (sym e)
 
 -- what follows a name, by the module of the name
 next_along : List Text → Option Justfile → Option Justfile
@@ -92,6 +101,29 @@ walked_next : (root j : Justfile) (name : Text) (names : List Text) → ((inner 
 unfolding next_along next_end
 walked_next root j name names ih None g = absurd (absent_end (is_some (find name (out-Justfile root).absent_modules)) (name ∷ []) j g)
 walked_next root j name names ih (Some inner) g = walked_below j inner name names (end_from inner names) (ih inner) refl g
+
+ordered_below : (name : Text) (names : List Text) (inner j : Justfile) → IsOrdered inner → (end_from inner names ≡ Inside j → IsOrdered j)
+    → (end : End) → end_from inner names ≡ end → beyond name inner end ≡ Inside j → IsOrdered j
+ordered_below name names inner j order ih Here f g = let same : inner ≡ j = cc in subst IsOrdered same order
+ordered_below name names inner j order ih (Inside k) f g = ih (f ∙ g)
+ordered_below name names inner j order ih (Absent xs) f g = cc
+ordered_below name names inner j order ih Nowhere f g = cc
+
+ordered_next : (name : Text) (names : List Text) (absent : List (Text × Text)) (modules : List Justfile) (j : Justfile) → AreOrdered modules
+    → ((inner : Justfile) → IsOrdered inner → end_from inner names ≡ Inside j → IsOrdered j)
+    → (found : Option Justfile) → module_named name modules ≡ found → next_end names name absent found ≡ Inside j → IsOrdered j
+unfolding next_end
+ordered_next name names absent modules j order ih None f g = absurd (absent_end (is_some (find name absent)) (name ∷ []) j g)
+ordered_next name names absent modules j order ih (Some inner) f g =
+    let below = named_ordered name modules inner order f in
+    ordered_below name names inner j below (ih inner below) (end_from inner names) refl g
+
+-- the names of the modules in one into which a walk leads rise
+pub end_ordered : (names : List Text) (absent : List (Text × Text)) (modules : List Justfile) (j : Justfile) → AreOrdered modules → end_of absent modules names ≡ Inside j → IsOrdered j
+unfolding next_end
+end_ordered [] absent modules j order e = cc
+end_ordered (name ∷ names) absent modules j order e =
+    ordered_next name names absent modules j order (λ inner below g. end_ordered names (out-Justfile inner).absent_modules (out-Justfile inner).modules j below g) (module_named name modules) refl e
 
 -- a walk that ends in a module, and the module to which its names lead
 pub walk_along : (root j : Justfile) (names : List Text) → end_from root names ≡ Inside j → inner_along root names ≡ Some j

@@ -8,6 +8,7 @@ pub mod Outcomes
 pub mod Resolving
 pub mod Scoping
 pub mod Returning
+pub mod Searching
 pub mod SplitLemmas
 pub mod TailLemmas
 pub mod Unique

@@ -1,44 +1,16 @@
 -- A module is found by its own path.
-use Rattle.std.proofs.Common.{◌≡◌, ◌∙◌, ◌⊎◌, zero, suc, true, false, cond, List, [], ◌∷◌, ◌++◌, map, Option, None, Some, refl, sym, ap, subst, inl, inr, arith}
-use Rattle.std.specs.Cmp.Lexicographic.{slice_cmp}
-use Rattle.std.specs.List.{AllByRecursion, Contains}
-use Rattle.std.specs.List.Sorted.{IsStrictlySortedBy}
-use Rattle.std.specs.Ordering.{is_eq, nat_cmp}
-use Rattle.std.specs.declared.cmp.Ordering.TheVariants.{Less}
-use Rattle.std.specs.Str.{bytes_eq}
+use Rattle.std.proofs.Common.{◌≡◌, ◌∙◌, List, [], ◌∷◌, ◌++◌, Option, None, Some, refl, sym, ap}
+use Rattle.std.specs.List.{Contains}
 use Rattle.std.proofs.lemmas.List.{append-nil, append_assoc}
-use Rattle.std.proofs.lemmas.Map.Text.{is_eq-slice_cmp}
-use Rattle.std.proofs.lemmas.Slice.Eq.{bytes_eq-Decides}
 use Rattle.just_invoke.specs.Closed.{AreClosed, HaveNames, StandsIn, have_names, inner_closed, inside, itself}
 use Rattle.just_invoke.specs.Module.{module_name}
-use Rattle.just_invoke.specs.Walks.{inner_along, module_named}
+use Rattle.just_invoke.specs.Walks.{inner_along}
 use Rattle.just_invoke.specs.declared.justfile.Justfile.{Justfile, out-Justfile}
+use Rattle.just_invoke.proofs.Searching.{named_by}
 use Rattle.just_names.specs.Texts.{Text}
 use Rattle.just_paths.specs.declared.modulepath.Modulepath.{Modulepath}
 use Rattle.just_recipe.specs.declared.dependency.Dependency.{Dependency}
 use Rattle.just_recipe.specs.declared.recipe.Recipe.{Recipe}
-
-first_or : (x m : Justfile) (ms : List Justfile) → Contains (m ∷ ms) x → (m ≡ x) ⊎ Contains ms x
-first_or x m ms (zero, there, is) = inl is
-first_or x m ms (suc k, there, is) = inr (k, omega (arith, there), is)
-
-all_at : (P : Text → Type 0) (ms : List Justfile) (x : Justfile) → AllByRecursion P (map module_name ms) → Contains ms x → P (module_name x)
-all_at P [] x all (k, there, is) = absurd (omega (arith, there))
-all_at P (m ∷ ms) x all c = elim (first_or x m ms c) [ inl e ↦ subst P (ap module_name e) all.0 | inr more ↦ all_at P ms x all.1 more ]
-
--- of names that rise the first of a name is the one of this name
-named_by : (ms : List Justfile) → IsStrictlySortedBy (slice_cmp nat_cmp) (map module_name ms) → (x : Justfile) → Contains ms x → module_named (module_name x) ms ≡ Some x
-unfolding IsStrictlySortedBy
-named_by [] rise x (k, there, is) = absurd (omega (arith, there))
-named_by (m ∷ ms) rise x c = elim (first_or x m ms c) [
-  | inl e ↦ (
-      let same : bytes_eq (module_name m) (module_name x) ≡ true = (bytes_eq-Decides (module_name m) (module_name x)).1 (ap module_name e) in
-      ap (λ b. cond b (Some m) (module_named (module_name x) ms)) same ∙ ap Some e)
-  | inr more ↦ (
-      let less : slice_cmp nat_cmp (module_name m) (module_name x) ≡ Less = all_at (λ y. slice_cmp nat_cmp (module_name m) y ≡ Less) ms x rise.0 more in
-      let other : bytes_eq (module_name m) (module_name x) ≡ false = sym (is_eq-slice_cmp (module_name m) (module_name x)) ∙ ap is_eq less in
-      ap (λ b. cond b (Some m) (module_named (module_name x) ms)) other ∙ named_by ms rise.1 x more)
-]
 
 -- what follows a name, by the module of the name
 next_by : List Text → Option Justfile → Option Justfile

@@ -1,9 +1,6 @@
 -- Modules whose recipes are among those that are held, each under its name.
-use Rattle.std.specs.Prelude.{◌≡◌, ◌↔◌, ℕ, List, [], ◌∷◌, ◌++◌, map, Option, Some, None, IsSome}
-use Rattle.std.specs.Cmp.Lexicographic.{slice_cmp}
+use Rattle.std.specs.Prelude.{◌≡◌, ◌↔◌, ℕ, List, [], ◌∷◌, ◌++◌, Option, Some, None, IsSome}
 use Rattle.std.specs.List.{All, Contains}
-use Rattle.std.specs.List.Sorted.{IsStrictlySortedBy}
-use Rattle.std.specs.Ordering.{nat_cmp}
 use Rattle.just_ast_definitions.specs.declared.alias.Alias.{Alias}
 use Rattle.just_table.specs.Entries.{find}
 use Rattle.just_names.specs.Texts.{Text}
@@ -13,6 +10,7 @@ use Rattle.just_paths.specs.declared.modulepath.Modulepath.{Modulepath}
 use Rattle.just_recipe.specs.declared.dependency.Dependency.{Dependency}
 use Rattle.just_recipe.specs.declared.recipe.Recipe.{Recipe}
 use Rattle.just_invoke.specs.Module.{module_name}
+use Rattle.just_invoke.specs.Walks.{IsOrdered, NamesRise, in_order}
 use Rattle.just_invoke.specs.declared.justfile.Justfile.{Justfile, out-Justfile}
 use Rattle.just_invoke.specs.declared.justfile.RecipeKey.{RecipeKey}
 use Rattle.just_recipe.specs.Recipes.{find_number, IsResolved}
@@ -86,7 +84,7 @@ pub record IsClosed (justfile : Justfile) (recipes : List (Recipe Dependency)) :
 
 -- The modules in a module: their names rise in byte order, so that each stands once, and the path of each leads from the module's one name on.
 pub record HaveNames (justfile : Justfile) : Type 0 where
-  pub names : IsStrictlySortedBy (slice_cmp nat_cmp) (map module_name (out-Justfile justfile).modules)
+  pub names : NamesRise (out-Justfile justfile).modules
   pub paths : (inner : Justfile) → Contains (out-Justfile justfile).modules inner → (out-Justfile inner).module_path ≡ path_on (out-Justfile justfile).module_path (module_name inner)
 
 -- The module and all modules below it are closed, and those in each have names.
@@ -106,6 +104,10 @@ have_names (all_closed closed names below) = names
 pub inner_closed : {recipes : List (Recipe Dependency)} {justfile : Justfile} → AreClosed recipes justfile →
     (inner : Justfile) → Contains (out-Justfile justfile).modules inner → AreClosed recipes inner
 inner_closed (all_closed closed names below) = below
+
+-- so the names of those in it rise in byte order, in each module
+pub is_ordered : {recipes : List (Recipe Dependency)} {justfile : Justfile} → AreClosed recipes justfile → IsOrdered justfile
+is_ordered (all_closed closed names below) = in_order names.names (λ inner c. is_ordered (below inner c))
 
 -- these are the modules that stand in the root
 abbrev pub AreModulesIn : Justfile → List Justfile → Type 0

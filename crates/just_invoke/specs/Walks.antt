@@ -1,8 +1,11 @@
 -- Where paths lead from a module, through the modules in it.
 use Rattle.std.specs.Prelude.{◌≡◌, ◌≤◌, List, [], ◌∷◌, map, length, take, Option, None, Some, is_some, false, if◌then◌else◌}
 use Rattle.std.specs.BTreeSet.{BTreeSet}
-use Rattle.std.specs.List.{find as first_of}
+use Rattle.std.specs.Cmp.Lexicographic.{slice_cmp}
+use Rattle.std.specs.List.{Contains, find as first_of}
+use Rattle.std.specs.List.Sorted.{IsStrictlySortedBy}
 use Rattle.std.specs.Option.{option_map}
+use Rattle.std.specs.Ordering.{nat_cmp}
 use Rattle.std.specs.Str.{bytes_eq}
 use Rattle.just_names.specs.Name.{text_of_name, texts_of_path}
 use Rattle.just_names.specs.Texts.{Text}
@@ -18,6 +21,26 @@ use Rattle.just_invoke.specs.declared.resolution.Reached.{Reached}
 use Rattle.just_invoke.specs.declared.resolution.Reached.TheVariants as reached
 use Rattle.just_invoke.specs.declared.resolution.Resolution.{Resolution}
 use Rattle.just_invoke.specs.declared.resolution.Resolution.TheVariants as resolution
+
+-- the names of modules rise in byte order, so that each stands once
+abbrev pub NamesRise : List Justfile → Type 0
+NamesRise modules = IsStrictlySortedBy (slice_cmp nat_cmp) (map module_name modules)
+
+-- The names of modules rise in byte order, and so do those of the modules in each of them.
+pub data AreOrdered : List Justfile → Type 0 where
+  in_order : {modules : List Justfile} → NamesRise modules → ((inner : Justfile) → Contains modules inner → AreOrdered (out-Justfile inner).modules) → AreOrdered modules
+
+-- so do the names of the modules in this one, and in each of them
+abbrev pub IsOrdered : Justfile → Type 0
+IsOrdered j = AreOrdered (out-Justfile j).modules
+
+-- their names
+pub names_rise : {modules : List Justfile} → AreOrdered modules → NamesRise modules
+names_rise (in_order rise below) = rise
+
+-- the modules in each of them
+pub inner_ordered : {modules : List Justfile} → AreOrdered modules → (inner : Justfile) → Contains modules inner → IsOrdered inner
+inner_ordered (in_order rise below) = below
 
 -- the module of a name
 abbrev pub module_named : Text → List Justfile → Option Justfile

@@ -7,7 +7,7 @@ ghost use Rattle.just_invoke.specs.Cause.{Cause};
 ghost use Rattle.just_invoke.specs.Closed.{AreClosed, HaveNames, IsClosed, StandsIn};
 ghost use Rattle.just_invoke.specs.Words.{Words};
 ghost use Rattle.just_invoke.specs.Head.{Held, name_of};
-ghost use Rattle.just_invoke.specs.Walks.{Inside, end_from, inner_along, recipe_from};
+ghost use Rattle.just_invoke.specs.Walks.{Inside, IsOrdered, end_from, inner_along, recipe_from};
 ghost use Rattle.just_invoke.specs.declared.resolution.Resolution.TheVariants.{Resolved};
 ghost use Rattle.just_names.specs.Name.{text_of_name};
 ghost use Rattle.just_names.specs.declared.name.Namepath.{Namepath};
@@ -17,10 +17,11 @@ ghost use Rattle.just_invoke.specs.Split.{Invokes, IsSplit, IsFault};
 ghost use Rattle.just_invoke.specs.declared.justfile.Justfile.{Justfile, out-Justfile};
 
 /// Where a module and those below it are closed, the module itself is, and so is each of its modules with those below it. Those
-/// in it have names.
+/// in it have names, which rise in byte order in each module.
 pub fn closes_its_modules()
     ensures itself { (recipes : Held) (root : Justfile) → AreClosed recipes root → IsClosed root recipes }
     ensures names { (recipes : Held) (root : Justfile) → AreClosed recipes root → HaveNames root }
+    ensures ordered { (recipes : Held) (root : Justfile) → AreClosed recipes root → IsOrdered root }
     ensures modules { (recipes : _) (root inner : Justfile) →
         AreClosed recipes root → Contains (out-Justfile root).modules inner → AreClosed recipes inner }
 {}

@@ -4,7 +4,7 @@ ghost use Rattle.std.specs.Option.{option_copied};
 ghost use Rattle.just_names.specs.Name.{text_of_name};
 ghost use Rattle.just_table.specs.Entries.{find};
 ghost use Rattle.just_paths.specs.declared.modulepath.Modulepath.{Modulepath};
-ghost use Rattle.just_invoke.specs.Walks.{IsReached, absent_in, end_of, inner_along, module_at, module_named, only, path_along, recipe_at, resolved_module, resolved_recipe};
+ghost use Rattle.just_invoke.specs.Walks.{AreOrdered, IsOrdered, IsReached, absent_in, end_of, inner_along, module_at, module_named, only, path_along, recipe_at, resolved_module, resolved_recipe};
 
 use crate::disabled::Disabled;
 use crate::justfile::{Justfile, RecipeKey};
@@ -36,14 +36,18 @@ enum Reached<'run, 'src> {
     Nowhere,
 }
 
-// The module of a name.
+// The module of a name, among modules in byte order of their names.
 fn find_module<'run, 'src>(
     modules: &'run [Justfile<'src>],
     name: &str,
 ) -> Option<&'run Justfile<'src>>
+    requires { AreOrdered modules.now }
     ensures { option_copied result ≡ module_named name.now modules.now }
 {
-    modules.iter().find(|module| module.name() == name)
+    match modules.binary_search_by(|module| module.name().cmp(name)) {
+        Ok(at) => Some(&modules[at]),
+        Err(_) => None,
+    }
 }
 
 /// The module to which names lead from a module.
@@ -51,6 +55,7 @@ pub(crate) fn module_along<'run, 'src>(
     root: &'run Justfile<'src>,
     names: &[Text],
 ) -> Option<&'run Justfile<'src>>
+    requires { IsOrdered root.now }
     ensures { option_copied result ≡ inner_along root.now names.now }
 {
     let mut found = Some(root);
@@ -83,6 +88,7 @@ fn walk<'run, 'src>(
     modules: &'run [Justfile<'src>],
     front: &[Name<'src>],
 ) -> Reached<'run, 'src>
+    requires { AreOrdered modules.now }
     ensures { IsReached (map text_of_name front.now) (end_of absent.now modules.now (map text_of_name front.now)) result }
 {
     let mut modules = modules;
@@ -155,6 +161,7 @@ fn find_last<'src>(
     modules: &[Justfile<'src>],
     path: &Namepath<'src>,
 ) -> Result<Option<Resolution<Modulepath>>, AllocError>
+    requires { AreOrdered modules.now }
     ensures { IfOk result (λ found. found ≡ module_at absent.now modules.now path.now) }
 {
     let name = path.last.lexeme();
@@ -176,6 +183,8 @@ impl Resolution<Number> {
     ///
     /// It is disabled where the path leads through a module without a file, whose path from the module tells it, or to a recipe
     /// that is disabled. None where it leads to no recipe. The error is want of memory.
+    ///
+    /// The names of the modules rise in byte order, in each module (those of a compiled module do).
     pub fn resolve_recipe<'src>(
         alloc: Global,
         path: &Namepath<'src>,
@@ -184,6 +193,7 @@ impl Resolution<Number> {
         modules: &[Justfile<'src>],
         recipes: &Table<'src, RecipeKey<'src>>,
     ) -> Result<Option<Resolution<Number>>, AllocError>
+        requires { AreOrdered modules.now }
         ensures { let found = resolved_recipe absent_modules.now disabled_recipes.now modules.now recipes.now path.now in
             IfOk result (λ it. it ≡ found) }
     {
@@ -209,12 +219,15 @@ impl Resolution<Modulepath> {
     /// the modules in it. It is disabled where the last name is that of a module without a file, whose path from the module
     /// tells it. None where the path leads to no module, and where a name before the last is that of a module without a file.
     /// The error is want of memory.
+    ///
+    /// The names of the modules rise in byte order, in each module (those of a compiled module do).
     pub fn resolve_module<'src>(
         alloc: Global,
         path: &Namepath<'src>,
         absent: &Table<'src, BorrowedText<'src>>,
         modules: &[Justfile<'src>],
     ) -> Result<Option<Resolution<Modulepath>>, AllocError>
+        requires { AreOrdered modules.now }
         ensures { let found = resolved_module absent.now modules.now path.now in IfOk result (λ it. it ≡ found) }
     {
         match walk(absent, modules, path.front.as_slice()) {

@@ -1,5 +1,5 @@
 -- The rules of a module, group by group.
-use Rattle.std.specs.Prelude.{◌<◌, ℕ, Bool}
+use Rattle.std.specs.Prelude.{◌<◌, ℕ}
 use Rattle.just_errors.specs.Causes.{Cause, Keeps}
 use Rattle.just_parts.specs.Layers.{Layers}
 use Rattle.just_parts.specs.Misnaming.{Expressions}
@@ -21,6 +21,7 @@ pub data Group : Type 0 where
   OfConstants : Group
   OfBodies : Group
   OfDependencies : Group
+  OfRecipes : Group
   OfAliases : Group
 
 abbrev pub rank : Group → ℕ
@@ -30,11 +31,12 @@ rank OfExpressions = 2
 rank OfConstants = 3
 rank OfBodies = 4
 rank OfDependencies = 5
-rank OfAliases = 6
+rank OfRecipes = 6
+rank OfAliases = 7
 
--- What is broken of the last groups, where values are lists or not. They read the modules in a module as well.
+-- What is broken of the last groups of a module, by the layers, as the module is evaluated. They read the modules in it as well.
 abbrev pub Links : Type 1
-Links = Bool → Group → Cause → Type 0
+Links = Layers → Evaluated → Group → Cause → Type 0
 
 -- what is broken of a group
 abbrev pub Breaks : Layers → Links → Group → Contents → Cause → Type 0
@@ -43,8 +45,9 @@ Breaks layers links OfNames m = Names m
 Breaks layers links OfExpressions m = Expressions (known_of layers.syntax m)
 Breaks layers links OfConstants m = Constants layers m
 Breaks layers links OfBodies m = Under (IsEvaluated layers m) (BodiesAndDocs layers m)
-Breaks layers links OfDependencies m = Under (IsEvaluated layers m) (λ (it : Evaluated). links it.settings.lists OfDependencies)
-Breaks layers links OfAliases m = Under (IsEvaluated layers m) (λ (it : Evaluated). links it.settings.lists OfAliases)
+Breaks layers links OfDependencies m = Under (IsEvaluated layers m) (λ (it : Evaluated). links layers it OfDependencies)
+Breaks layers links OfRecipes m = Under (IsEvaluated layers m) (λ (it : Evaluated). links layers it OfRecipes)
+Breaks layers links OfAliases m = Under (IsEvaluated layers m) (λ (it : Evaluated). links layers it OfAliases)
 
 -- all groups are kept
 abbrev pub KeepsContents : Layers → Links → Contents → Type 0

@@ -8,6 +8,7 @@ pub mod Known
 pub mod Labels
 pub mod Named
 pub mod Notes
+pub mod RecipeNames
 pub mod Recipes
 pub mod Resolved
 pub mod Rules

@@ -26,7 +26,7 @@ use Rattle.just_parts.specs.Layers.{Layers}
 use Rattle.just_parts.specs.Located.{located_assignment}
 use Rattle.just_ast_references.specs.Numbers.{bare}
 use Rattle.just_recipe.specs.Script.{is_script, is_shell}
-use Rattle.just_parts.specs.Scopes.{compiled_expressions}
+use Rattle.just_parts.specs.Scopes.{Scoped, compiled_expressions}
 use Rattle.just_parts.specs.Syntax.{SyntaxAnswers}
 use Rattle.just_recipe.specs.declared.dependency.UnresolvedDependency.{UnresolvedDependency}
 use Rattle.just_recipe.specs.declared.recipe.Recipe.{Recipe}
@@ -36,7 +36,7 @@ use Rattle.just_errors.specs.declared.error.Definition.TheVariants as definition
 use Rattle.just_module_contents.specs.Contents.{Contents, Defined, Signature, all_defined, defined, defined_in, defined_naming, defined_recipe, function_names, signature, signatures, variable_names}
 use Rattle.just_names.specs.Index.{texts_of_names, Repeats}
 use Rattle.just_module_contents.specs.Constants.{AreConstants, AsksConstants, AsksFor, Constants, Docs, Evaluated, IsEvaluated, constant_expressions, constants_fault, doc_fault, functions_asked, in_doc, in_setting, recipe_expressions, settings_among, settings_fault, sets_lists}
-use Rattle.just_module_contents.specs.Groups.{BodiesAndDocs, Breaks, Group, Links, OfAliases, OfBodies, OfConstants, OfDependencies, OfExpressions, OfHeaders, OfNames, in_bodies, in_docs}
+use Rattle.just_module_contents.specs.Groups.{BodiesAndDocs, Breaks, Group, Links, OfAliases, OfBodies, OfConstants, OfDependencies, OfExpressions, OfHeaders, OfNames, OfRecipes, in_bodies, in_docs}
 use Rattle.just_module_contents.specs.Known.{functions_under, known_of, variables_under}
 use Rattle.just_parts.specs.Known.{Known, known, none_hidden}
 use Rattle.just_parts.specs.Misnaming.{Expressions, Misnames}
@@ -46,6 +46,7 @@ use Rattle.just_module_contents.specs.Settings.{allows_variables}
 use Rattle.just_module_contents.specs.Shells.{Lines, ScriptAttribute, ShellRecipe, Shells, invalid_attribute, of_attributes, of_lines, of_recipe}
 use Rattle.just_module_contents.specs.declared.definitions.Naming.{Naming}
 use Rattle.just_module_contents.specs.declared.kept.Claim.{Claim}
+use Rattle.just_module_contents.specs.RecipeNames.{ReadNames, in_recipe, written_scopes}
 use Rattle.just_module_contents.specs.Recipes.{name_of, line_of, token_of, named_parameters, parameter_names, is_defaulted, is_needed, FollowsDefault, named_paths, dependency_paths, least_of, most_of, names_of, no_recipe, recipe_at, Depends, DependsOn}
 use Rattle.just_module_contents.specs.Rules.{Bodies, Dependencies, DependsBy, Functions, Headers, IsCircleOf, Lists, Named, Names, Parameters, Redefined, Sets, StandsWith, Under, Unexports, Variables, argument_count, circular, duplicate_parameter, of_defined, of_functions, of_lists, of_named, of_parameters, of_sets, of_shells, of_unexports, of_variables, required_after_default, starred, under, unknown_dependency}
 
@@ -65,6 +66,7 @@ pub record Outline : Type 0 where
   pub given : List UnresolvedDependency
   pub least : ℕ
   pub most : Bool → ℕ
+  pub scopes : SyntaxAnswers → Settings → List Scoped
 
 abbrev pub outline_of : Recipe UnresolvedDependency → Outline
 outline_of recipe = record {
@@ -82,6 +84,7 @@ outline_of recipe = record {
   given = recipe.dependencies;
   least = least_of recipe;
   most = λ lists. most_of lists recipe;
+  scopes = λ answers settings. written_scopes answers settings recipe;
 }
 
 abbrev pub outlines_of : List (Recipe UnresolvedDependency) → List Outline
@@ -216,6 +219,14 @@ module _ (rs qs : List (Recipe UnresolvedDependency)) (alike : AreAlike rs qs) w
   pub depends_by_alike : (name_is : List ℕ) (path : Namepath) → DependsBy rs name_is path → DependsBy qs name_is path
   depends_by_alike name_is path d = record { from = d.from; there = inside d.from d.there; name_is = sym (name d.from) ∙ d.name_is; depends = named d.from path d.depends }
 
+  -- the same names are at fault in what they read
+  scopes_same : (answers : SyntaxAnswers) (s : Settings) (i : ℕ) → written_scopes answers s (recipe_at rs i) ≡ written_scopes answers s (recipe_at qs i)
+  scopes_same answers s i = ap (λ (o : Outline). o.scopes answers s) (at i)
+
+  pub read_names_alike : (answers : SyntaxAnswers) (m : Known) (s : Settings) (c : Cause) → ReadNames answers m s rs c → ReadNames answers m s qs c
+  read_names_alike answers m s c (in_recipe i h w) =
+      in_recipe i (inside i h) (record { from = w.from; there = subst (λ ss. Contains ss w.from) (scopes_same answers s i) w.there; wrong = w.wrong })
+
   -- where paths lead to the same, the same recipes stand, and those that are led to from a recipe that stands take the same arguments, the dependencies of recipes that are alike break the same rules
   module _ (Leads Leads-2 : Namepath → Type 0) (Stands Stands-2 : Text → Type 0) (Takes Takes-2 : Namepath → ℕ → ℕ → Type 0) (leads_back : (path : Namepath) → Leads-2 path → Leads path) (stands_on : (name : Text) → Stands name → Stands-2 name)
       (takes_on : (d : UnresolvedDependency) → StandsWith Stands rs d → (least most : ℕ) → Takes d.recipe least most → Takes-2 d.recipe least most) where
@@ -308,7 +319,7 @@ module _ (layers : Layers) (m n : Contents) (alike : AreAlikeContents m n) where
   defined_same : defined_in m ≡ defined_in n
   defined_same = ap (λ ns. all_defined ns m.recipes) alike.named ∙ defined_alike m.recipes n.recipes alike.recipes n.named
 
-  known_alike : known_of layers.syntax m ≡ known_of layers.syntax n
+  pub known_alike : known_of layers.syntax m ≡ known_of layers.syntax n
   known_alike = λ i. known layers.syntax (variables_under (alike.variables i)) (functions_under (alike.functions i))
 
   variables_alike : variable_names m.variables ≡ variable_names n.variables
@@ -371,14 +382,15 @@ module _ (layers : Layers) (m n : Contents) (alike : AreAlikeContents m n) where
   under_alike broken other each c (under {a = it} is b) = under (evaluated_alike it is) (each it c b)
 
   -- with these links the one breaks what the other does
-  pub breaks_alike : (links other : Links) → ((lists : Bool) (g : Group) (c : Cause) → links lists g c → other lists g c) → (g : Group) (c : Cause) → Breaks layers links g m c → Breaks layers other g n c
+  pub breaks_alike : (links other : Links) → ((it : Evaluated) (g : Group) (c : Cause) → links layers it g c → other layers it g c) → (g : Group) (c : Cause) → Breaks layers links g m c → Breaks layers other g n c
   breaks_alike links other each OfHeaders c b = headers_alike c b
   breaks_alike links other each OfNames c b = names_alike c b
   breaks_alike links other each OfExpressions c b = subst (λ (k : Known). Expressions k c) known_alike b
   breaks_alike links other each OfConstants c b = values_alike c b
   breaks_alike links other each OfBodies c b = under_alike (BodiesAndDocs layers m) (BodiesAndDocs layers n) bodies_and_docs_alike c b
-  breaks_alike links other each OfDependencies c b = under_alike (λ (it : Evaluated). links it.settings.lists OfDependencies) (λ (it : Evaluated). other it.settings.lists OfDependencies) (λ it. each it.settings.lists OfDependencies) c b
-  breaks_alike links other each OfAliases c b = under_alike (λ (it : Evaluated). links it.settings.lists OfAliases) (λ (it : Evaluated). other it.settings.lists OfAliases) (λ it. each it.settings.lists OfAliases) c b
+  breaks_alike links other each OfDependencies c b = under_alike (λ (it : Evaluated). links layers it OfDependencies) (λ (it : Evaluated). other layers it OfDependencies) (λ it. each it OfDependencies) c b
+  breaks_alike links other each OfRecipes c b = under_alike (λ (it : Evaluated). links layers it OfRecipes) (λ (it : Evaluated). other layers it OfRecipes) (λ it. each it OfRecipes) c b
+  breaks_alike links other each OfAliases c b = under_alike (λ (it : Evaluated). links layers it OfAliases) (λ (it : Evaluated). other layers it OfAliases) (λ it. each it OfAliases) c b
 
 pub alike_back : (m n : Contents) → AreAlikeContents m n → AreAlikeContents n m
 alike_back m n alike = record {
@@ -395,5 +407,5 @@ alike_back m n alike = record {
 }
 
 -- and keep the same
-pub kept_alike : (layers : Layers) (links other : Links) (m n : Contents) → AreAlikeContents m n → ((lists : Bool) (g : Group) (c : Cause) → other lists g c → links lists g c) → (g : Group) → Keeps (Breaks layers links g m) → Keeps (Breaks layers other g n)
+pub kept_alike : (layers : Layers) (links other : Links) (m n : Contents) → AreAlikeContents m n → ((it : Evaluated) (g : Group) (c : Cause) → other layers it g c → links layers it g c) → (g : Group) → Keeps (Breaks layers links g m) → Keeps (Breaks layers other g n)
 kept_alike layers links other m n alike each g kept c b = kept c (breaks_alike layers n m (alike_back m n alike) other links each g c b)

@@ -1,16 +1,23 @@
 -- Recipes without their numbers have the same outlines.
-use Rattle.std.proofs.Common.{◌≡◌, ℕ, ◌+◌, Bool, cond, List, [], ◌∷◌, map, refl, ap}
+use Rattle.std.proofs.Common.{◌≡◌, ◌∙◌, ℕ, ◌+◌, Bool, cond, ◌||◌, List, [], ◌∷◌, ◌++◌, map, refl, sym, ap}
 use Rattle.std.specs.Prelude.{if◌then◌else◌}
+use Rattle.std.specs.Str.{bytes_eq}
 use Rattle.std.specs.List.{list_any, fold}
-use Rattle.std.proofs.lemmas.List.{length-map}
+use Rattle.std.proofs.lemmas.List.{length-map, map-append}
 use Rattle.just_parts.specs.Bare.{bare_parameter}
 use Rattle.just_parts.specs.Located.{located_recipe}
 use Rattle.just_names.specs.Name.{text_of_name}
+use Rattle.just_names.specs.Texts.{Text}
 use Rattle.just_names.specs.declared.name.Name.{Name}
+use Rattle.just_ast_expressions.specs.declared.settings.Settings.{Settings}
+use Rattle.just_parts.specs.Scopes.{Scoped, compiled_expressions, environment_expressions, inner_expressions, is_parameter, of_attributes, parameter_expressions, parameter_scopes, scoped}
+use Rattle.just_parts.specs.Known.{none_hidden}
+use Rattle.just_parts.specs.Syntax.{SyntaxAnswers}
 use Rattle.just_ast_definitions.specs.Parameter.{is_required, is_variadic, least_arguments, most_arguments}
 use Rattle.just_recipe.specs.declared.dependency.UnresolvedDependency.{UnresolvedDependency}
 use Rattle.just_ast_definitions.specs.declared.parameter.Parameter.{Parameter}
 use Rattle.just_recipe.specs.declared.recipe.Recipe.{Recipe}
+use Rattle.just_module_contents.specs.RecipeNames.{written_scopes}
 use Rattle.just_module_contents.specs.Recipes.{named_paths, dependency_paths, is_defaulted, is_needed}
 use Rattle.just_module_headers.proofs.Alike.{outline_of}
 
@@ -44,6 +51,25 @@ count_from n (p ∷ ps) = count_from (n + cond (is_required p) 1 0) ps
 least_bare : (ps : List Parameter) → least_arguments (map bare_parameter ps) ≡ least_arguments ps
 least_bare ps = count_from 0 ps
 
+-- parameters hide the same names, and see the same
+hidden_at : (ps : List Parameter) (name : Text) → is_parameter (map bare_parameter ps) name ≡ is_parameter ps name
+hidden_at [] name = refl
+hidden_at (p ∷ ps) name = ap (λ b. bytes_eq (text_of_name p.name) name || b) (hidden_at ps name)
+
+hidden_bare : (ps : List Parameter) → is_parameter (map bare_parameter ps) ≡ is_parameter ps
+hidden_bare ps = λ i name. hidden_at ps name i
+
+scopes_bare : (before ps : List Parameter) → parameter_scopes (map bare_parameter before) (map bare_parameter ps) ≡ parameter_scopes before ps
+scopes_bare before [] = refl
+scopes_bare before (p ∷ ps) =
+    (λ i. map (scoped (hidden_bare before i)) (parameter_expressions p) ++ parameter_scopes (sym (map-append bare_parameter before (p ∷ [])) i) (map bare_parameter ps))
+    ∙ ap (λ ss. map (scoped (is_parameter before)) (parameter_expressions p) ++ ss) (scopes_bare (before ++ p ∷ []) ps)
+
+written_bare : (answers : SyntaxAnswers) (settings : Settings) (r : Recipe UnresolvedDependency) → written_scopes answers settings (located_recipe r) ≡ written_scopes answers settings r
+written_bare answers settings r = λ i.
+    map (scoped none_hidden) (of_attributes compiled_expressions r ++ of_attributes environment_expressions r)
+    ++ (scopes_bare [] r.parameters i ++ map (scoped (hidden_bare r.parameters i)) (inner_expressions (λ (d : UnresolvedDependency). d.arguments) answers settings r))
+
 pub outline_located : (r : Recipe UnresolvedDependency) → outline_of (located_recipe r) ≡ outline_of r
 outline_located r = λ i. record {
   token = r.name.token;
@@ -60,4 +86,5 @@ outline_located r = λ i. record {
   given = r.dependencies;
   least = least_bare r.parameters i;
   most = λ lists. most_bare lists r.parameters i;
+  scopes = λ answers settings. written_bare answers settings r i;
 }

@@ -13,6 +13,7 @@ pub mod Nearby
 pub mod Ordering
 pub mod PathKeys
 pub mod Planned
+pub mod Planning
 pub mod RecipeCircles
 pub mod SameSets
 pub mod Splits

@@ -10,10 +10,13 @@ use Rattle.just_invoke.specs.Walks.{resolved_module, resolved_recipe}
 use Rattle.just_invoke.specs.declared.justfile.Justfile.{Justfile, out-Justfile}
 use Rattle.just_invoke.specs.declared.resolution.Resolution.{Resolution}
 use Rattle.just_invoke.specs.declared.resolution.Resolution.TheVariants as resolution
+use Rattle.just_module_contents.specs.Constants.{Evaluated}
 use Rattle.just_module_contents.specs.Contents.{Contents}
 use Rattle.just_module_contents.specs.Defaults.{Defaults}
-use Rattle.just_module_contents.specs.Groups.{Links, OfAliases, OfDependencies}
+use Rattle.just_module_contents.specs.Groups.{Links, OfAliases, OfDependencies, OfRecipes}
 use Rattle.just_module_contents.specs.Kept.{kept_recipes}
+use Rattle.just_module_contents.specs.Known.{known_of}
+use Rattle.just_module_contents.specs.RecipeNames.{StandingNames}
 use Rattle.just_module_contents.specs.Recipes.{DependsOn, name_of, recipe_at}
 use Rattle.just_module_contents.specs.Rules.{Aliases, Dependencies, DependsBy}
 use Rattle.just_module_contents.specs.Standing.{AreStanding}
@@ -21,6 +24,7 @@ use Rattle.just_names.specs.Name.{texts_of_path}
 use Rattle.just_names.specs.Texts.{Text}
 use Rattle.just_names.specs.declared.name.Namepath.{Namepath}
 use Rattle.just_names.specs.declared.number.Number.{Number}
+use Rattle.just_parts.specs.Layers.{Layers}
 use Rattle.just_paths.specs.declared.modulepath.Modulepath.{Modulepath}
 use Rattle.just_recipe.specs.Recipes.{find_number}
 use Rattle.just_recipe.specs.declared.dependency.Dependency.{Dependency}
@@ -79,6 +83,10 @@ pub record Takes (lists : Bool) (recipes : List (Recipe UnresolvedDependency)) (
 abbrev pub BreaksLinks : Bool → List (Recipe UnresolvedDependency) → Around → Cause → Type 0
 BreaksLinks lists recipes it = Dependencies (Leads recipes it) (Stands recipes it) (Takes lists recipes it) lists recipes
 
+-- a name is at fault in what one of a module's kept recipes reads that stands
+abbrev pub BreaksRecipeNames : Layers → Evaluated → Contents → Around → Cause → Type 0
+BreaksRecipeNames layers evaluated m it = StandingNames (Stands (kept_recipes m.recipes) it) layers.syntax (known_of layers.syntax m) evaluated.settings (kept_recipes m.recipes)
+
 -- The target of an alias leads to a module, or to a recipe.
 pub data HasTarget (recipes : List (Recipe UnresolvedDependency)) (it : Around) (path : Namepath) : Type 0 where
   to_module : resolved_module it.absent it.modules path ≢ None → HasTarget recipes it path
@@ -91,6 +99,7 @@ pub data BreaksAliases (recipes : List (Recipe UnresolvedDependency)) (aliases :
 
 -- what is broken of the last groups
 abbrev pub links_by : Contents → Around → Links
-links_by m it lists OfDependencies = BreaksLinks lists (kept_recipes m.recipes) it
-links_by m it lists OfAliases = BreaksAliases (kept_recipes m.recipes) m.aliases it
-links_by m it lists _ = λ c. ⊥
+links_by m it layers evaluated OfDependencies = BreaksLinks evaluated.settings.lists (kept_recipes m.recipes) it
+links_by m it layers evaluated OfRecipes = BreaksRecipeNames layers evaluated m it
+links_by m it layers evaluated OfAliases = BreaksAliases (kept_recipes m.recipes) m.aliases it
+links_by m it layers evaluated _ = λ c. ⊥

@@ -54,9 +54,13 @@ pub record IsGiven (lists : Bool) (recipes : List (Recipe UnresolvedDependency))
   pub star : lists ≡ false → has_star d.arguments ≡ true → ⊥
   pub count : (least most : ℕ) → Takes lists recipes it d.recipe least most → IsOutside (length d.arguments) least most → ⊥
 
--- those of the first n recipes that stand
+-- so do those of the recipe at a place
+abbrev pub AreGivenAt : Bool → List (Recipe UnresolvedDependency) → Around → ℕ → Type 0
+AreGivenAt lists recipes it place = All (IsGiven lists recipes it) (recipe_at recipes place).dependencies
+
+-- and those of the first n recipes that stand
 abbrev pub AreGiven : Bool → List (Recipe UnresolvedDependency) → Around → List (BTreeSet Modulepath) → ℕ → Type 0
-AreGiven lists recipes it sets n = (i : ℕ) → i < n → keys_at sets i ≡ [] → All (IsGiven lists recipes it) (recipe_at recipes i).dependencies
+AreGiven lists recipes it sets n = (i : ℕ) → i < n → keys_at sets i ≡ [] → AreGivenAt lists recipes it i
 
 module _ (lists : Bool) (recipes : List (Recipe UnresolvedDependency)) (held : List (Recipe Dependency)) where
   -- a dependency with the number of what it leads to, and its arguments in groups

@@ -4,7 +4,7 @@ ghost use Rattle.std.specs.Prelude.{◌≡◌, IfErr, IfOk, OnOk};
 ghost use Rattle.just_errors.specs.Causes.{Keeps, Reports};
 ghost use Rattle.just_module_contents.specs.Definitions.{aliases_in};
 ghost use Rattle.just_module_recipes.specs.Aliased.{IsAdded, UnknownTarget, UnknownTargets, aliases_of, as_recipe, meant, targets, with_meaning};
-ghost use Rattle.just_invoke.specs.Walks.{resolved_recipe};
+ghost use Rattle.just_invoke.specs.Walks.{AreOrdered, resolved_recipe};
 
 use just_data::BorrowedText;
 use just_invoke::{Aliases, Disabled, Justfile, RecipeKey, Resolution};
@@ -35,6 +35,7 @@ fn meant_recipe<'src>(
     modules: &[Justfile<'src>],
     recipes: &Table<'src, RecipeKey<'src>>,
 ) -> Result<Option<Meaning>, AllocError>
+    requires { AreOrdered modules.now }
     ensures { let found = resolved_recipe absent.now disabled.now modules.now recipes.now path.now in
         IfOk result (λ it. it ≡ as_recipe found) }
 {
@@ -54,6 +55,7 @@ fn meant<'src>(
     modules: &[Justfile<'src>],
     recipes: &Table<'src, RecipeKey<'src>>,
 ) -> Result<Option<Meaning>, AllocError>
+    requires { AreOrdered modules.now }
     ensures { let t = targets absent.now disabled.now modules.now recipes.now in
         IfOk result (λ it. it ≡ meant t path.now) }
 {
@@ -107,6 +109,7 @@ fn add_alias<'src>(
     modules: &[Justfile<'src>],
     recipes: &Table<'src, RecipeKey<'src>>,
 ) -> Result<(), Error<'src>>
+    requires { AreOrdered modules.now }
     ensures added { let t = targets absent.now disabled.now modules.now recipes.now in
         OnOk result (IsAdded t alias.now aliases.old aliases.new) }
     ensures named { let t = targets absent.now disabled.now modules.now recipes.now in
@@ -128,6 +131,8 @@ fn add_alias<'src>(
 /// disabled recipes, the modules in it and its recipes. Each is another name for the module that its target leads to, or
 /// where that leads to none for the recipe, or it is disabled. An alias of an alias is unknown, since aliases are not looked
 /// at. An error tells the first alias whose target is unknown, at its name.
+///
+/// The names of the modules rise in byte order, in each module (those of a compiled module do).
 pub fn resolve_aliases<'a, 'src>(
     alloc: Global,
     definitions: &Definitions<'src, 'a>,
@@ -136,6 +141,7 @@ pub fn resolve_aliases<'a, 'src>(
     modules: &[Justfile<'src>],
     recipes: &Table<'src, RecipeKey<'src>>,
 ) -> Result<Aliases<'src>, Error<'src>>
+    requires { AreOrdered modules.now }
     ensures kept { let t = targets absent.now disabled.now modules.now recipes.now in
         OnOk result (Keeps (UnknownTargets t (aliases_in definitions.now))) }
     ensures aliases { let t = targets absent.now disabled.now modules.now recipes.now in

@@ -7,7 +7,7 @@ ghost use Rattle.just_module_contents.specs.Definitions.{recipes_in};
 ghost use Rattle.just_module_contents.specs.Recipes.{name_of, names_of, recipe_at};
 ghost use Rattle.just_module_contents.specs.Rules.{IsOutside, StandsWith};
 ghost use Rattle.just_module_recipes.specs.Links.{BreaksLinks, Stands};
-ghost use Rattle.just_module_recipes.specs.Making.{AreAllThere, AreExact, AreGiven, IsGiven, IsThere, parameters_of};
+ghost use Rattle.just_module_recipes.specs.Making.{AreAllThere, AreExact, AreGiven, AreGivenAt, IsGiven, IsThere, parameters_of};
 ghost use Rattle.just_module_recipes.specs.Rows.{AreRows, AreTargets, IsTargetOf, around_by};
 ghost use Rattle.just_names.specs.Index.{AreDifferent};
 
@@ -96,7 +96,7 @@ fn check_dependencies<'a, 's, 'src>(
     requires row { AreTargets (recipes_in kept.now) (around_by it.now) (recipe_at (recipes_in kept.now) place).dependencies row.now }
     requires there { All (IsThere (recipes_in kept.now) it.now.recipes.now) row.now }
     requires stands { Stands (recipes_in kept.now) (around_by it.now) (name_of (recipe_at (recipes_in kept.now) place)) }
-    ensures given { OnOk result (All (IsGiven settings.now.lists (recipes_in kept.now) (around_by it.now)) (recipe_at (recipes_in kept.now) place).dependencies) }
+    ensures given { OnOk result (AreGivenAt settings.now.lists (recipes_in kept.now) (around_by it.now) place) }
     ensures named { IfErr result (Reports (BreaksLinks settings.now.lists (recipes_in kept.now) (around_by it.now))) }
 {
     let dependencies = kept.recipe_at(place).dependencies.as_slice();

@@ -4,6 +4,7 @@ ghost use Rattle.std.specs.Prelude.{◌≡◌, ◌++◌, ◌<◌, IfErr, IfOk, O
 ghost use Rattle.std.specs.List.{All};
 ghost use Rattle.just_errors.specs.Causes.{Keeps, Reports};
 ghost use Rattle.just_graph.specs.Steps.{IsOnce};
+ghost use Rattle.just_invoke.specs.Walks.{AreOrdered};
 ghost use Rattle.just_module_contents.specs.Definitions.{recipes_in};
 ghost use Rattle.just_module_contents.specs.Recipes.{names_of};
 ghost use Rattle.just_module_contents.specs.Resolved.{AreNew, HasPriors, unresolved_numbers};
@@ -51,6 +52,7 @@ fn make_plan<'a, 's, 'src>(
     it: &Surroundings<'s, 'src>,
 ) -> Result<Plan, Error<'src>>
     requires different { AreDifferent (names_of (recipes_in kept.now)) }
+    requires ordered { AreOrdered it.now.modules.now }
     requires settled { AreSettled (around_by it.now) }
     ensures kept { IfOk result (λ _. Keeps (BreaksLinks settings.now.lists (recipes_in kept.now) (around_by it.now))) }
     ensures plan { IfOk result (IsPlan (recipes_in kept.now) (around_by it.now)) }
@@ -127,6 +129,8 @@ pub struct Linked<'src, 'a> {
 /// Links the kept recipes of the module at `module_path` under its settings, of which the paths lead through these absent
 /// modules and these modules in it: those that nothing disables are resolved and put behind the recipes that are resolved so
 /// far. An error names a rule that is broken, and the recipes are dropped then.
+///
+/// The names of the modules rise in byte order, in each module (those of a compiled module do).
 pub fn link<'a, 'src>(
     alloc: Global,
     kept: &Definitions<'src, 'a>,
@@ -140,6 +144,7 @@ pub fn link<'a, 'src>(
     requires once { IsOnce (unresolved_numbers (recipes_in kept.now)) }
     requires priors { All HasPriors (recipes_in kept.now) }
     requires apart { AreNew recipes (recipes_in kept.now) }
+    requires ordered { AreOrdered modules.now }
     requires settled { AreSettled (around absent.now modules.now recipes) }
     ensures kept { let it = around absent.now modules.now recipes.entry in
         IfOk result (λ _. Keeps (BreaksLinks settings.now.lists (recipes_in kept.now) it)) }

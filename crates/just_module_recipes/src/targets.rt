@@ -3,6 +3,7 @@ ghost use Rattle.std.specs.Prelude.{◌≡◌, ◌<◌, IfOk, IfErr, length};
 ghost use Rattle.std.specs.HashMap.{get};
 ghost use Rattle.std.specs.Str.{bytes_eq};
 ghost use Rattle.just_errors.specs.Causes.{Reports};
+ghost use Rattle.just_invoke.specs.Walks.{AreOrdered};
 ghost use Rattle.just_module_contents.specs.Definitions.{recipes_in};
 ghost use Rattle.just_module_contents.specs.Recipes.{names_of, recipe_at};
 ghost use Rattle.just_module_recipes.specs.Links.{found_by};
@@ -61,6 +62,7 @@ fn far<'s, 'src>(
     it: &Surroundings<'s, 'src>,
     path: &Namepath<'src>,
 ) -> Result<Option<Target>, AllocError>
+    requires { AreOrdered it.now.modules.now }
     ensures { IfOk result (λ found. found ≡ far_of (found_by (around_by it.now) path.now)) }
 {
     let disabled = Table::new(alloc);
@@ -79,6 +81,7 @@ fn find_target<'s, 'src>(
     it: &Surroundings<'s, 'src>,
     path: &Namepath<'src>,
 ) -> Result<Option<Target>, AllocError>
+    requires { AreOrdered it.now.modules.now }
     ensures { let place = place_in (get bytes_eq index.now) (texts_of_path path.now) in
         IfOk result (λ found. found ≡ target_by place (found_by (around_by it.now) path.now)) }
 {
@@ -98,6 +101,7 @@ fn lead<'a, 's, 'src>(
     at: usize,
 ) -> Result<Target, Error<'src>>
     requires index { IsIndex (names_of (recipes_in kept.now)) (get bytes_eq index.now) }
+    requires ordered { AreOrdered it.now.modules.now }
     requires place { place < length kept.now.recipes.items }
     requires at { at < length (recipe_at (recipes_in kept.now) place).dependencies }
     ensures target { IfOk result (IsTargetAt (recipes_in kept.now) (around_by it.now) (recipe_at (recipes_in kept.now) place).dependencies at) }
@@ -126,6 +130,7 @@ fn row<'a, 's, 'src>(
     place: usize,
 ) -> Result<Sequence<Target>, Error<'src>>
     requires index { IsIndex (names_of (recipes_in kept.now)) (get bytes_eq index.now) }
+    requires ordered { AreOrdered it.now.modules.now }
     requires place { place < length kept.now.recipes.items }
     ensures row { IfOk result (AreTargets (recipes_in kept.now) (around_by it.now) (recipe_at (recipes_in kept.now) place).dependencies) }
     ensures named { IfErr result (Reports (Lost (recipes_in kept.now) (around_by it.now))) }
@@ -144,7 +149,8 @@ pub fn rows<'a, 's, 'src>(
     index: &HashMap<BorrowedText<'src>, usize>,
     it: &Surroundings<'s, 'src>,
 ) -> Result<Vec<Sequence<Target>>, Error<'src>>
-    requires { IsIndex (names_of (recipes_in kept.now)) (get bytes_eq index.now) }
+    requires index { IsIndex (names_of (recipes_in kept.now)) (get bytes_eq index.now) }
+    requires ordered { AreOrdered it.now.modules.now }
     ensures rows { IfOk result (λ rows. AreRows (recipes_in kept.now) (around_by it.now) (length kept.now.recipes.items) rows.items) }
     ensures named { IfErr result (Reports (Lost (recipes_in kept.now) (around_by it.now))) }
 {

@@ -95,11 +95,11 @@ set_located _ = refl
 function_bare : (f : FunctionDefinition) → bare_function (bare_function f) ≡ bare_function f
 function_bare f = λ i. record f { parameters = bare_parameters f.parameters i }
 
-function_located : (i : Item) → map bare_function (function_by (located_item i)) ≡ map bare_function (function_by i)
+pub function_located : (i : Item) → map bare_function (function_by (located_item i)) ≡ map bare_function (function_by i)
 function_located (item.Function f) = ap (λ (g : FunctionDefinition). g ∷ []) (function_bare f)
 function_located _ = refl
 
-variable_located : (i : Item) → map located_assignment (variable_by (located_item i)) ≡ map located_assignment (variable_by i)
+pub variable_located : (i : Item) → map located_assignment (variable_by (located_item i)) ≡ map located_assignment (variable_by i)
 variable_located (item.Assignment a) = refl
 variable_located _ = refl
 

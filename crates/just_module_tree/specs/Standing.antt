@@ -4,9 +4,12 @@ use Rattle.std.specs.List.{Contains, list_any}
 use Rattle.std.specs.Str.{bytes_eq}
 use Rattle.just_errors.specs.Causes.{Cause}
 use Rattle.just_module_contents.specs.Defaults.{Defaults}
-use Rattle.just_module_contents.specs.Groups.{Links, OfAliases, OfDependencies}
+use Rattle.just_module_contents.specs.Constants.{Evaluated}
+use Rattle.just_module_contents.specs.Groups.{Links, OfAliases, OfDependencies, OfRecipes}
 use Rattle.just_module_contents.specs.Kept.{kept_recipes}
+use Rattle.just_module_contents.specs.Known.{known_of}
 use Rattle.just_module_contents.specs.Notes.{absent_by}
+use Rattle.just_module_contents.specs.RecipeNames.{StandingNames}
 use Rattle.just_module_contents.specs.Recipes.{least_of, most_of, name_of, names_of, recipe_at}
 use Rattle.just_module_contents.specs.Rules.{Aliases, Dependencies, DependsBy}
 use Rattle.just_module_contents.specs.Standing.{AreStanding}
@@ -14,6 +17,7 @@ use Rattle.just_module_tree.specs.Modules.{Empty, Forest, Module, Tree, contents
 use Rattle.just_names.specs.Name.{text_if_named, text_of_name, texts_of_path}
 use Rattle.just_names.specs.Texts.{Text}
 use Rattle.just_names.specs.declared.name.Namepath.{Namepath}
+use Rattle.just_parts.specs.Layers.{Layers}
 use Rattle.just_paths.specs.declared.modulepath.Modulepath.{Modulepath}
 use Rattle.just_recipe.specs.declared.dependency.UnresolvedDependency.{UnresolvedDependency}
 use Rattle.just_recipe.specs.declared.recipe.Recipe.{Recipe}
@@ -92,6 +96,10 @@ pub record TakesIn (lists : Bool) (m : Module) (inside : Forest) (path : Namepat
 abbrev pub BreaksDependencies : Bool → Module → Forest → Cause → Type 0
 BreaksDependencies lists m inside = Dependencies (LeadsSomewhere m inside) (StandsIn m inside) (TakesIn lists m inside) lists (kept_in m)
 
+-- a name is at fault in what one of a module's kept recipes reads that stands
+abbrev pub BreaksRecipeNames : Layers → Evaluated → Module → Forest → Cause → Type 0
+BreaksRecipeNames layers it m inside = StandingNames (StandsIn m inside) layers.syntax (known_of layers.syntax (contents_of m)) it.settings (kept_in m)
+
 -- The target of an alias leads to a module, to one without a file, or to a kept recipe.
 pub data HasTarget (m : Module) (inside : Forest) (path : Namepath) : Type 0 where
   to_module : follow (texts_of_path path) m inside ≢ Nowhere → HasTarget m inside path
@@ -104,6 +112,7 @@ pub data BreaksAliases (m : Module) (inside : Forest) : Cause → Type 0 where
 
 -- what is broken of the last groups in a module with those in it
 abbrev pub links_in : Module → Forest → Links
-links_in m inside lists OfDependencies = BreaksDependencies lists m inside
-links_in m inside lists OfAliases = BreaksAliases m inside
-links_in m inside lists _ = λ c. ⊥
+links_in m inside layers it OfDependencies = BreaksDependencies it.settings.lists m inside
+links_in m inside layers it OfRecipes = BreaksRecipeNames layers it m inside
+links_in m inside layers it OfAliases = BreaksAliases m inside
+links_in m inside layers it _ = λ c. ⊥

@@ -1,3 +1,4 @@
 mod Checked
+mod Reading
 mod Seen
 mod Walking

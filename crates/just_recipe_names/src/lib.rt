@@ -1,4 +1,4 @@
-//! The names in a recipe, as a text says it: whether they stand for something, and the numbers of what they mean.
+//! The names in recipes, as a text says them: whether they stand for something, and the numbers of what they mean.
 #![tactic(auto)]
 
 mod attributes;
@@ -9,5 +9,5 @@ mod lines;
 mod numbering;
 pub mod steps;
 
-pub use checking::check_recipe;
+pub use checking::check_recipes;
 pub use numbering::numbered_recipe;

@@ -7,7 +7,7 @@ ghost use Rattle.just_ast_expressions.specs.declared.expression.Expression.{Expr
 ghost use Rattle.just_parts.specs.Scopes.{attribute_expressions, compiled_expressions, environment_expressions, parameter_expressions, property_expressions};
 ghost use Rattle.just_recipe.specs.declared.dependency.DependencyArgument.{DependencyArgument};
 ghost use Rattle.just_recipe.specs.declared.dependency.UnresolvedDependency.{UnresolvedDependency};
-ghost use Rattle.just_recipe_names.specs.Names.{written_scopes};
+ghost use Rattle.just_module_contents.specs.RecipeNames.{written_scopes};
 ghost use Rattle.just_recipe_names.specs.Steps.{events, parameter_events, readings, scopes_from};
 
 use crate::lines::push_body;

@@ -13,7 +13,7 @@ returns-in_err-append-clause-named g c = search (rules, c.from_residual.ensures.
 pub returns-clause-analyzed : goal.returns-clause-analyzed
 returns-clause-analyzed g c =
     let checked = c.args.checked in
-    let answers = g.S.Syntax.answers c.args.syntax.now in
+    let answers = g.S.Syntax.answers c.args.given.now.syntax.now in
     let is = c.in_ok-justfile.ensures in
     let made = c.in_ok-own.ensures in
     record {

@@ -7,20 +7,20 @@ use Rattle.just_errors.specs.Causes.{Reports}
 use Rattle.just_errors.proofs.Lifts.{reports_by}
 use Rattle.just_module_headers.specs.Analyzable.{assignment_numbers}
 use Rattle.just_module_contents.specs.Contents.{Contents, texts_of_named}
-use Rattle.just_module_contents.specs.Definitions.{contents_in, recipes_in}
+use Rattle.just_module_contents.specs.Definitions.{contents_in}
 use Rattle.just_module_headers.specs.Files.{asts_in}
 use Rattle.just_module_contents.specs.Groups.{BreaksContents}
 use Rattle.just_analyzer.specs.Checked.{no_links}
 use Rattle.just_analyzer.specs.Noted.{notes_of_place}
-use Rattle.just_analyzer.specs.Parts.{around_by}
+use Rattle.just_analyzer.specs.Parts.{BreaksChecked, around_by}
 use Rattle.just_analyzer.specs.Steps.{BreaksOver, BreaksPlace, made_in}
 use Rattle.just_module_headers.specs.OfPlaces.{contents_of_place}
 use Rattle.just_analyzer.proofs.Linking.{links_of, recipes_kept_over}
-use Rattle.just_compiled.proofs.Settling.{around_settled, named_settled}
+use Rattle.just_compiled.proofs.Settling.{around_settled, named_settled, ordered_by_name, settled_ordered}
 use Rattle.just_graph.proofs.Members.{contained}
+use Rattle.just_invoke.specs.Walks.{AreOrdered}
 use Rattle.just_module_contents.specs.declared.notes.Notes.{Notes}
 use Rattle.just_module_recipes.specs.Links.{Around, around as around_made, links_by}
-use Rattle.just_module_contents.specs.Kept.{kept_recipes}
 use Rattle.just_module_contents.specs.Named.{contents_from, naming_by, said_from, variable_by}
 use Rattle.just_module_contents.specs.Resolved.{HasPriors, unresolved_numbers}
 use Rattle.just_module_headers.proofs.Joining.{row_lent}
@@ -29,7 +29,6 @@ use Rattle.just_compiled.specs.Labelled.{by_name, with_labels}
 use Rattle.just_compiled.specs.Variables.{HasVariables}
 use Rattle.just_compiled.proofs.Makings.{is_of_same}
 use Rattle.just_compiled.proofs.NumbersApart.{has_tables}
-use Rattle.just_module_recipes.specs.Broken.{BreaksRecipes}
 use Rattle.just_analyzer.proofs.Placed.{breaks_place, breaks_recipes, contents_are, evaluated_to, keeps_place, labels_many, labels_named, own_numbers, variables_resolved}
 use Rattle.just_analyzer.proofs.compiling.compile_place.Goals as goal
 use Rattle.just_parts.specs.Layers.{given_by, layers_at}
@@ -86,6 +85,12 @@ pub analyze_checked-requires-clause-own : goal.analyze_checked-requires-clause-o
 analyze_checked-requires-clause-own g c = λ n a b.
     c.requires.apart n a (own_numbers (g.S.Syntax.answers c.args.given.now.syntax.now).enabled c.args.files.now c.args.joined.now c.args.place c.ast_at-ast.result.now c.ast_at-ast.ensures c.requires.fits.ready.own n b)
 
+pub analyze_checked-requires-clause-ordered : goal.analyze_checked-requires-clause-ordered
+analyze_checked-requires-clause-ordered g c =
+    let inner = c.requires.fits.inner in
+    subst AreOrdered (sym (c.in_ok-surroundings.ensures.made.modules_are inner.0 inner.1))
+    (ordered_by_name inner.0 c.as_slice.result.now (λ j i. settled_ordered (c.requires.settled inner.0 inner.1 j (contained j inner.0 i))))
+
 pub analyze_checked-requires-clause-settled : goal.analyze_checked-requires-clause-settled
 analyze_checked-requires-clause-settled g c =
     let there = c.in_ok-surroundings.ensures.made in
@@ -101,7 +106,7 @@ returns-in_err-justfile-clause-named g c =
     let there = c.in_ok-surroundings.ensures.made in
     let m = contents_are (given_by g.S.Syntax.answers g.E.Evaluation.answers c.args.given.now) c.args.files.now c.args.joined.now c.args.place c.as_slice-row.result.now row c.ast_at-ast.result.now c.ast_at-ast.ensures c.in_ok-checked.checked c.in_ok-checked.ensures.checked c.in_ok-checked.ensures.kept in
     let links = links_by (contents_in checked.definitions) (around_by around c.args.gathered.recipes) in
-    let breaks = BreaksRecipes (g.S.Syntax.answers c.args.given.now.syntax.now) checked.constants.settings links (contents_in checked.definitions) in
+    let breaks = BreaksChecked (layers_at (given_by g.S.Syntax.answers g.E.Evaluation.answers c.args.given.now) c.ast_at-ast.result.now.module_path) checked (around_by around c.args.gathered.recipes) in
     let over = BreaksOver (given_by g.S.Syntax.answers g.E.Evaluation.answers c.args.given.now) c.args.files.now c.args.joined.now c.args.place c.args.slots.now.items c.args.gathered.recipes in
     IfErr-weaker c.from_residual-in_err-justfile.result (Reports breaks) _
     (λ told h. reports_by breaks over (λ e b. record {
@@ -138,9 +143,9 @@ returns-clause-compiled g c =
         own_said = c.ast_at-ast.ensures;
         key = there.key;
         key_is = there.key_is;
-        kept = keeps_place (given_by g.S.Syntax.answers g.E.Evaluation.answers c.args.given.now) c.args.files.now c.args.joined.now c.args.place c.as_slice-row.result.now row c.ast_at-ast.result.now c.ast_at-ast.ensures c.in_ok-checked.checked c.in_ok-checked.ensures.checked c.in_ok-checked.ensures.kept _ (recipes_kept_over answers own checked around (made_in c.args.gathered) (made_in c.in_ok-justfile.gathered) justfile analyzed _ m);
+        kept = keeps_place (given_by g.S.Syntax.answers g.E.Evaluation.answers c.args.given.now) c.args.files.now c.args.joined.now c.args.place c.as_slice-row.result.now row c.ast_at-ast.result.now c.ast_at-ast.ensures c.in_ok-checked.checked c.in_ok-checked.ensures.checked c.in_ok-checked.ensures.kept _ (recipes_kept_over (layers_at (given_by g.S.Syntax.answers g.E.Evaluation.answers c.args.given.now) own.module_path) own checked around (made_in c.args.gathered) (made_in c.in_ok-justfile.gathered) justfile analyzed _ m);
         standing = analyzed.standing;
-        links = links_of answers own checked around (made_in c.args.gathered) (made_in c.in_ok-justfile.gathered) justfile analyzed _ m;
+        links = links_of (layers_at (given_by g.S.Syntax.answers g.E.Evaluation.answers c.args.given.now) own.module_path) own checked around (made_in c.args.gathered) (made_in c.in_ok-justfile.gathered) justfile analyzed _ m;
         labels = checked.labels.items;
         evaluated = evaluated_to (given_by g.S.Syntax.answers g.E.Evaluation.answers c.args.given.now) c.args.files.now c.args.joined.now c.args.place c.as_slice-row.result.now row c.ast_at-ast.result.now c.ast_at-ast.ensures c.in_ok-checked.checked c.in_ok-checked.ensures.checked c.in_ok-checked.ensures.kept justfile analyzed.settings analyzed.own_overrides;
         variables = has;

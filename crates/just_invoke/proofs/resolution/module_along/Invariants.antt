@@ -1,8 +1,11 @@
-use Rattle.std.proofs.Common.{◌≡◌, drop}
+use Rattle.std.proofs.Common.{◌≡◌, IfSome, drop}
 use Rattle.std.specs.Option.{option_copied}
-use Rattle.just_invoke.specs.Walks.{inner_along}
+use Rattle.just_invoke.specs.Walks.{IsOrdered, inner_along}
 use Rattle.just_invoke.proofs.Walking.{along_from}
 use Rattle.just_invoke.proofs.resolution.module_along.Given as goal
 
 abbrev pub invariant-loop-name : goal.invariant-loop-name
-invariant-loop-name l = inner_along l.root l.names ≡ along_from (option_copied l.found) (drop l.name-index l.names)
+invariant-loop-name l = record {
+  goes_on : inner_along l.root l.names ≡ along_from (option_copied l.found) (drop l.name-index l.names);
+  ordered : IfSome l.found (λ j. IsOrdered j.now);
+}

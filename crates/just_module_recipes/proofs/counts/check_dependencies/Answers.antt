@@ -85,8 +85,6 @@ returns-clause-given c =
     let rs = recipes_in c.args.kept.now in
     let it = around_by c.args.it.now in
     let ds = (recipe_at rs c.args.place).dependencies in
-    let all : c.as_slice-dependencies.result.now ≡ ds = c.as_slice-dependencies.ensures ∙ ap (λ (r : Recipe UnresolvedDependency). r.dependencies) c.recipe_at.ensures.there in
     let count : length c.args.row.now ≡ length ds = zip_length (IsTargetOf rs it) ds c.args.row.now c.requires.row in
-    let many : length c.as_slice-dependencies.result.now ≡ length ds = ap (λ (xs : List UnresolvedDependency). length xs) all in
     let done : length ds ≤ c.loop-at.at = omega (arith, c.loop-at-test.false, count) in
     subst (All (IsGiven c.args.settings.now.lists rs it)) (take_all c.loop-at.at ds done) c.loop-at.invariant

@@ -21,8 +21,6 @@ resolve-requires-clause-counts c =
     let it = around c.args.absent.now c.args.modules.now c.args.recipes in
     let plan : IsPlan rs it c.in_ok-rows.field-0 = c.in_ok-rows.ensures.plan in
     let rows = c.in_ok-rows.field-0.rows.items in
-    let order = c.in_ok-rows.field-0.order.items in
-    let sets = c.in_ok-rows.field-0.sets.items in
     let read : c.as_slice.result.now ≡ rows = search rules in
     subst (λ (xs : List (List Target)). (k : ℕ) → k < length xs → length (get_or xs k []) ≡ length (recipe_at rs k).dependencies) (sym read)
     (λ k h. zip_length (IsTargetOf rs it) (recipe_at rs k).dependencies (get_or rows k []) (plan.rows.each k (omega (arith, h, plan.rows.count))))
@@ -32,8 +30,6 @@ returns-clause-standing c =
     let rs = recipes_in c.args.kept.now in
     let it = around c.args.absent.now c.args.modules.now c.args.recipes in
     let plan : IsPlan rs it c.in_ok-rows.field-0 = c.in_ok-rows.ensures.plan in
-    let rows = c.in_ok-rows.field-0.rows.items in
-    let order = c.in_ok-rows.field-0.order.items in
     let sets = c.in_ok-rows.field-0.sets.items in
     let is : recipes_in c.in_ok-standing.standing ≡ standing sets rs = c.in_ok-standing.ensures.standing in
     subst (AreStanding (Stands rs it) rs) (sym is) (standing_exact rs it sets plan.exact)
@@ -43,8 +39,6 @@ returns-clause-disabled c =
     let rs = recipes_in c.args.kept.now in
     let it = around c.args.absent.now c.args.modules.now c.args.recipes in
     let plan : IsPlan rs it c.in_ok-rows.field-0 = c.in_ok-rows.ensures.plan in
-    let rows = c.in_ok-rows.field-0.rows.items in
-    let order = c.in_ok-rows.field-0.order.items in
     let sets = c.in_ok-rows.field-0.sets.items in
     let is : c.in_ok-standing.disabled.items ≡ fallen sets rs = search rules in
     (fallen sets rs, disabled_exact rs it sets plan.exact, c.in_ok-disabled.ensures.all ∙ ap disabled_table is)

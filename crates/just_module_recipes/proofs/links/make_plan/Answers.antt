@@ -1,4 +1,4 @@
-use Rattle.std.proofs.Common.{rules, ◌≡◌, ◌∙◌, List, ap, length, subst, subst₂, sym}
+use Rattle.std.proofs.Common.{rules, ◌≡◌, List, length, subst, subst₂, sym}
 use Rattle.std.proofs.lemmas.Result.{IfErr-weaker}
 use Rattle.std.specs.BTreeSet.{BTreeSet}
 use Rattle.just_errors.proofs.Lifts.{reports_by}
@@ -7,10 +7,10 @@ use Rattle.just_module_contents.proofs.RecipePlaces.{length-lent}
 use Rattle.just_module_contents.specs.Definitions.{recipes_in}
 use Rattle.just_module_recipes.specs.Links.{BreaksLinks}
 use Rattle.just_module_recipes.specs.Making.{AreAllThere, AreExact, AreGiven}
-use Rattle.just_module_recipes.specs.Rows.{AreRows, AreTold, Circular, IsOrderOf, Lost, around_by}
-use Rattle.just_module_recipes.specs.declared.targets.Target.{Target}
-use Rattle.just_module_recipes.proofs.Barred.{are_exact}
-use Rattle.just_module_recipes.proofs.Finished.{are_all_there}
+use Rattle.just_module_recipes.specs.Planned.{IsPlan}
+use Rattle.just_module_recipes.specs.Rows.{Circular, Lost, around_by}
+use Rattle.just_module_recipes.specs.declared.links.Plan.{Plan}
+use Rattle.just_module_recipes.proofs.Planning.{is_plan}
 use Rattle.just_module_recipes.proofs.Planned.{circle_breaks, links_kept, lost_breaks}
 use Rattle.just_paths.specs.declared.modulepath.Modulepath.{Modulepath}
 use Rattle.just_module_recipes.proofs.links.make_plan.Goals as goal
@@ -36,65 +36,39 @@ check_counts-requires-clause-sets c =
     let rs = recipes_in c.args.kept.now in
     let it = around_by c.args.it.now in
     let long : length rs ≡ length c.args.kept.now.recipes.items = length-lent c.args.kept.now.recipes.items in
-    let rows = c.in_ok-rows.rows.items in
-    let order = c.in_ok-order.order.items in
-    let sets = c.in_ok-sets.sets.items in
-    let are : AreRows rs it (length rs) rows = subst (λ n. AreRows rs it n rows) (sym long) c.in_ok-rows.ensures.rows in
-    let ordered : IsOrderOf rows order = subst (λ xs. IsOrderOf xs order) c.as_slice.ensures.value c.in_ok-order.ensures.ordered in
-    let told : AreTold rows order (length order) sets =
-    subst (λ xs. AreTold xs order (length order) sets) c.as_slice-2.ensures.value (subst (λ xs. AreTold c.as_slice-2.result.now xs (length xs) sets) c.as_slice-3.ensures.value c.in_ok-sets.ensures.told) in
-    let count : length sets ≡ length rows = c.in_ok-sets.ensures.count ∙ ap (λ (xs : List (List Target)). length xs) c.as_slice-2.ensures.value in
-    let exact : AreExact rs it sets = are_exact rs c.requires.different it rows are order ordered sets count told in
-    subst (AreExact rs it) (sym c.as_slice-5.ensures.value) exact
+    let plan : Plan = record { rows = c.in_ok-rows.rows; order = c.in_ok-order.order; sets = c.in_ok-sets.sets } in
+    let is : IsPlan rs it plan = is_plan rs c.requires.different it c.requires.settled plan (length c.args.kept.now.recipes.items) long c.in_ok-rows.ensures.rows c.as_slice.result.now c.as_slice-2.result.now c.as_slice-3.result.now
+    c.as_slice.ensures.value c.as_slice-2.ensures.value c.as_slice-3.ensures.value c.in_ok-order.ensures.ordered c.in_ok-sets.ensures.count c.in_ok-sets.ensures.told in
+    subst (AreExact rs it) (sym c.as_slice-5.ensures.value) is.exact
 
 pub check_counts-requires-clause-there : goal.check_counts-requires-clause-there
 check_counts-requires-clause-there c =
     let rs = recipes_in c.args.kept.now in
     let it = around_by c.args.it.now in
     let long : length rs ≡ length c.args.kept.now.recipes.items = length-lent c.args.kept.now.recipes.items in
-    let rows = c.in_ok-rows.rows.items in
-    let order = c.in_ok-order.order.items in
-    let sets = c.in_ok-sets.sets.items in
-    let are : AreRows rs it (length rs) rows = subst (λ n. AreRows rs it n rows) (sym long) c.in_ok-rows.ensures.rows in
-    let ordered : IsOrderOf rows order = subst (λ xs. IsOrderOf xs order) c.as_slice.ensures.value c.in_ok-order.ensures.ordered in
-    let told : AreTold rows order (length order) sets =
-    subst (λ xs. AreTold xs order (length order) sets) c.as_slice-2.ensures.value (subst (λ xs. AreTold c.as_slice-2.result.now xs (length xs) sets) c.as_slice-3.ensures.value c.in_ok-sets.ensures.told) in
-    let count : length sets ≡ length rows = c.in_ok-sets.ensures.count ∙ ap (λ (xs : List (List Target)). length xs) c.as_slice-2.ensures.value in
-    let exact : AreExact rs it sets = are_exact rs c.requires.different it rows are order ordered sets count told in
-    let there : AreAllThere rs it.held rows sets = are_all_there rs it sets exact c.requires.different rows are c.requires.settled in
-    subst₂ (AreAllThere rs it.held) (sym c.as_slice-4.ensures.value) (sym c.as_slice-5.ensures.value) there
+    let plan : Plan = record { rows = c.in_ok-rows.rows; order = c.in_ok-order.order; sets = c.in_ok-sets.sets } in
+    let is : IsPlan rs it plan = is_plan rs c.requires.different it c.requires.settled plan (length c.args.kept.now.recipes.items) long c.in_ok-rows.ensures.rows c.as_slice.result.now c.as_slice-2.result.now c.as_slice-3.result.now
+    c.as_slice.ensures.value c.as_slice-2.ensures.value c.as_slice-3.ensures.value c.in_ok-order.ensures.ordered c.in_ok-sets.ensures.count c.in_ok-sets.ensures.told in
+    subst₂ (AreAllThere rs it.held) (sym c.as_slice-4.ensures.value) (sym c.as_slice-5.ensures.value) is.there
 
 pub returns-clause-kept : goal.returns-clause-kept
 returns-clause-kept c =
     let rs = recipes_in c.args.kept.now in
     let it = around_by c.args.it.now in
     let long : length rs ≡ length c.args.kept.now.recipes.items = length-lent c.args.kept.now.recipes.items in
-    let rows = c.in_ok-rows.rows.items in
-    let order = c.in_ok-order.order.items in
-    let sets = c.in_ok-sets.sets.items in
-    let are : AreRows rs it (length rs) rows = subst (λ n. AreRows rs it n rows) (sym long) c.in_ok-rows.ensures.rows in
-    let ordered : IsOrderOf rows order = subst (λ xs. IsOrderOf xs order) c.as_slice.ensures.value c.in_ok-order.ensures.ordered in
-    let told : AreTold rows order (length order) sets =
-    subst (λ xs. AreTold xs order (length order) sets) c.as_slice-2.ensures.value (subst (λ xs. AreTold c.as_slice-2.result.now xs (length xs) sets) c.as_slice-3.ensures.value c.in_ok-sets.ensures.told) in
-    let count : length sets ≡ length rows = c.in_ok-sets.ensures.count ∙ ap (λ (xs : List (List Target)). length xs) c.as_slice-2.ensures.value in
-    let exact : AreExact rs it sets = are_exact rs c.requires.different it rows are order ordered sets count told in
+    let plan : Plan = record { rows = c.in_ok-rows.rows; order = c.in_ok-order.order; sets = c.in_ok-sets.sets } in
+    let is : IsPlan rs it plan = is_plan rs c.requires.different it c.requires.settled plan (length c.args.kept.now.recipes.items) long c.in_ok-rows.ensures.rows c.as_slice.result.now c.as_slice-2.result.now c.as_slice-3.result.now
+    c.as_slice.ensures.value c.as_slice-2.ensures.value c.as_slice-3.ensures.value c.in_ok-order.ensures.ordered c.in_ok-sets.ensures.count c.in_ok-sets.ensures.told in
     let lists = c.args.settings.now.lists in
-    links_kept lists rs it rows are c.in_ok-order.ensures.kept sets exact
-    (subst (AreGiven lists rs it sets) (sym long) (subst (λ (xs : List (BTreeSet Modulepath)). AreGiven lists rs it xs (length c.args.kept.now.recipes.items)) c.as_slice-5.ensures.value c.in_ok-check_counts.ensures.given))
+    links_kept lists rs it plan.rows.items is.rows c.in_ok-order.ensures.kept plan.sets.items is.exact
+    (subst (AreGiven lists rs it plan.sets.items) (sym long) (subst (λ (xs : List (BTreeSet Modulepath)). AreGiven lists rs it xs (length c.args.kept.now.recipes.items)) c.as_slice-5.ensures.value c.in_ok-check_counts.ensures.given))
 
 pub returns-clause-plan : goal.returns-clause-plan
 returns-clause-plan c =
     let rs = recipes_in c.args.kept.now in
     let it = around_by c.args.it.now in
     let long : length rs ≡ length c.args.kept.now.recipes.items = length-lent c.args.kept.now.recipes.items in
-    let rows = c.in_ok-rows.rows.items in
-    let order = c.in_ok-order.order.items in
-    let sets = c.in_ok-sets.sets.items in
-    let are : AreRows rs it (length rs) rows = subst (λ n. AreRows rs it n rows) (sym long) c.in_ok-rows.ensures.rows in
-    let ordered : IsOrderOf rows order = subst (λ xs. IsOrderOf xs order) c.as_slice.ensures.value c.in_ok-order.ensures.ordered in
-    let told : AreTold rows order (length order) sets =
-    subst (λ xs. AreTold xs order (length order) sets) c.as_slice-2.ensures.value (subst (λ xs. AreTold c.as_slice-2.result.now xs (length xs) sets) c.as_slice-3.ensures.value c.in_ok-sets.ensures.told) in
-    let count : length sets ≡ length rows = c.in_ok-sets.ensures.count ∙ ap (λ (xs : List (List Target)). length xs) c.as_slice-2.ensures.value in
-    let exact : AreExact rs it sets = are_exact rs c.requires.different it rows are order ordered sets count told in
-    let there : AreAllThere rs it.held rows sets = are_all_there rs it sets exact c.requires.different rows are c.requires.settled in
-    record { rows = are; order = ordered; count = count; told = told; exact = exact; there = there }
+    let plan : Plan = record { rows = c.in_ok-rows.rows; order = c.in_ok-order.order; sets = c.in_ok-sets.sets } in
+    let is : IsPlan rs it plan = is_plan rs c.requires.different it c.requires.settled plan (length c.args.kept.now.recipes.items) long c.in_ok-rows.ensures.rows c.as_slice.result.now c.as_slice-2.result.now c.as_slice-3.result.now
+    c.as_slice.ensures.value c.as_slice-2.ensures.value c.as_slice-3.ensures.value c.in_ok-order.ensures.ordered c.in_ok-sets.ensures.count c.in_ok-sets.ensures.told in
+    is

@@ -31,14 +31,7 @@ pub resolve_at-requires-clause-is_new : goal.resolve_at-requires-clause-is_new
 resolve_at-requires-clause-is_new c = λ e.
     let rs = recipes_in c.args.kept.now in
     let long : length rs ≡ length c.args.kept.now.recipes.items = length-lent c.args.kept.now.recipes.items in
-    let place : ℕ = slice_index c.args.order.now c.loop-n.n in
-    let inside : place < length c.args.rows.now = c.requires.order.below c.loop-n.n c.loop-n-test.true in
-    let within : place < length c.args.sets.now = omega (arith, inside, c.requires.rows, c.requires.sets) in
-    let row : c.as_slice.result.now ≡ get_or c.args.rows.now place [] = c.as_slice.ensures ∙ (c.index-rows-place.is ∙ get_or_default c.args.rows.now place c.index-rows-place.result [] inside) in
-    let set : c.index-sets-place.result ≡ get_or c.args.sets.now place no_set = c.index-sets-place.is ∙ get_or_default c.args.sets.now place c.index-sets-place.result no_set within in
-    let keys : c.index-sets-place.result.keys ≡ keys_at c.args.sets.now place = ap (λ (s : BTreeSet Modulepath). s.keys) set in
     let many : length c.args.rows.now ≡ length rs = c.requires.rows ∙ sym long in
-    let bars = told_at c.args.rows.now c.args.order.now c.args.sets.now c.requires.order c.requires.told in
     is_new c.args.settings.now.lists rs c.args.module_path.now c.args.rows.now c.args.sets.now c.args.recipes c.requires.once c.requires.apart c.args.order.now c.requires.order many c.loop-n.n c.loop-n-test.true c.loop-n.recipes c.loop-n.invariant.new_is
 
 pub resolve_at-requires-clause-numbers : goal.resolve_at-requires-clause-numbers

@@ -8,7 +8,7 @@ use Rattle.just_errors.proofs.Lifts.{reports_by}
 use Rattle.just_name_resolution.specs.Lent.{known_in}
 use Rattle.just_parts.specs.Misnaming.{Misnames}
 use Rattle.just_parts.specs.Scopes.{scoped}
-use Rattle.just_recipe_names.specs.Names.{RecipeNames}
+use Rattle.just_module_contents.specs.RecipeNames.{RecipeNames}
 use Rattle.just_recipe_names.specs.Steps.{event_of, events, scopes_from}
 use Rattle.just_recipe_names.proofs.Checked.{check_begins, check_ends, check_hidden, check_read}
 use Rattle.just_recipe_names.proofs.Walking.{next_there, nothing_hides}

@@ -1,7 +1,7 @@
 use Rattle.std.specs.HashSet.{contains}
 use Rattle.std.specs.Str.{bytes_eq}
 use Rattle.just_name_resolution.specs.Lent.{known_in}
-use Rattle.just_recipe_names.specs.Names.{written_scopes}
+use Rattle.just_module_contents.specs.RecipeNames.{written_scopes}
 use Rattle.just_recipe_names.specs.Steps.{events}
 use Rattle.just_recipe_names.proofs.Checked.{CheckedSoFar}
 use Rattle.just_recipe_names.proofs.checking.check_recipe.Given as goal

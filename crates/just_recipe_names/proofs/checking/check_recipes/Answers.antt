@@ -1,0 +1,49 @@
+use Rattle.std.proofs.Common.{◌≡◌, ◌<◌, length, subst, arith, inl, inr, rules}
+use Rattle.std.proofs.lemmas.Bool.{cases_lt}
+use Rattle.std.proofs.lemmas.Grind.{common_steps}
+use Rattle.std.proofs.lemmas.Result.{IfErr-weaker}
+use Rattle.just_errors.specs.Causes.{Keeps, Reports}
+use Rattle.just_errors.proofs.Lifts.{reports_by}
+use Rattle.just_recipe.specs.declared.dependency.UnresolvedDependency.{UnresolvedDependency}
+use Rattle.just_recipe.specs.declared.recipe.Recipe.{Recipe}
+use Rattle.just_module_contents.proofs.RecipePlaces.{length-lent}
+use Rattle.just_module_contents.specs.Definitions.{recipes_in}
+use Rattle.just_module_contents.specs.RecipeNames.{ReadNames, RecipeNames, in_recipe}
+use Rattle.just_module_contents.specs.Recipes.{recipe_at}
+use Rattle.just_name_resolution.specs.Lent.{known_in}
+use Rattle.just_recipe_names.proofs.Reading.{all_read}
+use Rattle.just_recipe_names.proofs.checking.check_recipes.Goals as goal
+
+pub loop-place-preserved : goal.loop-place-preserved
+loop-place-preserved g c = λ k h.
+    let answers = g.S.Syntax.answers c.args.known.now.syntax.now in
+    let m = known_in answers c.args.known.now in
+    let rs = recipes_in c.args.definitions.now in
+    elim (cases_lt k c.loop-place.place) [
+      | inl l ↦ c.loop-place.invariant k l
+      | inr l ↦
+          let same : c.loop-place.place ≡ k = omega (arith, h, l) in
+          subst (λ i. Keeps (RecipeNames answers m c.args.settings.now (recipe_at rs i))) same
+          (subst (λ (r : Recipe UnresolvedDependency). Keeps (RecipeNames answers m c.args.settings.now r)) c.recipe_at.ensures.there c.in_ok-check_recipe.ensures.kept)
+    ]
+
+pub returns-in_err-check_recipe-clause-named : goal.returns-in_err-check_recipe-clause-named
+returns-in_err-check_recipe-clause-named g c =
+    let answers = g.S.Syntax.answers c.args.known.now.syntax.now in
+    let m = known_in answers c.args.known.now in
+    let rs = recipes_in c.args.definitions.now in
+    let r = c.recipe_at.result.now in
+    let long : length rs ≡ length c.args.definitions.now.recipes.items = length-lent c.args.definitions.now.recipes.items in
+    let count : c.len-place-end.result ≡ length c.args.definitions.now.recipes.items = grind (arith, common_steps) in
+    let inside : c.loop-place.place < length rs = omega arith in
+    IfErr-weaker c.from_residual.result (Reports (RecipeNames answers m c.args.settings.now r)) _
+    (λ e h. reports_by (RecipeNames answers m c.args.settings.now r) (ReadNames answers m c.args.settings.now rs)
+    (λ x k. in_recipe c.loop-place.place inside (subst (λ (q : Recipe UnresolvedDependency). RecipeNames answers m c.args.settings.now q x) c.recipe_at.ensures.there k)) e h) (search rules)
+
+pub returns-clause-kept : goal.returns-clause-kept
+returns-clause-kept g c =
+    let answers = g.S.Syntax.answers c.args.known.now.syntax.now in
+    let rs = recipes_in c.args.definitions.now in
+    let long : length rs ≡ length c.args.definitions.now.recipes.items = length-lent c.args.definitions.now.recipes.items in
+    let count : c.len-place-end.result ≡ length c.args.definitions.now.recipes.items = grind (arith, common_steps) in
+    all_read answers (known_in answers c.args.known.now) c.args.settings.now rs (λ k h. c.loop-place.invariant k (omega (arith, h, long, count, c.loop-place-test.false)))
