@@ -281,6 +281,17 @@ def disabled_by_many(count):
     return bundle("a:", *(f"mod? m{n}" for n in range(count)), *rows), ["a"]
 
 
+def lines_that_read(count, variables):
+    """A recipe of many lines, each of which reads one of the variables. Nothing is run where there are variables."""
+    return bundle(*(f"v{n} := '{n}'" for n in range(variables)), "a:", *(f"  {{{{v{n % variables}}}}}" for n in range(count))), ["a"]
+
+
+def recipes_that_read(count, variables):
+    """Many recipes, each of which reads the first of variables in a chain. Nothing is run where there are variables."""
+    chain = (f"v{n} := v{n + 1}" for n in range(variables - 1))
+    return bundle(*chain, f"v{variables - 1} := ''", *(line for n in range(count) for line in (f"r{n}:", "  {{v0}}"))), ["r0"]
+
+
 def aliases(count):
     """Many aliases: of half as many modules, and of a recipe in each."""
     modules = range(count // 2)
@@ -345,10 +356,13 @@ INPUTS = {
     "chain of 10,000 recipes through two modules": chain_through_modules(10_000),
     "chain of 100,000 recipes through two modules": chain_through_modules(100_000),
     "a recipe that depends on one of each of 2,000 modules": depends_on_modules(2_000),
+    "a recipe that depends on one of each of 20,000 modules": depends_on_modules(20_000),
     "2,000 disabled recipes in a chain, by one module": disabled_chain(2_000),
     "20,000 disabled recipes in a chain, by one module": disabled_chain(20_000),
     "2,000 disabled recipes in a chain, by 2,000 modules": disabled_by_many(2_000),
     "2,000 aliases, of 1,000 modules and of a recipe in each": aliases(2_000),
+    "a recipe with 10,000 lines that each read one of 2,000 variables": lines_that_read(10_000, 2_000),
+    "10,000 recipes that read the first of a chain of 2,000 variables": recipes_that_read(10_000, 2_000),
     "dependency with 10,000 arguments": dependency_arguments(10_000),
 }
 
