@@ -3,6 +3,7 @@ use Rattle.just_module_headers.proofs.Alike.{kept_alike}
 use Rattle.std.proofs.Common.{◌≡◌, ◌≢◌, ◌<◌, ℕ, suc, List, [], ◌∷◌, ◌++◌, map, length, get_or, slice_index, Option, None, Some, refl, sym, ap, subst, ◌∙◌, inl, inr, arith, append_assoc, take, zero, ◌≤◌, ◌+◌, ◌-◌}
 use Rattle.std.specs.Prelude.{flat_map, slice_get}
 use Rattle.std.specs.HashMap.{get}
+use Rattle.just_parts.specs.Syntax.{SyntaxAnswers}
 use Rattle.just_parts.specs.Needs.{same_number}
 use Rattle.std.specs.List.{Contains}
 use Rattle.std.specs.Map.{keys_of, lookup}
@@ -17,7 +18,7 @@ use Rattle.just_names.specs.Texts.{Text}
 use Rattle.just_parts.specs.Items.{Ast}
 use Rattle.just_invoke.specs.declared.justfile.Justfile.{Justfile, out-Justfile, out-roll-Justfile}
 use Rattle.just_module_contents.specs.Defaults.{IsDefaultAmong}
-use Rattle.just_compiled.specs.Analysis.{IsOf, HasLinks}
+use Rattle.just_compiled.specs.Analysis.{IsOf, HasLinks, numbered_in}
 use Rattle.just_module_headers.specs.Files.{ArePlaced, AreRows}
 use Rattle.just_module_headers.specs.Joined.{IsJoined}
 use Rattle.just_module_variables.specs.Documented.{AreDocumented, HasDoc}
@@ -124,11 +125,11 @@ module _ (cs : Contents) (standing : List (Recipe UnresolvedDependency)) (ast : 
         working_directory = ap (λ x. x.working_directory) out ∙ is.working_directory;
       }
 
-  pub labelled_links : (recipes : List (Recipe UnresolvedDependency)) (before added : List (Recipe Dependency)) (path : Modulepath) → HasLinks recipes before path added standing j → HasLinks recipes before path added standing (labelled_as label j)
-  labelled_links recipes before added path links =
+  pub labelled_links : (answers : SyntaxAnswers) (recipes : List (Recipe UnresolvedDependency)) (before added : List (Recipe Dependency)) (path : Modulepath) → HasLinks answers recipes before path added standing j → HasLinks answers recipes before path added standing (labelled_as label j)
+  labelled_links answers recipes before added path links =
       let out = sym (out-roll-Justfile (record (out-Justfile j) { name = label.name; doc = label.doc; groups = label.groups; private = label.private })) in
       record {
-        linked = subst (λ x. AreLinked (Stands recipes (around x.absent_modules x.modules before)) (HasNumber recipes (around x.absent_modules x.modules before)) x.settings.lists (before ++ added) recipes path added) out links.linked;
+        linked = subst (λ x. AreLinked (Stands recipes (around x.absent_modules x.modules before)) (HasNumber recipes (around x.absent_modules x.modules before)) (numbered_in answers x.assignments x.settings) x.settings.lists (before ++ added) recipes path added) out links.linked;
         stand = subst (λ x. AreStanding (Stands recipes (around x.absent_modules x.modules before)) recipes standing) out links.stand;
         disabled = subst (λ x. HasDisabled (Disables recipes (around x.absent_modules x.modules before)) recipes x.disabled_recipes) out links.disabled;
       }
@@ -245,11 +246,11 @@ module _ (given : Given) (entries : List (AstKey × Ast)) (d : AstKey) (files : 
       out : out-Justfile j ≡ record (out-Justfile (justfile p)) { name = label.name; doc = label.doc; groups = label.groups; private = label.private }
       out = out-roll-Justfile (record (out-Justfile (justfile p)) { name = label.name; doc = label.doc; groups = label.groups; private = label.private })
 
-      links : HasLinks (kept_by given asts m) (made_before made order k) (path_of m) (made p).recipes at.standing j
+      links : HasLinks given.syntax (kept_by given asts m) (made_before made order k) (path_of m) (made p).recipes at.standing j
       links =
-          subst (λ path. HasLinks (kept_by given asts m) (made_before made order k) path (made p).recipes at.standing j) (path_same ∙ refl)
-          (subst (λ rs. HasLinks (kept_recipes rs) (made_before made order k) at.own.module_path (made p).recipes at.standing j) rs_same
-          (labelled_links (contents_of_place given.syntax.enabled files joined p) at.standing at.own loaded at.key.1 label (justfile p) at.fields (kept_of_place given.syntax.enabled files joined p) (made_before made order k) (made p).recipes at.own.module_path at.links))
+          subst (λ path. HasLinks given.syntax (kept_by given asts m) (made_before made order k) path (made p).recipes at.standing j) (path_same ∙ refl)
+          (subst (λ rs. HasLinks given.syntax (kept_recipes rs) (made_before made order k) at.own.module_path (made p).recipes at.standing j) rs_same
+          (labelled_links (contents_of_place given.syntax.enabled files joined p) at.standing at.own loaded at.key.1 label (justfile p) at.fields given.syntax (kept_of_place given.syntax.enabled files joined p) (made_before made order k) (made p).recipes at.own.module_path at.links))
 
       modules : (out-Justfile j).modules ≡ by_name inner
       modules = ap (λ x. x.modules) out ∙ at.modules

@@ -6,7 +6,6 @@ pub mod Docs
 pub mod Forests
 pub mod Grounds
 pub mod GroupGrounds
-pub mod Inserting
 pub mod Keeping
 pub mod Linking
 pub mod Meeting
@@ -17,3 +16,4 @@ pub mod OwnNumbers
 pub mod Placed
 pub mod Readings
 pub mod ShownPaths
+mod Numbered

@@ -3,8 +3,10 @@ use Rattle.std.proofs.Common.{◌≡◌, List, ◌++◌, sym, ap, subst}
 use Rattle.just_analyzer.specs.Parts.{IsAnalyzedFrom, around_by}
 use Rattle.just_analyzer.specs.declared.groups.Checked.{Checked}
 use Rattle.just_analyzer.specs.declared.making.Surroundings.{Surroundings}
+use Rattle.just_ast_definitions.specs.declared.assignment.Assignment.{Assignment}
+use Rattle.just_names.specs.Texts.{Text}
 use Rattle.just_ast_expressions.specs.declared.settings.Settings.{Settings}
-use Rattle.just_compiled.specs.Analysis.{HasLinks}
+use Rattle.just_compiled.specs.Analysis.{HasLinks, numbered_in}
 use Rattle.just_compiled.specs.Justfiles.{Made}
 use Rattle.just_errors.specs.Causes.{Keeps}
 use Rattle.just_invoke.specs.declared.justfile.Justfile.{Justfile, out-Justfile}
@@ -30,24 +32,25 @@ module _ (layers : Layers) (own : Ast) (it : Checked) (about : Surroundings) (be
   around_is : around_by about before.recipes ≡ around_of j before.recipes
   around_is = λ i. around (ap (λ (n : Notes). n.absent_modules) (sym is.notes) i) (sym is.modules i) before.recipes
 
-  lists_are : it.constants.settings.lists ≡ (out-Justfile j).settings.lists
-  lists_are = ap (λ (s : Settings). s.lists) (sym is.settings)
+  abbrev numbered : (x : Around) (vs : List (Text × Assignment)) (s : Settings) (all : List (Recipe Dependency)) → Type 0
+  numbered x vs s all = AreLinked (Stands rs x) (HasNumber rs x) (numbered_in layers.syntax vs s) s.lists all rs own.module_path is.linked.linked.added
 
   abbrev added : List (Recipe Dependency)
   added = is.linked.linked.added
 
-  has_links : HasLinks rs before.recipes own.module_path added is.standing j
+  has_links : HasLinks layers.syntax rs before.recipes own.module_path added is.standing j
   has_links = record {
-    linked = subst (λ (x : Around). AreLinked (Stands rs x) (HasNumber rs x) (out-Justfile j).settings.lists (before.recipes ++ added) rs own.module_path added) around_is
-        (subst (λ l. AreLinked (Stands rs (around_by about before.recipes)) (HasNumber rs (around_by about before.recipes)) l (before.recipes ++ added) rs own.module_path added) lists_are
-        (subst (λ all. AreLinked (Stands rs (around_by about before.recipes)) (HasNumber rs (around_by about before.recipes)) it.constants.settings.lists all rs own.module_path added) is.linked.linked.appended is.linked.linked.linked));
+    linked = subst (λ (x : Around). numbered x (out-Justfile j).assignments (out-Justfile j).settings (before.recipes ++ added)) around_is
+        (subst (λ vs. numbered (around_by about before.recipes) vs (out-Justfile j).settings (before.recipes ++ added)) (sym is.assignments)
+        (subst (λ s. numbered (around_by about before.recipes) it.variables.assignments s (before.recipes ++ added)) (sym is.settings)
+        (subst (λ all. numbered (around_by about before.recipes) it.variables.assignments it.constants.settings all) is.linked.linked.appended is.linked.linked.linked)));
     stand = subst (λ (x : Around). AreStanding (Stands rs x) rs is.standing) around_is is.linked.stand;
     disabled = subst (λ (x : Around). HasDisabled (Disables rs x) rs (out-Justfile j).disabled_recipes) around_is is.linked.disabled_are;
   }
 
   -- so it has these links, of contents that are the same
-  pub links_of : (m : Contents) → contents_in it.definitions ≡ m → HasLinks (kept_recipes m.recipes) before.recipes own.module_path added is.standing j
-  links_of m same = subst (λ (x : Contents). HasLinks (kept_recipes x.recipes) before.recipes own.module_path added is.standing j) same has_links
+  pub links_of : (m : Contents) → contents_in it.definitions ≡ m → HasLinks layers.syntax (kept_recipes m.recipes) before.recipes own.module_path added is.standing j
+  links_of m same = subst (λ (x : Contents). HasLinks layers.syntax (kept_recipes x.recipes) before.recipes own.module_path added is.standing j) same has_links
 
   -- and keeps its rules over them
   pub recipes_kept_over : (m : Contents) → contents_in it.definitions ≡ m → Keeps (BreaksRecipes layers (evaluated_in it.constants) (links_by m (around_of j before.recipes)) (contents_in it.definitions))

@@ -86,8 +86,8 @@ found_number [] n r e = cc
 found_number (x ∷ rs) n r e = found_or rs n r x (found_number rs n r) (x.number.0 == n) refl e
 
 -- the own recipes are resolved where they stand
-module _ (lists : Bool) (recipes standing : List (Recipe UnresolvedDependency)) (it : Around) (path : Modulepath) (all : List (Recipe Dependency)) (own : List (Recipe UnresolvedDependency)) (default : Option Number)
-    (stand : AreStanding (Stands recipes it) recipes standing) (linked : AddsLinked lists recipes it path all) (apart : AreNew it.held own) where
+module _ (by : Recipe UnresolvedDependency → Recipe UnresolvedDependency) (named : (r : Recipe UnresolvedDependency) → (by r).number ≡ r.number) (lists : Bool) (recipes standing : List (Recipe UnresolvedDependency)) (it : Around) (path : Modulepath) (all : List (Recipe Dependency)) (own : List (Recipe UnresolvedDependency)) (default : Option Number)
+    (stand : AreStanding (Stands recipes it) recipes standing) (linked : AddsLinked by lists recipes it path all) (apart : AreNew it.held own) where
   standing_of : (n : ℕ) → (i : ℕ) → i < length recipes → Stands recipes it (name_of (recipe_at recipes i)) → n ≡ (recipe_at recipes i).number.0 → In n (unresolved_numbers standing)
   standing_of n i h is e = subst (λ x. In x (unresolved_numbers standing)) (sym e) (in_map (λ (x : Recipe UnresolvedDependency). x.number.0) (recipe_at recipes i) standing (stays stand (recipe_at recipes i) (is_in (recipe_at recipes i) recipes (Contains-get_or recipes i no_recipe h)) is))
     where
@@ -106,7 +106,7 @@ module _ (lists : Bool) (recipes standing : List (Recipe UnresolvedDependency)) 
         | inl old ↦ absurd (apart n (contained n (numbers it.held) (subst (λ x. In x (numbers it.held)) (sym r.2) (in_map (λ (x : Recipe Dependency). x.number.0) r.0 it.held old))) (contained n (unresolved_numbers own) (number_of own k h)))
         | inr new ↦
             let at = linked.linked.only r.0 (contained r.0 linked.added new) in
-            contained n (unresolved_numbers standing) (standing_of n at.0 at.1.there at.1.stands (r.2 ∙ ap (λ (x : Number). x.0) at.1.made_of.resolved.number))
+            contained n (unresolved_numbers standing) (standing_of n at.0 at.1.there at.1.stands (r.2 ∙ ap (λ (x : Number). x.0) (at.1.made_of.resolved.number ∙ named (recipe_at recipes at.0))))
       ]
 
   back : (k : ℕ) → k < length own → Contains (unresolved_numbers standing) (number_at own k) → Contains (numbers all) (number_at own k)

@@ -5,7 +5,7 @@ use Rattle.std.specs.List.{Contains}
 use Rattle.std.specs.HashMap.{get}
 use Rattle.just_module_variables.specs.Constants.{evaluated_in}
 use Rattle.just_module_variables.specs.Documented.{AreDocumented}
-use Rattle.just_module_variables.specs.Variables.{AreVariablesOf}
+use Rattle.just_module_variables.specs.Variables.{AreVariablesOf, HasNumbers}
 use Rattle.just_errors.specs.Causes.{Cause, Keeps}
 use Rattle.just_graph.specs.Graph.{targets}
 use Rattle.just_invoke.specs.declared.justfile.Justfile.{Justfile, out-Justfile}
@@ -85,6 +85,9 @@ module _ (given : Given) (files : Files) (joined : Joined) (p : ℕ) (row : List
 
     pub variables_resolved : AreVariablesOf given.syntax (contents_in it.definitions) it.variables
     variables_resolved = subst (λ n. AreVariablesOf given.syntax n it.variables) (sym is.contents) is.constants.resolved
+
+    pub numbers_told : HasNumbers it.variables
+    numbers_told = is.constants.numbers
 
     pub labels_named : names_of_labels it.labels.items ≡ names_of_labels (labels_of_place given.syntax.enabled files joined p)
     labels_named = named_alike _ (labels_of_place given.syntax.enabled files joined p) it.labels.items is.labels

@@ -2,11 +2,8 @@
 use Rattle.std.specs.Prelude.{◌≡◌, ◌<◌, ◌++◌, ℕ, List, [], ◌∷◌, map, slice_get, Option, Some}
 use Rattle.std.specs.HashMap.{HashMap, get}
 use Rattle.std.specs.List.{All, Contains}
-use Rattle.std.specs.Option.{option_or}
-use Rattle.just_module_variables.specs.Overrides.{last_of}
 use Rattle.just_analyzer.specs.declared.compiling.Gathered.{Gathered}
 use Rattle.just_names.specs.declared.number.Number.{Number}
-use Rattle.just_parts.specs.Needs.{same_number}
 use Rattle.just_graph.specs.Unfolded.{AreApart}
 use Rattle.just_parts.specs.Asts.{AstKey, same_ast_key}
 use Rattle.just_errors.specs.Causes.{Reports}
@@ -15,6 +12,7 @@ use Rattle.just_recipe.specs.declared.dependency.Dependency.{Dependency}
 use Rattle.just_parts.specs.Items.{Ast}
 use Rattle.just_parts.specs.Layers.{Given}
 use Rattle.just_errors.specs.declared.error.Error.{Error}
+use Rattle.just_overrides.specs.Inserted.{AreInserted}
 use Rattle.just_paths.specs.declared.modulepath.Modulepath.{Modulepath}
 use Rattle.just_recipe.specs.declared.recipe.Recipe.{Recipe}
 use Rattle.just_invoke.specs.Closed.{AreClosed, IsPlaced}
@@ -26,14 +24,6 @@ use Rattle.just_compiled.specs.Justfiles.{AreCompiled, Built, overridden_of_all,
 use Rattle.just_module_tree.specs.Modules.{AreModules, Empty, Forest, Heading, IsHeading, Module, Tree, heading}
 use Rattle.just_module_headers.specs.Reading.{reading_of}
 use Rattle.just_module_contents.specs.declared.labels.Label.{Label}
-
--- values are put in one after another, each under its number
-abbrev pub AreInserted : {G : Type 0} → List (Number × Text) → HashMap Number Text G → HashMap Number Text G → Type 0
-AreInserted pairs old new = (n : Number) → get same_number new n ≡ option_or (last_of pairs n) (get same_number old n)
-
--- nothing is put in
-abbrev pub AreAsBefore : {G : Type 0} → HashMap Number Text G → HashMap Number Text G → Type 0
-AreAsBefore old new = (n : Number) → get same_number new n ≡ get same_number old n
 
 -- a module comes after those in it
 abbrev pub ComeAfter : List Built → Type 0

@@ -3,7 +3,7 @@ use Rattle.std.specs.Prelude.{◌≡◌, List}
 use Rattle.std.specs.HashMap.{get}
 use Rattle.just_module_variables.specs.Constants.{CoversAll, evaluated_in}
 use Rattle.just_module_variables.specs.Overrides.{last_of}
-use Rattle.just_module_variables.specs.Variables.{AreVariablesOf}
+use Rattle.just_module_variables.specs.Variables.{AreVariablesOf, HasNumbers}
 use Rattle.just_module_variables.specs.declared.constants.Constants.{Constants}
 use Rattle.just_module_variables.specs.declared.variables.Variables.{Variables}
 use Rattle.just_errors.specs.Causes.{Keeps}
@@ -23,9 +23,10 @@ use Rattle.just_parts.specs.Needs.{same_number}
 abbrev pub no_links : Links
 no_links layers it g c = ⊥
 
--- The variables of a module are resolved, it has these constants and settings, with values for whatever is evaluated while compiling, and these values override its variables, also by their numbers.
+-- The variables of a module are resolved, their numbers are told by their names, it has these constants and settings, with values for whatever is evaluated while compiling, and these values override its variables, also by their numbers.
 pub record HasConstants (layers : Layers) (m : Contents) (variables : Variables) (constants : Constants) : Type 0 where
   pub resolved : AreVariablesOf layers.syntax m variables
+  pub numbers : HasNumbers variables
   pub evaluated : IsEvaluated layers m (evaluated_in constants)
   pub covered : CoversAll variables (values_of constants.scope) (constant_expressions m)
   pub overridden : constants.overridden.items ≡ overridden_in layers m

@@ -1,6 +1,7 @@
 -- What a source map is compiled to.
 use Rattle.std.specs.Prelude.{◌≡◌, List, Result, IfOk, IfErr, IsSome}
 use Rattle.std.specs.HashMap.{get}
+use Rattle.std.specs.Option.{option_or}
 use Rattle.just_parts.specs.Asts.{same_ast_key, root_ast_key}
 use Rattle.just_errors.specs.Causes.{Keeps, Reports}
 use Rattle.just_names.specs.Texts.{Text}
@@ -11,6 +12,7 @@ use Rattle.just_parts.specs.Needs.{same_number}
 use Rattle.just_names.specs.declared.number.Number.{Number}
 use Rattle.just_module_headers.specs.Reading.{reading_of}
 use Rattle.just_module_variables.specs.Overrides.{last_of}
+use Rattle.just_overrides.specs.Reached.{meant}
 use Rattle.just_loader.specs.Loaded.{IsLoaded}
 use Rattle.just_loader.specs.Reached.{World}
 use Rattle.just_analyzer.specs.Analyzed.{IsAnalyzed}
@@ -23,14 +25,14 @@ use Rattle.just_analyzer.specs.declared.compilation.Compilation.{Compilation as 
 abbrev pub Compilation : Type 0
 Compilation = CompilationOf Ast
 
--- The files are loaded, what they say is held and is a reading of the source map, and the root's module is analyzed, with those in it; each variable that is overridden is, by its number, to the last value of that number.
+-- The files are loaded, what they say is held and is a reading of the source map, and the root's module is analyzed, with those in it; each variable has, by its number, the value of the last key that means it, or else the last by which the analysis overrode it.
 pub record IsCompilation (evaluator : Evaluator) (overrides : Overrides) (w : World) (c : Compilation) : Type 0 where
   pub loaded : List Text
   pub is_loaded : IsLoaded w (get same_ast_key c.asts) loaded
   pub reading : IsReadingOf w (reading_of w.answers.enabled (get same_ast_key c.asts))
   pub overridden : List (Number × Text)
   pub analyzed : IsAnalyzed (given_in evaluator overrides w) (get same_ast_key c.asts) loaded (root_heading w) c.justfile c.recipes overridden
-  pub overrides_are : (n : Number) → get same_number c.overrides n ≡ last_of overridden n
+  pub overrides_are : (n : Number) → get same_number c.overrides n ≡ option_or (last_of (meant c.justfile overrides.entries) n) (last_of overridden n)
 
 -- What a compilation answers: no rule is broken, so that none is named, the files are compiled, each recipe that is named is held, each that is held is that of a module that stands in the root, each variable and function stands under its own name in its module, no two variables of all modules have one number, and the root's file is held; or a rule that is broken.
 pub record Compiles (evaluator : Evaluator) (overrides : Overrides) (w : World) (result : Result Compilation Error) : Type 0 where

@@ -18,7 +18,7 @@ use Rattle.just_recipe.specs.declared.dependency.UnresolvedDependency.{Unresolve
 use Rattle.just_recipe.specs.declared.recipe.Recipe.{Recipe}
 use Rattle.just_module_headers.specs.declared.files.Files.{Files}
 use Rattle.just_module_headers.specs.declared.joined.Joined.{Joined}
-use Rattle.just_compiled.specs.Analysis.{HasDefault, IsOf}
+use Rattle.just_compiled.specs.Analysis.{HasDefault, IsOf, numbered_in}
 use Rattle.just_compiled.specs.Labelled.{by_name, notes_in, slot, with_labels}
 use Rattle.just_compiled.specs.Justfiles.{Made}
 use Rattle.just_analyzer.specs.Noted.{notes_of_place}
@@ -31,6 +31,9 @@ use Rattle.just_module_contents.specs.declared.labels.Label.{Label}
 use Rattle.just_parts.specs.Asts.{AstKey}
 use Rattle.just_parts.specs.Items.{Ast, Item}
 use Rattle.just_parts.specs.Layers.{Layers}
+use Rattle.just_parts.specs.Syntax.{SyntaxAnswers}
+use Rattle.just_ast_definitions.specs.declared.assignment.Assignment.{Assignment}
+use Rattle.just_ast_expressions.specs.declared.settings.Settings.{Settings}
 use Rattle.just_module_variables.specs.Constants.{evaluated_in}
 use Rattle.just_module_recipes.specs.Broken.{BreaksRecipes}
 
@@ -55,22 +58,27 @@ own_targets it own = targets_made it.notes.absent_modules own.disabled it.module
 abbrev pub BreaksChecked : Layers → Checked → Around → Cause → Type 0
 BreaksChecked layers it about = BreaksRecipes layers (evaluated_in it.constants) (links_by (contents_in it.definitions) about) (contents_in it.definitions)
 
--- The kept recipes of a module are linked over what is around them: those that stand, the table of the others, and all recipes, of which these are added.
-pub record AreLinkedOver (lists : Bool) (recipes : List (Recipe UnresolvedDependency)) (it : Around) (path : Modulepath) (standing : List (Recipe UnresolvedDependency)) (disabled : List (Text × Disabled)) (all : List (Recipe Dependency)) : Type 0 where
+-- The kept recipes of a module with these variables and settings are linked over what is around them: those that stand, the table of the others, and all recipes, of which these are added, with the numbers of what names mean in them.
+pub record AreLinkedOver (answers : SyntaxAnswers) (assignments : List (Text × Assignment)) (settings : Settings) (recipes : List (Recipe UnresolvedDependency)) (it : Around) (path : Modulepath) (standing : List (Recipe UnresolvedDependency)) (disabled : List (Text × Disabled)) (all : List (Recipe Dependency)) : Type 0 where
   pub stand : AreStanding (Stands recipes it) recipes standing
   pub disabled_are : HasDisabled (Disables recipes it) recipes disabled
-  pub linked : AddsLinked lists recipes it path all
+  pub linked : AddsLinked (numbered_in answers assignments settings) settings.lists recipes it path all
+
+-- so are those of a module that is checked
+abbrev pub AreLinkedIn : SyntaxAnswers → Checked → Around → Modulepath → List (Recipe UnresolvedDependency) → List (Text × Disabled) → List (Recipe Dependency) → Type 0
+AreLinkedIn answers it = AreLinkedOver answers it.variables.assignments it.constants.settings (kept_recipes (recipes_in it.definitions))
 
 -- What a module is analyzed to that is checked, and what it adds.
 pub record IsAnalyzedFrom (layers : Layers) (own : Ast) (it : Checked) (around : Surroundings) (before after : Made) (j : Justfile) : Type 0 where
   pub kept : Keeps (BreaksChecked layers it (around_by around before.recipes))
   pub standing : List (Recipe UnresolvedDependency)
-  pub linked : AreLinkedOver it.constants.settings.lists (kept_recipes (recipes_in it.definitions)) (around_by around before.recipes) own.module_path standing (out-Justfile j).disabled_recipes after.recipes
+  pub linked : AreLinkedIn layers.syntax it (around_by around before.recipes) own.module_path standing (out-Justfile j).disabled_recipes after.recipes
   pub overridden : after.overridden ≡ before.overridden ++ it.constants.overridden.items
   pub fields : IsOf (contents_in it.definitions) standing own around.loaded around.source j
   pub default : HasDefault standing (recipes_by layers.syntax.enabled (Some own)) j
   pub settings : (out-Justfile j).settings ≡ it.constants.settings
   pub own_overrides : (out-Justfile j).overridden ≡ it.constants.overrides
+  pub assignments : (out-Justfile j).assignments ≡ it.variables.assignments
   pub variables : HasVariables layers.syntax (contents_in it.definitions) j
   pub modules : (out-Justfile j).modules ≡ around.modules
   pub notes : notes_in j ≡ around.notes

@@ -1,12 +1,12 @@
 -- What the files of a source map say, as the modules that they belong to see it.
-use Rattle.std.specs.Prelude.{◌≡◌, false, ℕ, List, [], map, Option, None, Some}
+use Rattle.std.specs.BTreeMap.{BTreeMap}
+use Rattle.std.specs.Prelude.{◌≡◌, false, ℕ, List, [], map, None, Some}
 use Rattle.just_module_contents.specs.Named.{lists_by}
 use Rattle.just_parts.specs.Asts.{root_ast_key}
 use Rattle.just_paths.specs.Clean.{folder_of}
 use Rattle.just_names.specs.Texts.{Text}
-use Rattle.just_paths.specs.declared.modulepath.Modulepath.{Modulepath}
 use Rattle.just_parts.specs.Evaluator.{Evaluator}
-use Rattle.just_parts.specs.Layers.{Given}
+use Rattle.just_parts.specs.Layers.{Given, override_at}
 use Rattle.just_parts.specs.Located.{with_depth}
 use Rattle.just_parts.specs.Items.{Item}
 use Rattle.just_ast_expressions.specs.declared.list_use.ListUse.{ListUse}
@@ -14,6 +14,7 @@ use Rattle.just_loader.specs.Keys.{FileKey, IsLeastFileDepth, ast_key, items_at}
 use Rattle.just_loader.specs.Loaded.{with_path}
 use Rattle.just_loader.specs.Reached.{World, ast_of}
 use Rattle.just_module_tree.specs.Modules.{Heading, heading, label}
+use Rattle.just_module_tree.specs.Overrides.{Key}
 use Rattle.just_module_headers.specs.Reading.{Reading, ast_of_both, enabled_items}
 
 -- the items of a file that count, at a depth, with the paths of the files to which they lead
@@ -32,10 +33,10 @@ IsReadingOf w R = (k : FileKey) (depth : ℕ) → IsLeastFileDepth w k depth →
 abbrev pub root_heading : World → Heading
 root_heading w = heading (root_ast_key w.root) (label None None [] false)
 
--- the values that override variables, by the path of the module and the name of the variable
+-- the values that override variables, under keys: the path of the module and the name of the variable
 abbrev pub Overrides : Type 0
-Overrides = Modulepath → Text → Option Text
+Overrides = BTreeMap Key Text
 
 -- what is given to the analysis
 abbrev pub given_in : Evaluator → Overrides → World → Given
-given_in evaluator overrides w = record { syntax = w.answers; evaluator = evaluator; overrides = overrides }
+given_in evaluator overrides w = record { syntax = w.answers; evaluator = evaluator; overrides = override_at overrides }

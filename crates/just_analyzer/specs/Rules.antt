@@ -1,4 +1,5 @@
 -- The rules of compilation.
+use Rattle.std.specs.Map.{keys_of}
 use Rattle.std.specs.Prelude.{[], ◌∷◌}
 use Rattle.just_errors.specs.Causes.{Cause, Keeps}
 use Rattle.just_parts.specs.Evaluator.{Evaluator}
@@ -6,15 +7,19 @@ use Rattle.just_loader.specs.Keys.{NamesInFiles}
 use Rattle.just_loader.specs.Reached.{World}
 use Rattle.just_module_tree.specs.Groups.{KeepsModules, NamesModules}
 use Rattle.just_module_tree.specs.Modules.{AreModules, Forest}
+use Rattle.just_module_tree.specs.Overrides.{BreaksOverrides}
 use Rattle.just_module_headers.specs.Reading.{Reading}
 use Rattle.just_analyzer.specs.Readings.{IsReadingOf, Overrides, given_in, root_heading}
 
--- What a compilation breaks: a rule of files; or where these are kept, one of a module that is reached from the root's.
+-- What a compilation breaks: a rule of files; or where these are kept, one of a module that is reached from the root's; or where all of those are kept, that of what is overridden.
 pub data Names (evaluator : Evaluator) (overrides : Overrides) (w : World) : Cause → Type 0 where
   in_files : {c : Cause} → NamesInFiles w c → Names evaluator overrides w c
   in_modules : {c : Cause} (R : Reading) → Keeps (NamesInFiles w) → IsReadingOf w R → NamesModules (given_in evaluator overrides w) R (root_heading w) c → Names evaluator overrides w c
+  in_overrides : {c : Cause} (R : Reading) (f : Forest) → Keeps (NamesInFiles w) → IsReadingOf w R → AreModules R (root_heading w ∷ []) f → KeepsModules (given_in evaluator overrides w) f
+      → BreaksOverrides (keys_of overrides.entries) f c → Names evaluator overrides w c
 
--- No rule is broken: those of files are kept, and so are all groups in the root's module and in those in it.
+-- No rule is broken: those of files are kept, and so are all groups in the root's module and in those in it, and that of what is overridden.
 pub record KeepsAll (evaluator : Evaluator) (overrides : Overrides) (w : World) : Type 0 where
   pub files : Keeps (NamesInFiles w)
   pub modules : (R : Reading) (f : Forest) → IsReadingOf w R → AreModules R (root_heading w ∷ []) f → KeepsModules (given_in evaluator overrides w) f
+  pub overridden : (R : Reading) (f : Forest) → IsReadingOf w R → AreModules R (root_heading w ∷ []) f → Keeps (BreaksOverrides (keys_of overrides.entries) f)

@@ -103,7 +103,7 @@ pub record IsCompiledAt (given : Given) (files : Files) (joined : Joined) (loade
   pub key_is : slice_get (keys_in files) p ≡ Some key
   pub kept : KeepsPlace given files joined p (links_by (contents_of_place given.syntax.enabled files joined p) (around_of j before))
   pub standing : List (Recipe UnresolvedDependency)
-  pub links : HasLinks (kept_of_place given.syntax.enabled files joined p) before own.module_path made.recipes standing j
+  pub links : HasLinks given.syntax (kept_of_place given.syntax.enabled files joined p) before own.module_path made.recipes standing j
   pub labels : List Label
   pub evaluated : IsEvaluatedTo (layers_at given (path_at files p)) (contents_of_place given.syntax.enabled files joined p) (labels_of_place given.syntax.enabled files joined p) labels made.overridden j
   pub variables : HasVariables given.syntax (contents_of_place given.syntax.enabled files joined p) j

@@ -12,5 +12,6 @@ pub use Rattle.just_invoke.specs.Closed.{AreClosed, IsClosed, IsHeld, IsRooted, 
 pub use Rattle.just_invoke.specs.Outcome.{IsExpected, IsOutcome}
 pub use Rattle.just_invoke.specs.Split.{IsFault, IsSplit, invoked_of}
 pub use Rattle.just_invoke.specs.Walks.{AreOrdered, IsOrdered}
-pub use Rattle.just_analyzer.specs.Analyzed.{Analyzes, AreAsBefore, NamesAnalyzed}
+pub use Rattle.just_overrides.specs.Inserted.{AreAsBefore}
+pub use Rattle.just_analyzer.specs.Analyzed.{Analyzes, NamesAnalyzed}
 pub use Rattle.just_analyzer.specs.Compiled.{Compiles}

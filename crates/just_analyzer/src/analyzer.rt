@@ -1,10 +1,10 @@
 //! The analysis of a module, and of the modules in it.
 
-ghost use Rattle.std.specs.Prelude.{◌≡◌, ◌≤◌, IfErr, IfOk, IsSome, None, length};
-ghost use Rattle.std.specs.HashMap.{get, spare};
+ghost use Rattle.std.specs.Prelude.{◌≡◌, IfErr, IfOk, IsSome, None};
+ghost use Rattle.std.specs.HashMap.{get};
 ghost use Rattle.just_parts.specs.Asts.{same_ast_key};
 ghost use Rattle.just_module_headers.specs.Analyzable.{AreAnalyzable};
-ghost use Rattle.just_analyzer.specs.Analyzed.{AnalyzesAt, AreInserted, NamesAnalyzed};
+ghost use Rattle.just_analyzer.specs.Analyzed.{AnalyzesAt, NamesAnalyzed};
 ghost use Rattle.just_parts.specs.Layers.{given_by};
 
 use crate::compiling::{Gathered, compile_in_order};
@@ -15,6 +15,7 @@ use just_module_contents::Label;
 use just_module_headers::files::Files;
 use just_module_headers::joined::arrange;
 use just_module_headers::module_names::check_module_names;
+use just_overrides::insert_all;
 use just_parts::layers::{
     Ast, Config, Error, Evaluation, Given, Name, Number, StringLiteral, Syntax,
 };
@@ -65,18 +66,6 @@ fn analyze_modules<'src, S: Syntax, E: Evaluation>(
     Ok((labelled(justfile, label), gathered))
 }
 
-// Puts values in, each under its number, for which there is room; of several with one number the last.
-fn insert_all(pairs: Vec<(Number, Text)>, overrides: &mut HashMap<Number, Text>)
-    requires { length pairs.items ≤ spare overrides.old }
-    ensures { AreInserted pairs.items overrides.old overrides.new }
-{
-    for (number, value) in pairs {
-        let Ok(_) = overrides.insert(number, value) else {
-            unreachable!()
-        };
-    }
-}
-
 /// Analyzes modules.
 pub struct Analyzer;
 
@@ -86,7 +75,8 @@ impl Analyzer {
     ghost use Rattle.std.specs.Str.{bytes_eq};
     ghost use Rattle.just_parts.specs.Asts.{same_ast_key};
     ghost use Rattle.just_module_headers.specs.Analyzable.{AreAnalyzable, HavePaths};
-    ghost use Rattle.just_analyzer.specs.Analyzed.{AreAsBefore, Analyzes, NamesAnalyzed};
+    ghost use Rattle.just_analyzer.specs.Analyzed.{Analyzes, NamesAnalyzed};
+    ghost use Rattle.just_overrides.specs.Inserted.{AreAsBefore};
     ghost use Rattle.just_module_tree.specs.Modules.{label};
     ghost use Rattle.just_parts.specs.Layers.{given_of};
 

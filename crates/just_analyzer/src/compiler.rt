@@ -2,7 +2,6 @@ ghost use Rattle.std.specs.Prelude.{◌≡◌};
 ghost use Rattle.just_paths.specs.Clean.{IsClean};
 ghost use Rattle.just_loader.specs.ModuleFile.{FindsModuleFile};
 ghost use Rattle.just_loader.specs.Reached.{world_of};
-ghost use Rattle.just_parts.specs.Layers.{override_at};
 ghost use Rattle.just_analyzer.specs.Compiled.{Compiles};
 
 use crate::analyzer::Analyzer;
@@ -10,6 +9,7 @@ use crate::compilation::Compilation;
 use crate::paths::relative_paths;
 use just_data::{Shared, Text};
 use just_loader::{Loaded, Sources, load};
+use just_overrides::apply_overrides;
 use just_parts::layers::{Config, Error, Evaluation, Name, Syntax};
 use just_paths::Modulepath;
 use std::alloc::Global;
@@ -35,12 +35,14 @@ impl Compiler {
 
     /// Compiles the file at `root` and those that it reaches, or names a rule that is broken. Where it succeeds no rule
     /// is broken, and each recipe that the compilation names is held, after those that it depends on. Whether the docs, helps
-    /// and patterns of recipes have values, and whether overrides name variables, is not judged yet.
+    /// and patterns of recipes have values is not judged yet.
     ///
     /// The evaluation is asked for the constants of each module: the values of the variables that its settings need, and
     /// the docs, helps and patterns of its attributes, each with whatever it reads. A variable that the configuration
     /// overrides has that value, and its own is not evaluated. Then it is asked for the settings of each module, and for
-    /// the docs of the modules that it declares. The compilation has the values that override variables, by their numbers.
+    /// the docs of the modules that it declares. At last each key by which the configuration overrides means a variable, also
+    /// through aliases of modules, or all that mean none are told. The compilation has the values that override variables,
+    /// by their numbers; of several keys that mean one variable the value of the last.
     pub fn compile<'src, S: Syntax, E: Evaluation>(
         alloc: Global,
         config: &Config,
@@ -51,7 +53,7 @@ impl Compiler {
     ) -> Result<Compilation<'src>, Error<'src>>
         requires { IsClean root.now }
         ensures { let world = world_of sources.now config.now (S.answers syntax.now) root.now in
-            Compiles (E.answers evaluation.now) (override_at config.now.overrides) world result }
+            Compiles (E.answers evaluation.now) config.now.overrides world result }
     {
         let path = Text::from_str(alloc, root)?;
         let Loaded { asts, loaded } = load(alloc, config, syntax, sources, root)?;
@@ -75,6 +77,7 @@ impl Compiler {
             syntax,
             evaluation,
         )?;
+        apply_overrides(alloc, &justfile, &config.overrides, &mut overrides)?;
         Ok(Compilation {
             asts,
             justfile,

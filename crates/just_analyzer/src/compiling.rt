@@ -2,7 +2,7 @@
 
 ghost use Rattle.std.specs.Prelude.{◌≡◌, ◌<◌, ℕ, List, IfOk, IfErr, None, OnOk, Some, length, map};
 ghost use Rattle.std.specs.List.{All, Contains};
-ghost use Rattle.just_module_variables.specs.Variables.{AreVariablesOf};
+ghost use Rattle.just_module_variables.specs.Variables.{AreVariablesOf, HasNumbers};
 ghost use Rattle.just_graph.specs.Graph.{targets};
 ghost use Rattle.just_graph.specs.Steps.{IsOnce};
 ghost use Rattle.just_errors.specs.Causes.{Reports};
@@ -92,6 +92,7 @@ fn analyze_checked<'b, 'src, S: Syntax, E: Evaluation>(
     requires ordered { AreOrdered surroundings.modules }
     requires settled { AreSettled (around_by surroundings gathered.recipes) }
     requires variables { AreVariablesOf (S.answers given.now.syntax.now) (contents_in checked.definitions) checked.variables }
+    requires numbers { HasNumbers checked.variables }
     ensures analyzed { let layers = layers_at (given_by S.answers E.answers given.now) ast.now.module_path in
         let is = IsAnalyzedFrom layers ast.now checked.entry surroundings.entry in
         IfOk result (λ made. is (made_in gathered.entry) (made_in made.1) made.0) }

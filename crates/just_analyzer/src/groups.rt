@@ -5,7 +5,7 @@
 ghost use Rattle.std.specs.Prelude.{◌≡◌, ◌<◌, IfErr, IfOk, OnOk, Some, length};
 ghost use Rattle.std.specs.List.{All};
 ghost use Rattle.just_analyzer.specs.Checked.{HasConstants, IsChecked, no_links};
-ghost use Rattle.just_analyzer.specs.Parts.{AreLinkedOver, BreaksChecked, around_by, own_targets};
+ghost use Rattle.just_analyzer.specs.Parts.{AreLinkedIn, BreaksChecked, around_by, own_targets};
 ghost use Rattle.just_errors.specs.Causes.{Keeps, Reports};
 ghost use Rattle.just_graph.specs.Steps.{IsOnce};
 ghost use Rattle.just_invoke.specs.Walks.{AreOrdered};
@@ -29,7 +29,7 @@ ghost use Rattle.just_module_recipes.specs.Linked.{AreSettled};
 ghost use Rattle.just_module_recipes.specs.Links.{BreaksLinks};
 ghost use Rattle.just_module_variables.specs.Constants.{CoversAll};
 ghost use Rattle.just_module_variables.specs.Documented.{AreDocumentedIn};
-ghost use Rattle.just_module_variables.specs.Variables.{AreVariablesOf};
+ghost use Rattle.just_module_variables.specs.Variables.{AreVariablesOf, HasNumbers};
 ghost use Rattle.just_names.specs.Index.{AreDifferent};
 ghost use Rattle.just_parts.specs.Evaluator.{values_of};
 ghost use Rattle.just_parts.specs.Layers.{given_by, layers_at};
@@ -50,7 +50,7 @@ use just_module_variables::{
 use just_name_resolution::Known;
 use just_parts::layers::{Ast, Error, Evaluation, Given, Syntax};
 use just_paths::Modulepath;
-use just_recipe_names::check_recipes;
+use just_recipe_names::{Meanings, check_recipes};
 use std::alloc::{AllocError, Global};
 
 /// What is found of a module before its recipes are resolved.
@@ -180,8 +180,8 @@ pub fn check_files<'b, 'a, 'src, S: Syntax, E: Evaluation>(
     })
 }
 
-// Links the recipes of a checked module at a path that are kept, under its settings, over what is around them. An error
-// names a rule that is broken in its bodies, or where these are kept in its dependencies.
+// Links the recipes of a checked module at a path that are kept, under its settings and with what names mean in it, over
+// what is around them. An error names a rule that is broken in its bodies, or where these are kept in its dependencies.
 fn link_recipes<'src, 'a, S: Syntax, E: Evaluation>(
     given: &Given<S, E>,
     checked: &Checked<'src, 'a>,
@@ -194,12 +194,13 @@ fn link_recipes<'src, 'a, S: Syntax, E: Evaluation>(
     requires apart { AreNew recipes (recipes_in checked.now.definitions) }
     requires ordered { AreOrdered around.now.modules }
     requires settled { AreSettled (around_by around.now recipes) }
+    requires numbers { HasNumbers checked.now.variables }
     ensures bodies { let it = checked.now in
         IfOk result (λ _. Keeps (Bodies (S.answers given.now.syntax.now) it.constants.settings (contents_in it.definitions))) }
     ensures kept { let kept = kept_recipes (recipes_in checked.now.definitions) in
         IfOk result (λ _. Keeps (BreaksLinks checked.now.constants.settings.lists kept (around_by around.now recipes.entry))) }
-    ensures linked { let kept = kept_recipes (recipes_in checked.now.definitions) in
-        let linked = AreLinkedOver checked.now.constants.settings.lists kept (around_by around.now recipes.entry) path.now in
+    ensures linked { let answers = S.answers given.now.syntax.now in
+        let linked = AreLinkedIn answers checked.now (around_by around.now recipes.entry) path.now in
         IfOk result (λ made. linked (recipes_in made.standing) made.disabled made.all) }
     ensures named { let layers = layers_at (given_by S.answers E.answers given.now) path.now in
         IfErr result (Reports (BreaksChecked layers checked.now (around_by around.now recipes.entry))) }
@@ -207,10 +208,15 @@ fn link_recipes<'src, 'a, S: Syntax, E: Evaluation>(
     let settings = &checked.constants.settings;
     check_bodies(given.alloc, given.syntax, &checked.definitions, settings)?;
     let kept = keep_recipes(given.alloc, &checked.definitions)?;
+    let meanings = Meanings {
+        bindings: &checked.variables.numbers,
+        settings,
+        syntax: given.syntax,
+    };
     link(
         given.alloc,
         &kept,
-        settings,
+        &meanings,
         path,
         &around.notes.absent_modules,
         around.modules.as_slice(),
@@ -241,8 +247,8 @@ fn check_names_read<'src, 'a, 'b, S: Syntax, E: Evaluation>(
 }
 
 /// Checks the recipes of a module that is checked, of which `ast` says its own file, under its settings, and links those
-/// that are kept over what is around them: those that stand are put behind the recipes that are resolved so far. It answers
-/// what its justfile has of them, with its aliases, and all recipes. An error names a rule that is broken; the recipes are
+/// that are kept over what is around them: those that stand are put behind the recipes that are resolved so far, with the
+/// numbers of what the names in them mean. It answers what its justfile has of them, with its aliases, and all recipes. An error names a rule that is broken; the recipes are
 /// dropped then.
 pub fn add_recipes<'src, 'a, S: Syntax, E: Evaluation>(
     given: &Given<S, E>,
@@ -258,10 +264,11 @@ pub fn add_recipes<'src, 'a, S: Syntax, E: Evaluation>(
     requires ordered { AreOrdered around.now.modules }
     requires settled { AreSettled (around_by around.now recipes) }
     requires variables { AreVariablesOf (S.answers given.now.syntax.now) (contents_in checked.now.definitions) checked.now.variables }
+    requires numbers { HasNumbers checked.now.variables }
     ensures kept { let layers = layers_at (given_by S.answers E.answers given.now) ast.now.module_path in
         IfOk result (λ _. Keeps (BreaksChecked layers checked.now (around_by around.now recipes.entry))) }
-    ensures linked { let kept = kept_recipes (recipes_in checked.now.definitions) in
-        let linked = AreLinkedOver checked.now.constants.settings.lists kept (around_by around.now recipes.entry) ast.now.module_path in
+    ensures linked { let answers = S.answers given.now.syntax.now in
+        let linked = AreLinkedIn answers checked.now (around_by around.now recipes.entry) ast.now.module_path in
         IfOk result (λ made. linked (recipes_in made.0.standing) made.0.disabled made.1) }
     ensures keys { IfOk result (λ made. made.0.keys ≡ recipe_table (recipes_in made.0.standing)) }
     ensures aliases { let aliases = (contents_in checked.now.definitions).aliases in

@@ -135,6 +135,7 @@ pub fn make_justfile<'a, 'src>(
         assignments,
         evaluation_order,
         functions,
+        ..
     } = variables;
     Ok(Justfile {
         absent_modules,

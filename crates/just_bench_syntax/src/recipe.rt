@@ -8,7 +8,7 @@ use just_ast_definitions::{Attribute, NamedAttribute, Parameter};
 use just_bench_lines::attributes::Options;
 use just_bench_lines::definitions::is_private;
 use just_bench_lines::heading::Heading;
-use just_data::{Chain, Sequence};
+use just_data::{Chain, Sequence, Shared};
 use just_names::Number;
 use just_parts::{Recipe, UnresolvedRecipe};
 use std::alloc::{AllocError, Global};
@@ -110,6 +110,7 @@ pub fn make_recipe<'src>(
     let mut dependencies = priors;
     dependencies.append(subsequents)?;
     let private = is_private(&name) || says_private(attributes.as_slice());
+    let variable_references = Shared::new(alloc, Sequence::new(alloc))?;
     Ok(Some(Recipe {
         attributes,
         body: Sequence::new(alloc),
@@ -126,6 +127,6 @@ pub fn make_recipe<'src>(
         shebang: false,
         module_path: None,
         recipe_path: None,
-        variable_references: Sequence::new(alloc),
+        variable_references,
     }))
 }

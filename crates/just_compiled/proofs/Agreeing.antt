@@ -78,7 +78,7 @@ module _ (given : Given) (asts : AstKey → Option Ast) (loaded : List Text) (bu
     pub inner_says : SayAll given asts inside
 
   -- what is found under one name
-  data FoundAs : Option (Module × Forest) → Option Justfile → Type 0 where
+  pub data FoundAs : Option (Module × Forest) → Option Justfile → Type 0 where
     both : {n : Module} {below : Forest} {c : Justfile} → Shows n below c → FoundAs (Some (n, below)) (Some c)
     neither : FoundAs None None
 
@@ -86,7 +86,7 @@ module _ (given : Given) (asts : AstKey → Option Ast) (loaded : List Text) (bu
   found_one m inside c o q true shows f = both shows
   found_one m inside c o q false shows f = f
 
-  found : (x : Text) {f : Forest} {js : List Justfile} → AreCompiled given asts loaded built f js → SayAll given asts f → FoundAs (find_inner x f) (module_named x js)
+  pub found : (x : Text) {f : Forest} {js : List Justfile} → AreCompiled given asts loaded built f js → SayAll given asts f → FoundAs (find_inner x f) (module_named x js)
   found x none says = neither
   found x (one {m} {inside} {after} {inner} {js} {j} made there below is aliased rest) says =
       let shows : Shows m inside j = record { made = made; inner = inner; compiled = below; is = is; says = says m inside first; inner_says = λ n under has. says n under (in_it has) } in

@@ -83,7 +83,7 @@ of_recipe_alias a made (Some (meaning.Module path)) i = absurd i
 of_recipe_alias a made (Some (meaning.Recipe number)) (inl e) = ap (λ (x : Alias Number). Some (meaning.Recipe x.target)) (sym e)
 of_recipe_alias a made (Some (meaning.Recipe number)) (inr i) = absurd i
 
-of_module_alias : (a : Alias Namepath) (made : Alias Modulepath) (o : Option Meaning) → In made (as_module_alias a o) → o ≡ Some (meaning.Module made.target)
+pub of_module_alias : (a : Alias Namepath) (made : Alias Modulepath) (o : Option Meaning) → In made (as_module_alias a o) → o ≡ Some (meaning.Module made.target)
 of_module_alias a made None i = absurd i
 of_module_alias a made (Some (meaning.Disabled set)) i = absurd i
 of_module_alias a made (Some (meaning.Module path)) (inl e) = ap (λ (x : Alias Modulepath). Some (meaning.Module x.target)) (sym e)
@@ -108,7 +108,7 @@ not_module (Some (resolution.Disabled set)) path f = cc
 not_module (Some (resolution.Resolved n)) path f = cc
 
 -- and one that is a module is that to which all names lead
-module_led : (e : End) (r : Option (Resolution Number)) (path : Modulepath) → meaning_at e (as_recipe r) ≡ Some (meaning.Module path) → (j : Justfile) × (e ≡ walks.Inside j) × (path ≡ (out-Justfile j).module_path)
+pub module_led : (e : End) (r : Option (Resolution Number)) (path : Modulepath) → meaning_at e (as_recipe r) ≡ Some (meaning.Module path) → (j : Justfile) × (e ≡ walks.Inside j) × (path ≡ (out-Justfile j).module_path)
 module_led walks.Here r path f = absurd (not_module r path f)
 module_led (walks.Inside j) r path f = (j, refl, let same : (out-Justfile j).module_path ≡ path = cc in sym same)
 module_led (walks.Absent names) r path f = cc
@@ -131,7 +131,7 @@ module _ (given : Given) (asts : AstKey → Option Ast) (loaded : List Text) (bu
         (λ name. ap (module_named name) shows.is.modules ∙ found_sorted name shows.inner shows.is.different) shows.compiled shows.inner_says
 
     -- all names of a path lead alike
-    all_agree : (front : List Name) (last : Name) → Agree given asts loaded built (follow (map text_of_name (front ++ last ∷ [])) m inside) (own_end (map text_of_name (front ++ last ∷ [])))
+    pub all_agree : (front : List Name) (last : Name) → Agree given asts loaded built (follow (map text_of_name (front ++ last ∷ [])) m inside) (own_end (map text_of_name (front ++ last ∷ [])))
     all_agree [] last = own_agree [] (text_of_name last)
     all_agree (x ∷ front) last = own_agree (map text_of_name (front ++ last ∷ [])) (text_of_name x)
 

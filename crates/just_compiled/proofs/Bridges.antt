@@ -10,6 +10,7 @@ use Rattle.just_ast_definitions.specs.declared.alias.Alias.{Alias}
 use Rattle.just_ast_definitions.specs.Parameter.{least_arguments, most_arguments}
 use Rattle.just_ast_definitions.specs.declared.parameter.Parameter.{Parameter}
 use Rattle.just_errors.specs.Causes.{Cause}
+use Rattle.just_invoke.specs.declared.justfile.Justfile.{out-Justfile}
 use Rattle.just_invoke.specs.Walks.{end_of, module_named, path_along, recipe_by}
 use Rattle.just_invoke.specs.declared.resolution.Resolution.{Resolution}
 use Rattle.just_invoke.specs.declared.resolution.Resolution.TheVariants as resolution
@@ -45,6 +46,9 @@ use Rattle.just_recipe.specs.Recipes.{find_number}
 use Rattle.just_recipe.specs.declared.dependency.Dependency.{Dependency}
 use Rattle.just_recipe.specs.declared.dependency.UnresolvedDependency.{UnresolvedDependency}
 use Rattle.just_recipe.specs.declared.recipe.Recipe.{Recipe}
+use Rattle.just_module_variables.specs.Variables.{variable_number}
+use Rattle.just_recipe_names.specs.Numbered.{number_under, numbered_parameters}
+use Rattle.just_compiled.proofs.ArgumentsAlike.{least_alike, most_alike}
 use Rattle.just_compiled.specs.Justfiles.{Built, HasNumberIn, contents_in, kept_by, recipes_of_all}
 use Rattle.just_compiled.proofs.Agreeing.{Agree, IsBarred, IsNumbered, Meets, Resolves, Through, agree, far_or, nowhere_end, nowhere_place, stays}
 use Rattle.just_compiled.proofs.Meanings.{module_somewhere, somewhere_or}
@@ -124,6 +128,10 @@ some_path : (paths : List Modulepath) → paths ≢ [] → (path : Modulepath) �
 some_path [] ne = absurd (ne refl)
 some_path (path ∷ paths) ne = (path, inl refl)
 
+-- a recipe that is made takes as many arguments as the one of the source
+abbrev TakesAsMany : Recipe Dependency → Recipe UnresolvedDependency → Type 0
+TakesAsMany made source = (least_arguments made.parameters ≡ least_of source) × ((lists : Bool) → most_arguments lists made.parameters ≡ most_of lists source)
+
 module _ (given : Given) (asts : AstKey → Option Ast) (loaded : List Text) (built : List Built) where
   abbrev kept : Module → List (Recipe UnresolvedDependency)
   kept m = kept_by given asts m
@@ -187,12 +195,15 @@ module _ (given : Given) (asts : AstKey → Option Ast) (loaded : List Text) (bu
 
   -- the recipe that is made of one that a number means
   module _ (place : Place) (last : Text) (number : Number) (r : IsNumbered given asts loaded built place last number) where
-    pub made_there : (x : Recipe Dependency) × (find_number (recipes_of_all built) number.0 ≡ Some x) × (x.parameters ≡ (recipe_at (kept r.n) r.i).parameters)
+    pub made_there : (x : Recipe Dependency) × (find_number (recipes_of_all built) number.0 ≡ Some x) × TakesAsMany x (recipe_at (kept r.n) r.i)
     made_there =
         let x = r.shows.is.linked.each r.i r.there (subst (StandsIn r.n r.below) (sym r.named) r.stands) in
         let read : slice_get (kept r.n) r.i ≡ Some (recipe_at (kept r.n) r.i) = slice_get_read (kept r.n) (length (kept r.n)) r.i (recipe_at (kept r.n) r.i) refl r.there (get_or_default (kept r.n) r.i no_recipe (recipe_at (kept r.n) r.i) r.there) in
         let same : number_at (kept r.n) r.i ≡ number.0 = number_read (kept r.n) r.i (recipe_at (kept r.n) r.i) read ∙ ap (λ (k : Number). k.0) r.number_is in
-        (x.0, ap (find_number (recipes_of_all built)) (sym same) ∙ x.1, x.2.made_of.resolved.parameters)
+        let by = number_under (variable_number (out-Justfile r.c).assignments) given.syntax in
+        let ps = (recipe_at (kept r.n) r.i).parameters in
+        let are : x.0.parameters ≡ numbered_parameters by [] ps = x.2.made_of.resolved.parameters in
+        (x.0, ap (find_number (recipes_of_all built)) (sym same) ∙ x.1, (ap least_arguments are ∙ least_alike by [] ps, λ lists. ap (most_arguments lists) are ∙ most_alike by lists [] ps))
 
   module _ (m : Module) (inside : Forest) (it : Around) (meets : Meets given asts loaded built m inside it) where
     -- names lead alike
@@ -252,12 +263,12 @@ module _ (given : Given) (asts : AstKey → Option Ast) (loaded : List Text) (bu
 
     -- what is held under the number of a recipe that it means has its parameters
     module _ (place : Place) (last : Text) (number : Number) (r : IsNumbered given asts loaded built place last number) where
-      made_held : (q : Recipe Dependency) → find_number it.held number.0 ≡ Some q → q.parameters ≡ (recipe_at (kept r.n) r.i).parameters
+      made_held : (q : Recipe Dependency) → find_number it.held number.0 ≡ Some q → TakesAsMany q (recipe_at (kept r.n) r.i)
       made_held q e =
           let x = made_there place last number r in
           let all : find_number (recipes_of_all built) number.0 ≡ Some q = ap (λ qs. find_number qs number.0) meets.held ∙ found_more it.held meets.rest number.0 q e in
           let same : q ≡ x.0 = some_same (sym all ∙ x.1) in
-          ap (λ (k : Recipe Dependency). k.parameters) same ∙ x.2
+          (ap (λ (k : Recipe Dependency). least_arguments k.parameters) same ∙ x.2.0, λ lists. ap (λ (k : Recipe Dependency). most_arguments lists k.parameters) same ∙ x.2.1 lists)
 
     -- how many arguments a recipe takes, as the files say it and as the tree has it
     least_same : (n : Module) → Says given asts n → (i : ℕ) → least_of (recipe_at (kept n) i) ≡ least_of (recipe_at (kept_in n) i)
@@ -284,7 +295,7 @@ module _ (given : Given) (asts : AstKey → Option Ast) (loaded : List Text) (bu
             }
         by_parameters ps (of_far n q f held has) low high =
             let r : IsNumbered given asts loaded built (leads m inside d) (text_of_name d.last) n = means d (Some (resolution.Resolved n)) f (λ g. cc) in
-            let same : (recipe_at (kept r.n) r.i).parameters ≡ ps = sym (made_held (leads m inside d) (text_of_name d.last) n r q held) ∙ has in
+            let takes : TakesAsMany q (recipe_at (kept r.n) r.i) = made_held (leads m inside d) (text_of_name d.last) n r q held in
             record {
               n = r.n;
               below = r.below;
@@ -292,8 +303,8 @@ module _ (given : Given) (asts : AstKey → Option Ast) (loaded : List Text) (bu
               j = r.i;
               there = subst (λ k. r.i < k) (many (kept r.n) (kept_in r.n) r.shows.says.kept) r.there;
               named = sym (name_at (kept r.n) (kept_in r.n) r.shows.says.kept r.i) ∙ r.named;
-              least_is = sym (least_same r.n r.shows.says r.i) ∙ ap least_arguments same ∙ low;
-              most_is = sym (most_same lists r.n r.shows.says r.i) ∙ ap (most_arguments lists) same ∙ high;
+              least_is = sym (least_same r.n r.shows.says r.i) ∙ sym takes.0 ∙ ap least_arguments has ∙ low;
+              most_is = sym (most_same lists r.n r.shows.says r.i) ∙ sym (takes.1 lists) ∙ ap (most_arguments lists) has ∙ high;
             }
 
     -- what is broken of dependencies over the compiled modules is broken in the tree
@@ -405,12 +416,12 @@ module _ (given : Given) (asts : AstKey → Option Ast) (loaded : List Text) (bu
           let named : name_of (recipe_at (kept_in r.n) t.j) ≡ text_of_name d.recipe.last = subst (λ (x : Module). name_of (recipe_at (kept_in x) t.j) ≡ text_of_name d.recipe.last) en t.named in
           let name : name_of (recipe_at (kept_in r.n) r.i) ≡ text_of_name d.recipe.last = sym (name_at (kept r.n) (kept_in r.n) r.shows.says.kept r.i) ∙ r.named in
           let same : r.i ≡ t.j = one_place (kept_in r.n) (kept_different (contents_of r.n).recipes) r.i t.j in_tree there (name ∙ sym named) in
-          let parameters : q.0.parameters ≡ (recipe_at (kept r.n) r.i).parameters = made_held (leads m inside d.recipe) (text_of_name d.recipe.last) number r q.0 q.1 in
+          let takes : TakesAsMany q.0 (recipe_at (kept r.n) r.i) = made_held (leads m inside d.recipe) (text_of_name d.recipe.last) number r q.0 q.1 in
           record {
             parameters = q.0.parameters;
             has = of_far number q.0 e q.1 refl;
-            least_is = ap least_arguments parameters ∙ least_same r.n r.shows.says r.i ∙ (λ i. least_of (recipe_at (kept_in (sym en i)) (same i))) ∙ t.least_is;
-            most_is = ap (most_arguments lists) parameters ∙ most_same lists r.n r.shows.says r.i ∙ (λ i. most_of lists (recipe_at (kept_in (sym en i)) (same i))) ∙ t.most_is;
+            least_is = takes.0 ∙ least_same r.n r.shows.says r.i ∙ (λ i. least_of (recipe_at (kept_in (sym en i)) (same i))) ∙ t.least_is;
+            most_is = takes.1 lists ∙ most_same lists r.n r.shows.says r.i ∙ (λ i. most_of lists (recipe_at (kept_in (sym en i)) (same i))) ∙ t.most_is;
           }
 
       takes_back : (lists : Bool) (d : UnresolvedDependency) → StandsWith (StandsIn m inside) (kept_in m) d → (least most : ℕ) → TakesIn lists m inside d.recipe least most → Takes lists (kept m) it d.recipe least most

@@ -17,3 +17,4 @@ pub mod Settling
 pub mod StandingRecipes
 pub mod TableValues
 pub mod Taking
+mod ArgumentsAlike

@@ -26,6 +26,7 @@ use Rattle.just_module_recipes.specs.Linked.{AreDisabled, AreSettled, disabled_t
 use Rattle.just_module_recipes.specs.Links.{Stands, around, around_of}
 use Rattle.just_names.specs.Name.{text_of_name}
 use Rattle.just_names.specs.Texts.{Text}
+use Rattle.just_parts.specs.Syntax.{SyntaxAnswers}
 use Rattle.just_names.specs.declared.name.Namepath.{Namepath}
 use Rattle.just_names.specs.declared.number.Number.{Number}
 use Rattle.just_paths.specs.declared.modulepath.Modulepath.{Modulepath}
@@ -179,9 +180,9 @@ some_number : (o : Option (Recipe Dependency)) (r : Recipe Dependency) → o ≡
 some_number o r e = subst IsSome (sym e) refl
 
 -- a module that is linked over settled ones is settled
-pub module_settled : (recipes standing : List (Recipe UnresolvedDependency)) (before added : List (Recipe Dependency)) (path : Modulepath) (j : Justfile) → HasLinks recipes before path added standing j
+pub module_settled : (answers : SyntaxAnswers) (recipes standing : List (Recipe UnresolvedDependency)) (before added : List (Recipe Dependency)) (path : Modulepath) (j : Justfile) → HasLinks answers recipes before path added standing j
     → (out-Justfile j).recipes ≡ recipe_table standing → NamesRise (out-Justfile j).modules → ((inner : Justfile) → Contains (out-Justfile j).modules inner → IsSettled before inner) → IsSettled (before ++ added) j
-module_settled recipes standing before added path j links are rise inner = settled numbers sets rise (λ i c. settled_more added (inner i c))
+module_settled answers recipes standing before added path j links are rise inner = settled numbers sets rise (λ i c. settled_more added (inner i c))
   where
     numbers : (name : Text) (key : RecipeKey) → find name (out-Justfile j).recipes ≡ Some key → IsSome (find_number (before ++ added) key.number.0)
     numbers name key e =

@@ -4,6 +4,11 @@ use Rattle.just_names.specs.Name.{text_of_name}
 use Rattle.just_names.specs.Texts.{Text}
 use Rattle.just_table.specs.Entries.{put_all}
 use Rattle.just_parts.specs.Items.{Ast}
+use Rattle.just_parts.specs.Syntax.{SyntaxAnswers}
+use Rattle.just_ast_definitions.specs.declared.assignment.Assignment.{Assignment}
+use Rattle.just_ast_expressions.specs.declared.settings.Settings.{Settings}
+use Rattle.just_module_variables.specs.Variables.{variable_number}
+use Rattle.just_recipe_names.specs.Numbered.{numbered_recipe}
 use Rattle.just_invoke.specs.declared.justfile.Justfile.{Justfile, out-Justfile}
 use Rattle.just_recipe.specs.declared.dependency.UnresolvedDependency.{UnresolvedDependency}
 use Rattle.just_recipe.specs.declared.recipe.Recipe.{Recipe}
@@ -33,9 +38,17 @@ recipe_table recipes = put_all name_of_key [] (map key_of recipes)
 abbrev pub HasDefault : List (Recipe UnresolvedDependency) → List (Recipe UnresolvedDependency) → Justfile → Type 0
 HasDefault standing own j = IsDefaultAmong standing own (out-Justfile j).default
 
--- What the kept recipes of a module are linked to, over the modules that its justfile has, where these recipes are held before: those that stand are added, and the others are in its table of what is disabled.
-pub record HasLinks (recipes : List (Recipe UnresolvedDependency)) (before : List (Recipe Dependency)) (path : Modulepath) (added : List (Recipe Dependency)) (standing : List (Recipe UnresolvedDependency)) (j : Justfile) : Type 0 where
-  pub linked : AreLinked (Stands recipes (around_of j before)) (HasNumber recipes (around_of j before)) (out-Justfile j).settings.lists (before ++ added) recipes path added
+-- a recipe whose names have the numbers of what they mean in a module with these variables and settings
+abbrev pub numbered_in : SyntaxAnswers → List (Text × Assignment) → Settings → Recipe UnresolvedDependency → Recipe UnresolvedDependency
+numbered_in answers assignments settings = numbered_recipe (variable_number assignments) answers settings
+
+-- in a module that is compiled
+abbrev pub numbered_of : SyntaxAnswers → Justfile → Recipe UnresolvedDependency → Recipe UnresolvedDependency
+numbered_of answers j = numbered_in answers (out-Justfile j).assignments (out-Justfile j).settings
+
+-- What the kept recipes of a module are linked to, over the modules that its justfile has, where these recipes are held before: those that stand are added, with the numbers of what names mean in them, and the others are in its table of what is disabled.
+pub record HasLinks (answers : SyntaxAnswers) (recipes : List (Recipe UnresolvedDependency)) (before : List (Recipe Dependency)) (path : Modulepath) (added : List (Recipe Dependency)) (standing : List (Recipe UnresolvedDependency)) (j : Justfile) : Type 0 where
+  pub linked : AreLinked (Stands recipes (around_of j before)) (HasNumber recipes (around_of j before)) (numbered_of answers j) (out-Justfile j).settings.lists (before ++ added) recipes path added
   pub stand : AreStanding (Stands recipes (around_of j before)) recipes standing
   pub disabled : HasDisabled (Disables recipes (around_of j before)) recipes (out-Justfile j).disabled_recipes
 

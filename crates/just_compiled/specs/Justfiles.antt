@@ -18,7 +18,7 @@ use Rattle.just_module_recipes.specs.declared.aliases.Meaning.{Meaning}
 use Rattle.just_module_recipes.specs.declared.aliases.Meaning.TheVariants as meaning
 use Rattle.just_paths.specs.declared.modulepath.Modulepath.{Modulepath}
 use Rattle.just_invoke.specs.declared.justfile.Justfile.{Justfile, out-Justfile}
-use Rattle.just_compiled.specs.Analysis.{HasDefault, IsOf}
+use Rattle.just_compiled.specs.Analysis.{HasDefault, IsOf, numbered_of}
 use Rattle.just_compiled.specs.Labelled.{by_name, label_in, notes_in}
 use Rattle.just_compiled.specs.Evaluated.{IsEvaluatedTo}
 use Rattle.just_module_contents.specs.Labels.{doc_by}
@@ -118,7 +118,7 @@ pub record IsCompiled (given : Given) (asts : AstKey → Option Ast) (loaded : L
   pub own_there : Contains m.files m.heading.key
   pub name : module_name j ≡ name_in m
   pub path : (out-Justfile j).module_path ≡ path_of m
-  pub linked : AreLinked (StandsIn m inside) (HasNumberIn given asts m inside) (out-Justfile j).settings.lists all (kept_by given asts m) (path_of m) made.recipes
+  pub linked : AreLinked (StandsIn m inside) (HasNumberIn given asts m inside) (numbered_of given.syntax j) (out-Justfile j).settings.lists all (kept_by given asts m) (path_of m) made.recipes
   pub standing : List (Recipe UnresolvedDependency)
   pub stand : AreStanding (StandsIn m inside) (kept_by given asts m) standing
   pub disabled : HasDisabled (DisabledBy m inside) (kept_by given asts m) (out-Justfile j).disabled_recipes

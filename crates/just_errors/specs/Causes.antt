@@ -15,6 +15,7 @@ pub data Cause : Type 0 where
   NoModule : Name → Cause
   SeveralFiles : Name → List (List ℕ) → Cause
   LeadsBack : List ℕ → List ℕ → Cause
+  NoVariables : List (List ℕ) → Cause
   Broken : Place → CompileErrorKind → Cause
   NoNumber : Cause
 
@@ -30,6 +31,7 @@ Reports group (error.Load (load.MissingImportFile path)) = group (NoImport path)
 Reports group (error.Load (load.MissingModuleFile name)) = group (NoModule name)
 Reports group (error.Load (load.AmbiguousModuleFile name found)) = group (SeveralFiles name found)
 Reports group (error.Load (load.CircularImport current next)) = group (LeadsBack current next)
+Reports group (error.Load (load.UnknownOverrides overrides)) = group (NoVariables overrides)
 Reports group (error.Compile e) = group (Broken e.token e.kind)
 Reports group (error.Invocation e) = ⊥
 Reports group (error.Run e) = ⊥

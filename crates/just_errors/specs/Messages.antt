@@ -27,6 +27,7 @@ load_name (load.MissingImportFile path) = codes "MissingImportFile"
 load_name (load.MissingModuleFile name) = codes "MissingModuleFile"
 load_name (load.AmbiguousModuleFile name found) = codes "AmbiguousModuleFile"
 load_name (load.CircularImport current next) = codes "CircularImport"
+load_name (load.UnknownOverrides overrides) = codes "UnknownOverrides"
 
 abbrev pub kind_name : CompileErrorKind → List ℕ
 kind_name kind.Syntax = codes "Syntax"

@@ -44,6 +44,11 @@ pub enum LoadError<'src> {
         current: Text,
         import: Text,
     },
+    /// Values are given for variables that are not there. Each is told by the path of its module and its name, joined by `::`.
+    #[error("Variables that are overridden are not there: {}", Listed(.overrides.as_slice()))]
+    UnknownOverrides {
+        overrides: Sequence<Text>,
+    },
 }
 
 impl<'src> LoadError<'src> {
@@ -58,6 +63,7 @@ impl<'src> LoadError<'src> {
             LoadError::MissingModuleFile { .. } => "MissingModuleFile",
             LoadError::AmbiguousModuleFile { .. } => "AmbiguousModuleFile",
             LoadError::CircularImport { .. } => "CircularImport",
+            LoadError::UnknownOverrides { .. } => "UnknownOverrides",
         }
     }
 }

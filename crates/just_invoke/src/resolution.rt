@@ -36,8 +36,8 @@ enum Reached<'run, 'src> {
     Nowhere,
 }
 
-// The module of a name, among modules in byte order of their names.
-fn find_module<'run, 'src>(
+/// The module of a name, among modules in byte order of their names.
+pub fn find_module<'run, 'src>(
     modules: &'run [Justfile<'src>],
     name: &str,
 ) -> Option<&'run Justfile<'src>>

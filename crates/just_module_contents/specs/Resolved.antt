@@ -40,7 +40,7 @@ pub record IsResolvedAt (path : Modulepath) (source : Recipe UnresolvedDependenc
   pub doc : made.doc ≡ source.doc
   pub quiet : made.quiet ≡ source.quiet
   pub shebang : made.shebang ≡ source.shebang
-  pub variable_references : made.variable_references ≡ []
+  pub variable_references : made.variable_references ≡ source.variable_references
   pub file_depth : made.file_depth ≡ source.file_depth
   pub import_offsets : made.import_offsets ≡ source.import_offsets
   pub module_path : made.module_path ≡ Some path

@@ -19,3 +19,4 @@ pub mod SameSets
 pub mod Splits
 pub mod Steps
 pub mod Zipped
+mod Completed

@@ -1,8 +1,11 @@
 -- Lists that are related place by place.
-use Rattle.std.proofs.Common.{◌≡◌, ℕ, zero, suc, ◌+◌, ◌<◌, List, [], ◌∷◌, ◌++◌, length, take, get_or, inl, inr, refl, sym, subst, arith}
+use Rattle.std.proofs.Common.{◌≡◌, ℕ, zero, suc, ◌+◌, ◌<◌, List, [], ◌∷◌, ◌++◌, ap, drop, length, take, get_or, inl, inr, refl, sym, subst, arith}
 use Rattle.std.specs.List.{AllZip}
 use Rattle.just_graph.proofs.Members.{In}
 use Rattle.just_module_recipes.proofs.SameSets.{taken}
+use Rattle.just_module_recipes.specs.Completing.{paths_of}
+use Rattle.just_names.specs.declared.name.Namepath.{Namepath}
+use Rattle.just_recipe.specs.declared.dependency.UnresolvedDependency.{UnresolvedDependency}
 
 module _ {A B : Type 0} (R : A → B → Type 0) where
   pub push_zip : (xs : List A) (ys : List B) (x : A) (y : B) → AllZip R xs ys → R x y → AllZip R (xs ++ x ∷ []) (ys ++ y ∷ [])
@@ -41,3 +44,11 @@ module _ {A B : Type 0} (R : A → B → Type 0) where
   zip_at (w ∷ xs) [] k x y a h = absurd a
   zip_at (w ∷ xs) (z ∷ ys) zero x y a h = a.0
   zip_at (w ∷ xs) (z ∷ ys) (suc k) x y a h = zip_at xs ys k x y a.1 (omega arith)
+
+-- what relates to the paths of dependencies relates to those of others with the same paths
+pub zip_paths : {B : Type 0} (R : Namepath → B → Type 0) (ds es : List UnresolvedDependency) (ys : List B) → paths_of ds ≡ paths_of es → AllZip (λ (d : UnresolvedDependency) y. R d.recipe y) ds ys → AllZip (λ (d : UnresolvedDependency) y. R d.recipe y) es ys
+zip_paths R [] [] ys e a = a
+zip_paths R [] (d ∷ es) ys e a = cc
+zip_paths R (d ∷ ds) [] ys e a = cc
+zip_paths R (d ∷ ds) (x ∷ es) [] e a = absurd a
+zip_paths R (d ∷ ds) (x ∷ es) (y ∷ ys) e a = (subst (λ (p : Namepath). R p y) (ap (λ ps. get_or ps 0 d.recipe) e) a.0, zip_paths R ds es ys (ap (λ ps. drop 1 ps) e) a.1)

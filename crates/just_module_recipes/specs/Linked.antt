@@ -29,8 +29,8 @@ pub data HasNumber (recipes : List (Recipe UnresolvedDependency)) (it : Around) 
   of_near : (j : ℕ) → Names recipes path j → (recipe_at recipes j).number ≡ n → HasNumber recipes it path n
   of_far : found_by it path ≡ Some (resolution.Resolved n) → HasNumber recipes it path n
 
--- What recipes are linked to, where some stand, and paths lead to numbers.
-module _ (Stands : Text → Type 0) (HasNumber : Namepath → Number → Type 0) (lists : Bool) (all : List (Recipe Dependency)) where
+-- What recipes are linked to, where some stand, paths lead to numbers, and recipes are completed by something first.
+module _ (Stands : Text → Type 0) (HasNumber : Namepath → Number → Type 0) (by : Recipe UnresolvedDependency → Recipe UnresolvedDependency) (lists : Bool) (all : List (Recipe Dependency)) where
   -- A dependency is linked to one of all recipes: it has the number that its path leads to, under which that recipe is held, and its arguments are grouped for the parameters of that.
   pub record IsLinked (d : UnresolvedDependency) (made : Dependency) : Type 0 where
     pub path : made.path ≡ d.recipe
@@ -39,10 +39,10 @@ module _ (Stands : Text → Type 0) (HasNumber : Namepath → Number → Type 0)
     pub held : find_number all made.recipe.0 ≡ Some target
     pub arguments : made.arguments ≡ grouped lists target.parameters d.arguments
 
-  -- What is made of a recipe of the module at a path: it is that of the source, and each of its dependencies is linked.
+  -- What is made of a recipe of the module at a path: it is that of the source, completed, and each of its dependencies is linked.
   pub record IsMadeOf (path : Modulepath) (source : Recipe UnresolvedDependency) (made : Recipe Dependency) : Type 0 where
-    pub resolved : IsResolvedAt path source made
-    pub dependencies : AllZip IsLinked source.dependencies made.dependencies
+    pub resolved : IsResolvedAt path (by source) made
+    pub dependencies : AllZip IsLinked (by source).dependencies made.dependencies
 
   -- the recipe at a place stands, and this is made of it
   pub record IsMadeAt (recipes : List (Recipe UnresolvedDependency)) (path : Modulepath) (i : ℕ) (made : Recipe Dependency) : Type 0 where
@@ -57,10 +57,10 @@ module _ (Stands : Text → Type 0) (HasNumber : Namepath → Number → Type 0)
     pub resolved : All IsResolved added
 
 -- The recipes that are held, and behind them those of a module, linked.
-pub record AddsLinked (lists : Bool) (recipes : List (Recipe UnresolvedDependency)) (it : Around) (path : Modulepath) (all : List (Recipe Dependency)) : Type 0 where
+pub record AddsLinked (by : Recipe UnresolvedDependency → Recipe UnresolvedDependency) (lists : Bool) (recipes : List (Recipe UnresolvedDependency)) (it : Around) (path : Modulepath) (all : List (Recipe Dependency)) : Type 0 where
   pub added : List (Recipe Dependency)
   pub appended : all ≡ it.held ++ added
-  pub linked : AreLinked (Stands recipes it) (HasNumber recipes it) lists all recipes path added
+  pub linked : AreLinked (Stands recipes it) (HasNumber recipes it) by lists all recipes path added
 
 -- Of recipes those that something disables, in order, each with exactly the paths that do.
 pub data AreDisabled (Disables : Text → Modulepath → Type 0) : List (Recipe UnresolvedDependency) → List Disabled → Type 0 where

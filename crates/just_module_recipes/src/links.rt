@@ -15,6 +15,7 @@ ghost use Rattle.just_module_recipes.specs.Making.{fallen, fallen_by, standing, 
 ghost use Rattle.just_module_recipes.specs.Planned.{IsPlan};
 ghost use Rattle.just_module_recipes.specs.Rows.{around_by};
 ghost use Rattle.just_names.specs.Index.{AreDifferent};
+ghost use Rattle.just_recipe_names.specs.Numbered.{numbered_by};
 
 use crate::bodies::index_recipes;
 use crate::counts::check_counts;
@@ -27,8 +28,9 @@ use just_execution::Recipes;
 use just_invoke::{Disabled, Justfile};
 use just_module_contents::definitions::Definitions;
 use just_parts::UnresolvedRecipe;
-use just_parts::layers::{Error, Settings};
+use just_parts::layers::{Error, Settings, Syntax};
 use just_paths::Modulepath;
+use just_recipe_names::Meanings;
 use just_table::Table;
 use std::alloc::{AllocError, Global};
 use std::collections::BTreeSet;
@@ -126,15 +128,15 @@ pub struct Linked<'src, 'a> {
     pub standing: Definitions<'src, 'a>,
 }
 
-/// Links the kept recipes of the module at `module_path` under its settings, of which the paths lead through these absent
-/// modules and these modules in it: those that nothing disables are resolved and put behind the recipes that are resolved so
-/// far. An error names a rule that is broken, and the recipes are dropped then.
+/// Links the kept recipes of the module at `module_path`, of which the paths lead through these absent modules and these
+/// modules in it: those that nothing disables get the numbers of what the names in them mean, are resolved, and are put
+/// behind the recipes that are resolved so far. An error names a rule that is broken, and the recipes are dropped then.
 ///
 /// The names of the modules rise in byte order, in each module (those of a compiled module do).
-pub fn link<'a, 'src>(
+pub fn link<'a, 'm, 'src, S: Syntax>(
     alloc: Global,
     kept: &Definitions<'src, 'a>,
-    settings: &Settings,
+    meanings: &Meanings<'m, 'src, S>,
     module_path: &Modulepath,
     absent: &Table<'src, BorrowedText<'src>>,
     modules: &[Justfile<'src>],
@@ -147,26 +149,28 @@ pub fn link<'a, 'src>(
     requires ordered { AreOrdered modules.now }
     requires settled { AreSettled (around absent.now modules.now recipes) }
     ensures kept { let it = around absent.now modules.now recipes.entry in
-        IfOk result (λ _. Keeps (BreaksLinks settings.now.lists (recipes_in kept.now) it)) }
+        IfOk result (λ _. Keeps (BreaksLinks meanings.now.settings.now.lists (recipes_in kept.now) it)) }
     ensures standing { let it = around absent.now modules.now recipes.entry in
         IfOk result (λ made. AreStanding (Stands (recipes_in kept.now) it) (recipes_in kept.now) (recipes_in made.standing)) }
     ensures disabled { let it = around absent.now modules.now recipes.entry in
         IfOk result (λ made. HasDisabled (Disables (recipes_in kept.now) it) (recipes_in kept.now) made.disabled) }
     ensures linked { let it = around absent.now modules.now recipes.entry in
-        IfOk result (λ made. AddsLinked settings.now.lists (recipes_in kept.now) it module_path.now made.all) }
+        let by = numbered_by (S.answers meanings.now.syntax.now) meanings.now in
+        let adds = AddsLinked by meanings.now.settings.now.lists (recipes_in kept.now) it module_path.now in
+        IfOk result (λ made. adds made.all) }
     ensures named { let it = around absent.now modules.now recipes.entry in
-        IfErr result (Reports (BreaksLinks settings.now.lists (recipes_in kept.now) it)) }
+        IfErr result (Reports (BreaksLinks meanings.now.settings.now.lists (recipes_in kept.now) it)) }
 {
     let it = &Surroundings {
         absent,
         modules,
         recipes: &recipes,
     };
-    let Plan { rows, order, sets } = make_plan(alloc, kept, settings, it)?;
+    let Plan { rows, order, sets } = make_plan(alloc, kept, meanings.settings, it)?;
     let all = resolve(
         alloc,
         kept,
-        settings,
+        meanings,
         module_path,
         rows.as_slice(),
         order.as_slice(),

@@ -9,14 +9,16 @@ ghost use Rattle.just_module_recipes.specs.Making.{AreAllThere, IsThere, link_of
 ghost use Rattle.just_module_recipes.specs.Rows.{AreTold, IsOrderOf};
 ghost use Rattle.just_recipe.specs.Grouping.{grouped};
 ghost use Rattle.just_recipe.specs.Recipes.{IsNew, numbers};
+ghost use Rattle.just_recipe_names.specs.Numbered.{numbered_by};
 
 use crate::targets::Target;
 use just_data::Sequence;
 use just_execution::Recipes;
 use just_module_contents::definitions::Definitions;
-use just_parts::layers::{DependencyArgument, Number, Settings, UnresolvedDependency};
+use just_parts::layers::{DependencyArgument, Number, Settings, Syntax, UnresolvedDependency};
 use just_parts::{Dependency, Recipe};
 use just_paths::Modulepath;
+use just_recipe_names::{Meanings, numbered_recipe};
 use std::alloc::{AllocError, Global};
 use std::collections::BTreeSet;
 
@@ -101,10 +103,10 @@ fn links<'a, 'src>(
 }
 
 // The resolved form of the recipe at a place, whose dependencies lead to the targets in a row.
-fn resolve_one<'a, 'src>(
+fn resolve_one<'a, 'm, 'src, S: Syntax>(
     alloc: Global,
     kept: &Definitions<'src, 'a>,
-    settings: &Settings,
+    meanings: &Meanings<'m, 'src, S>,
     module_path: &Modulepath,
     recipes: &Recipes<'src>,
     row: &[Target],
@@ -113,21 +115,22 @@ fn resolve_one<'a, 'src>(
     requires place { place < length kept.now.recipes.items }
     requires count { length row.now ≡ length (recipe_at (recipes_in kept.now) place).dependencies }
     requires there { All (IsThere (recipes_in kept.now) recipes.now) row.now }
-    ensures { let of = made_of settings.now.lists (recipes_in kept.now) recipes.now module_path.now in
+    ensures { let by = numbered_by (S.answers meanings.now.syntax.now) meanings.now in
+        let of = made_of by meanings.now.settings.now.lists (recipes_in kept.now) recipes.now module_path.now in
         IfOk result (λ made. made ≡ of (recipe_at (recipes_in kept.now) place) row.now) }
 {
-    let recipe = kept.recipe_at(place);
+    let recipe = numbered_recipe(alloc, meanings, kept.recipe_at(place))?;
     let dependencies = recipe.dependencies.as_slice();
-    let links = links(alloc, kept, settings, recipes, dependencies, row)?;
+    let links = links(alloc, kept, meanings.settings, recipes, dependencies, row)?;
     let recipe_path = module_path.join(recipe.name.lexeme())?;
-    recipe.resolved(alloc, links, module_path.clone()?, recipe_path)
+    Ok(recipe.resolved(links, module_path.clone()?, recipe_path))
 }
 
 // Adds the recipe at a place, resolved, where nothing disables it.
-fn resolve_at<'a, 'src>(
+fn resolve_at<'a, 'm, 'src, S: Syntax>(
     alloc: Global,
     kept: &Definitions<'src, 'a>,
-    settings: &Settings,
+    meanings: &Meanings<'m, 'src, S>,
     module_path: &Modulepath,
     row: &[Target],
     set: &BTreeSet<Modulepath>,
@@ -139,22 +142,23 @@ fn resolve_at<'a, 'src>(
     requires there { set.now.keys ≡ [] → All (IsThere (recipes_in kept.now) recipes.old) row.now }
     requires is_new { set.now.keys ≡ [] → IsNew recipes.old (recipe_at (recipes_in kept.now) place).number.0 }
     requires numbers { set.now.keys ≡ [] → All (λ t. Contains (numbers recipes.old) (number_of (recipes_in kept.now) t).0) row.now }
-    ensures { let more = settled_of settings.now.lists (recipes_in kept.now) recipes.old module_path.now row.now set.now.keys place in
-        OnOk result (recipes.new ≡ recipes.old ++ more) }
+    ensures { let by = numbered_by (S.answers meanings.now.syntax.now) meanings.now in
+        let settled = settled_of by meanings.now.settings.now.lists (recipes_in kept.now) recipes.old module_path.now in
+        OnOk result (recipes.new ≡ recipes.old ++ settled row.now set.now.keys place) }
 {
     if !set.is_empty() {
         return Ok(());
     }
-    let resolved = resolve_one(alloc, kept, settings, module_path, recipes, row, place)?;
+    let resolved = resolve_one(alloc, kept, meanings, module_path, recipes, row, place)?;
     recipes.push(resolved)?;
     Ok(())
 }
 
-/// Adds the recipes of an order that nothing disables, resolved, to those that are resolved so far.
-pub fn resolve<'a, 'src>(
+/// Adds the recipes of an order that nothing disables, completed and resolved, to those that are resolved so far.
+pub fn resolve<'a, 'm, 'src, S: Syntax>(
     alloc: Global,
     kept: &Definitions<'src, 'a>,
-    settings: &Settings,
+    meanings: &Meanings<'m, 'src, S>,
     module_path: &Modulepath,
     rows: &[Sequence<Target>],
     order: &[usize],
@@ -169,8 +173,9 @@ pub fn resolve<'a, 'src>(
     requires order { IsOrderOf rows.now order.now }
     requires told { AreTold rows.now order.now (length order.now) sets.now }
     requires there { AreAllThere (recipes_in kept.now) recipes rows.now sets.now }
-    ensures { let added = made settings.now.lists (recipes_in kept.now) recipes.entry module_path.now rows.now sets.now order.now in
-        IfOk result (λ all. all ≡ recipes.entry ++ added) }
+    ensures { let by = numbered_by (S.answers meanings.now.syntax.now) meanings.now in
+        let made = made by meanings.now.settings.now.lists (recipes_in kept.now) recipes.entry module_path.now rows.now sets.now in
+        IfOk result (λ all. all ≡ recipes.entry ++ made order.now) }
 {
     let mut recipes = recipes;
     for n in 0..order.len() {
@@ -178,7 +183,7 @@ pub fn resolve<'a, 'src>(
         resolve_at(
             alloc,
             kept,
-            settings,
+            meanings,
             module_path,
             rows[place].as_slice(),
             &sets[place],

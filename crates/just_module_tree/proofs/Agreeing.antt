@@ -164,9 +164,13 @@ module _ (R S : Reading) (Q : AstKey → Type 0) (agree : (k : AstKey) → Q k �
     root_known h (inl e) = subst (λ (x : Heading). Q x.key) (sym e) q
     root_known h (inr i) = absurd i
 
+    -- they have one forest
+    pub same_forests : (g : Forest) → AreModules R (root ∷ []) g → f ≡ g
+    same_forests g b = one_forest S are (same_forest root_known b)
+
     -- what is kept over one reading is kept over the other
     pub same_kept : (g : Forest) → AreModules R (root ∷ []) g → KeepsModules given g
-    same_kept g b = subst (KeepsModules given) (one_forest S are (same_forest root_known b)) kept
+    same_kept g b = subst (KeepsModules given) (same_forests g b) kept
 
     pub same_unnamed : Keeps (NamesModules given R root)
     same_unnamed named (in_module {c} {h} {m} {inside} g r modules ground breaks) =
@@ -208,3 +212,7 @@ module _ (enabled : Item → Bool) (asts : AstKey → Option Ast) (can : AreAnal
 
     pub agreeing_unnamed : Keeps (NamesModules given R root)
     agreeing_unnamed = same_unnamed R S Holds agree (led_held false) modules_held given root held f are kept
+
+    -- the forest is theirs
+    pub agreeing_forests : (g : Forest) → AreModules R (root ∷ []) g → f ≡ g
+    agreeing_forests = same_forests R S Holds agree (led_held false) modules_held given root held f are kept

@@ -1,3 +1,4 @@
 pub mod Groups
 pub mod Modules
+pub mod Overrides
 pub mod Standing

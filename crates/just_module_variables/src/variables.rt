@@ -6,16 +6,17 @@ ghost use Rattle.just_names.specs.Name.{text_of_name};
 ghost use Rattle.just_table.specs.Entries.{put_all};
 ghost use Rattle.just_module_contents.specs.Definitions.{contents_in, functions_in, variables_in};
 ghost use Rattle.just_module_contents.specs.Known.{functions_under, known_of};
-ghost use Rattle.just_module_variables.specs.Variables.{AreVariablesOf};
+ghost use Rattle.just_module_variables.specs.Variables.{AreVariablesOf, HasNumbers};
 ghost use Rattle.just_parts.specs.Misnaming.{Expressions};
 
 use crate::variable_resolver::VariableResolver;
-use just_data::{Sequence, copied};
+use just_data::{BorrowedText, Sequence, copied};
 use just_module_contents::definitions::Definitions;
 use just_module_contents::kept::keep_variables;
-use just_parts::layers::{Assignment, Error, FunctionDefinition, Name, Syntax};
+use just_parts::layers::{Assignment, Error, FunctionDefinition, Name, Number, Syntax};
 use just_table::Table;
 use std::alloc::{AllocError, Global};
+use std::collections::HashMap;
 
 /// The variables of a module, of several of one name the one that is kept, and its functions, with the numbers of what the
 /// names in them mean.
@@ -27,6 +28,8 @@ pub struct Variables<'src> {
     pub evaluation_order: Sequence<Name<'src>>,
     /// The functions, each under its name.
     pub functions: Table<'src, FunctionDefinition<'src>>,
+    /// The numbers of the variables, by their names.
+    pub numbers: HashMap<BorrowedText<'src>, Number>,
 }
 
 // The functions, under their names.
@@ -66,6 +69,7 @@ pub fn resolve_variables<'a, 'src, S: Syntax>(
 ) -> Result<Variables<'src>, Error<'src>>
     ensures kept { IfOk result (λ _. Keeps (Expressions (known_of (S.answers syntax.now) (contents_in definitions.now)))) }
     ensures variables { IfOk result (AreVariablesOf (S.answers syntax.now) (contents_in definitions.now)) }
+    ensures numbers { IfOk result HasNumbers }
     ensures named { IfErr result (Reports (Expressions (known_of (S.answers syntax.now) (contents_in definitions.now)))) }
 {
     let kept = keep_variables(alloc, definitions)?;
@@ -77,10 +81,11 @@ pub fn resolve_variables<'a, 'src, S: Syntax>(
         &mut functions,
         syntax,
     )?;
-    let (_, order) = resolved;
+    let (numbers, order) = resolved;
     Ok(Variables {
         assignments,
         evaluation_order: Sequence::from_vec(order),
         functions,
+        numbers,
     })
 }

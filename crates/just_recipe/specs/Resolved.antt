@@ -1,11 +1,11 @@
 -- Recipes as they are resolved.
-use Rattle.std.specs.Prelude.{List, [], None, Some}
+use Rattle.std.specs.Prelude.{List, Some}
 use Rattle.just_paths.specs.declared.modulepath.Modulepath.{Modulepath}
 use Rattle.just_recipe.specs.declared.recipe.Recipe.{Recipe}
 
--- the recipe with these dependencies, before it is resolved
-abbrev pub unresolved : {D E : Type 0} → Recipe D → List E → Recipe E
-unresolved r dependencies = record {
+-- the recipe with these dependencies, under these paths
+abbrev pub resolved : {D E : Type 0} → Recipe D → List E → Modulepath → Modulepath → Recipe E
+resolved r dependencies module_path recipe_path = record {
   attributes = r.attributes;
   body = r.body;
   dependencies = dependencies;
@@ -19,11 +19,7 @@ unresolved r dependencies = record {
   private = r.private;
   quiet = r.quiet;
   shebang = r.shebang;
-  module_path = None;
-  recipe_path = None;
-  variable_references = [];
+  module_path = Some module_path;
+  recipe_path = Some recipe_path;
+  variable_references = r.variable_references;
 }
-
--- the same, under these paths
-abbrev pub resolved : {D E : Type 0} → Recipe D → List E → Modulepath → Modulepath → Recipe E
-resolved r dependencies module_path recipe_path = record (unresolved r dependencies) { module_path = Some module_path; recipe_path = Some recipe_path }

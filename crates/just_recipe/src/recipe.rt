@@ -8,11 +8,11 @@ ghost use Rattle.just_ast_definitions.specs.Parameter.{is_required, least_argume
 use crate::dependency::{Dependency, UnresolvedDependency};
 use just_ast_definitions::{Attribute, Line, NamedAttribute, Parameter, any_variadic};
 use just_ast_expressions::Settings;
-use just_data::{BorrowedText, Chain, Exact, Sequence, Text};
+use just_data::{BorrowedText, Chain, Exact, Sequence, Shared, Text};
 use just_errors::{ArgumentRange, InvocationError};
 use just_names::{Name, Number};
 use just_paths::Modulepath;
-use std::alloc::{AllocError, Global};
+use std::alloc::AllocError;
 
 /// A recipe. Its first `priors` dependencies run before it, the others after it. The last three fields are there once
 /// it is resolved.
@@ -48,8 +48,9 @@ pub struct Recipe<'src, D = Dependency<'src>> {
     pub module_path: Option<Modulepath>,
     /// Its own path, which ends with its name, once it is resolved.
     pub recipe_path: Option<Modulepath>,
-    /// The numbers of the variables that it needs, each once.
-    pub variable_references: Sequence<Number>,
+    /// The numbers of the variables that it needs, each once; none while it is unresolved. Recipes that need the same share
+    /// them.
+    pub variable_references: Shared<Sequence<Number>>,
 }
 
 /// A recipe as the source text says it.
@@ -199,18 +200,44 @@ impl<'src, D> Recipe<'src, D> {
     }
 }
 
-impl<'src, D> Recipe<'src, D> {
-    ghost use Rattle.std.specs.Prelude.{◌≡◌, IfOk};
-    ghost use Rattle.just_recipe.specs.Resolved.{resolved, unresolved};
+impl<'src, D: Drop> Recipe<'src, D> {
+    ghost use Rattle.std.specs.Prelude.{◌≡◌};
+    ghost use Rattle.just_recipe.specs.Resolved.{resolved};
 
-    // The recipe with these dependencies, before it is resolved.
-    fn unresolved<E: Drop>(
-        &self,
-        alloc: Global,
+    /// The recipe with these dependencies in place of its own, resolved to these paths.
+    pub fn resolved<E: Drop>(
+        self,
         dependencies: Sequence<E>,
-    ) -> Result<Recipe<'src, E>, AllocError>
-        ensures { IfOk result (λ made. made ≡ unresolved self.now dependencies) }
+        module_path: Modulepath,
+        recipe_path: Modulepath,
+    ) -> Recipe<'src, E>
+        ensures { result ≡ resolved self.entry dependencies module_path recipe_path }
     {
+        Recipe {
+            attributes: self.attributes,
+            body: self.body,
+            dependencies,
+            doc: self.doc,
+            file_depth: self.file_depth,
+            import_offsets: self.import_offsets,
+            name: self.name,
+            number: self.number,
+            parameters: self.parameters,
+            priors: self.priors,
+            private: self.private,
+            quiet: self.quiet,
+            shebang: self.shebang,
+            module_path: Some(module_path),
+            recipe_path: Some(recipe_path),
+            variable_references: self.variable_references,
+        }
+    }
+}
+
+impl<'src, D: Exact> Clone for Recipe<'src, D> {
+    ghost is_clone = { λ recipe copy. copy ≡ recipe };
+
+    fn clone(&self) -> Result<Recipe<'src, D>, AllocError> {
         let Said {
             attributes,
             body,
@@ -220,7 +247,7 @@ impl<'src, D> Recipe<'src, D> {
         Ok(Recipe {
             attributes,
             body,
-            dependencies,
+            dependencies: self.dependencies.clone()?,
             doc,
             file_depth: self.file_depth,
             import_offsets: self.import_offsets.clone()?,
@@ -231,39 +258,10 @@ impl<'src, D> Recipe<'src, D> {
             private: self.private,
             quiet: self.quiet,
             shebang: self.shebang,
-            module_path: None,
-            recipe_path: None,
-            variable_references: Sequence::new(alloc),
+            module_path: self.module_path.clone()?,
+            recipe_path: self.recipe_path.clone()?,
+            variable_references: self.variable_references.clone()?,
         })
-    }
-
-    /// The recipe with these dependencies, resolved to these paths. No variables are told yet that it needs.
-    pub fn resolved<E: Drop>(
-        &self,
-        alloc: Global,
-        dependencies: Sequence<E>,
-        module_path: Modulepath,
-        recipe_path: Modulepath,
-    ) -> Result<Recipe<'src, E>, AllocError>
-        ensures { IfOk result (λ made. made ≡ resolved self.now dependencies module_path recipe_path) }
-    {
-        let mut made = self.unresolved(alloc, dependencies)?;
-        made.module_path = Some(module_path);
-        made.recipe_path = Some(recipe_path);
-        Ok(made)
-    }
-}
-
-impl<'src, D: Exact> Clone for Recipe<'src, D> {
-    ghost is_clone = { λ recipe copy. copy ≡ recipe };
-
-    fn clone(&self) -> Result<Recipe<'src, D>, AllocError> {
-        let alloc = self.variable_references.alloc();
-        let mut copy = self.unresolved(alloc, self.dependencies.clone()?)?;
-        copy.module_path = self.module_path.clone()?;
-        copy.recipe_path = self.recipe_path.clone()?;
-        copy.variable_references = self.variable_references.clone()?;
-        Ok(copy)
     }
 }
 

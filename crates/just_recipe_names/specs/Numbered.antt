@@ -1,5 +1,6 @@
 -- A recipe whose expressions have the numbers of what the names in them mean.
 use Rattle.std.specs.Prelude.{Bool, true, ◌&&◌, List, [], ◌∷◌, ◌++◌, map, Option, None, Some, if◌then◌else◌}
+use Rattle.std.specs.HashMap.{get}
 use Rattle.std.specs.Option.{option_map, option_or}
 use Rattle.std.specs.Str.{bytes_eq}
 use Rattle.just_names.specs.Texts.{Text}
@@ -22,6 +23,7 @@ use Rattle.just_ast_references.specs.Numbers.{with_numbers}
 use Rattle.just_name_resolution.specs.Numbers.{number_in}
 use Rattle.just_name_resolution.specs.declared.numbers.Numbers.{Numbers}
 use Rattle.just_parts.specs.Groups.{ends_group}
+use Rattle.just_recipe_names.specs.declared.numbering.Meanings.{Meanings}
 use Rattle.just_parts.specs.Syntax.{SyntaxAnswers}
 use Rattle.just_recipe.specs.Script.{is_script}
 use Rattle.just_recipe.specs.declared.dependency.DependencyArgument.{DependencyArgument}
@@ -117,3 +119,7 @@ numbered_recipe variable answers settings r =
       dependencies = map (dependency_by (under number r.parameters)) r.dependencies;
       parameters = numbered_parameters number [] r.parameters;
     }
+
+-- so it is by what the names of its module mean
+abbrev pub numbered_by : {A : Type 0} → SyntaxAnswers → Meanings A → Recipe UnresolvedDependency → Recipe UnresolvedDependency
+numbered_by answers it = numbered_recipe (get bytes_eq it.bindings.now) answers it.settings.now

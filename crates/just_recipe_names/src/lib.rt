@@ -10,4 +10,4 @@ mod numbering;
 pub mod steps;
 
 pub use checking::check_recipes;
-pub use numbering::numbered_recipe;
+pub use numbering::{Meanings, numbered_recipe};

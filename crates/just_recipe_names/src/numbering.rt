@@ -4,7 +4,7 @@ ghost use Rattle.std.specs.Prelude.{◌≡◌, ℕ, [], List, IfOk, OnOk, Some, 
 ghost use Rattle.std.specs.HashMap.{get};
 ghost use Rattle.std.specs.Str.{bytes_eq};
 ghost use Rattle.just_names.specs.Name.{text_of_name};
-ghost use Rattle.just_recipe_names.specs.Numbered.{dependency_by, given_by, looked_up, number_under, numbered_parameters, numbered_recipe, parameter_by, parameter_number};
+ghost use Rattle.just_recipe_names.specs.Numbered.{dependency_by, given_by, looked_up, number_under, numbered_by, numbered_parameters, numbered_recipe, parameter_by, parameter_number};
 
 use crate::attributes::{numbered_attributes, numbered_optional};
 use crate::body::numbered_body;
@@ -172,31 +172,56 @@ fn numbered_parts<'src, S: Syntax>(
     })
 }
 
-/// A recipe again, whose expressions have the numbers of what the names in them mean, under the settings of its module and
-/// with these numbers of its variables: of a parameter that is seen there, else of a variable, else of a constant, or none.
-/// Docs, helps, patterns and the environment see no parameters, and a parameter's default and value see those before it. All
-/// else of the recipe is the same. The comments in a body for a shell that are skipped are not read: they stay as they are.
-pub fn numbered_recipe<'src, S: Syntax>(
+/// What the names in the recipes of a module mean, besides parameters.
+#[derive(Drop)]
+pub struct Meanings<'a, 'src, S> {
+    /// The numbers of the variables of the module, by their names.
+    pub bindings: &'a HashMap<BorrowedText<'src>, Number>,
+    /// The settings of the module.
+    pub settings: &'a Settings,
+    /// What has the constants of the language.
+    pub syntax: &'a S,
+}
+
+/// A recipe again, whose expressions have the numbers of what the names in them mean in its module: of a parameter that is
+/// seen there, else of a variable, else of a constant, or none. Docs, helps, patterns and the environment see no parameters,
+/// and a parameter's default and value see those before it. All else of the recipe is the same. The comments in a body for a
+/// shell that are skipped are not read: they stay as they are.
+pub fn numbered_recipe<'a, 'src, S: Syntax>(
     alloc: Global,
-    bindings: &HashMap<BorrowedText<'src>, Number>,
-    syntax: &S,
-    settings: &Settings,
+    meanings: &Meanings<'a, 'src, S>,
     recipe: &UnresolvedRecipe<'src>,
 ) -> Result<UnresolvedRecipe<'src>, AllocError>
-    ensures { IfOk result (λ made. made ≡ numbered_recipe (get bytes_eq bindings.now) (S.answers syntax.now) settings.now recipe.now) }
+    ensures { IfOk result (λ made. made ≡ numbered_by (S.answers meanings.now.syntax.now) meanings.now recipe.now) }
 {
-    let same = recipe.clone()?;
     let Parts {
         attributes,
         body,
         dependencies,
         parameters,
-    } = numbered_parts(alloc, bindings, syntax, settings, recipe)?;
+    } = numbered_parts(
+        alloc,
+        meanings.bindings,
+        meanings.syntax,
+        meanings.settings,
+        recipe,
+    )?;
     Ok(Recipe {
         attributes,
         body,
         dependencies,
+        doc: recipe.doc.clone()?,
+        file_depth: recipe.file_depth,
+        import_offsets: recipe.import_offsets.clone()?,
+        name: recipe.name.copied(),
+        number: recipe.number,
         parameters,
-        ..same
+        priors: recipe.priors,
+        private: recipe.private,
+        quiet: recipe.quiet,
+        shebang: recipe.shebang,
+        module_path: recipe.module_path.clone()?,
+        recipe_path: recipe.recipe_path.clone()?,
+        variable_references: recipe.variable_references.clone()?,
     })
 }

@@ -2,9 +2,8 @@ use Rattle.std.proofs.Common.{Some, rules, subst, sym}
 use Rattle.just_module_variables.proofs.Tabled.{variables_had}
 use Rattle.just_module_contents.specs.Defaults.{IsDefaultAmong}
 use Rattle.just_module_contents.specs.Definitions.{contents_in, recipes_in}
-use Rattle.just_module_contents.specs.Kept.{kept_recipes}
 use Rattle.just_module_contents.specs.Named.{recipes_by}
-use Rattle.just_analyzer.specs.Parts.{AreLinkedOver, around_by}
+use Rattle.just_analyzer.specs.Parts.{AreLinkedIn, around_by}
 use Rattle.just_analyzer.proofs.compiling.analyze_checked.Goals as goal
 
 pub returns-in_err-append-clause-named : goal.returns-in_err-append-clause-named
@@ -19,12 +18,13 @@ returns-clause-analyzed g c =
     record {
       kept = made.kept;
       standing = recipes_in c.in_ok-own.own.standing;
-      linked = subst (λ d. AreLinkedOver checked.constants.settings.lists (kept_recipes (recipes_in checked.definitions)) (around_by c.args.surroundings c.args.gathered.recipes) c.args.ast.now.module_path (recipes_in c.in_ok-own.own.standing) d c.in_ok-own.recipes) (sym is.disabled) made.linked;
+      linked = subst (λ d. AreLinkedIn answers checked (around_by c.args.surroundings c.args.gathered.recipes) c.args.ast.now.module_path (recipes_in c.in_ok-own.own.standing) d c.in_ok-own.recipes) (sym is.disabled) made.linked;
       overridden = search rules;
       fields = is.fields;
       default = subst (IsDefaultAmong (recipes_in c.in_ok-own.own.standing) (recipes_by answers.enabled (Some c.args.ast.now))) (sym is.default) made.default;
       settings = is.settings;
       own_overrides = is.overridden;
+      assignments = is.assignments;
       variables = variables_had answers (contents_in checked.definitions) checked.variables.assignments checked.variables.functions checked.variables.evaluation_order c.requires.variables _ _ _ is.assignments is.functions is.evaluation_order;
       modules = is.modules;
       notes = is.notes;

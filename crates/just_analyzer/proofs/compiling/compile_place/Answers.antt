@@ -29,7 +29,7 @@ use Rattle.just_compiled.specs.Labelled.{by_name, with_labels}
 use Rattle.just_compiled.specs.Variables.{HasVariables}
 use Rattle.just_compiled.proofs.Makings.{is_of_same}
 use Rattle.just_compiled.proofs.NumbersApart.{has_tables}
-use Rattle.just_analyzer.proofs.Placed.{breaks_place, breaks_recipes, contents_are, evaluated_to, keeps_place, labels_many, labels_named, own_numbers, variables_resolved}
+use Rattle.just_analyzer.proofs.Placed.{breaks_place, breaks_recipes, contents_are, evaluated_to, keeps_place, labels_many, labels_named, numbers_told, own_numbers, variables_resolved}
 use Rattle.just_analyzer.proofs.compiling.compile_place.Goals as goal
 use Rattle.just_parts.specs.Layers.{given_by, layers_at}
 
@@ -80,6 +80,11 @@ pub analyze_checked-requires-clause-variables : goal.analyze_checked-requires-cl
 analyze_checked-requires-clause-variables g c =
     let row = row_lent c.args.joined.now.files.items c.args.place c.index.result.now c.as_slice-row.result.now (omega (arith, c.requires.fits.ready.there, c.requires.fits.files_room)) c.index.ensures c.as_slice-row.ensures.value in
     variables_resolved (given_by g.S.Syntax.answers g.E.Evaluation.answers c.args.given.now) c.args.files.now c.args.joined.now c.args.place c.as_slice-row.result.now row c.ast_at-ast.result.now c.ast_at-ast.ensures c.in_ok-checked.checked c.in_ok-checked.ensures.checked c.in_ok-checked.ensures.kept
+
+pub analyze_checked-requires-clause-numbers : goal.analyze_checked-requires-clause-numbers
+analyze_checked-requires-clause-numbers g c =
+    let row = row_lent c.args.joined.now.files.items c.args.place c.index.result.now c.as_slice-row.result.now (omega (arith, c.requires.fits.ready.there, c.requires.fits.files_room)) c.index.ensures c.as_slice-row.ensures.value in
+    numbers_told (given_by g.S.Syntax.answers g.E.Evaluation.answers c.args.given.now) c.args.files.now c.args.joined.now c.args.place c.as_slice-row.result.now row c.ast_at-ast.result.now c.ast_at-ast.ensures c.in_ok-checked.checked c.in_ok-checked.ensures.checked c.in_ok-checked.ensures.kept
 
 pub analyze_checked-requires-clause-own : goal.analyze_checked-requires-clause-own
 analyze_checked-requires-clause-own g c = λ n a b.
@@ -159,3 +164,6 @@ returns-clause-compiled g c =
       others = λ q ne out. get_or-set_other c.surroundings_at.new.slots.items c.args.place q (Some justfile) None ne ∙ c.in_ok-surroundings.ensures.others q out;
       room = length-set c.surroundings_at.new.slots.items c.args.place (Some justfile) ∙ c.in_ok-surroundings.ensures.room;
     }
+
+pub returns-in_err-surroundings-clause-named : goal.returns-in_err-surroundings-clause-named
+returns-in_err-surroundings-clause-named g c = search (rules, c.from_residual-in_err-surroundings.ensures.1, c.from_residual-in_err-surroundings.ensures.0)

@@ -1,11 +1,11 @@
-use Rattle.std.proofs.Common.{◌≡◌, ◌∙◌, Some, ap, subst, rules}
+use Rattle.std.proofs.Common.{◌≡◌, ◌∙◌, Some, ap, refl, subst, rules}
 use Rattle.std.proofs.lemmas.Result.{IfErr-weaker}
 use Rattle.just_errors.specs.Causes.{Keeps, Reports}
 use Rattle.just_errors.proofs.Lifts.{reports_by}
 use Rattle.just_analyzer.specs.Parts.{around_by}
 use Rattle.just_analyzer.proofs.OwnNumbers.{all_recipes_kept, default_standing, names_kept}
 use Rattle.just_compiled.proofs.AliasTargets.{targets_known, unknown_on}
-use Rattle.just_compiled.specs.Analysis.{recipe_table}
+use Rattle.just_compiled.specs.Analysis.{numbered_in, recipe_table}
 use Rattle.just_module_contents.specs.Defaults.{Defaults}
 use Rattle.just_module_contents.specs.Definitions.{aliases_in, contents_in, recipes_in}
 use Rattle.just_module_contents.specs.Kept.{kept_recipes}
@@ -78,5 +78,5 @@ returns-clause-aliases g c =
 
 pub returns-clause-default : goal.returns-clause-default
 returns-clause-default g c =
-    default_standing c.args.checked.now.constants.settings.lists (kept_recipes (recipes_in c.args.checked.now.definitions)) (recipes_in c.in_ok-linked.linked.standing) (around_by c.args.around.now c.args.recipes) c.args.ast.now.module_path c.in_ok-linked.linked.all
+    default_standing (numbered_in (g.S.Syntax.answers c.args.given.now.syntax.now) c.args.checked.now.variables.assignments c.args.checked.now.constants.settings) (λ r. refl) c.args.checked.now.constants.settings.lists (kept_recipes (recipes_in c.args.checked.now.definitions)) (recipes_in c.in_ok-linked.linked.standing) (around_by c.args.around.now c.args.recipes) c.args.ast.now.module_path c.in_ok-linked.linked.all
     (recipes_by (g.S.Syntax.answers c.args.given.now.syntax.now).enabled (Some c.args.ast.now)) c.in_ok-default.default c.in_ok-linked.ensures.linked.stand c.in_ok-linked.ensures.linked.linked c.requires.own c.in_ok-default.ensures.default

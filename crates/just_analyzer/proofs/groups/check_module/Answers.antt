@@ -53,4 +53,4 @@ returns-clause-kept g c =
 pub returns-clause-constants : goal.returns-clause-constants
 returns-clause-constants g c =
     let e = c.in_ok-constants.ensures in
-    record { resolved = c.in_ok-variables.ensures.variables; evaluated = e.evaluated; covered = e.covered; overridden = e.overridden; overrides = e.overrides }
+    record { resolved = c.in_ok-variables.ensures.variables; numbers = c.in_ok-variables.ensures.numbers; evaluated = e.evaluated; covered = e.covered; overridden = e.overridden; overrides = e.overrides }

@@ -19,6 +19,9 @@ use Rattle.just_names.specs.Index.{AreDifferent}
 use Rattle.just_parts.specs.Layers.{given_by, layers_at}
 use Rattle.just_recipe.specs.declared.dependency.UnresolvedDependency.{UnresolvedDependency}
 use Rattle.just_recipe.specs.declared.recipe.Recipe.{Recipe}
+use Rattle.std.specs.HashMap.{get}
+use Rattle.std.specs.Str.{bytes_eq}
+use Rattle.just_analyzer.proofs.Numbered.{links_as, told_numbers}
 use Rattle.just_analyzer.proofs.groups.link_recipes.Goals as goal
 
 pub link-requires-clause-different : goal.link-requires-clause-different
@@ -53,3 +56,14 @@ returns-clause-named g c =
     (λ e h. reports_by (BreaksLinks settings.lists recipes it) (BreaksChecked layers checked it) (λ x k. in_dependencies c.in_ok-check_bodies.ensures.kept k) e h)
     (subst (λ (x : Around). IfErr c.link.result (Reports (BreaksLinks settings.lists recipes x))) same
     (subst (λ rs. IfErr c.link.result (Reports (BreaksLinks settings.lists rs lent))) c.in_ok-kept.ensures c.link.ensures.named))
+
+pub returns-clause-linked : goal.returns-clause-linked
+returns-clause-linked g c =
+    let checked = c.args.checked.now in
+    let answers = g.S.Syntax.answers c.args.given.now.syntax.now in
+    let rs = kept_recipes (recipes_in checked.definitions) in
+    let lent = around c.args.around.now.notes.absent_modules c.as_slice.result.now c.args.recipes in
+    let same : lent ≡ around_by c.args.around.now c.args.recipes = ap (λ ms. around c.args.around.now.notes.absent_modules ms c.args.recipes) c.as_slice.ensures in
+    let numbers = told_numbers checked.variables.numbers checked.variables.assignments c.requires.numbers in
+    links_as answers (get bytes_eq checked.variables.numbers) checked.variables.assignments numbers checked.constants.settings (recipes_in c.in_ok-kept.kept) rs c.in_ok-kept.ensures lent (around_by c.args.around.now c.args.recipes) same c.args.path.now c.link.result
+    c.link.ensures.standing c.link.ensures.disabled c.link.ensures.linked

@@ -13,10 +13,12 @@ use Rattle.just_module_recipes.proofs.Finished.{adds_linked}
 use Rattle.just_module_recipes.proofs.Splits.{disabled_exact, standing_exact}
 use Rattle.just_module_recipes.proofs.Zipped.{zip_length}
 use Rattle.just_paths.specs.declared.modulepath.Modulepath.{Modulepath}
+use Rattle.just_recipe_names.specs.Numbered.{numbered_by}
+use Rattle.just_module_recipes.proofs.Completed.{numbers_complete}
 use Rattle.just_module_recipes.proofs.links.link.Goals as goal
 
 pub resolve-requires-clause-counts : goal.resolve-requires-clause-counts
-resolve-requires-clause-counts c =
+resolve-requires-clause-counts g c =
     let rs = recipes_in c.args.kept.now in
     let it = around c.args.absent.now c.args.modules.now c.args.recipes in
     let plan : IsPlan rs it c.in_ok-rows.field-0 = c.in_ok-rows.ensures.plan in
@@ -26,7 +28,7 @@ resolve-requires-clause-counts c =
     (λ k h. zip_length (IsTargetOf rs it) (recipe_at rs k).dependencies (get_or rows k []) (plan.rows.each k (omega (arith, h, plan.rows.count))))
 
 pub returns-clause-standing : goal.returns-clause-standing
-returns-clause-standing c =
+returns-clause-standing g c =
     let rs = recipes_in c.args.kept.now in
     let it = around c.args.absent.now c.args.modules.now c.args.recipes in
     let plan : IsPlan rs it c.in_ok-rows.field-0 = c.in_ok-rows.ensures.plan in
@@ -35,7 +37,7 @@ returns-clause-standing c =
     subst (AreStanding (Stands rs it) rs) (sym is) (standing_exact rs it sets plan.exact)
 
 pub returns-clause-disabled : goal.returns-clause-disabled
-returns-clause-disabled c =
+returns-clause-disabled g c =
     let rs = recipes_in c.args.kept.now in
     let it = around c.args.absent.now c.args.modules.now c.args.recipes in
     let plan : IsPlan rs it c.in_ok-rows.field-0 = c.in_ok-rows.ensures.plan in
@@ -44,7 +46,7 @@ returns-clause-disabled c =
     (fallen sets rs, disabled_exact rs it sets plan.exact, c.in_ok-disabled.ensures.all ∙ ap disabled_table is)
 
 pub returns-clause-linked : goal.returns-clause-linked
-returns-clause-linked c =
+returns-clause-linked g c =
     let rs = recipes_in c.args.kept.now in
     let it = around c.args.absent.now c.args.modules.now c.args.recipes in
     let plan : IsPlan rs it c.in_ok-rows.field-0 = c.in_ok-rows.ensures.plan in
@@ -54,9 +56,11 @@ returns-clause-linked c =
     let read : c.as_slice.result.now ≡ rows = search rules in
     let listed : c.as_slice-2.result.now ≡ order = search rules in
     let told : c.as_slice-3.result.now ≡ sets = search rules in
-    let lists = c.args.settings.now.lists in
+    let by = numbered_by (g.S.Syntax.answers c.args.meanings.now.syntax.now) c.args.meanings.now in
+    let completes = numbers_complete (g.S.Syntax.answers c.args.meanings.now.syntax.now) c.args.meanings.now in
+    let lists = c.args.meanings.now.settings.now.lists in
     let path = c.args.module_path.now in
-    adds_linked rs it sets plan.exact c.requires.different rows plan.rows lists path c.requires.once c.requires.priors c.requires.apart order plan.order plan.there c.in_ok-all.all
-    (c.in_ok-all.ensures ∙ (ap (λ (xs : List (List Target)). c.args.recipes ++ made lists rs c.args.recipes path xs c.as_slice-3.result.now c.as_slice-2.result.now) read
-    ∙ (ap (λ (xs : List (BTreeSet Modulepath)). c.args.recipes ++ made lists rs c.args.recipes path rows xs c.as_slice-2.result.now) told
-    ∙ ap (λ (xs : List ℕ). c.args.recipes ++ made lists rs c.args.recipes path rows sets xs) listed)))
+    adds_linked rs it sets plan.exact c.requires.different rows plan.rows by completes lists path c.requires.once c.requires.priors c.requires.apart order plan.order plan.there c.in_ok-all.all
+    (c.in_ok-all.ensures ∙ (ap (λ (xs : List (List Target)). c.args.recipes ++ made by lists rs c.args.recipes path xs c.as_slice-3.result.now c.as_slice-2.result.now) read
+    ∙ (ap (λ (xs : List (BTreeSet Modulepath)). c.args.recipes ++ made by lists rs c.args.recipes path rows xs c.as_slice-2.result.now) told
+    ∙ ap (λ (xs : List ℕ). c.args.recipes ++ made by lists rs c.args.recipes path rows sets xs) listed)))

@@ -11,10 +11,14 @@ use Rattle.just_module_recipes.proofs.Barred.{told_at}
 use Rattle.just_module_recipes.proofs.Made.{all_there, is_new, numbers_held, so_far}
 use Rattle.just_paths.specs.declared.modulepath.Modulepath.{Modulepath}
 use Rattle.just_recipe.specs.Recipes.{numbers}
+use Rattle.just_recipe_names.specs.Numbered.{numbered_by}
+use Rattle.just_module_recipes.proofs.Completed.{numbers_complete}
 use Rattle.just_module_recipes.proofs.resolving.resolve.Goals as goal
 
 pub resolve_at-requires-clause-there : goal.resolve_at-requires-clause-there
-resolve_at-requires-clause-there c = λ e.
+resolve_at-requires-clause-there g c = λ e.
+    let by = numbered_by (g.S.Syntax.answers c.args.meanings.now.syntax.now) c.args.meanings.now in
+    let completes = numbers_complete (g.S.Syntax.answers c.args.meanings.now.syntax.now) c.args.meanings.now in
     let rs = recipes_in c.args.kept.now in
     let long : length rs ≡ length c.args.kept.now.recipes.items = length-lent c.args.kept.now.recipes.items in
     let place : ℕ = slice_index c.args.order.now c.loop-n.n in
@@ -25,17 +29,21 @@ resolve_at-requires-clause-there c = λ e.
     let keys : c.index-sets-place.result.keys ≡ keys_at c.args.sets.now place = ap (λ (s : BTreeSet Modulepath). s.keys) set in
     let many : length c.args.rows.now ≡ length rs = c.requires.rows ∙ sym long in
     let bars = told_at c.args.rows.now c.args.order.now c.args.sets.now c.requires.order c.requires.told in
-    subst (All (IsThere rs c.loop-n.recipes)) (sym row) (all_there c.args.settings.now.lists rs c.args.module_path.now c.args.rows.now c.args.sets.now c.args.recipes c.requires.once c.requires.apart c.args.order.now c.requires.order many bars c.requires.there c.loop-n.n c.loop-n-test.true c.loop-n.recipes c.loop-n.invariant (sym keys ∙ e))
+    subst (All (IsThere rs c.loop-n.recipes)) (sym row) (all_there by completes c.args.meanings.now.settings.now.lists rs c.args.module_path.now c.args.rows.now c.args.sets.now c.args.recipes c.requires.once c.requires.apart c.args.order.now c.requires.order many bars c.requires.there c.loop-n.n c.loop-n-test.true c.loop-n.recipes c.loop-n.invariant (sym keys ∙ e))
 
 pub resolve_at-requires-clause-is_new : goal.resolve_at-requires-clause-is_new
-resolve_at-requires-clause-is_new c = λ e.
+resolve_at-requires-clause-is_new g c = λ e.
+    let by = numbered_by (g.S.Syntax.answers c.args.meanings.now.syntax.now) c.args.meanings.now in
+    let completes = numbers_complete (g.S.Syntax.answers c.args.meanings.now.syntax.now) c.args.meanings.now in
     let rs = recipes_in c.args.kept.now in
     let long : length rs ≡ length c.args.kept.now.recipes.items = length-lent c.args.kept.now.recipes.items in
     let many : length c.args.rows.now ≡ length rs = c.requires.rows ∙ sym long in
-    is_new c.args.settings.now.lists rs c.args.module_path.now c.args.rows.now c.args.sets.now c.args.recipes c.requires.once c.requires.apart c.args.order.now c.requires.order many c.loop-n.n c.loop-n-test.true c.loop-n.recipes c.loop-n.invariant.new_is
+    is_new by completes c.args.meanings.now.settings.now.lists rs c.args.module_path.now c.args.rows.now c.args.sets.now c.args.recipes c.requires.once c.requires.apart c.args.order.now c.requires.order many c.loop-n.n c.loop-n-test.true c.loop-n.recipes c.loop-n.invariant.new_is
 
 pub resolve_at-requires-clause-numbers : goal.resolve_at-requires-clause-numbers
-resolve_at-requires-clause-numbers c = λ e.
+resolve_at-requires-clause-numbers g c = λ e.
+    let by = numbered_by (g.S.Syntax.answers c.args.meanings.now.syntax.now) c.args.meanings.now in
+    let completes = numbers_complete (g.S.Syntax.answers c.args.meanings.now.syntax.now) c.args.meanings.now in
     let rs = recipes_in c.args.kept.now in
     let long : length rs ≡ length c.args.kept.now.recipes.items = length-lent c.args.kept.now.recipes.items in
     let place : ℕ = slice_index c.args.order.now c.loop-n.n in
@@ -46,10 +54,12 @@ resolve_at-requires-clause-numbers c = λ e.
     let keys : c.index-sets-place.result.keys ≡ keys_at c.args.sets.now place = ap (λ (s : BTreeSet Modulepath). s.keys) set in
     let many : length c.args.rows.now ≡ length rs = c.requires.rows ∙ sym long in
     let bars = told_at c.args.rows.now c.args.order.now c.args.sets.now c.requires.order c.requires.told in
-    subst (All (λ t. Contains (numbers c.loop-n.recipes) (number_of rs t).0)) (sym row) (numbers_held c.args.settings.now.lists rs c.args.module_path.now c.args.rows.now c.args.sets.now c.args.recipes c.requires.once c.requires.apart c.args.order.now c.requires.order many bars c.requires.there c.loop-n.n c.loop-n-test.true c.loop-n.recipes c.loop-n.invariant (sym keys ∙ e))
+    subst (All (λ t. Contains (numbers c.loop-n.recipes) (number_of rs t).0)) (sym row) (numbers_held by completes c.args.meanings.now.settings.now.lists rs c.args.module_path.now c.args.rows.now c.args.sets.now c.args.recipes c.requires.once c.requires.apart c.args.order.now c.requires.order many bars c.requires.there c.loop-n.n c.loop-n-test.true c.loop-n.recipes c.loop-n.invariant (sym keys ∙ e))
 
 pub loop-n-preserved : goal.loop-n-preserved
-loop-n-preserved c =
+loop-n-preserved g c =
+    let by = numbered_by (g.S.Syntax.answers c.args.meanings.now.syntax.now) c.args.meanings.now in
+    let completes = numbers_complete (g.S.Syntax.answers c.args.meanings.now.syntax.now) c.args.meanings.now in
     let rs = recipes_in c.args.kept.now in
     let long : length rs ≡ length c.args.kept.now.recipes.items = length-lent c.args.kept.now.recipes.items in
     let place : ℕ = slice_index c.args.order.now c.loop-n.n in
@@ -60,6 +70,6 @@ loop-n-preserved c =
     let keys : c.index-sets-place.result.keys ≡ keys_at c.args.sets.now place = ap (λ (s : BTreeSet Modulepath). s.keys) set in
     let many : length c.args.rows.now ≡ length rs = c.requires.rows ∙ sym long in
     let bars = told_at c.args.rows.now c.args.order.now c.args.sets.now c.requires.order c.requires.told in
-    so_far c.args.settings.now.lists rs c.args.module_path.now c.args.rows.now c.args.sets.now c.args.recipes c.requires.once c.requires.apart c.args.order.now c.requires.order many bars c.requires.there c.loop-n.n c.loop-n-test.true c.loop-n.recipes c.loop-n.invariant c.resolve_at.new.recipes
-    (c.in_ok-resolve_at.ensures ∙ (ap (λ (ts : List Target). c.loop-n.recipes ++ settled_of c.args.settings.now.lists rs c.loop-n.recipes c.args.module_path.now ts c.index-sets-place.result.keys place) row
-    ∙ ap (λ (ks : List Modulepath). c.loop-n.recipes ++ settled_of c.args.settings.now.lists rs c.loop-n.recipes c.args.module_path.now (get_or c.args.rows.now place []) ks place) keys))
+    so_far by completes c.args.meanings.now.settings.now.lists rs c.args.module_path.now c.args.rows.now c.args.sets.now c.args.recipes c.requires.once c.requires.apart c.args.order.now c.requires.order many bars c.requires.there c.loop-n.n c.loop-n-test.true c.loop-n.recipes c.loop-n.invariant c.resolve_at.new.recipes
+    (c.in_ok-resolve_at.ensures ∙ (ap (λ (ts : List Target). c.loop-n.recipes ++ settled_of by c.args.meanings.now.settings.now.lists rs c.loop-n.recipes c.args.module_path.now ts c.index-sets-place.result.keys place) row
+    ∙ ap (λ (ks : List Modulepath). c.loop-n.recipes ++ settled_of by c.args.meanings.now.settings.now.lists rs c.loop-n.recipes c.args.module_path.now (get_or c.args.rows.now place []) ks place) keys))

@@ -11,7 +11,7 @@ use Rattle.just_module_contents.specs.Definitions.{contents_in, variables_in}
 use Rattle.just_module_contents.specs.Known.{known_of, variables_under}
 use Rattle.just_module_variables.specs.Variables.{AreVariables, known_with_numbers}
 use Rattle.just_module_variables.proofs.Judging.{breaks_known, keeps_known}
-use Rattle.just_module_variables.proofs.Tabled.{are_variables}
+use Rattle.just_module_variables.proofs.Tabled.{are_numbers, are_variables}
 use Rattle.just_module_variables.proofs.variables.resolve_variables.Goals as goal
 
 pub returns-in_err-resolved-clause-named : goal.returns-in_err-resolved-clause-named
@@ -39,3 +39,11 @@ returns-clause-variables g c =
     subst (AreVariables answers m c.resolve_assignments.new.assignments c.resolve_assignments.new.functions) (sym c.from_vec.ensures)
     (are_variables answers m c.in_ok-assignments.assignments c.in_ok-functions.functions variables c.in_ok-functions.ensures c.in_ok-resolved.resolved
     c.resolve_assignments.new.assignments c.resolve_assignments.new.functions c.in_ok-resolved.ensures.resolved)
+
+pub returns-clause-numbers : goal.returns-clause-numbers
+returns-clause-numbers g c =
+    let answers = g.S.Syntax.answers c.args.syntax.now in
+    let m = contents_in c.args.definitions.now in
+    let variables : c.in_ok-assignments.assignments ≡ variables_under (variables_in c.args.definitions.now) = c.in_ok-assignments.ensures ∙ ap (put_all (λ (a : Assignment). text_of_name a.name) []) c.in_ok-kept.ensures in
+    are_numbers answers m c.in_ok-assignments.assignments c.in_ok-functions.functions variables c.in_ok-functions.ensures c.in_ok-resolved.resolved
+    c.resolve_assignments.new.assignments c.resolve_assignments.new.functions c.in_ok-resolved.ensures.resolved

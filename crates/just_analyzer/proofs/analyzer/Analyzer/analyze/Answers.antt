@@ -6,7 +6,8 @@ use Rattle.just_ast_expressions.specs.declared.string_literal.StringLiteral.{Str
 use Rattle.just_parts.specs.Asts.{same_ast_key}
 use Rattle.just_parts.specs.Layers.{given_of}
 use Rattle.just_module_tree.specs.Modules.{heading, label}
-use Rattle.just_analyzer.specs.Analyzed.{AreInserted, IsAnalyzed}
+use Rattle.just_overrides.specs.Inserted.{AreInserted}
+use Rattle.just_analyzer.specs.Analyzed.{IsAnalyzed}
 use Rattle.just_analyzer.proofs.analyzer.Analyzer.analyze.Goals as goal
 
 pub returns-in_err-reserve-clause-named : goal.returns-in_err-reserve-clause-named

@@ -4,7 +4,7 @@ use Rattle.std.specs.Option.{option_or}
 use Rattle.just_module_variables.specs.Overrides.{last_of}
 use Rattle.just_names.specs.declared.number.Number.{Number}
 use Rattle.just_parts.specs.Needs.{same_number}
-use Rattle.just_analyzer.proofs.analyzer.insert_all.Given as goal
+use Rattle.just_overrides.proofs.insertion.insert_all.Given as goal
 
 abbrev pub invariant-loop-number : goal.invariant-loop-number
 invariant-loop-number l = record {

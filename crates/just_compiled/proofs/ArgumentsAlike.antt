@@ -1,0 +1,40 @@
+-- A recipe with numbers takes as many arguments as the recipe as it is.
+use Rattle.std.proofs.Common.{◌≡◌, ◌∙◌, ◌+◌, ◌||◌, ◌++◌, ◌∷◌, ℕ, Bool, cond, if◌then◌else◌, List, [], length, suc, Option, None, Some, ap, refl, sym}
+use Rattle.std.proofs.lemmas.List.Sums.{sum_by-cons}
+use Rattle.std.specs.List.{list_any}
+use Rattle.std.specs.Option.{option_map}
+use Rattle.just_ast_definitions.specs.Parameter.{is_required, is_variadic, least_arguments, most_arguments}
+use Rattle.just_ast_definitions.specs.declared.parameter.Parameter.{Parameter}
+use Rattle.just_ast_expressions.specs.declared.expression.Expression.{Expression}
+use Rattle.just_names.specs.Texts.{Text}
+use Rattle.just_names.specs.declared.number.Number.{Number}
+use Rattle.just_recipe_names.specs.Numbered.{numbered_parameters, parameter_by, under}
+
+required_by : (by : Expression → Expression) (p : Parameter) (value default : Option Expression) → is_required (record p { default = option_map by default; value = value }) ≡ is_required (record p { default = default })
+required_by by p value None = refl
+required_by by p value (Some e) = refl
+
+required_alike : (by : Expression → Expression) (p : Parameter) → is_required (parameter_by by p) ≡ is_required p
+required_alike by p = required_by by p (option_map by p.value) p.default
+
+-- one for a parameter that is required
+abbrev counts : Parameter → ℕ
+counts p = cond (is_required p) 1 0
+
+module _ (number : List Parameter → Text → Option Number) where
+  pub least_alike : (before ps : List Parameter) → least_arguments (numbered_parameters number before ps) ≡ least_arguments ps
+  least_alike before [] = refl
+  least_alike before (p ∷ ps) =
+      sum_by-cons counts (parameter_by (under number before) p) (numbered_parameters number (before ++ p ∷ []) ps)
+      ∙ ((λ i. cond (required_alike (under number before) p i) 1 0 + least_alike (before ++ p ∷ []) ps i) ∙ sym (sum_by-cons counts p ps))
+
+  length_alike : (before ps : List Parameter) → length (numbered_parameters number before ps) ≡ length ps
+  length_alike before [] = refl
+  length_alike before (p ∷ ps) = ap suc (length_alike (before ++ p ∷ []) ps)
+
+  variadic_alike : (before ps : List Parameter) → list_any (λ (p : Parameter). is_variadic p.kind) (numbered_parameters number before ps) ≡ list_any (λ (p : Parameter). is_variadic p.kind) ps
+  variadic_alike before [] = refl
+  variadic_alike before (p ∷ ps) = ap (λ b. is_variadic p.kind || b) (variadic_alike (before ++ p ∷ []) ps)
+
+  pub most_alike : (lists : Bool) (before ps : List Parameter) → most_arguments lists (numbered_parameters number before ps) ≡ most_arguments lists ps
+  most_alike lists before ps = λ i. if lists then length_alike before ps i else (if variadic_alike before ps i then 18446744073709551614 else length_alike before ps i)

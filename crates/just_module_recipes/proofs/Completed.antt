@@ -1,0 +1,41 @@
+-- Recipes with numbers are completed.
+use Rattle.std.proofs.Common.{◌≡◌, ◌∙◌, Bool, List, [], ◌∷◌, ◌++◌, map, length, take, drop, Option, refl, sym, ap}
+use Rattle.std.proofs.lemmas.List.{length-map}
+use Rattle.std.specs.HashMap.{get}
+use Rattle.std.specs.Str.{bytes_eq}
+use Rattle.just_ast_definitions.specs.declared.parameter.Parameter.{Parameter}
+use Rattle.just_ast_expressions.specs.declared.expression.Expression.{Expression}
+use Rattle.just_module_recipes.specs.Completing.{IsCompleting, paths_of}
+use Rattle.just_names.specs.Texts.{Text}
+use Rattle.just_names.specs.declared.number.Number.{Number}
+use Rattle.just_parts.specs.Syntax.{SyntaxAnswers}
+use Rattle.just_recipe.specs.Grouping.{grouped, share}
+use Rattle.just_recipe.specs.declared.dependency.UnresolvedDependency.{UnresolvedDependency}
+use Rattle.just_recipe.specs.declared.recipe.Recipe.{Recipe}
+use Rattle.just_recipe_names.specs.Numbered.{dependency_by, number_under, numbered_by, numbered_parameters, under}
+use Rattle.just_recipe_names.specs.declared.numbering.Meanings.{Meanings}
+
+-- arguments are grouped for parameters with numbers as for those without
+grouped_alike : {A : Type 0} (number : List Parameter → Text → Option Number) (lists : Bool) (before ps : List Parameter) (left : List A) → grouped lists (numbered_parameters number before ps) left ≡ grouped lists ps left
+grouped_alike number lists before [] left = refl
+grouped_alike number lists before (p ∷ ps) left = ap (λ groups. take (share lists p (length left)) left ∷ groups) (grouped_alike number lists (before ++ p ∷ []) ps (drop (share lists p (length left)) left))
+
+same_paths : (by : Expression → Expression) (ds : List UnresolvedDependency) → paths_of (map (dependency_by by) ds) ≡ paths_of ds
+same_paths by [] = refl
+same_paths by (d ∷ ds) = ap (λ ps. d.recipe ∷ ps) (same_paths by ds)
+
+pub numbers_complete : {A : Type 0} (answers : SyntaxAnswers) (it : Meanings A) → IsCompleting (numbered_by answers it)
+numbers_complete answers it =
+    let number = number_under (get bytes_eq it.bindings.now) answers in
+    record {
+      name = λ r. refl;
+      number = λ r. refl;
+      priors = λ r. refl;
+      paths = λ r. same_paths (under number r.parameters) r.dependencies;
+      grouping = λ lists r arguments. grouped_alike number lists [] r.parameters arguments;
+    }
+
+-- what is completed has as many dependencies
+pub as_many : (by : Recipe UnresolvedDependency → Recipe UnresolvedDependency) → IsCompleting by → (r : Recipe UnresolvedDependency) → length (by r).dependencies ≡ length r.dependencies
+as_many by completes r =
+    sym (length-map (by r).dependencies (λ (d : UnresolvedDependency). d.recipe)) ∙ (ap (λ ps. length ps) (completes.paths r) ∙ length-map r.dependencies (λ (d : UnresolvedDependency). d.recipe))

@@ -1,0 +1,3 @@
+pub mod Applied
+pub mod Inserted
+pub mod Reached
