@@ -1,0 +1,4 @@
+mod Gathering
+mod Keeping
+mod Noting
+mod Walked
