@@ -4,7 +4,7 @@ ghost use Rattle.just_invoke.specs.Closed.{IsRooted};
 use crate::runs::{add_run, add_split};
 use just_data::Text;
 use just_examples_format::asked::Asked;
-use just_examples_format::{add_loaded, add_modules};
+use just_examples_format::{add_given, add_loaded, add_modules};
 use just_invoke::{Justfile, Recipes};
 use just_parts::layers::Number;
 use std::alloc::{AllocError, Global};
@@ -49,6 +49,7 @@ pub fn add_compiled<'src>(
 {
     add_loaded(root, texts, text)?;
     add_modules(root, recipes, alloc, text)?;
+    add_given(root, overrides, alloc, text)?;
     let words = asked.words(alloc)?;
     add_words(
         root,

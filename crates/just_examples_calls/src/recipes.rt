@@ -47,7 +47,11 @@ fn resolved<'src>(
     let dependencies = numbered(alloc, recipe)?;
     let module_path = Modulepath::root(alloc).join("m")?;
     let recipe_path = module_path.join(recipe.name.lexeme())?;
-    recipe.resolved(alloc, dependencies, module_path, recipe_path)
+    Ok(
+        recipe
+            .clone()?
+            .resolved(dependencies, module_path, recipe_path),
+    )
 }
 
 // Adds the line of some dependencies.

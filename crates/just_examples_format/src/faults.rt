@@ -19,6 +19,13 @@ fn add_load(text: &mut String, error: &LoadError) -> Result<(), AllocError> {
         LoadError::CircularImport { current, import } => {
             write!(text, ": current {current}, import {import}")
         }
+        LoadError::UnknownOverrides { overrides } => {
+            write!(text, ": overrides")?;
+            for variable in overrides.as_slice() {
+                write!(text, " {variable}")?;
+            }
+            Ok(())
+        }
     }
 }
 

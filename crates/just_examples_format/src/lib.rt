@@ -4,9 +4,11 @@
 pub mod asked;
 pub mod cases;
 pub mod faults;
+mod given;
 mod links;
 pub mod lists;
 mod modules;
 pub mod written;
 
+pub use given::add_given;
 pub use modules::{add_loaded, add_modules};

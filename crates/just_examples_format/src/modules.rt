@@ -4,7 +4,7 @@ use crate::lists::{add_list, next};
 use just_data::Text;
 use just_invoke::{Justfile, RecipeKey, Recipes};
 use just_parts::Recipe;
-use just_parts::layers::{Interpreter, Number};
+use just_parts::layers::{Interpreter, Name, Number};
 use std::alloc::{AllocError, Global};
 use std::collections::HashSet;
 
@@ -178,17 +178,25 @@ fn add_program(
     Ok(())
 }
 
+/// Adds a blank and the path of a variable of a module.
+pub(crate) fn add_variable(
+    module: &Justfile,
+    name: &Name,
+    text: &mut String,
+) -> Result<(), AllocError> {
+    text.push(' ')?;
+    if module.is_submodule() {
+        write!(text, "{}::", module.module_path)?;
+    }
+    write!(text, "{name}")
+}
+
 // Adds the paths of the variables of a module that are overridden.
 fn add_overridden(module: &Justfile, text: &mut String) -> Result<(), AllocError> {
     for variable in module.assignments.values() {
-        if !module.overridden.contains_key(&variable.number) {
-            continue;
+        if module.overridden.contains_key(&variable.number) {
+            add_variable(module, &variable.name, text)?;
         }
-        text.push(' ')?;
-        if module.is_submodule() {
-            write!(text, "{}::", module.module_path)?;
-        }
-        write!(text, "{}", variable.name)?;
     }
     Ok(())
 }
