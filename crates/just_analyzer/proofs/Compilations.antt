@@ -26,7 +26,7 @@ use Rattle.just_overrides.specs.Applied.{Tells}
 use Rattle.just_overrides.specs.Reached.{unknown}
 use Rattle.just_analyzer.specs.Compiled.{Compilation, Compiles}
 use Rattle.just_analyzer.specs.Readings.{Overrides, given_in, root_heading}
-use Rattle.just_analyzer.specs.Rules.{KeepsAll, Names, in_files, in_modules, in_overrides}
+use Rattle.just_analyzer.specs.Rules.{KeepsAll, MayTell, Names, in_files, in_modules, in_overrides}
 use Rattle.just_analyzer.proofs.Readings.{are_analyzable, is_reading, readings_agree}
 
 module _ (evaluator : Evaluator) (overrides : Overrides) (w : World) (asts : AstKey → Option Ast) (loaded : List Text) (is : IsLoaded w asts loaded) (files : Keeps (NamesInFiles w)) (justfile : Justfile) (recipes : List (Recipe Dependency)) (overridden : List (Number × Text))
@@ -35,7 +35,7 @@ module _ (evaluator : Evaluator) (overrides : Overrides) (w : World) (asts : Ast
   forest = Tree analyzed.m analyzed.inside Empty
 
   -- keys that are told break the rule of overrides
-  pub told : (c : Cause) → Tells (unknown justfile overrides.entries) c → Names evaluator overrides w c
+  pub told : (c : Cause) → Tells (unknown justfile overrides.entries) c → MayTell evaluator overrides w c
   told c tells =
       in_overrides (reading_of w.answers.enabled asts) forest files (is_reading w asts loaded is) analyzed.are_modules analyzed.kept
       (tells_broken (given_in evaluator overrides w) asts loaded analyzed.built (root_heading w) refl analyzed.m analyzed.inside analyzed.are_modules analyzed.kept recipes justfile analyzed.compiled analyzed.closed overrides.entries c tells)
@@ -65,7 +65,7 @@ module _ (evaluator : Evaluator) (overrides : Overrides) (w : World) (asts : Ast
         (sym (agreeing_forests w.answers.enabled asts (are_analyzable w asts loaded is) (given_in evaluator overrides w) R (readings_agree w asts loaded is R reads) (root_heading w) (root_held w asts loaded is) _ analyzed.are_modules analyzed.kept f are)) b)
 
 -- a refusal that is named
-pub refused : (evaluator : Evaluator) (overrides : Overrides) (w : World) (r : Result Compilation Error) → IfOk r (λ _. ⊥) → IfErr r (Reports (Names evaluator overrides w)) → Compiles evaluator overrides w r
+pub refused : (evaluator : Evaluator) (overrides : Overrides) (w : World) (r : Result Compilation Error) → IfOk r (λ _. ⊥) → IfErr r (Reports (MayTell evaluator overrides w)) → Compiles evaluator overrides w r
 refused evaluator overrides w (Ok c) none h = absurd none
 refused evaluator overrides w (Err e) none h = record {
   kept = tt;

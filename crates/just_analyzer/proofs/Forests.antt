@@ -1,10 +1,10 @@
 -- The modules of headings are compiled to the justfiles at their places.
 use Rattle.just_module_headers.proofs.Alike.{kept_alike}
-use Rattle.std.proofs.Common.{◌≡◌, ◌≢◌, ◌<◌, ℕ, suc, List, [], ◌∷◌, ◌++◌, map, length, get_or, slice_index, Option, None, Some, refl, sym, ap, subst, ◌∙◌, inl, inr, arith, append_assoc, take, zero, ◌≤◌, ◌+◌, ◌-◌}
+use Rattle.std.proofs.Common.{◌≡◌, ◌≢◌, ◌<◌, ℕ, suc, List, [], ◌∷◌, ◌++◌, map, length, get_or, slice_index, Option, None, Some, refl, sym, ap, subst, subst₂, ◌∙◌, inl, inr, arith, append_assoc, take, zero, ◌≤◌, ◌+◌, ◌-◌}
 use Rattle.std.specs.Prelude.{flat_map, slice_get}
 use Rattle.std.specs.HashMap.{get}
 use Rattle.just_parts.specs.Syntax.{SyntaxAnswers}
-use Rattle.just_parts.specs.Needs.{same_number}
+use Rattle.just_parts.specs.Needs.{has_number, same_number}
 use Rattle.std.specs.List.{Contains}
 use Rattle.std.specs.Map.{keys_of, lookup}
 use Rattle.std.proofs.lemmas.List.{length-map}
@@ -18,20 +18,21 @@ use Rattle.just_names.specs.Texts.{Text}
 use Rattle.just_parts.specs.Items.{Ast}
 use Rattle.just_invoke.specs.declared.justfile.Justfile.{Justfile, out-Justfile, out-roll-Justfile}
 use Rattle.just_module_contents.specs.Defaults.{IsDefaultAmong}
-use Rattle.just_compiled.specs.Analysis.{IsOf, HasLinks, numbered_in}
+use Rattle.just_compiled.specs.Analysis.{IsOf, HasLinks, completion_in}
 use Rattle.just_module_headers.specs.Files.{ArePlaced, AreRows}
 use Rattle.just_module_headers.specs.Joined.{IsJoined}
 use Rattle.just_module_variables.specs.Documented.{AreDocumented, HasDoc}
-use Rattle.just_compiled.specs.Evaluated.{IsEvaluatedTo}
+use Rattle.just_compiled.specs.Evaluated.{AreLabels, IsEvaluatedTo, overridden_in}
 use Rattle.just_compiled.specs.Labelled.{label_in, labelled_as, with_labels, by_name, notes_in, slot}
-use Rattle.just_compiled.specs.Justfiles.{AreAliased, AreCompiled, Built, IsCompiled, MeansIn, Made, contents_in, none, notes_said, one, recipes_in, kept_by, recipes_of_all}
+use Rattle.just_compiled.specs.Justfiles.{AreAliased, AreCompiled, Built, IsCompiled, MeansIn, Made, contents_in, none, notes_said, one, recipes_in, kept_by, recipes_of_all, value_by}
 use Rattle.just_module_tree.specs.Modules.{Empty, Forest, Heading, Module, Tree, headings_in, AreModules, IsHeading, a_module, after_it, contents_of, first, in_it, no_module, path_of}
+use Rattle.just_module_contents.specs.Constants.{Evaluated, IsEvaluated, value_among}
 use Rattle.just_module_contents.specs.Contents.{Contents}
 use Rattle.just_module_contents.specs.Kept.{kept_recipes}
 use Rattle.just_module_contents.specs.Recipes.{recipes_of}
 use Rattle.just_module_headers.specs.Reading.{Submodule, reading_of}
 use Rattle.just_module_headers.specs.OfPlaces.{contents_of_place, labels_of_place, recipes_of_place}
-use Rattle.just_analyzer.specs.Steps.{IsCompiledAt, path_at, path_in, BreaksOver, kept_of_place, made_before, names_of_labels}
+use Rattle.just_analyzer.specs.Steps.{IsCompiledAt, path_at, path_in, BreaksOver, kept_of_place, made_before, names_of_labels, value_at}
 use Rattle.just_module_headers.specs.declared.files.Files.{Files}
 use Rattle.just_module_contents.specs.declared.labels.Label.{Label}
 use Rattle.just_module_contents.specs.declared.notes.Notes.{Notes}
@@ -73,7 +74,7 @@ use Rattle.just_module_contents.specs.Rules.{Aliases, under, unknown_target}
 use Rattle.just_module_recipes.specs.Aliased.{aliases_of, meant, no_aliases, targets as targets_made, targets_of}
 use Rattle.just_ast_definitions.specs.declared.alias.Alias.{Alias}
 use Rattle.just_names.specs.declared.name.Namepath.{Namepath}
-use Rattle.just_module_tree.specs.Standing.{HasTarget, links_in, name_in, of_targets}
+use Rattle.just_module_tree.specs.Standing.{HasTarget, links_in, name_in, of_targets, told_in}
 use Rattle.just_invoke.specs.Module.{module_name}
 use Rattle.just_module_tree.proofs.ModulePaths.{subs_at}
 use Rattle.just_names.specs.Name.{text_if_named}
@@ -125,11 +126,12 @@ module _ (cs : Contents) (standing : List (Recipe UnresolvedDependency)) (ast : 
         working_directory = ap (λ x. x.working_directory) out ∙ is.working_directory;
       }
 
-  pub labelled_links : (answers : SyntaxAnswers) (recipes : List (Recipe UnresolvedDependency)) (before added : List (Recipe Dependency)) (path : Modulepath) → HasLinks answers recipes before path added standing j → HasLinks answers recipes before path added standing (labelled_as label j)
-  labelled_links answers recipes before added path links =
+  pub labelled_links : (value : Expression → Option (List Text)) (answers : SyntaxAnswers) (recipes : List (Recipe UnresolvedDependency)) (before added : List (Recipe Dependency)) (path : Modulepath) → HasLinks value answers recipes before path added standing j
+      → HasLinks value answers recipes before path added standing (labelled_as label j)
+  labelled_links value answers recipes before added path links =
       let out = sym (out-roll-Justfile (record (out-Justfile j) { name = label.name; doc = label.doc; groups = label.groups; private = label.private })) in
       record {
-        linked = subst (λ x. AreLinked (Stands recipes (around x.absent_modules x.modules before)) (HasNumber recipes (around x.absent_modules x.modules before)) (numbered_in answers x.assignments x.settings) x.settings.lists (before ++ added) recipes path added) out links.linked;
+        linked = subst (λ x. AreLinked (Stands recipes (around x.absent_modules x.modules before)) (HasNumber recipes (around x.absent_modules x.modules before)) (completion_in value answers x.assignments x.functions (has_number x.overridden) x.settings) x.settings.lists (before ++ added) recipes path added) out links.linked;
         stand = subst (λ x. AreStanding (Stands recipes (around x.absent_modules x.modules before)) recipes standing) out links.stand;
         disabled = subst (λ x. HasDisabled (Disables recipes (around x.absent_modules x.modules before)) recipes x.disabled_recipes) out links.disabled;
       }
@@ -219,23 +221,24 @@ module _ (given : Given) (entries : List (AstKey × Ast)) (d : AstKey) (files : 
       abbrev cs : Contents
       cs = contents_in given.syntax.enabled asts m.files
 
-      evaluated_here : IsEvaluatedTo (layers_at given h.key.0) cs (map (λ (s : Submodule). s.label) m.modules) at.labels (made p).overridden (justfile p)
-      evaluated_here =
-          subst (λ (x : Layers). IsEvaluatedTo x cs (map (λ (s : Submodule). s.label) m.modules) at.labels (made p).overridden (justfile p)) layers_same
-          (subst (λ (x : Contents). IsEvaluatedTo (layers_at given (path_at files p)) x (map (λ (s : Submodule). s.label) m.modules) at.labels (made p).overridden (justfile p)) cs_same
-          (subst (λ ls. IsEvaluatedTo (layers_at given (path_at files p)) (contents_of_place given.syntax.enabled files joined p) ls at.labels (made p).overridden (justfile p)) labels_same at.evaluated))
+      abbrev it : Evaluated
+      it = at.evaluated.it
+
+      documented_here : AreLabels (layers_at given h.key.0) cs it.constants (map (λ (s : Submodule). s.label) m.modules) at.labels
+      documented_here =
+          subst (λ ls. AreLabels (layers_at given h.key.0) cs it.constants ls at.labels) labels_same
+          (subst₂ (λ (x : Layers) (c : Contents). AreLabels x c it.constants (labels_of_place given.syntax.enabled files joined p) at.labels) layers_same cs_same at.evaluated.documented)
 
       evaluated : IsEvaluatedTo (layers_at given h.key.0) cs (map (λ (s : Submodule). s.label) m.modules) (map label_in inner) (made p).overridden (labelled_as label (justfile p))
       evaluated =
-          let e = evaluated_here in
           let out = out-roll-Justfile (record (out-Justfile (justfile p)) { name = label.name; doc = label.doc; groups = label.groups; private = label.private }) in
           record {
-            it = e.it;
-            evaluated = e.evaluated;
-            settings = e.settings ∙ ap (λ x. x.settings) (sym out);
-            documented = labelled_documented _ _ at.labels (map justfile (targets joined.modules.items p)) (inner_many ∙ sym (length-map (targets joined.modules.items p) justfile)) e.documented;
-            overrides_are = e.overrides_are;
-            overrides_held = λ n. ap (λ x. get same_number x.overridden n) out ∙ e.overrides_held n;
+            it = it;
+            evaluated = subst₂ (λ (x : Layers) (c : Contents). IsEvaluated x c it) layers_same cs_same at.evaluated.evaluated;
+            settings = at.evaluated.settings ∙ ap (λ x. x.settings) (sym out);
+            documented = labelled_documented _ _ at.labels (map justfile (targets joined.modules.items p)) (inner_many ∙ sym (length-map (targets joined.modules.items p) justfile)) documented_here;
+            overrides_are = subst₂ (λ (x : Layers) (c : Contents). (made p).overridden ≡ overridden_in x c) layers_same cs_same at.evaluated.overrides_are;
+            overrides_held = λ n. ap (λ x. get same_number x.overridden n) out ∙ at.evaluated.overrides_held n;
           }
 
     -- what it is linked to, under a label
@@ -246,11 +249,15 @@ module _ (given : Given) (entries : List (AstKey × Ast)) (d : AstKey) (files : 
       out : out-Justfile j ≡ record (out-Justfile (justfile p)) { name = label.name; doc = label.doc; groups = label.groups; private = label.private }
       out = out-roll-Justfile (record (out-Justfile (justfile p)) { name = label.name; doc = label.doc; groups = label.groups; private = label.private })
 
-      links : HasLinks given.syntax (kept_by given asts m) (made_before made order k) (path_of m) (made p).recipes at.standing j
+      abbrev value : Expression → Option (List Text)
+      value = value_by given asts m at.evaluated.it
+
+      links : HasLinks value given.syntax (kept_by given asts m) (made_before made order k) (path_of m) (made p).recipes at.standing j
       links =
-          subst (λ path. HasLinks given.syntax (kept_by given asts m) (made_before made order k) path (made p).recipes at.standing j) (path_same ∙ refl)
-          (subst (λ rs. HasLinks given.syntax (kept_recipes rs) (made_before made order k) at.own.module_path (made p).recipes at.standing j) rs_same
-          (labelled_links (contents_of_place given.syntax.enabled files joined p) at.standing at.own loaded at.key.1 label (justfile p) at.fields given.syntax (kept_of_place given.syntax.enabled files joined p) (made_before made order k) (made p).recipes at.own.module_path at.links))
+          subst (λ path. HasLinks value given.syntax (kept_by given asts m) (made_before made order k) path (made p).recipes at.standing j) (path_same ∙ refl)
+          (subst (λ (c : Contents). HasLinks (value_among given.evaluator c at.evaluated.it.constants) given.syntax (kept_by given asts m) (made_before made order k) at.own.module_path (made p).recipes at.standing j) cs_same
+          (subst (λ rs. HasLinks (value_at given files joined p at.evaluated.it) given.syntax (kept_recipes rs) (made_before made order k) at.own.module_path (made p).recipes at.standing j) rs_same
+          (labelled_links (contents_of_place given.syntax.enabled files joined p) at.standing at.own loaded at.key.1 label (justfile p) at.fields (value_at given files joined p at.evaluated.it) given.syntax (kept_of_place given.syntax.enabled files joined p) (made_before made order k) (made p).recipes at.own.module_path at.links)))
 
       modules : (out-Justfile j).modules ≡ by_name inner
       modules = ap (λ x. x.modules) out ∙ at.modules
@@ -277,8 +284,9 @@ module _ (given : Given) (entries : List (AstKey × Ast)) (d : AstKey) (files : 
           (ap (λ x. x.absent_modules) (out label) ∙ ap (λ (x : Notes). x.absent_modules) at.notes) (modules label)
 
       pub is_compiled : (label : Label) → module_name (j label) ≡ name_in m → IsCompiled given asts loaded (recipes_of_all built) m inside inner (made p) (j label)
+      unfolding evaluated
       is_compiled label named =
-          let told = has_links given asts loaded built m inside before (j label) (meets label) (recipes_of_all built) (whole k b).0 (path_of m) (made p).recipes at.standing (whole k b).1 (links label) in
+          let told = has_links given asts loaded built m inside before (j label) (meets label) (value label) (recipes_of_all built) (whole k b).0 (path_of m) (made p).recipes at.standing (whole k b).1 (links label) in
           record {
             own = at.own;
             own_said = own_same;
@@ -403,7 +411,7 @@ module _ (given : Given) (entries : List (AstKey × Ast)) (d : AstKey) (files : 
   -- what the next module breaks over those that are compiled is named
   pub names_next : (root : Heading) (l : bound < length order) (h : Heading) (e : h.key ≡ key_at (slice_index order bound)) → IsHeading (reading_of given.syntax.enabled asts) root h
       → (slots : List (Option Justfile)) → map Some (map justfile (targets joined.modules.items (slice_index order bound))) ≡ map (slot slots) (targets joined.modules.items (slice_index order bound))
-      → (c : Cause) → BreaksOver given files joined (slice_index order bound) slots (made_before made order bound) c → NamesModules given (reading_of given.syntax.enabled asts) root c
+      → (c : Cause) → BreaksOver given files joined (slice_index order bound) slots (made_before made order bound) c → NamesModules told_in given (reading_of given.syntax.enabled asts) root c
   names_next root l h e reached slots there c broken =
       let held = inside_held bound l (omega arith) h e in
       let row = targets joined.modules.items (slice_index order bound) in

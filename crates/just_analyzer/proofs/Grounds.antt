@@ -86,14 +86,14 @@ module _ (layers : Layers) (links : Links) (m : Contents) (it : Evaluated) (is :
     last_kept docs bodies dependencies recipes = before_aliases layers links m earlier (then_kept docs bodies dependencies) (recipes_under recipes)
 
     -- what is broken of recipes is broken of the module, where docs are kept
-    pub recipes_broken : DocsKept → (c : Cause) → BreaksRecipes layers it links m c → BreaksContents layers links m c
-    recipes_broken docs c (in_bodies b) = record { group = OfBodies; earlier = earlier; broken = under is (in_body b) }
-    recipes_broken docs c (in_dependencies bodies b) = record { group = OfDependencies; earlier = first_kept docs bodies; broken = under is b }
-    recipes_broken docs c (in_recipes bodies dependencies b) = record { group = OfRecipes; earlier = then_kept docs bodies dependencies; broken = under is b }
-    recipes_broken docs c (in_aliases bodies dependencies recipes b) = record { group = OfAliases; earlier = last_kept docs bodies dependencies recipes; broken = under is b }
+    pub recipes_broken : (told : Links) → DocsKept → (c : Cause) → BreaksRecipes layers it links told m c → BreaksContents layers links told m c
+    recipes_broken told docs c (in_bodies b) = record { group = OfBodies; earlier = earlier; broken = under is (in_body b) }
+    recipes_broken told docs c (in_dependencies bodies b) = record { group = OfDependencies; earlier = first_kept docs bodies; broken = under is b }
+    recipes_broken told docs c (in_recipes bodies dependencies b) = record { group = OfRecipes; earlier = then_kept docs bodies dependencies; broken = under is b }
+    recipes_broken told docs c (in_aliases bodies dependencies recipes b) = record { group = OfAliases; earlier = last_kept docs bodies dependencies recipes; broken = under is b }
 
     -- all groups are kept where both are
-    pub all_kept : DocsKept → Keeps (BreaksRecipes layers it links m) → KeepsContents layers links m
+    pub all_kept : DocsKept → Keeps (BreaksRecipes layers it links links m) → KeepsContents layers links m
     all_kept docs kept =
         let bodies : Keeps (Bodies layers.syntax it.settings m) = λ c b. kept c (in_bodies b) in
         let dependencies : Keeps (links layers it OfDependencies) = λ c b. kept c (in_dependencies bodies b) in

@@ -50,7 +50,7 @@ module _ (layers : Layers) (links : Links) (m : Contents) where
   before_bodies headers names expressions constants OfAliases lt = absurd (omega (arith, lt))
 
   -- what is broken of docs is broken of the module
-  pub docs_broken : (it : Evaluated) → IsEvaluated layers m it → KeepsBefore layers links OfBodies m → (c : Cause) → Docs layers.syntax layers.evaluator m it.constants c → BreaksContents layers links m c
+  pub docs_broken : (it : Evaluated) → IsEvaluated layers m it → KeepsBefore layers links OfBodies m → (c : Cause) → Docs layers.syntax layers.evaluator m it.constants c → BreaksContents layers links links m c
   docs_broken it is earlier c b = record { group = OfBodies; earlier = earlier; broken = under is (in_docs b) }
 
 -- the groups before those of bodies read no links
@@ -76,11 +76,11 @@ module _ (layers : Layers) (links other : Links) (m : Contents) where
   earlier_any g small kept OfAliases lt = absurd (omega (arith, lt, small))
 
 -- what is broken without links is broken with any
-module _ (layers : Layers) (links : Links) (m : Contents) (c : Cause) where
+module _ (layers : Layers) (links told : Links) (m : Contents) (c : Cause) where
   nothing_under : (g : Group) → Under (IsEvaluated layers m) (λ (it : Evaluated). no_links layers it g) c → ⊥
   nothing_under g (under is b) = b
 
-  of_group : (g : Group) → KeepsBefore layers no_links g m → Breaks layers no_links g m c → BreaksContents layers links m c
+  of_group : (g : Group) → KeepsBefore layers no_links g m → Breaks layers no_links g m c → BreaksContents layers links told m c
   of_group OfHeaders earlier b = record { group = OfHeaders; earlier = earlier_any layers no_links links m OfHeaders (omega arith) earlier; broken = b }
   of_group OfNames earlier b = record { group = OfNames; earlier = earlier_any layers no_links links m OfNames (omega arith) earlier; broken = b }
   of_group OfExpressions earlier b = record { group = OfExpressions; earlier = earlier_any layers no_links links m OfExpressions (omega arith) earlier; broken = b }
@@ -90,5 +90,5 @@ module _ (layers : Layers) (links : Links) (m : Contents) (c : Cause) where
   of_group OfRecipes earlier b = absurd (nothing_under OfRecipes b)
   of_group OfAliases earlier b = absurd (nothing_under OfAliases b)
 
-  pub broken_any : BreaksContents layers no_links m c → BreaksContents layers links m c
+  pub broken_any : BreaksContents layers no_links no_links m c → BreaksContents layers links told m c
   broken_any b = of_group b.group b.earlier b.broken

@@ -13,6 +13,7 @@ pub mod NamesRead
 pub mod Numbers
 pub mod Ordered
 pub mod OwnNumbers
+mod OwnRules
 pub mod Placed
 pub mod Readings
 pub mod ShownPaths

@@ -38,7 +38,7 @@ use Rattle.just_module_tree.proofs.Ready.{labels_are}
 use Rattle.just_parts.specs.Layers.{Given, Layers, layers_at}
 use Rattle.just_module_contents.specs.Labels.{doc_by}
 use Rattle.just_names.specs.Index.{AreDifferent}
-use Rattle.just_module_recipes.specs.Links.{Around, around, links_by}
+use Rattle.just_module_recipes.specs.Links.{Around, around, links_by, told_by}
 use Rattle.just_module_contents.specs.Groups.{BreaksContents, Group}
 use Rattle.just_errors.specs.Causes.{Cause}
 use Rattle.just_recipe.specs.declared.dependency.Dependency.{Dependency}
@@ -52,8 +52,8 @@ use Rattle.just_compiled.proofs.Settling.{around_settled}
 use Rattle.std.specs.Str.{bytes_eq}
 use Rattle.just_table.specs.Entries.{find}
 use Rattle.just_compiled.proofs.Saying.{forest_says, module_says}
-use Rattle.just_compiled.proofs.Bridges.{links_back, links_on}
-use Rattle.just_module_tree.specs.Standing.{links_in}
+use Rattle.just_compiled.proofs.Bridges.{links_back, told_on}
+use Rattle.just_module_tree.specs.Standing.{links_in, told_in}
 use Rattle.just_invoke.specs.Module.{module_name}
 use Rattle.just_module_tree.proofs.ModulePaths.{subs_at}
 use Rattle.just_names.specs.Name.{text_if_named}
@@ -188,19 +188,19 @@ module _ (given : Given) (entries : List (AstKey × Ast)) (d : AstKey) (files : 
       -- what it breaks over them is named
       module _ (root : Heading) (reached : IsHeading R root h) (kept_inside : KeepsModules given inside) (held : List (Recipe Dependency)) (all : recipes_of_all built ≡ held)
           (settled : (labels : List Label) (x : Justfile) → Contains (by_name (with_labels js labels)) x → IsSettled held x) where
-        pub names_over : (slots : List (Option Justfile)) → map Some js ≡ map (slot slots) (targets joined.modules.items p) → (c : Cause) → BreaksOver given files joined p slots held c → NamesModules given R root c
+        pub names_over : (slots : List (Option Justfile)) → map Some js ≡ map (slot slots) (targets joined.modules.items p) → (c : Cause) → BreaksOver given files joined p slots held c → NamesModules told_in given R root c
         names_over slots there c broken =
             let it = around (notes_of_place given.syntax.enabled files joined p).absent_modules (by_name (with_labels js broken.labels)) held in
             let ms = contents_of_place given.syntax.enabled files joined p in
             let meets = meets_at broken.labels broken.named it [] (all ∙ sym (append-nil held)) refl refl in
             let cs : ms ≡ contents_in given.syntax.enabled asts m.files = contents_same (targets joined.files.items p) files_here in
             let alike = alike_at given entries d files placed rows are paths joined order below joins lists_first k l h in
-            let b : BreaksContents (layers_at given h.key.0) (links_by ms it) (contents_of_place given.syntax.enabled files joined p) c =
-            subst (λ (x : Layers). BreaksContents x (links_by ms it) (contents_of_place given.syntax.enabled files joined p) c) (layers_there given entries d files placed rows are paths joined order below joins lists_first k l h e) (broken.broken js there) in
+            let b : BreaksContents (layers_at given h.key.0) (links_by ms it) (told_by ms it) (contents_of_place given.syntax.enabled files joined p) c =
+            subst (λ (x : Layers). BreaksContents x (links_by ms it) (told_by ms it) (contents_of_place given.syntax.enabled files joined p) c) (layers_there given entries d files placed rows are paths joined order below joins lists_first k l h e) (broken.broken js there) in
             let are_settled = around_settled held it.absent it.modules (settled broken.labels) in
             let here = layers_at given h.key.0 in
-            let on : (e : Evaluated) (g : Group) (x : Cause) → links_by ms it here e g x → links_in m inside here e g x = λ e g x r.
-            links_on given asts loaded built m inside it meets here e g x (subst (λ (n : Contents). links_by n it here e g x) cs r) in
+            let on : (e : Evaluated) (g : Group) (x : Cause) → told_by ms it here e g x → told_in m inside here e g x = λ e g x r.
+            told_on given asts loaded built m inside it meets here e g x (subst (λ (n : Contents). told_by n it here e g x) cs r) in
             let back : (e : Evaluated) (g : Group) (x : Cause) → links_in m inside here e g x → links_by ms it here e g x = λ e g x r.
             subst (λ (n : Contents). links_by n it here e g x) (sym cs) (links_back given asts loaded built m inside it meets are_settled here e g x r) in
             let ground : HasGround given b.group m inside = record {
@@ -208,7 +208,7 @@ module _ (given : Given) (entries : List (AstKey × Ast)) (d : AstKey) (files : 
               below = λ ne. kept_inside;
             } in
             in_module b.group reached (a_module is_here modules_are no_module) ground
-            (breaks_alike (layers_at given h.key.0) (contents_of_place given.syntax.enabled files joined p) (contents_of m) alike (links_by ms it) (links_in m inside) on b.group c b.broken)
+            (breaks_alike (layers_at given h.key.0) (contents_of_place given.syntax.enabled files joined p) (contents_of m) alike (told_by ms it) (told_in m inside) on b.group c b.broken)
 
     -- a module with no modules in it
     pub none_inside : targets joined.modules.items p ≡ [] → headings_in m ≡ []

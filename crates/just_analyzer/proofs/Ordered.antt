@@ -29,7 +29,7 @@ use Rattle.just_module_contents.specs.Recipes.{no_recipe, recipe_at}
 use Rattle.just_names.specs.declared.number.Number.{Number}
 use Rattle.just_recipe.specs.declared.dependency.UnresolvedDependency.{UnresolvedDependency}
 use Rattle.just_module_headers.specs.OfPlaces.{recipes_of_place}
-use Rattle.just_analyzer.specs.Steps.{BreaksInOrder, BreaksOver, CanCompileAll, CompilesPlace, HaveCompiled, HaveCompiledSoFar, IsCompiledAt, kept_of_place, made_before, not_yet, so_far}
+use Rattle.just_analyzer.specs.Steps.{BreaksInOrder, BreaksOver, CanCompileAll, CompilesPlace, HaveCompiled, HaveCompiledSoFar, IsCompiledAt, kept_of_place, made_before, not_yet, so_far, value_at}
 use Rattle.just_module_headers.specs.declared.files.Files.{Files}
 use Rattle.just_module_headers.specs.declared.joined.Joined.{Joined}
 use Rattle.just_parts.specs.Layers.{Given}
@@ -235,7 +235,7 @@ module _ (given : Given) (files : Files) (joined : Joined) (loaded : List Text) 
       let x = in_take order k q.0 (omega (arith, l, short)) (inner_first k q.0 (omega (arith, l, short)) (contained q.0 (targets joined.modules.items p) q.1)) in
       subst (IsSettled (made_before made order k)) (ap justfile x.2 ∙ sym q.2) (settled_to (x.0 + 1) k (justfile (slice_index order x.0)) (omega (arith, x.1)) (omega (arith, l)) (settled_at fuel x.0 (omega (arith, x.1, less)) (omega (arith, x.1, l)))) in
       subst (λ rs. IsSettled rs (justfile p)) (sym here)
-      (module_settled given.syntax (kept_of_place given.syntax.enabled files joined p) at.standing (made_before made order k) (made p).recipes at.own.module_path (justfile p) at.links at.fields.recipes_are
+      (module_settled (value_at given files joined p at.evaluated.it) given.syntax (kept_of_place given.syntax.enabled files joined p) at.standing (made_before made order k) (made p).recipes at.own.module_path (justfile p) at.links at.fields.recipes_are
       (subst NamesRise (sym at.modules) (names_sorted (with_labels (map justfile (targets joined.modules.items p)) at.labels)))
       (λ x c. named_settled (made_before made order k) (map justfile (targets joined.modules.items p)) at.labels inner x (subst (λ ms. Contains ms x) at.modules c)))
 

@@ -3,7 +3,8 @@ use Rattle.std.proofs.Common.{◌≡◌, ◌∙◌, ℕ, zero, suc, ◌<◌, ◌
 use Rattle.std.specs.List.{Contains}
 use Rattle.std.proofs.lemmas.Bool.{eqb-true}
 use Rattle.std.proofs.lemmas.List.Elements.{Contains-get_or}
-use Rattle.just_compiled.proofs.Settling.{place_in, standing_in}
+use Rattle.just_compiled.proofs.Settling.{place_in}
+use Rattle.just_module_contents.proofs.StandingOnes.{standing_in, stays}
 use Rattle.just_errors.specs.Causes.{Keeps}
 use Rattle.just_graph.proofs.Members.{In, contained, from_map, in_cases, in_map, is_in}
 use Rattle.just_module_contents.specs.Constants.{Evaluated}
@@ -12,14 +13,13 @@ use Rattle.just_module_contents.specs.Defaults.{Defaults, IsDefaultAmong, IsDefa
 use Rattle.just_module_contents.specs.Recipes.{name_of, no_recipe, recipe_at}
 use Rattle.just_module_contents.specs.Resolved.{AreNew, number_at, unresolved_numbers}
 use Rattle.just_module_contents.specs.Kept.{kept_recipes}
-use Rattle.just_module_contents.specs.Known.{known_of}
-use Rattle.just_module_contents.specs.RecipeNames.{ReadNames, of_standing}
 use Rattle.just_module_contents.specs.Rules.{Aliases, Bodies}
 use Rattle.just_module_contents.specs.Standing.{AreStanding, falls, none, stands}
 use Rattle.just_module_recipes.specs.Broken.{BreaksRecipes}
 use Rattle.just_module_recipes.proofs.Grounds.{recipes_kept}
+use Rattle.just_module_recipes.specs.Completing.{Completion}
 use Rattle.just_module_recipes.specs.Linked.{AddsLinked}
-use Rattle.just_module_recipes.specs.Links.{Around, BreaksAliases, BreaksLinks, BreaksRecipeNames, HasTarget, Stands, links_by, of_defaults, of_targets}
+use Rattle.just_module_recipes.specs.Links.{Around, BreaksAliases, BreaksLinks, BreaksStanding, HasTarget, Stands, links_by, of_defaults, of_targets}
 use Rattle.just_names.specs.declared.number.Number.{Number}
 use Rattle.just_parts.specs.Layers.{Layers}
 use Rattle.just_paths.specs.declared.modulepath.Modulepath.{Modulepath}
@@ -46,13 +46,7 @@ one_standing a b = go a b refl
     go {P} (falls {r} isnt all) (stands {r = q} is more) e = let head : r ≡ q = cc in absurd (isnt (subst (λ (x : Recipe UnresolvedDependency). P (name_of x)) (sym head) is))
     go (falls {rs} isnt all) (falls {rs = qs} other more) e = let rest : rs ≡ qs = cc in go all more rest
 
--- no name is at fault in what those read that stand where none is in what these read, which are those
-pub names_kept : (layers : Layers) (e : Evaluated) (m : Contents) (standing : List (Recipe UnresolvedDependency)) (it : Around) → AreStanding (Stands (kept_recipes m.recipes) it) (kept_recipes m.recipes) standing
-    → Keeps (ReadNames layers.syntax (known_of layers.syntax m) e.settings standing) → Keeps (BreaksRecipeNames layers e m it)
-names_kept layers e m standing it stand names c (of_standing other is b) =
-    names c (subst (λ (rs : List (Recipe UnresolvedDependency)). ReadNames layers.syntax (known_of layers.syntax m) e.settings rs c) (one_standing is stand) b)
-
--- so are defaults
+-- what is kept of aliases and defaults
 aliases_kept : (m : Contents) (standing : List (Recipe UnresolvedDependency)) (it : Around) → AreStanding (Stands (kept_recipes m.recipes) it) (kept_recipes m.recipes) standing
     → Keeps (Defaults standing) → Keeps (Aliases (HasTarget (kept_recipes m.recipes) it) m.aliases) → Keeps (BreaksAliases (kept_recipes m.recipes) m.aliases it)
 aliases_kept m standing it stand defaults targets c (of_targets k) = targets c k
@@ -60,10 +54,10 @@ aliases_kept m standing it stand defaults targets c (of_defaults other is k) = d
 
 -- what is kept of the recipes of a module
 pub all_recipes_kept : (layers : Layers) (e : Evaluated) (m : Contents) (standing : List (Recipe UnresolvedDependency)) (it : Around) → Keeps (Bodies layers.syntax e.settings m) → Keeps (BreaksLinks e.settings.lists (kept_recipes m.recipes) it)
-    → AreStanding (Stands (kept_recipes m.recipes) it) (kept_recipes m.recipes) standing → Keeps (ReadNames layers.syntax (known_of layers.syntax m) e.settings standing) → Keeps (Defaults standing)
-    → Keeps (Aliases (HasTarget (kept_recipes m.recipes) it) m.aliases) → Keeps (BreaksRecipes layers e (links_by m it) m)
-all_recipes_kept layers e m standing it bodies dependencies stand names defaults targets =
-    recipes_kept layers e (links_by m it) m bodies dependencies (names_kept layers e m standing it stand names) (aliases_kept m standing it stand defaults targets)
+    → AreStanding (Stands (kept_recipes m.recipes) it) (kept_recipes m.recipes) standing → Keeps (BreaksStanding layers e m it) → Keeps (Defaults standing)
+    → Keeps (Aliases (HasTarget (kept_recipes m.recipes) it) m.aliases) → Keeps (BreaksRecipes layers e (links_by m it) (links_by m it) m)
+all_recipes_kept layers e m standing it bodies dependencies stand own defaults targets =
+    recipes_kept layers e (links_by m it) m bodies dependencies own (aliases_kept m standing it stand defaults targets)
 
 -- a default of numbers is one of others that agree on the own recipes
 module _ (ns ms : List ℕ) (own : List (Recipe UnresolvedDependency)) (into : (k : ℕ) → k < length own → Contains ns (number_at own k) → Contains ms (number_at own k)) (back : (k : ℕ) → k < length own → Contains ms (number_at own k) → Contains ns (number_at own k)) where
@@ -86,17 +80,10 @@ found_number [] n r e = cc
 found_number (x ∷ rs) n r e = found_or rs n r x (found_number rs n r) (x.number.0 == n) refl e
 
 -- the own recipes are resolved where they stand
-module _ (by : Recipe UnresolvedDependency → Recipe UnresolvedDependency) (named : (r : Recipe UnresolvedDependency) → (by r).number ≡ r.number) (lists : Bool) (recipes standing : List (Recipe UnresolvedDependency)) (it : Around) (path : Modulepath) (all : List (Recipe Dependency)) (own : List (Recipe UnresolvedDependency)) (default : Option Number)
-    (stand : AreStanding (Stands recipes it) recipes standing) (linked : AddsLinked by lists recipes it path all) (apart : AreNew it.held own) where
+module _ (completed : Completion) (named : (r : Recipe UnresolvedDependency) → (completed.by r).number ≡ r.number) (lists : Bool) (recipes standing : List (Recipe UnresolvedDependency)) (it : Around) (path : Modulepath) (all : List (Recipe Dependency)) (own : List (Recipe UnresolvedDependency)) (default : Option Number)
+    (stand : AreStanding (Stands recipes it) recipes standing) (linked : AddsLinked completed lists recipes it path all) (apart : AreNew it.held own) where
   standing_of : (n : ℕ) → (i : ℕ) → i < length recipes → Stands recipes it (name_of (recipe_at recipes i)) → n ≡ (recipe_at recipes i).number.0 → In n (unresolved_numbers standing)
   standing_of n i h is e = subst (λ x. In x (unresolved_numbers standing)) (sym e) (in_map (λ (x : Recipe UnresolvedDependency). x.number.0) (recipe_at recipes i) standing (stays stand (recipe_at recipes i) (is_in (recipe_at recipes i) recipes (Contains-get_or recipes i no_recipe h)) is))
-    where
-      stays : {P : List ℕ → Type 0} {rs xs : List (Recipe UnresolvedDependency)} → AreStanding P rs xs → (r : Recipe UnresolvedDependency) → In r rs → P (name_of r) → In r xs
-      stays none r h is = absurd h
-      stays (stands at more) r (inl e) is = inl e
-      stays (stands at more) r (inr h) is = inr (stays more r h is)
-      stays {P} (falls isnt more) r (inl e) is = absurd (isnt (subst (λ (x : Recipe UnresolvedDependency). P (name_of x)) e is))
-      stays (falls isnt more) r (inr h) is = stays more r h is
 
   into : (k : ℕ) → k < length own → Contains (numbers all) (number_at own k) → Contains (unresolved_numbers standing) (number_at own k)
   into k h c =

@@ -3,7 +3,10 @@ use Rattle.std.proofs.Common.{◌≡◌, ◌∙◌, ℕ, suc, Bool, List, [], �
 use Rattle.std.specs.Prelude.{slice_get}
 use Rattle.std.specs.List.{Contains}
 use Rattle.std.specs.HashMap.{get}
-use Rattle.just_module_variables.specs.Constants.{evaluated_in}
+use Rattle.just_module_variables.specs.Constants.{CoversAll, evaluated_in}
+use Rattle.just_module_contents.specs.Constants.{constant_expressions}
+use Rattle.just_parts.specs.Evaluator.{values_of}
+use Rattle.just_analyzer.specs.Parts.{IsCovered}
 use Rattle.just_module_variables.specs.Documented.{AreDocumented}
 use Rattle.just_module_variables.specs.Variables.{AreVariablesOf, HasNumbers}
 use Rattle.just_errors.specs.Causes.{Cause, Keeps}
@@ -64,16 +67,16 @@ module _ (given : Given) (files : Files) (joined : Joined) (p : ℕ) (row : List
   contents_same = ap (contents_from given.syntax.enabled (asts_in files)) row_is
 
   -- what is broken of its files before its recipes is broken of it, whatever its modules are
-  pub breaks_place : (slots : List (Option Justfile)) (held : List (Recipe Dependency)) (c : Cause) → BreaksContents (layers_at given own.module_path) no_links here c → BreaksOver given files joined p slots held c
+  pub breaks_place : (slots : List (Option Justfile)) (held : List (Recipe Dependency)) (c : Cause) → BreaksContents (layers_at given own.module_path) no_links no_links here c → BreaksOver given files joined p slots held c
   breaks_place slots held c b =
-      let broken : BreaksContents layers no_links m c = subst (λ (x : Layers). BreaksContents x no_links m c) layers_same (subst (λ n. BreaksContents (layers_at given own.module_path) no_links n c) contents_same b) in
-      record { labels = labels_of_place given.syntax.enabled files joined p; named = refl; broken = λ inner e. broken_any layers _ m c broken }
+      let broken : BreaksContents layers no_links no_links m c = subst (λ (x : Layers). BreaksContents x no_links no_links m c) layers_same (subst (λ n. BreaksContents (layers_at given own.module_path) no_links no_links n c) contents_same b) in
+      record { labels = labels_of_place given.syntax.enabled files joined p; named = refl; broken = λ inner e. broken_any layers _ _ m c broken }
 
   module _ (it : Checked) (checked : IsChecked (layers_at given own.module_path) here (said_from label_by given.syntax.enabled (asts_in files) row) it) (kept : KeepsBefore (layers_at given own.module_path) no_links OfBodies here) where
     earlier : (links : Links) → KeepsBefore layers links OfBodies m
     earlier links = before_any layers no_links links m (subst (λ (x : Layers). KeepsBefore x no_links OfBodies m) layers_same (subst (KeepsBefore (layers_at given own.module_path) no_links OfBodies) contents_same kept))
 
-    is : IsChecked layers m (labels_of_place given.syntax.enabled files joined p) it
+    pub is : IsChecked layers m (labels_of_place given.syntax.enabled files joined p) it
     is = subst (λ (x : Layers). IsChecked x m (labels_of_place given.syntax.enabled files joined p) it) layers_same
         (subst (λ xs. IsChecked (layers_at given own.module_path) (contents_from given.syntax.enabled (asts_in files) xs) (said_from label_by given.syntax.enabled (asts_in files) xs) it) row_is checked)
 
@@ -86,6 +89,9 @@ module _ (given : Given) (files : Files) (joined : Joined) (p : ℕ) (row : List
     pub variables_resolved : AreVariablesOf given.syntax (contents_in it.definitions) it.variables
     variables_resolved = subst (λ n. AreVariablesOf given.syntax n it.variables) (sym is.contents) is.constants.resolved
 
+    pub is_covered : IsCovered it
+    is_covered = subst (λ (n : Contents). CoversAll it.variables (values_of it.constants.scope) (constant_expressions n)) (sym is.contents) is.constants.covered
+
     pub numbers_told : HasNumbers it.variables
     numbers_told = is.constants.numbers
 
@@ -93,18 +99,18 @@ module _ (given : Given) (files : Files) (joined : Joined) (p : ℕ) (row : List
     labels_named = named_alike _ (labels_of_place given.syntax.enabled files joined p) it.labels.items is.labels
 
     -- so is what is broken of its recipes
-    pub breaks_recipes : (links : Links) (c : Cause) → BreaksRecipes (layers_at given own.module_path) (evaluated_in it.constants) links (contents_in it.definitions) c → BreaksPlace given files joined p links c
-    breaks_recipes links c b =
-        recipes_broken layers links m (evaluated_in it.constants) is.constants.evaluated (earlier links) is.docs c
-        (subst (λ (x : Layers). BreaksRecipes x (evaluated_in it.constants) links m c) layers_same (subst (λ n. BreaksRecipes (layers_at given own.module_path) (evaluated_in it.constants) links n c) is.contents b))
+    pub breaks_recipes : (links told : Links) (c : Cause) → BreaksRecipes (layers_at given own.module_path) (evaluated_in it.constants) links told (contents_in it.definitions) c → BreaksPlace given files joined p links told c
+    breaks_recipes links told c b =
+        recipes_broken layers links m (evaluated_in it.constants) is.constants.evaluated (earlier links) told is.docs c
+        (subst (λ (x : Layers). BreaksRecipes x (evaluated_in it.constants) links told m c) layers_same (subst (λ n. BreaksRecipes (layers_at given own.module_path) (evaluated_in it.constants) links told n c) is.contents b))
 
-    pub keeps_place : (links : Links) → Keeps (BreaksRecipes (layers_at given own.module_path) (evaluated_in it.constants) links (contents_in it.definitions)) → KeepsPlace given files joined p links
+    pub keeps_place : (links : Links) → Keeps (BreaksRecipes (layers_at given own.module_path) (evaluated_in it.constants) links links (contents_in it.definitions)) → KeepsPlace given files joined p links
     keeps_place links recipes =
         all_kept layers links m (evaluated_in it.constants) is.constants.evaluated (earlier links) is.docs
-        (subst (λ (x : Layers). Keeps (BreaksRecipes x (evaluated_in it.constants) links m)) layers_same (subst (λ n. Keeps (BreaksRecipes (layers_at given own.module_path) (evaluated_in it.constants) links n)) is.contents recipes))
+        (subst (λ (x : Layers). Keeps (BreaksRecipes x (evaluated_in it.constants) links links m)) layers_same (subst (λ n. Keeps (BreaksRecipes (layers_at given own.module_path) (evaluated_in it.constants) links links n)) is.contents recipes))
 
     -- what is evaluated of it
-    pub evaluated_to : (j : Justfile) → (out-Justfile j).settings ≡ it.constants.settings → (out-Justfile j).overridden ≡ it.constants.overrides
+    abbrev pub evaluated_to : (j : Justfile) → (out-Justfile j).settings ≡ it.constants.settings → (out-Justfile j).overridden ≡ it.constants.overrides
         → IsEvaluatedTo layers m (labels_of_place given.syntax.enabled files joined p) it.labels.items it.constants.overridden.items j
     evaluated_to j same held = record {
       it = evaluated_in it.constants;

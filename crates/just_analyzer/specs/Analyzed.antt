@@ -18,6 +18,7 @@ use Rattle.just_recipe.specs.declared.recipe.Recipe.{Recipe}
 use Rattle.just_invoke.specs.Closed.{AreClosed, IsPlaced}
 use Rattle.just_invoke.specs.declared.justfile.Justfile.{Justfile}
 use Rattle.just_module_tree.specs.Groups.{KeepsModules, NamesModules}
+use Rattle.just_module_tree.specs.Standing.{told_in}
 use Rattle.just_compiled.specs.Labelled.{label_in}
 use Rattle.just_compiled.specs.Variables.{HaveOwnNumbers, HaveTables}
 use Rattle.just_compiled.specs.Justfiles.{AreCompiled, Built, overridden_of_all, recipes_of_all}
@@ -59,4 +60,4 @@ pub record Analyzes {G H : Type 0} (given : Given) (asts : HashMap AstKey Ast H)
   pub added : AreInserted overridden old new
 
 abbrev pub NamesAnalyzed : {H : Type 0} → Given → HashMap AstKey Ast H → Modulepath → Text → Label → Error → Type 0
-NamesAnalyzed given asts path root label = Reports (NamesModules given (reading_of given.syntax.enabled (get same_ast_key asts)) (heading (path, root) label))
+NamesAnalyzed given asts path root label = Reports (NamesModules told_in given (reading_of given.syntax.enabled (get same_ast_key asts)) (heading (path, root) label))

@@ -17,7 +17,7 @@ use Rattle.just_loader.specs.Loaded.{IsLoaded}
 use Rattle.just_loader.specs.Reached.{World}
 use Rattle.just_analyzer.specs.Analyzed.{IsAnalyzed}
 use Rattle.just_analyzer.specs.Readings.{IsReadingOf, Overrides, given_in, root_heading}
-use Rattle.just_analyzer.specs.Rules.{KeepsAll, Names}
+use Rattle.just_analyzer.specs.Rules.{KeepsAll, MayTell, Names}
 use Rattle.just_compiled.specs.Variables.{HaveOwnNumbers, HaveTables}
 use Rattle.just_parts.specs.Items.{Ast}
 use Rattle.just_analyzer.specs.declared.compilation.Compilation.{Compilation as CompilationOf}
@@ -34,7 +34,7 @@ pub record IsCompilation (evaluator : Evaluator) (overrides : Overrides) (w : Wo
   pub analyzed : IsAnalyzed (given_in evaluator overrides w) (get same_ast_key c.asts) loaded (root_heading w) c.justfile c.recipes overridden
   pub overrides_are : (n : Number) → get same_number c.overrides n ≡ option_or (last_of (meant c.justfile overrides.entries) n) (last_of overridden n)
 
--- What a compilation answers: no rule is broken, so that none is named, the files are compiled, each recipe that is named is held, each that is held is that of a module that stands in the root, each variable and function stands under its own name in its module, no two variables of all modules have one number, and the root's file is held; or a rule that is broken.
+-- What a compilation answers: no rule is broken, so that none is named, the files are compiled, each recipe that is named is held, each that is held is that of a module that stands in the root, each variable and function stands under its own name in its module, no two variables of all modules have one number, and the root's file is held; or a rule that is broken, or a pattern that is past the limits of regular expressions.
 pub record Compiles (evaluator : Evaluator) (overrides : Overrides) (w : World) (result : Result Compilation Error) : Type 0 where
   pub kept : IfOk result (λ _. KeepsAll evaluator overrides w)
   pub unnamed : IfOk result (λ _. Keeps (Names evaluator overrides w))
@@ -45,4 +45,4 @@ pub record Compiles (evaluator : Evaluator) (overrides : Overrides) (w : World) 
   pub numbers : IfOk result (λ (c : Compilation). HaveOwnNumbers c.justfile)
   pub root : IfOk result (λ (c : Compilation). c.root ≡ w.root)
   pub root_ast : IfOk result (λ (c : Compilation). IsSome (get same_ast_key c.asts (root_ast_key c.root)))
-  pub named : IfErr result (Reports (Names evaluator overrides w))
+  pub named : IfErr result (Reports (MayTell evaluator overrides w))

@@ -17,6 +17,8 @@ use Rattle.just_invoke.specs.declared.justfile.Justfile.{Justfile, out-Justfile}
 use Rattle.just_compiled.specs.Analysis.{HasDefault, HasLinks, IsOf}
 use Rattle.just_compiled.specs.Evaluated.{IsEvaluatedTo}
 use Rattle.just_names.specs.Index.{AreDifferent}
+use Rattle.just_ast_expressions.specs.declared.expression.Expression.{Expression}
+use Rattle.just_module_contents.specs.Constants.{Evaluated, value_among}
 use Rattle.just_module_contents.specs.Contents.{texts_of_named}
 use Rattle.just_module_headers.specs.Analyzable.{assignment_numbers}
 use Rattle.just_module_headers.specs.Files.{asts_in, keys_in}
@@ -29,7 +31,7 @@ use Rattle.just_module_contents.specs.Groups.{BreaksContents, KeepsContents, Lin
 use Rattle.just_module_contents.specs.Kept.{kept_recipes}
 use Rattle.just_module_contents.specs.Named.{recipes_by, said_from, variable_by}
 use Rattle.just_module_contents.specs.Resolved.{HasPriors, unresolved_numbers}
-use Rattle.just_module_recipes.specs.Links.{around, around_of, links_by}
+use Rattle.just_module_recipes.specs.Links.{Around, around, around_of, links_by, told_by}
 use Rattle.just_names.specs.declared.name.Name.{Name}
 use Rattle.just_recipe.specs.declared.dependency.Dependency.{Dependency}
 use Rattle.just_recipe.specs.declared.dependency.UnresolvedDependency.{UnresolvedDependency}
@@ -51,23 +53,27 @@ path_at files p = path_in (slice_get (asts_in files) p)
 abbrev pub kept_of_place : (Item → Bool) → Files → Joined → ℕ → List (Recipe UnresolvedDependency)
 kept_of_place enabled files joined p = kept_recipes (recipes_of_place enabled files joined p)
 
--- all groups of the module at a place are kept with these links, or a rule of one is broken
+-- all groups of the module at a place are kept with these links, or a rule of one is broken, or more is told of the last groups
 abbrev pub KeepsPlace : Given → Files → Joined → ℕ → Links → Type 0
 KeepsPlace given files joined p links = KeepsContents (layers_at given (path_at files p)) links (contents_of_place given.syntax.enabled files joined p)
 
-abbrev pub BreaksPlace : Given → Files → Joined → ℕ → Links → Cause → Type 0
-BreaksPlace given files joined p links = BreaksContents (layers_at given (path_at files p)) links (contents_of_place given.syntax.enabled files joined p)
+abbrev pub BreaksPlace : Given → Files → Joined → ℕ → Links → Links → Cause → Type 0
+BreaksPlace given files joined p links told = BreaksContents (layers_at given (path_at files p)) links told (contents_of_place given.syntax.enabled files joined p)
 
 -- the names of labels
 abbrev pub names_of_labels : List Label → List (Option Name)
 names_of_labels = map (λ (l : Label). l.name)
 
--- A rule is broken in the module at a place, whose paths lead through the justfiles that are held at the places of the modules in it, each under the name of its declaration.
+-- what there is around the recipes of the module at a place, whose paths lead through these justfiles, under labels, where these recipes are held
+abbrev pub around_place : Given → Files → Joined → ℕ → List Justfile → List Label → List (Recipe Dependency) → Around
+around_place given files joined p inner labels held = around (notes_of_place given.syntax.enabled files joined p).absent_modules (by_name (with_labels inner labels)) held
+
+-- What an error may tell of the module at a place, whose paths lead through the justfiles that are held at the places of the modules in it, each under the name of its declaration: a rule that is broken, or a pattern that is past its limits.
 pub record BreaksOver (given : Given) (files : Files) (joined : Joined) (p : ℕ) (slots : List (Option Justfile)) (held : List (Recipe Dependency)) (c : Cause) : Type 0 where
   pub labels : List Label
   pub named : names_of_labels labels ≡ names_of_labels (labels_of_place given.syntax.enabled files joined p)
   pub broken : (inner : List Justfile) → map Some inner ≡ map (slot slots) (targets joined.modules.items p)
-      → BreaksPlace given files joined p (links_by (contents_of_place given.syntax.enabled files joined p) (around (notes_of_place given.syntax.enabled files joined p).absent_modules (by_name (with_labels inner labels)) held)) c
+      → let m = contents_of_place given.syntax.enabled files joined p in let it = around_place given files joined p inner labels held in BreaksPlace given files joined p (links_by m it) (told_by m it) c
 
 -- the variables that the module at a place has
 abbrev pub variables_of_place : (Item → Bool) → Files → Joined → ℕ → List Assignment
@@ -95,6 +101,10 @@ pub record FitsFiles (enabled : Item → Bool) (files : Files) (joined : Joined)
   pub ready : CanCompile enabled files joined p
   pub inner : (js : List Justfile) × (map Some js ≡ map (slot slots) (targets joined.modules.items p))
 
+-- the value of an expression among the constants of the module at a place
+abbrev pub value_at : Given → Files → Joined → ℕ → Evaluated → Expression → Option (List Text)
+value_at given files joined p it = value_among given.evaluator (contents_of_place given.syntax.enabled files joined p) it.constants
+
 -- What the module at a place is compiled to, from the justfiles of the modules in it, where these recipes are held before; it has no label yet.
 pub record IsCompiledAt (given : Given) (files : Files) (joined : Joined) (loaded : List Text) (p : ℕ) (inner : List Justfile) (before : List (Recipe Dependency)) (made : Made) (j : Justfile) : Type 0 where
   pub own : Ast
@@ -102,10 +112,10 @@ pub record IsCompiledAt (given : Given) (files : Files) (joined : Joined) (loade
   pub key : AstKey
   pub key_is : slice_get (keys_in files) p ≡ Some key
   pub kept : KeepsPlace given files joined p (links_by (contents_of_place given.syntax.enabled files joined p) (around_of j before))
-  pub standing : List (Recipe UnresolvedDependency)
-  pub links : HasLinks given.syntax (kept_of_place given.syntax.enabled files joined p) before own.module_path made.recipes standing j
   pub labels : List Label
   pub evaluated : IsEvaluatedTo (layers_at given (path_at files p)) (contents_of_place given.syntax.enabled files joined p) (labels_of_place given.syntax.enabled files joined p) labels made.overridden j
+  pub standing : List (Recipe UnresolvedDependency)
+  pub links : HasLinks (value_at given files joined p evaluated.it) given.syntax (kept_of_place given.syntax.enabled files joined p) before own.module_path made.recipes standing j
   pub variables : HasVariables given.syntax (contents_of_place given.syntax.enabled files joined p) j
   pub tables : HasTables j
   pub default : HasDefault standing (recipes_by given.syntax.enabled (Some own)) j

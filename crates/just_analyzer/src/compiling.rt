@@ -16,7 +16,7 @@ ghost use Rattle.just_module_headers.specs.OfPlaces.{recipes_of_place};
 ghost use Rattle.just_module_contents.specs.Kept.{kept_recipes};
 ghost use Rattle.just_module_contents.specs.Named.{recipes_by};
 ghost use Rattle.just_module_recipes.specs.Linked.{AreSettled};
-ghost use Rattle.just_analyzer.specs.Parts.{AreSurroundings, BreaksChecked, IsAnalyzedFrom, around_by};
+ghost use Rattle.just_analyzer.specs.Parts.{AreSurroundings, IsAnalyzedFrom, IsCovered, TellsChecked, around_by};
 ghost use Rattle.just_compiled.specs.Settled.{AreInnerSettled};
 ghost use Rattle.just_analyzer.specs.Steps.{BreaksInOrder, BreaksOver, CanCompileAll, CompilesAt, FitsFiles, HaveCompiledAll, made_in};
 
@@ -93,11 +93,12 @@ fn analyze_checked<'b, 'src, S: Syntax, E: Evaluation>(
     requires settled { AreSettled (around_by surroundings gathered.recipes) }
     requires variables { AreVariablesOf (S.answers given.now.syntax.now) (contents_in checked.definitions) checked.variables }
     requires numbers { HasNumbers checked.variables }
+    requires covered { IsCovered checked }
     ensures analyzed { let layers = layers_at (given_by S.answers E.answers given.now) ast.now.module_path in
         let is = IsAnalyzedFrom layers ast.now checked.entry surroundings.entry in
         IfOk result (λ made. is (made_in gathered.entry) (made_in made.1) made.0) }
     ensures named { let layers = layers_at (given_by S.answers E.answers given.now) ast.now.module_path in
-        IfErr result (Reports (BreaksChecked layers checked.entry (around_by surroundings.entry gathered.entry.recipes))) }
+        IfErr result (Reports (TellsChecked layers checked.entry (around_by surroundings.entry gathered.entry.recipes))) }
 {
     let Gathered {
         recipes,

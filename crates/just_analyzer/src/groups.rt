@@ -1,11 +1,11 @@
 //! The analysis of one module, which goes by groups of rules, in this order: headers, names, variables, constants, docs;
-//! then bodies, dependencies, the names in recipes, aliases and the default. A group is checked where the ones before it are
+//! then bodies, dependencies, the recipes that stand, aliases and the default. A group is checked where the ones before it are
 //! kept.
 
 ghost use Rattle.std.specs.Prelude.{◌≡◌, ◌<◌, IfErr, IfOk, OnOk, Some, length};
 ghost use Rattle.std.specs.List.{All};
 ghost use Rattle.just_analyzer.specs.Checked.{HasConstants, IsChecked, no_links};
-ghost use Rattle.just_analyzer.specs.Parts.{AreLinkedIn, BreaksChecked, around_by, own_targets};
+ghost use Rattle.just_analyzer.specs.Parts.{AreLinkedIn, BreaksChecked, BreaksOwn, IsCovered, TellsChecked, around_by, completion_here, own_targets};
 ghost use Rattle.just_errors.specs.Causes.{Keeps, Reports};
 ghost use Rattle.just_graph.specs.Steps.{IsOnce};
 ghost use Rattle.just_invoke.specs.Walks.{AreOrdered};
@@ -15,10 +15,8 @@ ghost use Rattle.just_module_contents.specs.Defaults.{IsDefaultAmong};
 ghost use Rattle.just_module_contents.specs.Definitions.{contents_in, recipes_in, variables_in};
 ghost use Rattle.just_module_contents.specs.Groups.{BreaksContents, KeepsBefore, OfBodies};
 ghost use Rattle.just_module_contents.specs.Kept.{kept_recipes};
-ghost use Rattle.just_module_contents.specs.Known.{known_of};
 ghost use Rattle.just_module_contents.specs.Labels.{label_by};
 ghost use Rattle.just_module_contents.specs.Named.{contents_from, naming_by, recipes_by, said_from, variable_by};
-ghost use Rattle.just_module_contents.specs.RecipeNames.{ReadNames};
 ghost use Rattle.just_module_contents.specs.Resolved.{AreNew, HasPriors, unresolved_numbers};
 ghost use Rattle.just_module_contents.specs.Rules.{Bodies};
 ghost use Rattle.just_module_headers.specs.Analyzable.{assignment_numbers};
@@ -31,11 +29,13 @@ ghost use Rattle.just_module_variables.specs.Constants.{CoversAll};
 ghost use Rattle.just_module_variables.specs.Documented.{AreDocumentedIn};
 ghost use Rattle.just_module_variables.specs.Variables.{AreVariablesOf, HasNumbers};
 ghost use Rattle.just_names.specs.Index.{AreDifferent};
+ghost use Rattle.just_recipe_needs.specs.Needed.{HaveReferences};
 ghost use Rattle.just_parts.specs.Evaluator.{values_of};
 ghost use Rattle.just_parts.specs.Layers.{given_by, layers_at};
 
 use crate::making::{OwnRecipes, Surroundings, recipe_keys};
 use crate::notes::labels_at;
+use just_data::{Sequence, Shared};
 use just_execution::Recipes;
 use just_module_contents::Label;
 use just_module_contents::definitions::Definitions;
@@ -43,14 +43,16 @@ use just_module_contents::kept::keep_recipes;
 use just_module_headers::files::Files;
 use just_module_headers::headers::check_headers;
 use just_module_headers::variables::check_names;
-use just_module_recipes::{Linked, check_bodies, default_of, link, resolve_aliases};
+use just_module_recipes::{Completing, Linked, check_bodies, default_of, link, resolve_aliases};
 use just_module_variables::{
     Constants, Variables, document, evaluate_constants, resolve_variables,
 };
-use just_name_resolution::Known;
-use just_parts::layers::{Ast, Error, Evaluation, Given, Syntax};
+use just_name_resolution::Tables;
+use just_parts::layers::{Ast, Error, Evaluation, Given, Number, Syntax};
 use just_paths::Modulepath;
-use just_recipe_names::{Meanings, check_recipes};
+use just_recipe_names::Meanings;
+use just_recipe_needs::references_of_all;
+use just_recipe_values::Among;
 use std::alloc::{AllocError, Global};
 
 /// What is found of a module before its recipes are resolved.
@@ -99,7 +101,7 @@ fn check_module<'src, 'a, S: Syntax, E: Evaluation>(
     ensures constants { let given = given_by S.answers E.answers given.now in
         IfOk result (λ it. HasConstants (layers_at given path.now) (contents_in definitions.now) it.0 it.1) }
     ensures named { let given = given_by S.answers E.answers given.now in
-        IfErr result (Reports (BreaksContents (layers_at given path.now) no_links (contents_in definitions.now))) }
+        IfErr result (Reports (BreaksContents (layers_at given path.now) no_links no_links (contents_in definitions.now))) }
 {
     check_headers(given.alloc, definitions, given.syntax)?;
     check_names(given.alloc, definitions)?;
@@ -166,7 +168,7 @@ pub fn check_files<'b, 'a, 'src, S: Syntax, E: Evaluation>(
         IfOk result (IsChecked (layers_at given path.now) m said) }
     ensures named { let given = given_by S.answers E.answers given.now in
         let m = contents_from given.syntax.enabled (asts_in files.now) places.now in
-        IfErr result (Reports (BreaksContents (layers_at given path.now) no_links m)) }
+        IfErr result (Reports (BreaksContents (layers_at given path.now) no_links no_links m)) }
 {
     let definitions = definitions_at(given.alloc, files, given.syntax, places)?;
     let checked = check_module(given, &definitions, path)?;
@@ -180,8 +182,32 @@ pub fn check_files<'b, 'a, 'src, S: Syntax, E: Evaluation>(
     })
 }
 
-// Links the recipes of a checked module at a path that are kept, under its settings and with what names mean in it, over
-// what is around them. An error names a rule that is broken in its bodies, or where these are kept in its dependencies.
+// For each of these recipes of a checked module the numbers of the variables that it needs.
+fn references_among<'src, 'a, 'b, S: Syntax, E: Evaluation>(
+    given: &Given<S, E>,
+    checked: &Checked<'src, 'a>,
+    recipes: &Definitions<'src, 'b>,
+) -> Result<Vec<Shared<Sequence<Number>>>, AllocError>
+    ensures { let needs = (completion_here (S.answers given.now.syntax.now) (E.answers given.now.evaluation.now) checked.now).Needs in
+        IfOk result (λ made. HaveReferences needs (recipes_in recipes.now) made.items) }
+{
+    let tables = Tables {
+        assignments: &checked.variables.assignments,
+        functions: &checked.variables.functions,
+    };
+    references_of_all(
+        given.alloc,
+        tables,
+        &checked.constants.overrides,
+        given.syntax,
+        &checked.constants.settings,
+        recipes,
+    )
+}
+
+// Links the recipes of a checked module at a path that are kept, under its settings, with what names mean in it and with what
+// is evaluated of it, over what is around them. An error tells a rule that is broken in its bodies, or where these are kept
+// of its dependencies or of one of its recipes that stands.
 fn link_recipes<'src, 'a, S: Syntax, E: Evaluation>(
     given: &Given<S, E>,
     checked: &Checked<'src, 'a>,
@@ -194,29 +220,43 @@ fn link_recipes<'src, 'a, S: Syntax, E: Evaluation>(
     requires apart { AreNew recipes (recipes_in checked.now.definitions) }
     requires ordered { AreOrdered around.now.modules }
     requires settled { AreSettled (around_by around.now recipes) }
+    requires variables { AreVariablesOf (S.answers given.now.syntax.now) (contents_in checked.now.definitions) checked.now.variables }
     requires numbers { HasNumbers checked.now.variables }
+    requires covered { IsCovered checked.now }
     ensures bodies { let it = checked.now in
         IfOk result (λ _. Keeps (Bodies (S.answers given.now.syntax.now) it.constants.settings (contents_in it.definitions))) }
     ensures kept { let kept = kept_recipes (recipes_in checked.now.definitions) in
         IfOk result (λ _. Keeps (BreaksLinks checked.now.constants.settings.lists kept (around_by around.now recipes.entry))) }
-    ensures linked { let answers = S.answers given.now.syntax.now in
-        let linked = AreLinkedIn answers checked.now (around_by around.now recipes.entry) path.now in
+    ensures own { let layers = layers_at (given_by S.answers E.answers given.now) path.now in
+        IfOk result (λ _. Keeps (BreaksOwn layers checked.now (around_by around.now recipes.entry))) }
+    ensures linked { let layers = layers_at (given_by S.answers E.answers given.now) path.now in
+        let linked = AreLinkedIn layers checked.now (around_by around.now recipes.entry) path.now in
         IfOk result (λ made. linked (recipes_in made.standing) made.disabled made.all) }
     ensures named { let layers = layers_at (given_by S.answers E.answers given.now) path.now in
-        IfErr result (Reports (BreaksChecked layers checked.now (around_by around.now recipes.entry))) }
+        IfErr result (Reports (TellsChecked layers checked.now (around_by around.now recipes.entry))) }
 {
     let settings = &checked.constants.settings;
     check_bodies(given.alloc, given.syntax, &checked.definitions, settings)?;
     let kept = keep_recipes(given.alloc, &checked.definitions)?;
-    let meanings = Meanings {
-        bindings: &checked.variables.numbers,
-        settings,
-        syntax: given.syntax,
+    let references = references_among(given, checked, &kept)?;
+    let completing = Completing {
+        meanings: Meanings {
+            bindings: &checked.variables.numbers,
+            settings,
+            syntax: given.syntax,
+        },
+        among: Among {
+            assignments: &checked.variables.assignments,
+            constants: &checked.constants.scope,
+            evaluation: given.evaluation,
+            functions: &checked.variables.functions,
+        },
+        references: references.as_slice(),
     };
     link(
         given.alloc,
         &kept,
-        &meanings,
+        &completing,
         path,
         &around.notes.absent_modules,
         around.modules.as_slice(),
@@ -224,32 +264,10 @@ fn link_recipes<'src, 'a, S: Syntax, E: Evaluation>(
     )
 }
 
-// Checks the names in what these recipes of a checked module read, among its variables and functions.
-fn check_names_read<'src, 'a, 'b, S: Syntax, E: Evaluation>(
-    given: &Given<S, E>,
-    checked: &Checked<'src, 'a>,
-    recipes: &Definitions<'src, 'b>,
-) -> Result<(), Error<'src>>
-    requires { AreVariablesOf (S.answers given.now.syntax.now) (contents_in checked.now.definitions) checked.now.variables }
-    ensures kept { let answers = S.answers given.now.syntax.now in
-        let known = known_of answers (contents_in checked.now.definitions) in
-        OnOk result (Keeps (ReadNames answers known checked.now.constants.settings (recipes_in recipes.now))) }
-    ensures named { let answers = S.answers given.now.syntax.now in
-        let known = known_of answers (contents_in checked.now.definitions) in
-        IfErr result (Reports (ReadNames answers known checked.now.constants.settings (recipes_in recipes.now))) }
-{
-    let known = Known {
-        assignments: &checked.variables.assignments,
-        functions: &checked.variables.functions,
-        syntax: given.syntax,
-    };
-    check_recipes(given.alloc, &known, &checked.constants.settings, recipes)
-}
-
 /// Checks the recipes of a module that is checked, of which `ast` says its own file, under its settings, and links those
-/// that are kept over what is around them: those that stand are put behind the recipes that are resolved so far, with the
-/// numbers of what the names in them mean. It answers what its justfile has of them, with its aliases, and all recipes. An error names a rule that is broken; the recipes are
-/// dropped then.
+/// that are kept over what is around them: those that stand are completed and put behind the recipes that are resolved so
+/// far. It answers what its justfile has of them, with its aliases, and all recipes. An error names a rule that is broken, or
+/// a pattern that is past the limits of regular expressions; the recipes are dropped then.
 pub fn add_recipes<'src, 'a, S: Syntax, E: Evaluation>(
     given: &Given<S, E>,
     checked: &Checked<'src, 'a>,
@@ -265,10 +283,11 @@ pub fn add_recipes<'src, 'a, S: Syntax, E: Evaluation>(
     requires settled { AreSettled (around_by around.now recipes) }
     requires variables { AreVariablesOf (S.answers given.now.syntax.now) (contents_in checked.now.definitions) checked.now.variables }
     requires numbers { HasNumbers checked.now.variables }
+    requires covered { IsCovered checked.now }
     ensures kept { let layers = layers_at (given_by S.answers E.answers given.now) ast.now.module_path in
         IfOk result (λ _. Keeps (BreaksChecked layers checked.now (around_by around.now recipes.entry))) }
-    ensures linked { let answers = S.answers given.now.syntax.now in
-        let linked = AreLinkedIn answers checked.now (around_by around.now recipes.entry) ast.now.module_path in
+    ensures linked { let layers = layers_at (given_by S.answers E.answers given.now) ast.now.module_path in
+        let linked = AreLinkedIn layers checked.now (around_by around.now recipes.entry) ast.now.module_path in
         IfOk result (λ made. linked (recipes_in made.0.standing) made.0.disabled made.1) }
     ensures keys { IfOk result (λ made. made.0.keys ≡ recipe_table (recipes_in made.0.standing)) }
     ensures aliases { let aliases = (contents_in checked.now.definitions).aliases in
@@ -276,10 +295,9 @@ pub fn add_recipes<'src, 'a, S: Syntax, E: Evaluation>(
     ensures default { let own = recipes_by (S.answers given.now.syntax.now).enabled (Some ast.now) in
         IfOk result (λ made. IsDefaultAmong (recipes_in made.0.standing) own made.0.default) }
     ensures named { let layers = layers_at (given_by S.answers E.answers given.now) ast.now.module_path in
-        IfErr result (Reports (BreaksChecked layers checked.now (around_by around.now recipes.entry))) }
+        IfErr result (Reports (TellsChecked layers checked.now (around_by around.now recipes.entry))) }
 {
     let linked = link_recipes(given, checked, &ast.module_path, around, recipes)?;
-    check_names_read(given, checked, &linked.standing)?;
     let default = default_of(
         given.alloc,
         &linked.standing,

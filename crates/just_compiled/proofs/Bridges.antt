@@ -1,5 +1,5 @@
 -- What is disabled, broken and found over compiled modules is what is so over the modules.
-use Rattle.std.proofs.Common.{◌≡◌, ◌≢◌, ◌∙◌, ℕ, ◌<◌, ◌==◌, Bool, true, false, cond, List, [], ◌∷◌, ◌++◌, map, length, Option, None, Some, IsSome, inl, inr, refl, sym, ap, subst}
+use Rattle.std.proofs.Common.{◌≡◌, ◌≢◌, ◌∙◌, ℕ, ◌<◌, ◌==◌, Bool, true, false, cond, List, [], ◌∷◌, ◌++◌, map, length, Option, None, Some, IsSome, inl, inr, refl, sym, ap, subst, subst₂}
 use Rattle.std.specs.BTreeSet.{BTreeSet}
 use Rattle.std.specs.List.{Contains, slice_get}
 use Rattle.std.proofs.lemmas.List.{append-nil, get_or_default}
@@ -18,20 +18,21 @@ use Rattle.just_module_contents.specs.Constants.{Evaluated}
 use Rattle.just_module_contents.specs.Contents.{Contents}
 use Rattle.just_module_contents.specs.Groups.{Group, OfAliases, OfBodies, OfConstants, OfDependencies, OfExpressions, OfHeaders, OfNames, OfRecipes}
 use Rattle.just_module_contents.specs.Known.{known_of}
-use Rattle.just_module_contents.specs.RecipeNames.{ReadNames, of_standing}
+use Rattle.just_module_contents.specs.RecipeValues.{BreaksRecipe, IsPastLimits}
+use Rattle.just_module_contents.specs.Standing.{InOne, of_standing}
 use Rattle.just_module_contents.specs.Recipes.{DependsOn, dependency_paths, least_of, most_of, name_of, named_paths, names_of, no_recipe, recipe_at}
 use Rattle.just_module_contents.specs.Resolved.{number_at}
 use Rattle.just_module_contents.specs.Rules.{DependsBy, StandsWith, unknown_target}
 use Rattle.just_module_contents.proofs.Keeping.{kept_different}
 use Rattle.just_module_contents.proofs.RecipePlaces.{number_read, one_place}
 use Rattle.just_module_headers.proofs.Holding.{some_value}
-use Rattle.just_module_headers.proofs.Alike.{Outline, at as outline_at, defaults_alike, dependencies_alike, depends_by_alike, many, name as name_at, read_names_alike, same_names}
+use Rattle.just_module_headers.proofs.Alike.{Outline, at as outline_at, defaults_alike, dependencies_alike, depends_by_alike, limits_alike, many, name as name_at, rules_alike, same_names}
 use Rattle.just_module_recipes.specs.Linked.{AreSettled, HasNumber, of_far as far_number, of_near as near_number}
 use Rattle.just_module_recipes.specs.Links as links
-use Rattle.just_module_recipes.specs.Links.{Around, BreaksLinks, Disables, HasParameters, Leads, Names, Stands, Takes, by_recipe, by_walk, far, found_by, links_by, near, of_far, of_near}
+use Rattle.just_module_recipes.specs.Links.{Around, BreaksLinks, Disables, HasParameters, Leads, Names, Stands, Takes, by_recipe, by_walk, far, found_by, links_by, near, of_far, of_near, told_by}
 use Rattle.just_module_tree.specs.Modules.{Forest, Module, contents_of}
 use Rattle.just_module_tree.specs.Standing as trees
-use Rattle.just_module_tree.specs.Standing.{BreaksDependencies, DisabledBy, EndsWell, HasTarget, LeadsSomewhere, Place, StandsIn, TakesIn, by_disabled, follow, kept_in, leads, links_in, through_absent, to_module, to_recipe}
+use Rattle.just_module_tree.specs.Standing.{BreaksDependencies, DisabledBy, EndsWell, HasTarget, LeadsSomewhere, Place, StandsIn, TakesIn, by_disabled, follow, kept_in, leads, links_in, through_absent, to_module, to_recipe, told_in}
 use Rattle.just_names.specs.Name.{text_of_name, texts_of_path}
 use Rattle.just_names.specs.Texts.{Text}
 use Rattle.just_names.specs.declared.name.Name.{Name}
@@ -40,6 +41,9 @@ use Rattle.just_names.specs.declared.number.Number.{Number}
 use Rattle.just_parts.specs.Asts.{AstKey}
 use Rattle.just_parts.specs.Items.{Ast}
 use Rattle.just_parts.specs.Known.{Known}
+use Rattle.just_ast_expressions.specs.declared.expression.Expression.{Expression}
+use Rattle.just_ast_references.specs.Numbers.{bare}
+use Rattle.just_parts.specs.Evaluator.{functions_by_name}
 use Rattle.just_parts.specs.Layers.{Given, Layers}
 use Rattle.just_paths.specs.declared.modulepath.Modulepath.{Modulepath}
 use Rattle.just_recipe.specs.Recipes.{find_number}
@@ -47,9 +51,10 @@ use Rattle.just_recipe.specs.declared.dependency.Dependency.{Dependency}
 use Rattle.just_recipe.specs.declared.dependency.UnresolvedDependency.{UnresolvedDependency}
 use Rattle.just_recipe.specs.declared.recipe.Recipe.{Recipe}
 use Rattle.just_module_variables.specs.Variables.{variable_number}
-use Rattle.just_recipe_names.specs.Numbered.{number_under, numbered_parameters}
-use Rattle.just_compiled.proofs.ArgumentsAlike.{least_alike, most_alike}
-use Rattle.just_compiled.specs.Justfiles.{Built, HasNumberIn, contents_in, kept_by, recipes_of_all}
+use Rattle.just_recipe_names.specs.Numbered.{numbered_recipe}
+use Rattle.just_recipe_values.specs.Valued.{with_values}
+use Rattle.just_compiled.proofs.ArgumentsAlike.{least_completed, most_completed}
+use Rattle.just_compiled.specs.Justfiles.{Built, HasNumberIn, contents_in, kept_by, recipes_of_all, value_by}
 use Rattle.just_compiled.proofs.Agreeing.{Agree, IsBarred, IsNumbered, Meets, Resolves, Through, agree, far_or, nowhere_end, nowhere_place, stays}
 use Rattle.just_compiled.proofs.Meanings.{module_somewhere, somewhere_or}
 use Rattle.just_compiled.proofs.NamedModules.{found_sorted}
@@ -200,10 +205,17 @@ module _ (given : Given) (asts : AstKey → Option Ast) (loaded : List Text) (bu
         let x = r.shows.is.linked.each r.i r.there (subst (StandsIn r.n r.below) (sym r.named) r.stands) in
         let read : slice_get (kept r.n) r.i ≡ Some (recipe_at (kept r.n) r.i) = slice_get_read (kept r.n) (length (kept r.n)) r.i (recipe_at (kept r.n) r.i) refl r.there (get_or_default (kept r.n) r.i no_recipe (recipe_at (kept r.n) r.i) r.there) in
         let same : number_at (kept r.n) r.i ≡ number.0 = number_read (kept r.n) r.i (recipe_at (kept r.n) r.i) read ∙ ap (λ (k : Number). k.0) r.number_is in
-        let by = number_under (variable_number (out-Justfile r.c).assignments) given.syntax in
-        let ps = (recipe_at (kept r.n) r.i).parameters in
-        let are : x.0.parameters ≡ numbered_parameters by [] ps = x.2.made_of.resolved.parameters in
-        (x.0, ap (find_number (recipes_of_all built)) (sym same) ∙ x.1, (ap least_arguments are ∙ least_alike by [] ps, λ lists. ap (most_arguments lists) are ∙ most_alike by lists [] ps))
+        let value = value_by given asts r.n r.shows.is.evaluated.it in
+        let variable = variable_number (out-Justfile r.c).assignments in
+        let source = recipe_at (kept r.n) r.i in
+        let are : x.0.parameters ≡ (with_values value (numbered_recipe variable given.syntax (out-Justfile r.c).settings source)).parameters = x.2.made_of.resolved.parameters in (
+          x.0,
+          ap (find_number (recipes_of_all built)) (sym same) ∙ x.1,
+          (
+            ap least_arguments are ∙ least_completed value variable given.syntax (out-Justfile r.c).settings source,
+            λ lists. ap (most_arguments lists) are ∙ most_completed value variable given.syntax (out-Justfile r.c).settings source lists,
+          ),
+        )
 
   module _ (m : Module) (inside : Forest) (it : Around) (meets : Meets given asts loaded built m inside it) where
     -- names lead alike
@@ -345,27 +357,43 @@ module _ (given : Given) (asts : AstKey → Option Ast) (loaded : List Text) (bu
         let k = standing_alike (StandsIn m inside) (Stands (kept m) it) stands_back stands_on are (kept m) (sym meets.says.kept) in
         links.of_defaults k.0 k.1 (defaults_alike ss k.0 k.2 c b)
 
-    -- the same names are at fault in what those read that stand
-    names_on : (layers : Layers) (e : Evaluated) (c : Cause) → links.BreaksRecipeNames layers e (said m) it c → trees.BreaksRecipeNames layers e m inside c
-    names_on layers e c (of_standing ss are b) =
+    -- the same values are those of expressions, by what its files say and by the tree
+    value_same : (layers : Layers) (e : Evaluated) → links.value_by layers e (said m) ≡ trees.value_in layers e m
+    value_same layers e = λ i x. layers.evaluator.value (functions_by_name (meets.says.known layers.syntax i).functions) e.constants (bare x)
+
+    -- the same rules of one recipe are broken by those that stand
+    abbrev rule_at : Layers → Evaluated → (Expression → Option (List Text)) → Known → Recipe UnresolvedDependency → Cause → Type 0
+    rule_at layers e value known = BreaksRecipe value layers.syntax known e.settings
+
+    own_on : (layers : Layers) (e : Evaluated) (c : Cause) → links.BreaksStanding layers e (said m) it c → trees.BreaksStanding layers e m inside c
+    own_on layers e c (of_standing ss are b) =
         let k = standing_alike (Stands (kept m) it) (StandsIn m inside) stands_on stands_back are (kept_in m) meets.says.kept in
-        of_standing k.0 k.1 (subst (λ (x : Known). ReadNames layers.syntax x e.settings k.0 c) (meets.says.known layers.syntax) (read_names_alike ss k.0 k.2 layers.syntax (known_of layers.syntax (said m)) e.settings c b))
+        of_standing k.0 k.1 (subst₂ (λ value known. InOne (rule_at layers e value known) k.0 c) (value_same layers e) (meets.says.known layers.syntax)
+        (rules_alike ss k.0 k.2 (links.value_by layers e (said m)) layers.syntax (known_of layers.syntax (said m)) e.settings c b))
 
-    names_back : (layers : Layers) (e : Evaluated) (c : Cause) → trees.BreaksRecipeNames layers e m inside c → links.BreaksRecipeNames layers e (said m) it c
-    names_back layers e c (of_standing ss are b) =
+    own_back : (layers : Layers) (e : Evaluated) (c : Cause) → trees.BreaksStanding layers e m inside c → links.BreaksStanding layers e (said m) it c
+    own_back layers e c (of_standing ss are b) =
         let k = standing_alike (StandsIn m inside) (Stands (kept m) it) stands_back stands_on are (kept m) (sym meets.says.kept) in
-        of_standing k.0 k.1 (subst (λ (x : Known). ReadNames layers.syntax x e.settings k.0 c) (sym (meets.says.known layers.syntax)) (read_names_alike ss k.0 k.2 layers.syntax (known_of layers.syntax (contents_of m)) e.settings c b))
+        of_standing k.0 k.1 (subst₂ (λ value known. InOne (rule_at layers e value known) k.0 c) (sym (value_same layers e)) (sym (meets.says.known layers.syntax))
+        (rules_alike ss k.0 k.2 (trees.value_in layers e m) layers.syntax (known_of layers.syntax (contents_of m)) e.settings c b))
 
-    -- so is what is broken of the last groups
-    pub links_on : (layers : Layers) (e : Evaluated) (g : Group) (c : Cause) → links_by (said m) it layers e g c → links_in m inside layers e g c
-    links_on layers e OfHeaders c b = b
-    links_on layers e OfNames c b = b
-    links_on layers e OfExpressions c b = b
-    links_on layers e OfConstants c b = b
-    links_on layers e OfBodies c b = b
-    links_on layers e OfDependencies c b = dependencies_on e.settings.lists c b
-    links_on layers e OfRecipes c b = names_on layers e c b
-    links_on layers e OfAliases c b = aliases_on c b
+    -- and the same patterns are past their limits
+    limits_on : (layers : Layers) (e : Evaluated) (c : Cause) → links.IsPastLimitsBy layers e (said m) it c → trees.IsPastLimitsIn layers e m inside c
+    limits_on layers e c (of_standing ss are b) =
+        let k = standing_alike (Stands (kept m) it) (StandsIn m inside) stands_on stands_back are (kept_in m) meets.says.kept in
+        of_standing k.0 k.1 (subst (λ value. InOne (IsPastLimits value) k.0 c) (value_same layers e) (limits_alike ss k.0 k.2 (links.value_by layers e (said m)) c b))
+
+    -- so an error may tell the same of the last groups
+    pub told_on : (layers : Layers) (e : Evaluated) (g : Group) (c : Cause) → told_by (said m) it layers e g c → told_in m inside layers e g c
+    told_on layers e OfHeaders c b = b
+    told_on layers e OfNames c b = b
+    told_on layers e OfExpressions c b = b
+    told_on layers e OfConstants c b = b
+    told_on layers e OfBodies c b = b
+    told_on layers e OfDependencies c b = dependencies_on e.settings.lists c b
+    told_on layers e OfRecipes c (inl b) = inl (own_on layers e c b)
+    told_on layers e OfRecipes c (inr b) = inr (limits_on layers e c b)
+    told_on layers e OfAliases c b = aliases_on c b
 
     -- the number that a path leads to is that of the tree
     pub number_on : (d : Namepath) (n : Number) → HasNumber (kept m) it d n → HasNumberIn given asts m inside d n
@@ -456,5 +484,5 @@ module _ (given : Given) (asts : AstKey → Option Ast) (loaded : List Text) (bu
       links_back layers e OfConstants c b = b
       links_back layers e OfBodies c b = b
       links_back layers e OfDependencies c b = dependencies_back e.settings.lists c b
-      links_back layers e OfRecipes c b = names_back layers e c b
+      links_back layers e OfRecipes c b = own_back layers e c b
       links_back layers e OfAliases c b = aliases_back c b

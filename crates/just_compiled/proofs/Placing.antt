@@ -27,6 +27,7 @@ use Rattle.just_invoke.specs.Closed.{StandsIn, itself, inside}
 use Rattle.just_invoke.specs.Module as naming
 use Rattle.just_invoke.specs.declared.justfile.Justfile.{Justfile, out-Justfile}
 use Rattle.just_module_variables.specs.Documented.{AreDocumented}
+use Rattle.just_module_recipes.specs.Completing.{Completion}
 use Rattle.just_module_recipes.specs.Linked.{AreLinked}
 use Rattle.just_names.specs.declared.name.Namepath.{Namepath}
 use Rattle.just_names.specs.declared.number.Number.{Number}
@@ -111,8 +112,8 @@ pub inner_names : (value : Expression → Option (List Text)) (subs : List Submo
 inner_names value subs inner documented = sym (names_of_labels inner) ∙ documented_names value (map (λ (s : Submodule). s.label) subs) (map label_in inner) documented ∙ labels_of_modules subs
 
 -- a recipe that is linked at a path has that path
-pub made_path : {Stands : Text → Type 0} {HasNumber : Namepath → Number → Type 0} {by : Recipe UnresolvedDependency → Recipe UnresolvedDependency} {lists : Bool} {all : List (Recipe Dependency)} {sources : List (Recipe UnresolvedDependency)} {path : Modulepath} {added : List (Recipe Dependency)}
-    → AreLinked Stands HasNumber by lists all sources path added → (r : Recipe Dependency) → In r added → r.module_path ≡ Some path
+pub made_path : {Stands : Text → Type 0} {HasNumber : Namepath → Number → Type 0} {completed : Completion} {lists : Bool} {all : List (Recipe Dependency)} {sources : List (Recipe UnresolvedDependency)} {path : Modulepath} {added : List (Recipe Dependency)}
+    → AreLinked Stands HasNumber completed lists all sources path added → (r : Recipe Dependency) → In r added → r.module_path ≡ Some path
 made_path {added = added} linked r i = (linked.only r (contained r added i)).1.made_of.resolved.module_path
 
 module _ (given : Given) (asts : AstKey → Option Ast) (paths : (k : AstKey) (a : Ast) → asts k ≡ Some a → a.module_path ≡ k.0) (loaded : List Text) (built : List Built) where

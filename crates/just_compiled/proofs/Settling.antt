@@ -4,6 +4,7 @@ use Rattle.std.specs.BTreeSet.{BTreeSet}
 use Rattle.std.specs.List.{Contains}
 use Rattle.std.specs.Option.{option_map, option_or}
 use Rattle.std.proofs.lemmas.List.Folds.{find-append}
+use Rattle.just_ast_expressions.specs.declared.expression.Expression.{Expression}
 use Rattle.just_compiled.specs.Analysis.{HasLinks, recipe_table}
 use Rattle.just_compiled.specs.Labelled.{by_name, labelled_as, with_labels}
 use Rattle.just_compiled.specs.Settled.{IsSettled, settled}
@@ -21,7 +22,7 @@ use Rattle.just_invoke.proofs.Leading.{named_there}
 use Rattle.just_module_contents.specs.declared.labels.Label.{Label}
 use Rattle.just_module_contents.specs.Recipes.{name_of, recipe_at}
 use Rattle.just_module_contents.specs.Resolved.{number_at}
-use Rattle.just_module_contents.specs.Standing.{AreStanding, falls, none, stands}
+use Rattle.just_module_contents.proofs.StandingOnes.{standing_in}
 use Rattle.just_module_recipes.specs.Linked.{AreDisabled, AreSettled, disabled_table, falls as fallen, name_of_disabled, none as none_disabled, stands as not_disabled}
 use Rattle.just_module_recipes.specs.Links.{Stands, around, around_of}
 use Rattle.just_names.specs.Name.{text_of_name}
@@ -153,13 +154,6 @@ module _ (held : List (Recipe Dependency)) where
       sets path set (Absent names) f g = not_none (path_along names) set (set_same (only (path_along names)) set g)
       sets path set Nowhere f g = cc
 
--- a standing recipe is one of the recipes, and stands
-pub standing_in : {Stands : Text → Type 0} {rs standing : List (Recipe UnresolvedDependency)} → AreStanding Stands rs standing → (r : Recipe UnresolvedDependency) → In r standing → In r rs × Stands (name_of r)
-standing_in none r h = absurd h
-standing_in {Stands} (stands is all) r (inl e) = (inl e, subst (λ (y : Recipe UnresolvedDependency). Stands (name_of y)) (sym e) is)
-standing_in (stands is all) r (inr h) = let i = standing_in all r h in (inr i.0, i.1)
-standing_in (falls is all) r h = let i = standing_in all r h in (inr i.0, i.1)
-
 -- the place of a recipe, and its number there
 pub place_in : (rs : List (Recipe UnresolvedDependency)) (r : Recipe UnresolvedDependency) → In r rs → (i : ℕ) × (i < length rs) × (recipe_at rs i ≡ r) × (number_at rs i ≡ r.number.0)
 place_in [] r h = absurd h
@@ -180,9 +174,9 @@ some_number : (o : Option (Recipe Dependency)) (r : Recipe Dependency) → o ≡
 some_number o r e = subst IsSome (sym e) refl
 
 -- a module that is linked over settled ones is settled
-pub module_settled : (answers : SyntaxAnswers) (recipes standing : List (Recipe UnresolvedDependency)) (before added : List (Recipe Dependency)) (path : Modulepath) (j : Justfile) → HasLinks answers recipes before path added standing j
+pub module_settled : (value : Expression → Option (List Text)) (answers : SyntaxAnswers) (recipes standing : List (Recipe UnresolvedDependency)) (before added : List (Recipe Dependency)) (path : Modulepath) (j : Justfile) → HasLinks value answers recipes before path added standing j
     → (out-Justfile j).recipes ≡ recipe_table standing → NamesRise (out-Justfile j).modules → ((inner : Justfile) → Contains (out-Justfile j).modules inner → IsSettled before inner) → IsSettled (before ++ added) j
-module_settled answers recipes standing before added path j links are rise inner = settled numbers sets rise (λ i c. settled_more added (inner i c))
+module_settled value answers recipes standing before added path j links are rise inner = settled numbers sets rise (λ i c. settled_more added (inner i c))
   where
     numbers : (name : Text) (key : RecipeKey) → find name (out-Justfile j).recipes ≡ Some key → IsSome (find_number (before ++ added) key.number.0)
     numbers name key e =

@@ -1,14 +1,21 @@
 -- What a module's recipes are compiled to.
-use Rattle.std.specs.Prelude.{◌≡◌, ◌++◌, List, [], map, false, None}
+use Rattle.std.specs.Prelude.{◌≡◌, ◌++◌, Bool, List, [], map, false, Option, None}
 use Rattle.just_names.specs.Name.{text_of_name}
 use Rattle.just_names.specs.Texts.{Text}
+use Rattle.just_names.specs.declared.number.Number.{Number}
 use Rattle.just_table.specs.Entries.{put_all}
 use Rattle.just_parts.specs.Items.{Ast}
+use Rattle.just_parts.specs.Known.{sources}
+use Rattle.just_parts.specs.Needs.{has_number}
 use Rattle.just_parts.specs.Syntax.{SyntaxAnswers}
 use Rattle.just_ast_definitions.specs.declared.assignment.Assignment.{Assignment}
+use Rattle.just_ast_definitions.specs.declared.function_definition.FunctionDefinition.{FunctionDefinition}
+use Rattle.just_ast_expressions.specs.declared.expression.Expression.{Expression}
 use Rattle.just_ast_expressions.specs.declared.settings.Settings.{Settings}
 use Rattle.just_module_variables.specs.Variables.{variable_number}
 use Rattle.just_recipe_names.specs.Numbered.{numbered_recipe}
+use Rattle.just_recipe_needs.specs.Needed.{NeedsUnder}
+use Rattle.just_recipe_values.specs.Valued.{with_values}
 use Rattle.just_invoke.specs.declared.justfile.Justfile.{Justfile, out-Justfile}
 use Rattle.just_recipe.specs.declared.dependency.UnresolvedDependency.{UnresolvedDependency}
 use Rattle.just_recipe.specs.declared.recipe.Recipe.{Recipe}
@@ -17,6 +24,7 @@ use Rattle.just_compiled.specs.Labelled.{label_in}
 use Rattle.just_module_contents.specs.Contents.{Contents}
 use Rattle.just_paths.specs.declared.modulepath.Modulepath.{Modulepath}
 use Rattle.just_module_contents.specs.Standing.{AreStanding}
+use Rattle.just_module_recipes.specs.Completing.{Completion, completion}
 use Rattle.just_module_recipes.specs.Aliased.{aliases_of, targets_of}
 use Rattle.just_module_recipes.specs.Linked.{AreLinked, HasDisabled, HasNumber}
 use Rattle.just_module_recipes.specs.Links.{Disables, Stands, around_of}
@@ -38,17 +46,18 @@ recipe_table recipes = put_all name_of_key [] (map key_of recipes)
 abbrev pub HasDefault : List (Recipe UnresolvedDependency) → List (Recipe UnresolvedDependency) → Justfile → Type 0
 HasDefault standing own j = IsDefaultAmong standing own (out-Justfile j).default
 
--- a recipe whose names have the numbers of what they mean in a module with these variables and settings
-abbrev pub numbered_in : SyntaxAnswers → List (Text × Assignment) → Settings → Recipe UnresolvedDependency → Recipe UnresolvedDependency
-numbered_in answers assignments settings = numbered_recipe (variable_number assignments) answers settings
+-- What recipes are completed to in a module with these variables, functions and settings, of whose variables some are overridden: their names have the numbers of what they mean, their docs, helps and patterns are what they come to, and each has the numbers of the variables that it needs.
+abbrev pub completion_in : (Expression → Option (List Text)) → SyntaxAnswers → List (Text × Assignment) → List (Text × FunctionDefinition) → (Number → Bool) → Settings → Completion
+completion_in value answers assignments functions overridden settings =
+    completion (λ r. with_values value (numbered_recipe (variable_number assignments) answers settings r)) (NeedsUnder (sources assignments functions) overridden answers settings)
 
 -- in a module that is compiled
-abbrev pub numbered_of : SyntaxAnswers → Justfile → Recipe UnresolvedDependency → Recipe UnresolvedDependency
-numbered_of answers j = numbered_in answers (out-Justfile j).assignments (out-Justfile j).settings
+abbrev pub completion_of : (Expression → Option (List Text)) → SyntaxAnswers → Justfile → Completion
+completion_of value answers j = completion_in value answers (out-Justfile j).assignments (out-Justfile j).functions (has_number (out-Justfile j).overridden) (out-Justfile j).settings
 
--- What the kept recipes of a module are linked to, over the modules that its justfile has, where these recipes are held before: those that stand are added, with the numbers of what names mean in them, and the others are in its table of what is disabled.
-pub record HasLinks (answers : SyntaxAnswers) (recipes : List (Recipe UnresolvedDependency)) (before : List (Recipe Dependency)) (path : Modulepath) (added : List (Recipe Dependency)) (standing : List (Recipe UnresolvedDependency)) (j : Justfile) : Type 0 where
-  pub linked : AreLinked (Stands recipes (around_of j before)) (HasNumber recipes (around_of j before)) (numbered_of answers j) (out-Justfile j).settings.lists (before ++ added) recipes path added
+-- What the kept recipes of a module are linked to, over the modules that its justfile has, where these recipes are held before: those that stand are completed and added, and the others are in its table of what is disabled.
+pub record HasLinks (value : Expression → Option (List Text)) (answers : SyntaxAnswers) (recipes : List (Recipe UnresolvedDependency)) (before : List (Recipe Dependency)) (path : Modulepath) (added : List (Recipe Dependency)) (standing : List (Recipe UnresolvedDependency)) (j : Justfile) : Type 0 where
+  pub linked : AreLinked (Stands recipes (around_of j before)) (HasNumber recipes (around_of j before)) (completion_of value answers j) (out-Justfile j).settings.lists (before ++ added) recipes path added
   pub stand : AreStanding (Stands recipes (around_of j before)) recipes standing
   pub disabled : HasDisabled (Disables recipes (around_of j before)) recipes (out-Justfile j).disabled_recipes
 

@@ -18,9 +18,11 @@ use Rattle.just_module_recipes.specs.declared.aliases.Meaning.{Meaning}
 use Rattle.just_module_recipes.specs.declared.aliases.Meaning.TheVariants as meaning
 use Rattle.just_paths.specs.declared.modulepath.Modulepath.{Modulepath}
 use Rattle.just_invoke.specs.declared.justfile.Justfile.{Justfile, out-Justfile}
-use Rattle.just_compiled.specs.Analysis.{HasDefault, IsOf, numbered_of}
+use Rattle.just_compiled.specs.Analysis.{HasDefault, IsOf, completion_of}
 use Rattle.just_compiled.specs.Labelled.{by_name, label_in, notes_in}
 use Rattle.just_compiled.specs.Evaluated.{IsEvaluatedTo}
+use Rattle.just_ast_expressions.specs.declared.expression.Expression.{Expression}
+use Rattle.just_module_contents.specs.Constants.{Evaluated, value_among}
 use Rattle.just_module_contents.specs.Labels.{doc_by}
 use Rattle.just_module_contents.specs.Notes.{absent_by, features_by, notes_of, warnings_by}
 use Rattle.just_module_contents.specs.declared.notes.Notes.{Notes}
@@ -84,6 +86,10 @@ overridden_of_all = flat_map (λ (b : Built). b.1.overridden)
 abbrev pub kept_by : Given → (AstKey → Option Ast) → Module → List (Recipe UnresolvedDependency)
 kept_by given asts m = kept_recipes (recipes_in given.syntax.enabled asts m.files)
 
+-- the value of an expression among the constants of a module, as its files say it
+abbrev pub value_by : Given → (AstKey → Option Ast) → Module → Evaluated → Expression → Option (List Text)
+value_by given asts m it = value_among given.evaluator (contents_in given.syntax.enabled asts m.files) it.constants
+
 -- the number of the kept recipe that a path leads to from a module
 pub record HasNumberIn (given : Given) (asts : AstKey → Option Ast) (m : Module) (inside : Forest) (path : Namepath) (number : Number) : Type 0 where
   pub to : Module
@@ -118,11 +124,11 @@ pub record IsCompiled (given : Given) (asts : AstKey → Option Ast) (loaded : L
   pub own_there : Contains m.files m.heading.key
   pub name : module_name j ≡ name_in m
   pub path : (out-Justfile j).module_path ≡ path_of m
-  pub linked : AreLinked (StandsIn m inside) (HasNumberIn given asts m inside) (numbered_of given.syntax j) (out-Justfile j).settings.lists all (kept_by given asts m) (path_of m) made.recipes
   pub standing : List (Recipe UnresolvedDependency)
   pub stand : AreStanding (StandsIn m inside) (kept_by given asts m) standing
   pub disabled : HasDisabled (DisabledBy m inside) (kept_by given asts m) (out-Justfile j).disabled_recipes
   pub evaluated : IsEvaluatedTo (layers_at given (path_of m)) (contents_in given.syntax.enabled asts m.files) (map (λ (s : Submodule). s.label) m.modules) (map label_in inner) made.overridden j
+  pub linked : AreLinked (StandsIn m inside) (HasNumberIn given asts m inside) (completion_of (value_by given asts m evaluated.it) given.syntax j) (out-Justfile j).settings.lists all (kept_by given asts m) (path_of m) made.recipes
   pub variables : HasVariables given.syntax (contents_in given.syntax.enabled asts m.files) j
   pub tables : HasTables j
   pub default : HasDefault standing (recipes_of given.syntax.enabled own.items) j

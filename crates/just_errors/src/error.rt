@@ -44,7 +44,7 @@ pub enum LoadError<'src> {
         current: Text,
         import: Text,
     },
-    /// Values are given for variables that are not there. Each is told by the path of its module and its name, joined by `::`.
+    /// Values are given for variables that are not there. Each is told by the path that leads to it, as paths are shown.
     #[error("Variables that are overridden are not there: {}", Listed(.overrides.as_slice()))]
     UnknownOverrides {
         overrides: Sequence<Text>,

@@ -6,4 +6,5 @@ pub mod Mapping
 pub mod Once
 pub mod RecipePlaces
 pub mod Signatures
+pub mod StandingOnes
 pub mod Walks

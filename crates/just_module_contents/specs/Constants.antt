@@ -1,8 +1,8 @@
 -- What is evaluated of a module while compiling.
-use Rattle.std.specs.Prelude.{◌≡◌, ◌↔◌, ◌++◌, Bool, true, false, List, flat_map, map, Option, None, Some, is_some, if◌then◌else◌}
+use Rattle.std.specs.Prelude.{◌≡◌, ◌↔◌, ◌++◌, Bool, true, false, List, [], ◌∷◌, codes, flat_map, map, Option, None, Some, is_some, if◌then◌else◌}
 use Rattle.std.specs.List.{Contains, list_any}
 use Rattle.just_table.specs.Entries.{find}
-use Rattle.just_names.specs.Texts.{Text}
+use Rattle.just_names.specs.Texts.{Text, joined}
 use Rattle.just_names.specs.Token.{Place}
 use Rattle.just_errors.specs.Causes.{Broken, Cause}
 use Rattle.just_errors.specs.declared.error.CompileErrorKind.TheVariants as kind
@@ -86,6 +86,11 @@ settings_among layers m values = layers.evaluator.settings (functions_asked m) v
 
 abbrev pub value_among : Evaluator → Contents → Values → Expression → Option (List Text)
 value_among evaluator m values e = evaluator.value (functions_asked m) values (bare e)
+
+-- the text that a value is: its texts with a blank between them, and none where it has none
+abbrev pub text_of_value : List Text → Option Text
+text_of_value [] = None
+text_of_value (text ∷ texts) = Some (joined (codes " ") (text ∷ texts))
 
 -- What a module's constants and its settings come to.
 pub record Evaluated : Type 0 where

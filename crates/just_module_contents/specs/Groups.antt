@@ -57,8 +57,8 @@ KeepsContents layers links m = (g : Group) → Keeps (Breaks layers links g m)
 abbrev pub KeepsBefore : Layers → Links → Group → Contents → Type 0
 KeepsBefore layers links g m = (f : Group) → rank f < rank g → Keeps (Breaks layers links f m)
 
--- A rule of a group is broken, and the groups before it are kept.
-pub record BreaksContents (layers : Layers) (links : Links) (m : Contents) (c : Cause) : Type 0 where
+-- A rule of a group is broken, and the groups before it are kept. Of the last groups an error may tell more than what is broken.
+pub record BreaksContents (layers : Layers) (links told : Links) (m : Contents) (c : Cause) : Type 0 where
   pub group : Group
   pub earlier : KeepsBefore layers links group m
-  pub broken : Breaks layers links group m c
+  pub broken : Breaks layers told group m c

@@ -9,6 +9,7 @@ pub mod Labels
 pub mod Named
 pub mod Notes
 pub mod RecipeNames
+pub mod RecipeValues
 pub mod Recipes
 pub mod Resolved
 pub mod Rules

@@ -28,7 +28,7 @@ HasPriors recipe = recipe.priors ≤ length recipe.dependencies
 abbrev pub path_to : Modulepath → List ℕ → Modulepath
 path_to path name = record { components = path.components ++ name ∷ []; spaced = path.spaced }
 
--- A recipe is that of the source, with its paths, its dependencies aside.
+-- A recipe is that of the source, with its paths; its dependencies and the variables that it needs aside.
 pub record IsResolvedAt (path : Modulepath) (source : Recipe UnresolvedDependency) (made : Recipe Dependency) : Type 0 where
   pub name : made.name ≡ source.name
   pub number : made.number ≡ source.number
@@ -40,7 +40,6 @@ pub record IsResolvedAt (path : Modulepath) (source : Recipe UnresolvedDependenc
   pub doc : made.doc ≡ source.doc
   pub quiet : made.quiet ≡ source.quiet
   pub shebang : made.shebang ≡ source.shebang
-  pub variable_references : made.variable_references ≡ source.variable_references
   pub file_depth : made.file_depth ≡ source.file_depth
   pub import_offsets : made.import_offsets ≡ source.import_offsets
   pub module_path : made.module_path ≡ Some path

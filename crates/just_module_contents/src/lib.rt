@@ -8,7 +8,9 @@ pub mod kept;
 mod labels;
 mod notes;
 pub mod redefinition;
+mod values;
 
 pub use enabled::is_enabled;
 pub use labels::{Label, doc_of, push_labels};
 pub use notes::Notes;
+pub use values::text_of_value;

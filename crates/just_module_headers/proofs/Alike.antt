@@ -1,5 +1,5 @@
 -- Recipes that are alike in what the rules read break the same rules.
-use Rattle.std.proofs.Common.{◌≡◌, ℕ, zero, suc, ◌+◌, ◌<◌, Bool, true, false, ◌||◌, ◌&&◌, not, List, [], ◌∷◌, ◌++◌, map, length, get_or, Some, refl, sym, ◌∙◌, ap, subst}
+use Rattle.std.proofs.Common.{◌≡◌, ℕ, zero, suc, ◌+◌, ◌<◌, Bool, true, false, ◌||◌, ◌&&◌, not, List, [], ◌∷◌, ◌++◌, map, length, get_or, Option, Some, refl, sym, ◌∙◌, ap, subst}
 use Rattle.std.specs.Prelude.{◌≢◌, ◌≤◌, flat_map, if◌then◌else◌}
 use Rattle.std.specs.Cmp.Lexicographic.{slice_cmp}
 use Rattle.std.specs.Ordering.{nat_cmp}
@@ -46,8 +46,10 @@ use Rattle.just_module_contents.specs.Settings.{allows_variables}
 use Rattle.just_module_contents.specs.Shells.{Lines, ScriptAttribute, ShellRecipe, Shells, invalid_attribute, of_attributes, of_lines, of_recipe}
 use Rattle.just_module_contents.specs.declared.definitions.Naming.{Naming}
 use Rattle.just_module_contents.specs.declared.kept.Claim.{Claim}
-use Rattle.just_module_contents.specs.RecipeNames.{ReadNames, in_recipe, written_scopes}
+use Rattle.just_module_contents.specs.RecipeNames.{RecipeNames, written_scopes}
+use Rattle.just_module_contents.specs.RecipeValues.{BreaksRecipe, HasPattern, IsPastLimits, Unvalued, of_names, of_pattern, of_value, of_values, past_limits, patterns_in}
 use Rattle.just_module_contents.specs.Recipes.{name_of, line_of, token_of, named_parameters, parameter_names, is_defaulted, is_needed, FollowsDefault, named_paths, dependency_paths, least_of, most_of, names_of, no_recipe, recipe_at, Depends, DependsOn}
+use Rattle.just_module_contents.specs.Standing.{InOne, in_recipe}
 use Rattle.just_module_contents.specs.Rules.{Bodies, Dependencies, DependsBy, Functions, Headers, IsCircleOf, Lists, Named, Names, Parameters, Redefined, Sets, StandsWith, Under, Unexports, Variables, argument_count, circular, duplicate_parameter, of_defined, of_functions, of_lists, of_named, of_parameters, of_sets, of_shells, of_unexports, of_variables, required_after_default, starred, under, unknown_dependency}
 
 -- What the rules read of a recipe.
@@ -223,9 +225,33 @@ module _ (rs qs : List (Recipe UnresolvedDependency)) (alike : AreAlike rs qs) w
   scopes_same : (answers : SyntaxAnswers) (s : Settings) (i : ℕ) → written_scopes answers s (recipe_at rs i) ≡ written_scopes answers s (recipe_at qs i)
   scopes_same answers s i = ap (λ (o : Outline). o.scopes answers s) (at i)
 
-  pub read_names_alike : (answers : SyntaxAnswers) (m : Known) (s : Settings) (c : Cause) → ReadNames answers m s rs c → ReadNames answers m s qs c
-  read_names_alike answers m s c (in_recipe i h w) =
-      in_recipe i (inside i h) (record { from = w.from; there = subst (λ ss. Contains ss w.from) (scopes_same answers s i) w.there; wrong = w.wrong })
+  read_alike : (answers : SyntaxAnswers) (m : Known) (s : Settings) (i : ℕ) (c : Cause) → RecipeNames answers m s (recipe_at rs i) c → RecipeNames answers m s (recipe_at qs i) c
+  read_alike answers m s i c w = record { from = w.from; there = subst (λ ss. Contains ss w.from) (scopes_same answers s i) w.there; wrong = w.wrong }
+
+  attributes_same : (i : ℕ) → (recipe_at rs i).attributes ≡ (recipe_at qs i).attributes
+  attributes_same i = ap (λ (o : Outline). o.attributes) (at i)
+
+  -- and their docs, helps and patterns have values, or have none
+  module _ (value : Expression → Option (List Text)) where
+    pattern_alike : (i : ℕ) (at : Place) (text : Text) → HasPattern value (recipe_at rs i) at text → HasPattern value (recipe_at qs i) at text
+    pattern_alike i at text p = record {
+      property = p.property;
+      there = subst (λ xs. Contains (flat_map (λ (named : NamedAttribute Expression). patterns_in named.attribute) xs) p.property) (attributes_same i) p.there;
+      at_is = p.at_is;
+      says = p.says;
+    }
+
+    valued_alike : (i : ℕ) (c : Cause) → Unvalued value (recipe_at rs i) c → Unvalued value (recipe_at qs i) c
+    valued_alike i c (of_value {e} there none) = of_value (subst (λ xs. Contains (flat_map (λ (named : NamedAttribute Expression). compiled_expressions named.attribute) xs) e) (attributes_same i) there) none
+    valued_alike i c (of_pattern {at} {text} p none) = of_pattern (pattern_alike i at text p) none
+
+    -- so they break the same rules of one recipe
+    pub rules_alike : (answers : SyntaxAnswers) (m : Known) (s : Settings) (c : Cause) → InOne (BreaksRecipe value answers m s) rs c → InOne (BreaksRecipe value answers m s) qs c
+    rules_alike answers m s c (in_recipe i h (of_names w)) = in_recipe i (inside i h) (of_names (read_alike answers m s i c w))
+    rules_alike answers m s c (in_recipe i h (of_values w)) = in_recipe i (inside i h) (of_values (valued_alike i c w))
+
+    pub limits_alike : (c : Cause) → InOne (IsPastLimits value) rs c → InOne (IsPastLimits value) qs c
+    limits_alike c (in_recipe i h (past_limits {at} {text} p is refused)) = in_recipe i (inside i h) (past_limits (pattern_alike i at text p) is refused)
 
   -- where paths lead to the same, the same recipes stand, and those that are led to from a recipe that stands take the same arguments, the dependencies of recipes that are alike break the same rules
   module _ (Leads Leads-2 : Namepath → Type 0) (Stands Stands-2 : Text → Type 0) (Takes Takes-2 : Namepath → ℕ → ℕ → Type 0) (leads_back : (path : Namepath) → Leads-2 path → Leads path) (stands_on : (name : Text) → Stands name → Stands-2 name)

@@ -1,19 +1,23 @@
--- Recipes with numbers are completed.
+-- Recipes with numbers and values are completed.
 use Rattle.std.proofs.Common.{◌≡◌, ◌∙◌, Bool, List, [], ◌∷◌, ◌++◌, map, length, take, drop, Option, refl, sym, ap}
 use Rattle.std.proofs.lemmas.List.{length-map}
 use Rattle.std.specs.HashMap.{get}
 use Rattle.std.specs.Str.{bytes_eq}
+use Rattle.just_ast_definitions.specs.declared.attribute.NamedAttribute.{NamedAttribute}
 use Rattle.just_ast_definitions.specs.declared.parameter.Parameter.{Parameter}
 use Rattle.just_ast_expressions.specs.declared.expression.Expression.{Expression}
+use Rattle.just_module_recipes.specs.Completed.{completed_by, value_here}
 use Rattle.just_module_recipes.specs.Completing.{IsCompleting, paths_of}
+use Rattle.just_module_recipes.specs.declared.completing.Completing.{Completing}
 use Rattle.just_names.specs.Texts.{Text}
 use Rattle.just_names.specs.declared.number.Number.{Number}
+use Rattle.just_parts.specs.Evaluator.{Evaluator}
 use Rattle.just_parts.specs.Syntax.{SyntaxAnswers}
 use Rattle.just_recipe.specs.Grouping.{grouped, share}
 use Rattle.just_recipe.specs.declared.dependency.UnresolvedDependency.{UnresolvedDependency}
 use Rattle.just_recipe.specs.declared.recipe.Recipe.{Recipe}
 use Rattle.just_recipe_names.specs.Numbered.{dependency_by, number_under, numbered_by, numbered_parameters, under}
-use Rattle.just_recipe_names.specs.declared.numbering.Meanings.{Meanings}
+use Rattle.just_recipe_values.specs.Valued.{informed, valued_named}
 
 -- arguments are grouped for parameters with numbers as for those without
 grouped_alike : {A : Type 0} (number : List Parameter → Text → Option Number) (lists : Bool) (before ps : List Parameter) (left : List A) → grouped lists (numbered_parameters number before ps) left ≡ grouped lists ps left
@@ -24,15 +28,23 @@ same_paths : (by : Expression → Expression) (ds : List UnresolvedDependency) �
 same_paths by [] = refl
 same_paths by (d ∷ ds) = ap (λ ps. d.recipe ∷ ps) (same_paths by ds)
 
-pub numbers_complete : {A : Type 0} (answers : SyntaxAnswers) (it : Meanings A) → IsCompleting (numbered_by answers it)
-numbers_complete answers it =
-    let number = number_under (get bytes_eq it.bindings.now) answers in
+-- and as for those that are told of by attributes
+grouped_informed : {A : Type 0} (attributes : List (NamedAttribute Expression)) (lists : Bool) (ps : List Parameter) (left : List A) → grouped lists (map (informed attributes) ps) left ≡ grouped lists ps left
+grouped_informed attributes lists [] left = refl
+grouped_informed attributes lists (p ∷ ps) left = ap (λ groups. take (share lists p (length left)) left ∷ groups) (grouped_informed attributes lists ps (drop (share lists p (length left)) left))
+
+pub is_completing : {S E : Type 0} (answers : SyntaxAnswers) (evaluator : Evaluator) (it : Completing S E) → IsCompleting (completed_by answers evaluator it)
+is_completing answers evaluator it =
+    let number = number_under (get bytes_eq it.meanings.bindings.now) answers in
+    let numbered = numbered_by answers it.meanings in
     record {
       name = λ r. refl;
       number = λ r. refl;
       priors = λ r. refl;
       paths = λ r. same_paths (under number r.parameters) r.dependencies;
-      grouping = λ lists r arguments. grouped_alike number lists [] r.parameters arguments;
+      grouping = λ lists r arguments.
+          grouped_informed (map (valued_named (value_here answers evaluator it)) (numbered r).attributes) lists (numbered r).parameters arguments
+          ∙ grouped_alike number lists [] r.parameters arguments;
     }
 
 -- what is completed has as many dependencies

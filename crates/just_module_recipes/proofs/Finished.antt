@@ -8,7 +8,7 @@ use Rattle.just_graph.proofs.Members.{In, all_in, contained, is_in}
 use Rattle.just_graph.specs.Steps.{IsOnce}
 use Rattle.just_module_contents.specs.Recipes.{name_of, names_of, no_recipe, recipe_at}
 use Rattle.just_module_contents.specs.Resolved.{AreNew, HasPriors, path_to, unresolved_numbers}
-use Rattle.just_module_recipes.specs.Completing.{IsCompleting}
+use Rattle.just_module_recipes.specs.Completing.{IsCompleting, StandBeside, completion}
 use Rattle.just_module_recipes.specs.Linked.{AddsLinked, AreSettled, HasNumber, IsLinked, IsMadeAt, IsMadeOf, of_far, of_near}
 use Rattle.just_module_recipes.specs.Links.{Around, Stands, by_recipe}
 use Rattle.just_module_recipes.specs.Making.{AreAllThere, AreExact, IsThere, link_of, links_of, made, parameters_in}
@@ -24,6 +24,7 @@ use Rattle.just_module_recipes.proofs.Zipped.{zip_back, zip_length, zip_paths}
 use Rattle.just_names.specs.Index.{AreDifferent}
 use Rattle.just_names.specs.Name.{text_of_name}
 use Rattle.just_names.specs.declared.name.Name.{Name}
+use Rattle.just_names.specs.declared.number.Number.{Number}
 use Rattle.just_paths.specs.declared.modulepath.Modulepath.{Modulepath}
 use Rattle.just_recipe.specs.Grouping.{grouped}
 use Rattle.just_recipe.specs.Recipes.{IsResolved, find_number}
@@ -68,16 +69,16 @@ module _ (rs : List (Recipe UnresolvedDependency)) (it : Around) (sets : List (B
       pub are_all_there : AreAllThere rs it.held rows sets
       are_all_there k h e = all_in (IsThere rs it.held) (get_or rows k []) (λ t c. is_there k (omega (arith, are.count)) e t (contained t (get_or rows k []) c))
 
-    module _ (by : Recipe UnresolvedDependency → Recipe UnresolvedDependency) (completes : IsCompleting by) (lists : Bool) (path : Modulepath) (once : IsOnce (unresolved_numbers rs)) (priors : All HasPriors rs) (apart : AreNew it.held rs) (order : List ℕ) (o : IsOrderOf rows order) (there : AreAllThere rs it.held rows sets) where
+    module _ (by : Recipe UnresolvedDependency → Recipe UnresolvedDependency) (completes : IsCompleting by) (needed : List (List Number)) (lists : Bool) (path : Modulepath) (once : IsOnce (unresolved_numbers rs)) (priors : All HasPriors rs) (apart : AreNew it.held rs) (order : List ℕ) (o : IsOrderOf rows order) (there : AreAllThere rs it.held rows sets) where
       abbrev all : List (Recipe Dependency)
-      all = it.held ++ made by lists rs it.held path rows sets order
+      all = it.held ++ made by needed lists rs it.held path rows sets order
 
-      is_linked : (d : UnresolvedDependency) (t : Target) → IsTarget rs it d.recipe t → IsThere rs it.held t → ((j : ℕ) → t ≡ Near j → keys_at sets j ≡ []) → IsLinked (Stands rs it) (HasNumber rs it) by lists all d (link_of lists rs it.held d t)
+      is_linked : (d : UnresolvedDependency) (t : Target) → IsTarget rs it d.recipe t → IsThere rs it.held t → ((j : ℕ) → t ≡ Near j → keys_at sets j ≡ []) → IsLinked (Stands rs it) (HasNumber rs it) (completion by (StandBeside rs needed)) lists all d (link_of lists rs it.held d t)
       is_linked d (Near j) n h e = record {
         path = refl;
         number = of_near j n refl;
-        target = at_place by completes lists rs path rows sets it.held j;
-        held = found_made by completes lists rs path rows sets it.held once apart order o are.count j h (e j refl);
+        target = at_place by completes needed lists rs path rows sets it.held j;
+        held = found_made by completes needed lists rs path rows sets it.held once apart order o are.count j h (e j refl);
         arguments = sym (completes.grouping lists (recipe_at rs j) d.arguments);
       }
       is_linked d (Far n) f h e =
@@ -86,15 +87,15 @@ module _ (rs : List (Recipe UnresolvedDependency)) (it : Around) (sets : List (B
             path = refl;
             number = of_far f;
             target = x.0;
-            held = number_more it.held (made by lists rs it.held path rows sets order) n.0 x.0 x.1;
+            held = number_more it.held (made by needed lists rs it.held path rows sets order) n.0 x.0 x.1;
             arguments = ap (λ r. grouped lists (parameters_in r) d.arguments) x.1;
           }
       is_linked d (Gone set) f h e = absurd h
 
-      are_linked : (ds : List UnresolvedDependency) (ts : List Target) → AllZip (IsTargetOf rs it) ds ts → ((t : Target) → In t ts → IsThere rs it.held t) → ((j : ℕ) → In (Near j) ts → keys_at sets j ≡ []) → AllZip (IsLinked (Stands rs it) (HasNumber rs it) by lists all) ds (links_of lists rs it.held ds ts)
+      are_linked : (ds : List UnresolvedDependency) (ts : List Target) → AllZip (IsTargetOf rs it) ds ts → ((t : Target) → In t ts → IsThere rs it.held t) → ((j : ℕ) → In (Near j) ts → keys_at sets j ≡ []) → AllZip (IsLinked (Stands rs it) (HasNumber rs it) (completion by (StandBeside rs needed)) lists all) ds (links_of lists rs it.held ds ts)
       are_linked [] ts a h e = nothing ts a
         where
-          nothing : (ts : List Target) → AllZip (IsTargetOf rs it) [] ts → AllZip (IsLinked (Stands rs it) (HasNumber rs it) by lists all) [] (links_of lists rs it.held [] ts)
+          nothing : (ts : List Target) → AllZip (IsTargetOf rs it) [] ts → AllZip (IsLinked (Stands rs it) (HasNumber rs it) (completion by (StandBeside rs needed)) lists all) [] (links_of lists rs it.held [] ts)
           nothing [] a = tt
           nothing (t ∷ ts) a = absurd a
       are_linked (d ∷ ds) [] a h e = absurd a
@@ -105,7 +106,7 @@ module _ (rs : List (Recipe UnresolvedDependency)) (it : Around) (sets : List (B
       rows_of i h = zip_paths (IsTarget rs it) (recipe_at rs i).dependencies (by (recipe_at rs i)).dependencies (get_or rows i []) (sym (completes.paths (recipe_at rs i))) (are.each i h)
 
       -- what is made of a recipe that stands
-      is_made : (i : ℕ) → i < length rs → keys_at sets i ≡ [] → IsMadeOf (Stands rs it) (HasNumber rs it) by lists all path (recipe_at rs i) (at_place by completes lists rs path rows sets it.held i)
+      is_made : (i : ℕ) → i < length rs → keys_at sets i ≡ [] → IsMadeOf (Stands rs it) (HasNumber rs it) (completion by (StandBeside rs needed)) lists all path (recipe_at rs i) (at_place by completes needed lists rs path rows sets it.held i)
       is_made i h e = record {
         resolved = record {
           name = refl;
@@ -118,18 +119,18 @@ module _ (rs : List (Recipe UnresolvedDependency)) (it : Around) (sets : List (B
           doc = refl;
           quiet = refl;
           shebang = refl;
-          variable_references = refl;
           file_depth = refl;
           import_offsets = refl;
           module_path = refl;
           recipe_path = ap (λ (n : Name). Some (path_to path (text_of_name n))) (sym (completes.name (recipe_at rs i)));
         };
+        references = record { place = i; there = h; recipe_is = refl; numbers_are = refl };
         dependencies = are_linked (by (recipe_at rs i)).dependencies (get_or rows i []) (rows_of i h)
             (λ t k. All-contains (IsThere rs it.held) (get_or rows i []) t (there i (omega (arith, are.count)) e) (contained t (get_or rows i []) k))
             (λ j k. near_empty i j h e (contained (Near j) (get_or rows i []) k));
       }
 
-      is_made_at : (i : ℕ) → i < length rs → keys_at sets i ≡ [] → IsMadeAt (Stands rs it) (HasNumber rs it) by lists all rs path i (at_place by completes lists rs path rows sets it.held i)
+      is_made_at : (i : ℕ) → i < length rs → keys_at sets i ≡ [] → IsMadeAt (Stands rs it) (HasNumber rs it) (completion by (StandBeside rs needed)) lists all rs path i (at_place by completes needed lists rs path rows sets it.held i)
       is_made_at i h e = record { there = h; stands = empty_stands i h e; made_of = is_made i h e }
 
       place_below : (i : ℕ) → In i order → i < length rs
@@ -139,7 +140,7 @@ module _ (rs : List (Recipe UnresolvedDependency)) (it : Around) (sets : List (B
           let is : slice_index order c.0 ≡ i = get_or_default order c.0 0 i c.1 ∙ c.2 in
           omega (arith, are.count)
 
-      is_resolved : (i : ℕ) → i < length rs → IsResolved (at_place by completes lists rs path rows sets it.held i)
+      is_resolved : (i : ℕ) → i < length rs → IsResolved (at_place by completes needed lists rs path rows sets it.held i)
       is_resolved i h = record {
         path = refl;
         priors =
@@ -149,19 +150,19 @@ module _ (rs : List (Recipe UnresolvedDependency)) (it : Around) (sets : List (B
             omega (arith, few, many, row, completes.priors (recipe_at rs i), links_length lists rs it.held (by (recipe_at rs i)).dependencies (get_or rows i []) row);
       }
 
-      pub adds_linked : (new : List (Recipe Dependency)) → new ≡ all → AddsLinked by lists rs it path new
-      adds_linked new e = subst (AddsLinked by lists rs it path) (sym e) (record {
-        added = made by lists rs it.held path rows sets order;
+      pub adds_linked : (new : List (Recipe Dependency)) → new ≡ all → AddsLinked (completion by (StandBeside rs needed)) lists rs it path new
+      adds_linked new e = subst (AddsLinked (completion by (StandBeside rs needed)) lists rs it path) (sym e) (record {
+        added = made by needed lists rs it.held path rows sets order;
         appended = refl;
         linked = record {
           each = λ i h s.
               let f = stands_empty i h s in
-              (at_place by completes lists rs path rows sets it.held i, ap (find_number all) (number_of_place rs i h) ∙ found_made by completes lists rs path rows sets it.held once apart order o are.count i h f, is_made_at i h f);
+              (at_place by completes needed lists rs path rows sets it.held i, ap (find_number all) (number_of_place rs i h) ∙ found_made by completes needed lists rs path rows sets it.held once apart order o are.count i h f, is_made_at i h f);
           only = λ x c.
-              let f = from_made by completes lists rs path rows sets it.held order x (is_in x (made by lists rs it.held path rows sets order) c) in
-              (f.0, subst (IsMadeAt (Stands rs it) (HasNumber rs it) by lists all rs path f.0) (sym f.3) (is_made_at f.0 (place_below f.0 f.1) f.2));
-          resolved = all_in IsResolved (made by lists rs it.held path rows sets order) (λ x m.
-              let f = from_made by completes lists rs path rows sets it.held order x m in
+              let f = from_made by completes needed lists rs path rows sets it.held order x (is_in x (made by needed lists rs it.held path rows sets order) c) in
+              (f.0, subst (IsMadeAt (Stands rs it) (HasNumber rs it) (completion by (StandBeside rs needed)) lists all rs path f.0) (sym f.3) (is_made_at f.0 (place_below f.0 f.1) f.2));
+          resolved = all_in IsResolved (made by needed lists rs it.held path rows sets order) (λ x m.
+              let f = from_made by completes needed lists rs path rows sets it.held order x m in
               subst IsResolved (sym f.3) (is_resolved f.0 (place_below f.0 f.1)));
         };
       })

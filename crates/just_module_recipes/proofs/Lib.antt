@@ -20,3 +20,5 @@ pub mod Splits
 pub mod Steps
 pub mod Zipped
 mod Completed
+mod NumberedValues
+mod OwnRules

@@ -52,9 +52,9 @@ links_numbers lists rs held (d ∷ ds) [] e = absurd (omega arith)
 links_numbers lists rs held (d ∷ ds) (t ∷ ts) e = ap (λ ns. (number_of rs t).0 ∷ ns) (links_numbers lists rs held ds ts (omega arith))
 
 -- what a recipe that is made needs
-pub needs_made : (by : Recipe UnresolvedDependency → Recipe UnresolvedDependency) (lists : Bool) (rs : List (Recipe UnresolvedDependency)) (held : List (Recipe Dependency)) (path : Modulepath) (r : Recipe UnresolvedDependency) (row : List Target) (m : Recipe Dependency) → m ≡ made_of by lists rs held path r row → length row ≡ length (by r).dependencies
+pub needs_made : (by : Recipe UnresolvedDependency → Recipe UnresolvedDependency) (needed : List (List Number)) (lists : Bool) (rs : List (Recipe UnresolvedDependency)) (held : List (Recipe Dependency)) (path : Modulepath) (r : Recipe UnresolvedDependency) (has : List Number) (row : List Target) (m : Recipe Dependency) → m ≡ made_of by needed lists rs held path r has row → length row ≡ length (by r).dependencies
     → All (λ t. Contains (numbers held) (number_of rs t).0) row → All (Contains (numbers held)) (needs m)
-needs_made by lists rs held path r row m e count all =
+needs_made by needed lists rs held path r has row m e count all =
     let is : needs m ≡ map (λ t. (number_of rs t).0) row = ap needs e ∙ links_numbers lists rs held (by r).dependencies row count in
     subst (All (Contains (numbers held))) (sym is) (all_in (Contains (numbers held)) (map (λ t. (number_of rs t).0) row) (λ n h.
     let t = from_map (λ t. (number_of rs t).0) n row h in
@@ -75,29 +75,29 @@ link_next lists rs held ds ts at d t hd ht ed et link old new o l n =
     ∙ (sym (links_push lists rs held (take at ds) (take at ts) d t same)
     ∙ (ap (λ xs. links_of lists rs held xs (take at ts ++ t ∷ [])) (sym (taken ds at d hd ed)) ∙ ap (links_of lists rs held (take (at + 1) ds)) (sym (taken ts at t ht et))))))
 
-module _ (by : Recipe UnresolvedDependency → Recipe UnresolvedDependency) (completes : IsCompleting by) (lists : Bool) (rs : List (Recipe UnresolvedDependency)) (path : Modulepath) (rows : List (List Target)) (sets : List (BTreeSet Modulepath)) (old : List (Recipe Dependency)) where
+module _ (by : Recipe UnresolvedDependency → Recipe UnresolvedDependency) (completes : IsCompleting by) (needed : List (List Number)) (lists : Bool) (rs : List (Recipe UnresolvedDependency)) (path : Modulepath) (rows : List (List Target)) (sets : List (BTreeSet Modulepath)) (old : List (Recipe Dependency)) where
   -- what is made of the recipe at a place, where it is made
   abbrev pub at_place : ℕ → Recipe Dependency
-  at_place i = made_of by lists rs old path (recipe_at rs i) (get_or rows i [])
+  at_place i = made_of by needed lists rs old path (recipe_at rs i) (get_or needed i []) (get_or rows i [])
 
-  into_settled : (i : ℕ) (set : List Modulepath) → set ≡ [] → In (at_place i) (settled_of by lists rs old path (get_or rows i []) set i)
+  into_settled : (i : ℕ) (set : List Modulepath) → set ≡ [] → In (at_place i) (settled_of by needed lists rs old path (get_or rows i []) set i)
   into_settled i [] e = inl refl
   into_settled i (p ∷ ps) e = absurd (cc)
 
-  from_settled : (i : ℕ) (x : Recipe Dependency) (set : List Modulepath) → In x (settled_of by lists rs old path (get_or rows i []) set i) → (set ≡ []) × (x ≡ at_place i)
+  from_settled : (i : ℕ) (x : Recipe Dependency) (set : List Modulepath) → In x (settled_of by needed lists rs old path (get_or rows i []) set i) → (set ≡ []) × (x ≡ at_place i)
   from_settled i x [] (inl e) = (refl, e)
   from_settled i x [] (inr h) = absurd h
   from_settled i x (p ∷ ps) h = absurd h
 
   -- a recipe that is made is made of a place of the order
-  pub from_made : (order : List ℕ) (x : Recipe Dependency) → In x (made by lists rs old path rows sets order) → (i : ℕ) × In i order × (keys_at sets i ≡ []) × (x ≡ at_place i)
+  pub from_made : (order : List ℕ) (x : Recipe Dependency) → In x (made by needed lists rs old path rows sets order) → (i : ℕ) × In i order × (keys_at sets i ≡ []) × (x ≡ at_place i)
   from_made order x h =
-      let f = from_flat (λ k. settled_of by lists rs old path (get_or rows k []) (keys_at sets k) k) x order h in
+      let f = from_flat (λ k. settled_of by needed lists rs old path (get_or rows k []) (keys_at sets k) k) x order h in
       let g = from_settled f.0 x (keys_at sets f.0) f.2 in
       (f.0, f.1, g.0, g.1)
 
-  into_made : (order : List ℕ) (i : ℕ) → In i order → keys_at sets i ≡ [] → In (at_place i) (made by lists rs old path rows sets order)
-  into_made order i h e = in_flat (λ k. settled_of by lists rs old path (get_or rows k []) (keys_at sets k) k) (at_place i) i order h (into_settled i (keys_at sets i) e)
+  into_made : (order : List ℕ) (i : ℕ) → In i order → keys_at sets i ≡ [] → In (at_place i) (made by needed lists rs old path rows sets order)
+  into_made order i h e = in_flat (λ k. settled_of by needed lists rs old path (get_or rows k []) (keys_at sets k) k) (at_place i) i order h (into_settled i (keys_at sets i) e)
 
   number_made : (i : ℕ) (x : Recipe Dependency) → x ≡ at_place i → x.number.0 ≡ (recipe_at rs i).number.0
   number_made i x e = ap (λ (r : Recipe Dependency). r.number.0) e ∙ ap (λ (n : Number). n.0) (completes.number (recipe_at rs i))
@@ -131,9 +131,9 @@ module _ (by : Recipe UnresolvedDependency → Recipe UnresolvedDependency) (com
           omega (arith, many)
 
       -- the recipe of a place is found under its number
-      pub found_made : (i : ℕ) → i < length rs → keys_at sets i ≡ [] → find_number (old ++ made by lists rs old path rows sets order) (recipe_at rs i).number.0 ≡ Some (at_place i)
+      pub found_made : (i : ℕ) → i < length rs → keys_at sets i ≡ [] → find_number (old ++ made by needed lists rs old path rows sets order) (recipe_at rs i).number.0 ≡ Some (at_place i)
       found_made i h e =
-          let all : List (Recipe Dependency) = made by lists rs old path rows sets order in
+          let all : List (Recipe Dependency) = made by needed lists rs old path rows sets order in
           let there : In (at_place i) (old ++ all) = in_right (at_place i) old all (into_made order i (is_in i order (o.all i (omega (arith, many)))) e) in
           number_unique (old ++ all) (recipe_at rs i).number.0 (at_place i) there (number_made i (at_place i) refl) (λ y m n.
           elim (in_cases y old all m) [
@@ -145,9 +145,9 @@ module _ (by : Recipe UnresolvedDependency → Recipe UnresolvedDependency) (com
           ])
 
       -- the number of the next of an order is new
-      pub is_new : (n : ℕ) → n < length order → (new : List (Recipe Dependency)) → new ≡ old ++ made by lists rs old path rows sets (take n order) → IsNew new (recipe_at rs (slice_index order n)).number.0
+      pub is_new : (n : ℕ) → n < length order → (new : List (Recipe Dependency)) → new ≡ old ++ made by needed lists rs old path rows sets (take n order) → IsNew new (recipe_at rs (slice_index order n)).number.0
       is_new n h new e c =
-          let all : List (Recipe Dependency) = made by lists rs old path rows sets (take n order) in
+          let all : List (Recipe Dependency) = made by needed lists rs old path rows sets (take n order) in
           let place : ℕ = slice_index order n in
           let below : place < length rs = omega (arith, o.below n h, many) in
           let f = from_map (λ (r : Recipe Dependency). r.number.0) (recipe_at rs place).number.0 (old ++ all) (is_in (recipe_at rs place).number.0 (numbers (old ++ all)) (subst (λ xs. Contains (numbers xs) (recipe_at rs place).number.0) e c)) in
@@ -169,7 +169,7 @@ module _ (by : Recipe UnresolvedDependency → Recipe UnresolvedDependency) (com
           | inr (p, m) ↦ absurd (none_in (keys_at sets i) p e ((bars i h p).1 (through j c ((bars j (o.inside i j h (near_has (get_or rows i []) j c)) p).0 m))))
         ]
 
-        module _ (n : ℕ) (h : n < length order) (new : List (Recipe Dependency)) (s : SoFar by lists rs path rows sets order n old new) where
+        module _ (n : ℕ) (h : n < length order) (new : List (Recipe Dependency)) (s : SoFar by needed lists rs path rows sets order n old new) where
           -- its numbers are held
           number_held : (t : Target) → keys_at sets (slice_index order n) ≡ [] → Contains (get_or rows (slice_index order n) []) t → Contains (numbers new) (number_of rs t).0
           number_held (Near j) e c =
@@ -179,7 +179,7 @@ module _ (by : Recipe UnresolvedDependency → Recipe UnresolvedDependency) (com
               subst (λ x. Contains (numbers new) (recipe_at rs x).number.0) b.2 (s.held b.0 b.1 f)
           number_held (Far m) e c =
               let is : IsSome (find_number old m.0) = All-contains (IsThere rs old) (get_or rows (slice_index order n) []) (Far m) (there (slice_index order n) (o.below n h) e) c in
-              subst (λ xs. Contains (numbers xs) m.0) (sym s.new_is) (held_more old (made by lists rs old path rows sets (take n order)) m.0 (held_there old m.0 is))
+              subst (λ xs. Contains (numbers xs) m.0) (sym s.new_is) (held_more old (made by needed lists rs old path rows sets (take n order)) m.0 (held_there old m.0 is))
           number_held (Gone set) e c = absurd (All-contains (IsThere rs old) (get_or rows (slice_index order n) []) (Gone set) (there (slice_index order n) (o.below n h) e) c)
 
           pub numbers_held : keys_at sets (slice_index order n) ≡ [] → All (λ t. Contains (numbers new) (number_of rs t).0) (get_or rows (slice_index order n) [])
@@ -193,33 +193,33 @@ module _ (by : Recipe UnresolvedDependency → Recipe UnresolvedDependency) (com
 
           pub all_there : keys_at sets (slice_index order n) ≡ [] → All (IsThere rs new) (get_or rows (slice_index order n) [])
           all_there e = all_in (IsThere rs new) (get_or rows (slice_index order n) []) (λ t k.
-              subst (λ xs. IsThere rs xs t) (sym s.new_is) (there_more (made by lists rs old path rows sets (take n order)) t (All-contains (IsThere rs old) (get_or rows (slice_index order n) []) t (there (slice_index order n) (o.below n h) e) (contained t (get_or rows (slice_index order n) []) k))))
+              subst (λ xs. IsThere rs xs t) (sym s.new_is) (there_more (made by needed lists rs old path rows sets (take n order)) t (All-contains (IsThere rs old) (get_or rows (slice_index order n) []) t (there (slice_index order n) (o.below n h) e) (contained t (get_or rows (slice_index order n) []) k))))
 
-          settled_more : (ys : List (Recipe Dependency)) (set : List Modulepath) → set ≡ keys_at sets (slice_index order n) → settled_of by lists rs (old ++ ys) path (get_or rows (slice_index order n) []) set (slice_index order n) ≡ settled_of by lists rs old path (get_or rows (slice_index order n) []) set (slice_index order n)
+          settled_more : (ys : List (Recipe Dependency)) (set : List Modulepath) → set ≡ keys_at sets (slice_index order n) → settled_of by needed lists rs (old ++ ys) path (get_or rows (slice_index order n) []) set (slice_index order n) ≡ settled_of by needed lists rs old path (get_or rows (slice_index order n) []) set (slice_index order n)
           settled_more ys [] e =
               let place : ℕ = slice_index order n in
               let each : (t : Target) → In t (get_or rows place []) → IsThere rs old t = (λ t k. All-contains (IsThere rs old) (get_or rows place []) t (there place (o.below n h) (sym e)) (contained t (get_or rows place []) k)) in
-              ap (λ (ls : List Dependency). resolved (by (recipe_at rs place)) ls path (path_to path (name_of (recipe_at rs place))) ∷ []) (links_more lists rs old ys (by (recipe_at rs place)).dependencies (get_or rows place []) each)
+              ap (λ (ls : List Dependency). record (resolved (by (recipe_at rs place)) ls path (path_to path (name_of (recipe_at rs place)))) { variable_references = get_or needed place [] } ∷ []) (links_more lists rs old ys (by (recipe_at rs place)).dependencies (get_or rows place []) each)
           settled_more ys (p ∷ ps) e = refl
 
-          made_is : made by lists rs old path rows sets (take (n + 1) order) ≡ made by lists rs old path rows sets (take n order) ++ settled_of by lists rs old path (get_or rows (slice_index order n) []) (keys_at sets (slice_index order n)) (slice_index order n)
+          made_is : made by needed lists rs old path rows sets (take (n + 1) order) ≡ made by needed lists rs old path rows sets (take n order) ++ settled_of by needed lists rs old path (get_or rows (slice_index order n) []) (keys_at sets (slice_index order n)) (slice_index order n)
           made_is =
-              let f : ℕ → List (Recipe Dependency) = λ x. settled_of by lists rs old path (get_or rows x []) (keys_at sets x) x in
+              let f : ℕ → List (Recipe Dependency) = λ x. settled_of by needed lists rs old path (get_or rows x []) (keys_at sets x) x in
               ap (flat_map f) (take_more order n 0 h) ∙ (flat-append f (take n order) (slice_index order n ∷ []) ∙ ap (λ ys. flat_map f (take n order) ++ ys) (append-nil (f (slice_index order n))))
 
-          held_here : (held : List (Recipe Dependency)) (set : List Modulepath) → set ≡ [] → Contains (numbers (new ++ settled_of by lists rs held path (get_or rows (slice_index order n) []) set (slice_index order n))) (recipe_at rs (slice_index order n)).number.0
+          held_here : (held : List (Recipe Dependency)) (set : List Modulepath) → set ≡ [] → Contains (numbers (new ++ settled_of by needed lists rs held path (get_or rows (slice_index order n) []) set (slice_index order n))) (recipe_at rs (slice_index order n)).number.0
           held_here held [] e =
-              let x : Recipe Dependency = made_of by lists rs held path (recipe_at rs (slice_index order n)) (get_or rows (slice_index order n) []) in
+              let x : Recipe Dependency = made_of by needed lists rs held path (recipe_at rs (slice_index order n)) (get_or needed (slice_index order n) []) (get_or rows (slice_index order n) []) in
               subst (Contains (numbers (new ++ x ∷ []))) (ap (λ (n : Number). n.0) (completes.number (recipe_at rs (slice_index order n)))) (numbers_in x (new ++ x ∷ []) (in_right x new (x ∷ []) (inl refl)))
           held_here held (p ∷ ps) e = absurd (cc)
 
-          pub so_far : (more : List (Recipe Dependency)) → more ≡ new ++ settled_of by lists rs new path (get_or rows (slice_index order n) []) (keys_at sets (slice_index order n)) (slice_index order n) → SoFar by lists rs path rows sets order (n + 1) old more
+          pub so_far : (more : List (Recipe Dependency)) → more ≡ new ++ settled_of by needed lists rs new path (get_or rows (slice_index order n) []) (keys_at sets (slice_index order n)) (slice_index order n) → SoFar by needed lists rs path rows sets order (n + 1) old more
           so_far more e =
               let place : ℕ = slice_index order n in
-              let ys : List (Recipe Dependency) = made by lists rs old path rows sets (take n order) in
-              let last : List (Recipe Dependency) = settled_of by lists rs old path (get_or rows place []) (keys_at sets place) place in
-              let same : settled_of by lists rs new path (get_or rows place []) (keys_at sets place) place ≡ last =
-              ap (λ xs. settled_of by lists rs xs path (get_or rows place []) (keys_at sets place) place) s.new_is ∙ settled_more ys (keys_at sets place) refl in
+              let ys : List (Recipe Dependency) = made by needed lists rs old path rows sets (take n order) in
+              let last : List (Recipe Dependency) = settled_of by needed lists rs old path (get_or rows place []) (keys_at sets place) place in
+              let same : settled_of by needed lists rs new path (get_or rows place []) (keys_at sets place) place ≡ last =
+              ap (λ xs. settled_of by needed lists rs xs path (get_or rows place []) (keys_at sets place) place) s.new_is ∙ settled_more ys (keys_at sets place) refl in
               let is : more ≡ new ++ last = e ∙ ap (λ xs. new ++ xs) same in
               record {
                 new_is = is ∙ (ap (λ xs. xs ++ last) s.new_is ∙ (append_assoc old ys last ∙ ap (λ xs. old ++ xs) (sym made_is)));

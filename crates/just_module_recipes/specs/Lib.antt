@@ -1,5 +1,6 @@
 pub mod Aliased
 pub mod Broken
+pub mod Completed
 pub mod Completing
 pub mod Linked
 pub mod Links

@@ -6,6 +6,7 @@ use Rattle.just_invoke.specs.declared.disabled.Disabled.{Disabled}
 use Rattle.just_invoke.specs.declared.resolution.Resolution.TheVariants as resolution
 use Rattle.just_module_contents.specs.Recipes.{name_of, recipe_at}
 use Rattle.just_module_contents.specs.Resolved.{IsResolvedAt, number_at}
+use Rattle.just_module_recipes.specs.Completing.{Completion}
 use Rattle.just_module_recipes.specs.Links.{Around, Names, Stands, found_by}
 use Rattle.just_names.specs.Texts.{Text}
 use Rattle.just_names.specs.Name.{text_of_name}
@@ -29,8 +30,8 @@ pub data HasNumber (recipes : List (Recipe UnresolvedDependency)) (it : Around) 
   of_near : (j : ℕ) → Names recipes path j → (recipe_at recipes j).number ≡ n → HasNumber recipes it path n
   of_far : found_by it path ≡ Some (resolution.Resolved n) → HasNumber recipes it path n
 
--- What recipes are linked to, where some stand, paths lead to numbers, and recipes are completed by something first.
-module _ (Stands : Text → Type 0) (HasNumber : Namepath → Number → Type 0) (by : Recipe UnresolvedDependency → Recipe UnresolvedDependency) (lists : Bool) (all : List (Recipe Dependency)) where
+-- What recipes are linked to, where some stand, paths lead to numbers, and recipes are completed first.
+module _ (Stands : Text → Type 0) (HasNumber : Namepath → Number → Type 0) (completed : Completion) (lists : Bool) (all : List (Recipe Dependency)) where
   -- A dependency is linked to one of all recipes: it has the number that its path leads to, under which that recipe is held, and its arguments are grouped for the parameters of that.
   pub record IsLinked (d : UnresolvedDependency) (made : Dependency) : Type 0 where
     pub path : made.path ≡ d.recipe
@@ -39,10 +40,11 @@ module _ (Stands : Text → Type 0) (HasNumber : Namepath → Number → Type 0)
     pub held : find_number all made.recipe.0 ≡ Some target
     pub arguments : made.arguments ≡ grouped lists target.parameters d.arguments
 
-  -- What is made of a recipe of the module at a path: it is that of the source, completed, and each of its dependencies is linked.
+  -- What is made of a recipe of the module at a path: it is that of the source, completed, with the numbers of what it needs, and each of its dependencies is linked.
   pub record IsMadeOf (path : Modulepath) (source : Recipe UnresolvedDependency) (made : Recipe Dependency) : Type 0 where
-    pub resolved : IsResolvedAt path (by source) made
-    pub dependencies : AllZip IsLinked (by source).dependencies made.dependencies
+    pub resolved : IsResolvedAt path (completed.by source) made
+    pub references : completed.Needs source made.variable_references
+    pub dependencies : AllZip IsLinked (completed.by source).dependencies made.dependencies
 
   -- the recipe at a place stands, and this is made of it
   pub record IsMadeAt (recipes : List (Recipe UnresolvedDependency)) (path : Modulepath) (i : ℕ) (made : Recipe Dependency) : Type 0 where
@@ -57,10 +59,10 @@ module _ (Stands : Text → Type 0) (HasNumber : Namepath → Number → Type 0)
     pub resolved : All IsResolved added
 
 -- The recipes that are held, and behind them those of a module, linked.
-pub record AddsLinked (by : Recipe UnresolvedDependency → Recipe UnresolvedDependency) (lists : Bool) (recipes : List (Recipe UnresolvedDependency)) (it : Around) (path : Modulepath) (all : List (Recipe Dependency)) : Type 0 where
+pub record AddsLinked (completed : Completion) (lists : Bool) (recipes : List (Recipe UnresolvedDependency)) (it : Around) (path : Modulepath) (all : List (Recipe Dependency)) : Type 0 where
   pub added : List (Recipe Dependency)
   pub appended : all ≡ it.held ++ added
-  pub linked : AreLinked (Stands recipes it) (HasNumber recipes it) by lists all recipes path added
+  pub linked : AreLinked (Stands recipes it) (HasNumber recipes it) completed lists all recipes path added
 
 -- Of recipes those that something disables, in order, each with exactly the paths that do.
 pub data AreDisabled (Disables : Text → Modulepath → Type 0) : List (Recipe UnresolvedDependency) → List Disabled → Type 0 where

@@ -1,25 +1,26 @@
 -- What the dependencies of a module's recipes lead to, over the compiled modules in it, and what is broken of them.
-use Rattle.std.specs.Prelude.{◌≡◌, ◌≢◌, ℕ, ◌<◌, Bool, List, [], ◌∷◌, length, Option, None, Some}
+use Rattle.std.specs.Prelude.{◌≡◌, ◌≢◌, ◌⊎◌, ℕ, ◌<◌, Bool, List, [], ◌∷◌, length, Option, None, Some}
 use Rattle.std.specs.BTreeSet.{BTreeSet}
 use Rattle.std.specs.List.{Contains}
 use Rattle.just_ast_definitions.specs.declared.alias.Alias.{Alias}
 use Rattle.just_ast_definitions.specs.Parameter.{least_arguments, most_arguments}
 use Rattle.just_ast_definitions.specs.declared.parameter.Parameter.{Parameter}
+use Rattle.just_ast_expressions.specs.declared.expression.Expression.{Expression}
 use Rattle.just_errors.specs.Causes.{Cause}
 use Rattle.just_invoke.specs.Walks.{resolved_module, resolved_recipe}
 use Rattle.just_invoke.specs.declared.justfile.Justfile.{Justfile, out-Justfile}
 use Rattle.just_invoke.specs.declared.resolution.Resolution.{Resolution}
 use Rattle.just_invoke.specs.declared.resolution.Resolution.TheVariants as resolution
-use Rattle.just_module_contents.specs.Constants.{Evaluated}
+use Rattle.just_module_contents.specs.Constants.{Evaluated, value_among}
 use Rattle.just_module_contents.specs.Contents.{Contents}
 use Rattle.just_module_contents.specs.Defaults.{Defaults}
 use Rattle.just_module_contents.specs.Groups.{Links, OfAliases, OfDependencies, OfRecipes}
 use Rattle.just_module_contents.specs.Kept.{kept_recipes}
 use Rattle.just_module_contents.specs.Known.{known_of}
-use Rattle.just_module_contents.specs.RecipeNames.{StandingNames}
+use Rattle.just_module_contents.specs.RecipeValues.{BreaksRecipe, IsPastLimits}
 use Rattle.just_module_contents.specs.Recipes.{DependsOn, name_of, recipe_at}
 use Rattle.just_module_contents.specs.Rules.{Aliases, Dependencies, DependsBy}
-use Rattle.just_module_contents.specs.Standing.{AreStanding}
+use Rattle.just_module_contents.specs.Standing.{AreStanding, InStanding}
 use Rattle.just_names.specs.Name.{texts_of_path}
 use Rattle.just_names.specs.Texts.{Text}
 use Rattle.just_names.specs.declared.name.Namepath.{Namepath}
@@ -83,9 +84,18 @@ pub record Takes (lists : Bool) (recipes : List (Recipe UnresolvedDependency)) (
 abbrev pub BreaksLinks : Bool → List (Recipe UnresolvedDependency) → Around → Cause → Type 0
 BreaksLinks lists recipes it = Dependencies (Leads recipes it) (Stands recipes it) (Takes lists recipes it) lists recipes
 
--- a name is at fault in what one of a module's kept recipes reads that stands
-abbrev pub BreaksRecipeNames : Layers → Evaluated → Contents → Around → Cause → Type 0
-BreaksRecipeNames layers evaluated m it = StandingNames (Stands (kept_recipes m.recipes) it) layers.syntax (known_of layers.syntax m) evaluated.settings (kept_recipes m.recipes)
+-- the value of an expression among the constants of a module
+abbrev pub value_by : Layers → Evaluated → Contents → Expression → Option (List Text)
+value_by layers evaluated m = value_among layers.evaluator m evaluated.constants
+
+-- a rule of one recipe is broken by one of a module's kept recipes that stands
+abbrev pub BreaksStanding : Layers → Evaluated → Contents → Around → Cause → Type 0
+BreaksStanding layers evaluated m it =
+    InStanding (Stands (kept_recipes m.recipes) it) (BreaksRecipe (value_by layers evaluated m) layers.syntax (known_of layers.syntax m) evaluated.settings) (kept_recipes m.recipes)
+
+-- a pattern of one of these is past the size or the nesting that regular expressions may have
+abbrev pub IsPastLimitsBy : Layers → Evaluated → Contents → Around → Cause → Type 0
+IsPastLimitsBy layers evaluated m it = InStanding (Stands (kept_recipes m.recipes) it) (IsPastLimits (value_by layers evaluated m)) (kept_recipes m.recipes)
 
 -- The target of an alias leads to a module, or to a recipe.
 pub data HasTarget (recipes : List (Recipe UnresolvedDependency)) (it : Around) (path : Namepath) : Type 0 where
@@ -100,6 +110,11 @@ pub data BreaksAliases (recipes : List (Recipe UnresolvedDependency)) (aliases :
 -- what is broken of the last groups
 abbrev pub links_by : Contents → Around → Links
 links_by m it layers evaluated OfDependencies = BreaksLinks evaluated.settings.lists (kept_recipes m.recipes) it
-links_by m it layers evaluated OfRecipes = BreaksRecipeNames layers evaluated m it
+links_by m it layers evaluated OfRecipes = BreaksStanding layers evaluated m it
 links_by m it layers evaluated OfAliases = BreaksAliases (kept_recipes m.recipes) m.aliases it
 links_by m it layers evaluated _ = λ c. ⊥
+
+-- what an error may tell of them: what is broken, or a pattern that is past those limits
+abbrev pub told_by : Contents → Around → Links
+told_by m it layers evaluated OfRecipes = λ c. BreaksStanding layers evaluated m it c ⊎ IsPastLimitsBy layers evaluated m it c
+told_by m it layers evaluated g = links_by m it layers evaluated g

@@ -72,15 +72,15 @@ module _ (lists : Bool) (recipes : List (Recipe UnresolvedDependency)) (held : L
   links_of (d ∷ ds) [] = []
   links_of (d ∷ ds) (t ∷ ts) = link_of d t ∷ links_of ds ts
 
--- what recipes are completed by
-module _ (by : Recipe UnresolvedDependency → Recipe UnresolvedDependency) (lists : Bool) (recipes : List (Recipe UnresolvedDependency)) (held : List (Recipe Dependency)) where
+-- what recipes are completed by, with the numbers of what each needs
+module _ (by : Recipe UnresolvedDependency → Recipe UnresolvedDependency) (needed : List (List Number)) (lists : Bool) (recipes : List (Recipe UnresolvedDependency)) (held : List (Recipe Dependency)) where
   -- what is made of a recipe
-  abbrev pub made_of : Modulepath → Recipe UnresolvedDependency → List Target → Recipe Dependency
-  made_of path r row = resolved (by r) (links_of lists recipes held (by r).dependencies row) path (path_to path (name_of r))
+  abbrev pub made_of : Modulepath → Recipe UnresolvedDependency → List Number → List Target → Recipe Dependency
+  made_of path r numbers row = record (resolved (by r) (links_of lists recipes held (by r).dependencies row) path (path_to path (name_of r))) { variable_references = numbers }
 
   -- the same where no path disables it
   abbrev pub settled_of : Modulepath → List Target → List Modulepath → ℕ → List (Recipe Dependency)
-  settled_of path row [] i = made_of path (recipe_at recipes i) row ∷ []
+  settled_of path row [] i = made_of path (recipe_at recipes i) (get_or needed i []) row ∷ []
   settled_of path row (p ∷ ps) i = []
 
   -- what is made of an order
@@ -92,8 +92,8 @@ abbrev pub AreAllThere : List (Recipe UnresolvedDependency) → List (Recipe Dep
 AreAllThere recipes held rows sets = (k : ℕ) → k < length rows → keys_at sets k ≡ [] → All (IsThere recipes held) (get_or rows k [])
 
 -- What is made so far, of the first n of an order.
-pub record SoFar (by : Recipe UnresolvedDependency → Recipe UnresolvedDependency) (lists : Bool) (recipes : List (Recipe UnresolvedDependency)) (path : Modulepath) (rows : List (List Target)) (sets : List (BTreeSet Modulepath)) (order : List ℕ) (n : ℕ) (old new : List (Recipe Dependency)) : Type 0 where
-  pub new_is : new ≡ old ++ made by lists recipes old path rows sets (take n order)
+pub record SoFar (by : Recipe UnresolvedDependency → Recipe UnresolvedDependency) (needed : List (List Number)) (lists : Bool) (recipes : List (Recipe UnresolvedDependency)) (path : Modulepath) (rows : List (List Target)) (sets : List (BTreeSet Modulepath)) (order : List ℕ) (n : ℕ) (old new : List (Recipe Dependency)) : Type 0 where
+  pub new_is : new ≡ old ++ made by needed lists recipes old path rows sets (take n order)
   pub held : (k : ℕ) → k < n → keys_at sets (slice_index order k) ≡ [] → Contains (numbers new) (recipe_at recipes (slice_index order k)).number.0
 
 -- the recipes that nothing disables, and the others with what disables them

@@ -5,6 +5,7 @@
 pub mod aliases;
 mod bodies;
 mod chosen;
+mod completing;
 mod counts;
 mod links;
 mod marked;
@@ -17,4 +18,5 @@ mod targets;
 pub use aliases::resolve_aliases;
 pub use bodies::{check_bodies, index_recipes};
 pub use chosen::default_of;
+pub use completing::Completing;
 pub use links::{Linked, link};

@@ -8,16 +8,17 @@ ghost use Rattle.just_invoke.specs.Walks.{AreOrdered};
 ghost use Rattle.just_module_contents.specs.Definitions.{recipes_in};
 ghost use Rattle.just_module_contents.specs.Recipes.{names_of};
 ghost use Rattle.just_module_contents.specs.Resolved.{AreNew, HasPriors, unresolved_numbers};
-ghost use Rattle.just_module_contents.specs.Standing.{AreStanding};
+ghost use Rattle.just_module_contents.specs.Standing.{AreStanding, InStanding};
+ghost use Rattle.just_module_recipes.specs.Completed.{BreaksOne, CoversRecipes, TellsLinks, TellsOne, completion_of};
 ghost use Rattle.just_module_recipes.specs.Linked.{AddsLinked, AreSettled, HasDisabled};
 ghost use Rattle.just_module_recipes.specs.Links.{BreaksLinks, Disables, Stands, around};
 ghost use Rattle.just_module_recipes.specs.Making.{fallen, fallen_by, standing, standing_by};
 ghost use Rattle.just_module_recipes.specs.Planned.{IsPlan};
 ghost use Rattle.just_module_recipes.specs.Rows.{around_by};
 ghost use Rattle.just_names.specs.Index.{AreDifferent};
-ghost use Rattle.just_recipe_names.specs.Numbered.{numbered_by};
 
 use crate::bodies::index_recipes;
+use crate::completing::Completing;
 use crate::counts::check_counts;
 use crate::merging::merge;
 use crate::recipe_order::ordered;
@@ -28,9 +29,8 @@ use just_execution::Recipes;
 use just_invoke::{Disabled, Justfile};
 use just_module_contents::definitions::Definitions;
 use just_parts::UnresolvedRecipe;
-use just_parts::layers::{Error, Settings, Syntax};
+use just_parts::layers::{Error, Evaluation, Settings, Syntax};
 use just_paths::Modulepath;
-use just_recipe_names::Meanings;
 use just_table::Table;
 use std::alloc::{AllocError, Global};
 use std::collections::BTreeSet;
@@ -129,14 +129,16 @@ pub struct Linked<'src, 'a> {
 }
 
 /// Links the kept recipes of the module at `module_path`, of which the paths lead through these absent modules and these
-/// modules in it: those that nothing disables get the numbers of what the names in them mean, are resolved, and are put
-/// behind the recipes that are resolved so far. An error names a rule that is broken, and the recipes are dropped then.
+/// modules in it: those that nothing disables are completed and resolved, and are put behind the recipes that are resolved so
+/// far. An error names a rule that is broken, of what they depend on or of one of those that nothing disables, or a pattern
+/// of such a one that is past the limits of regular expressions; the recipes are dropped then.
 ///
-/// The names of the modules rise in byte order, in each module (those of a compiled module do).
-pub fn link<'a, 'm, 'src, S: Syntax>(
+/// The names of the modules rise in byte order, in each module (those of a compiled module do). For each kept recipe there
+/// are the numbers of the variables that it needs, and what its doc, helps and patterns read has a value.
+pub fn link<'a, 'm, 'src, S: Syntax, E: Evaluation>(
     alloc: Global,
     kept: &Definitions<'src, 'a>,
-    meanings: &Meanings<'m, 'src, S>,
+    completing: &Completing<'m, 'src, S, E>,
     module_path: &Modulepath,
     absent: &Table<'src, BorrowedText<'src>>,
     modules: &[Justfile<'src>],
@@ -148,29 +150,37 @@ pub fn link<'a, 'm, 'src, S: Syntax>(
     requires apart { AreNew recipes (recipes_in kept.now) }
     requires ordered { AreOrdered modules.now }
     requires settled { AreSettled (around absent.now modules.now recipes) }
+    requires references { length completing.now.references.now ≡ length kept.now.recipes.items }
+    requires covered { CoversRecipes completing.now (recipes_in kept.now) }
     ensures kept { let it = around absent.now modules.now recipes.entry in
-        IfOk result (λ _. Keeps (BreaksLinks meanings.now.settings.now.lists (recipes_in kept.now) it)) }
+        IfOk result (λ _. Keeps (BreaksLinks completing.now.meanings.settings.now.lists (recipes_in kept.now) it)) }
+    ensures own { let it = completing.now in
+        let rule = BreaksOne (S.answers it.meanings.syntax.now) (E.answers it.among.evaluation.now) it in
+        let stands = Stands (recipes_in kept.now) (around absent.now modules.now recipes.entry) in
+        IfOk result (λ _. Keeps (InStanding stands rule (recipes_in kept.now))) }
     ensures standing { let it = around absent.now modules.now recipes.entry in
         IfOk result (λ made. AreStanding (Stands (recipes_in kept.now) it) (recipes_in kept.now) (recipes_in made.standing)) }
     ensures disabled { let it = around absent.now modules.now recipes.entry in
         IfOk result (λ made. HasDisabled (Disables (recipes_in kept.now) it) (recipes_in kept.now) made.disabled) }
-    ensures linked { let it = around absent.now modules.now recipes.entry in
-        let by = numbered_by (S.answers meanings.now.syntax.now) meanings.now in
-        let adds = AddsLinked by meanings.now.settings.now.lists (recipes_in kept.now) it module_path.now in
-        IfOk result (λ made. adds made.all) }
-    ensures named { let it = around absent.now modules.now recipes.entry in
-        IfErr result (Reports (BreaksLinks meanings.now.settings.now.lists (recipes_in kept.now) it)) }
+    ensures linked { let it = completing.now in
+        let done = completion_of (S.answers it.meanings.syntax.now) (E.answers it.among.evaluation.now) it (recipes_in kept.now) in
+        let adds = AddsLinked done it.meanings.settings.now.lists (recipes_in kept.now) (around absent.now modules.now recipes.entry) in
+        IfOk result (λ made. adds module_path.now made.all) }
+    ensures named { let it = completing.now in
+        let tells = TellsOne (S.answers it.meanings.syntax.now) (E.answers it.among.evaluation.now) it in
+        let around = around absent.now modules.now recipes.entry in
+        IfErr result (Reports (TellsLinks it.meanings.settings.now.lists tells (recipes_in kept.now) around)) }
 {
     let it = &Surroundings {
         absent,
         modules,
         recipes: &recipes,
     };
-    let Plan { rows, order, sets } = make_plan(alloc, kept, meanings.settings, it)?;
+    let Plan { rows, order, sets } = make_plan(alloc, kept, completing.meanings.settings, it)?;
     let all = resolve(
         alloc,
         kept,
-        meanings,
+        completing,
         module_path,
         rows.as_slice(),
         order.as_slice(),

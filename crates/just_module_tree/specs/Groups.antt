@@ -2,7 +2,7 @@
 use Rattle.std.specs.Prelude.{◌≢◌, [], ◌∷◌}
 use Rattle.just_errors.specs.Causes.{Cause}
 use Rattle.just_parts.specs.Layers.{Given, layers_at}
-use Rattle.just_module_contents.specs.Groups.{Breaks, Group, KeepsBefore, KeepsContents, rank}
+use Rattle.just_module_contents.specs.Groups.{Breaks, Group, KeepsBefore, KeepsContents, Links, rank}
 use Rattle.just_module_headers.specs.Reading.{Reading}
 use Rattle.just_module_tree.specs.Modules.{Module, Heading, Forest, Empty, Tree, AreModules, HasModule, IsHeading, contents_of, path_of}
 use Rattle.just_module_tree.specs.Standing.{links_in}
@@ -20,7 +20,7 @@ pub record HasGround (given : Given) (g : Group) (m : Module) (inside : Forest) 
   pub earlier : KeepsBefore (layers_at given (path_of m)) (links_in m inside) g (contents_of m)
   pub below : rank g ≢ 0 → KeepsModules given inside
 
--- What is broken in a module that is reached from the root's.
-pub data NamesModules (given : Given) (R : Reading) (root : Heading) : Cause → Type 0 where
+-- What is broken in a module that is reached from the root's, or what else is told there of its last groups.
+pub data NamesModules (told : Module → Forest → Links) (given : Given) (R : Reading) (root : Heading) : Cause → Type 0 where
   in_module : {c : Cause} {h : Heading} {m : Module} {inside : Forest} (g : Group) → IsHeading R root h → AreModules R (h ∷ []) (Tree m inside Empty)
-      → HasGround given g m inside → Breaks (layers_at given (path_of m)) (links_in m inside) g (contents_of m) c → NamesModules given R root c
+      → HasGround given g m inside → Breaks (layers_at given (path_of m)) (told m inside) g (contents_of m) c → NamesModules told given R root c

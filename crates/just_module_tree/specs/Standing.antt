@@ -1,18 +1,19 @@
 -- Where paths lead in a tree of modules, which recipes stand in it, and what is broken of what they depend on.
-use Rattle.std.specs.Prelude.{◌≡◌, ◌≢◌, ℕ, ◌<◌, Bool, false, List, [], ◌∷◌, map, flat_map, length, Option, None, Some, if◌then◌else◌}
+use Rattle.std.specs.Prelude.{◌≡◌, ◌≢◌, ◌⊎◌, ℕ, ◌<◌, Bool, false, List, [], ◌∷◌, map, flat_map, length, Option, None, Some, if◌then◌else◌}
 use Rattle.std.specs.List.{Contains, list_any}
 use Rattle.std.specs.Str.{bytes_eq}
+use Rattle.just_ast_expressions.specs.declared.expression.Expression.{Expression}
 use Rattle.just_errors.specs.Causes.{Cause}
 use Rattle.just_module_contents.specs.Defaults.{Defaults}
-use Rattle.just_module_contents.specs.Constants.{Evaluated}
+use Rattle.just_module_contents.specs.Constants.{Evaluated, value_among}
 use Rattle.just_module_contents.specs.Groups.{Links, OfAliases, OfDependencies, OfRecipes}
 use Rattle.just_module_contents.specs.Kept.{kept_recipes}
 use Rattle.just_module_contents.specs.Known.{known_of}
 use Rattle.just_module_contents.specs.Notes.{absent_by}
-use Rattle.just_module_contents.specs.RecipeNames.{StandingNames}
+use Rattle.just_module_contents.specs.RecipeValues.{BreaksRecipe, IsPastLimits}
 use Rattle.just_module_contents.specs.Recipes.{least_of, most_of, name_of, names_of, recipe_at}
 use Rattle.just_module_contents.specs.Rules.{Aliases, Dependencies, DependsBy}
-use Rattle.just_module_contents.specs.Standing.{AreStanding}
+use Rattle.just_module_contents.specs.Standing.{AreStanding, InStanding}
 use Rattle.just_module_tree.specs.Modules.{Empty, Forest, Module, Tree, contents_of, items_of}
 use Rattle.just_names.specs.Name.{text_if_named, text_of_name, texts_of_path}
 use Rattle.just_names.specs.Texts.{Text}
@@ -96,9 +97,17 @@ pub record TakesIn (lists : Bool) (m : Module) (inside : Forest) (path : Namepat
 abbrev pub BreaksDependencies : Bool → Module → Forest → Cause → Type 0
 BreaksDependencies lists m inside = Dependencies (LeadsSomewhere m inside) (StandsIn m inside) (TakesIn lists m inside) lists (kept_in m)
 
--- a name is at fault in what one of a module's kept recipes reads that stands
-abbrev pub BreaksRecipeNames : Layers → Evaluated → Module → Forest → Cause → Type 0
-BreaksRecipeNames layers it m inside = StandingNames (StandsIn m inside) layers.syntax (known_of layers.syntax (contents_of m)) it.settings (kept_in m)
+-- the value of an expression among the constants of a module
+abbrev pub value_in : Layers → Evaluated → Module → Expression → Option (List Text)
+value_in layers it m = value_among layers.evaluator (contents_of m) it.constants
+
+-- a rule of one recipe is broken by one of a module's kept recipes that stands
+abbrev pub BreaksStanding : Layers → Evaluated → Module → Forest → Cause → Type 0
+BreaksStanding layers it m inside = InStanding (StandsIn m inside) (BreaksRecipe (value_in layers it m) layers.syntax (known_of layers.syntax (contents_of m)) it.settings) (kept_in m)
+
+-- a pattern of one of these is past the size or the nesting that regular expressions may have
+abbrev pub IsPastLimitsIn : Layers → Evaluated → Module → Forest → Cause → Type 0
+IsPastLimitsIn layers it m inside = InStanding (StandsIn m inside) (IsPastLimits (value_in layers it m)) (kept_in m)
 
 -- The target of an alias leads to a module, to one without a file, or to a kept recipe.
 pub data HasTarget (m : Module) (inside : Forest) (path : Namepath) : Type 0 where
@@ -113,6 +122,11 @@ pub data BreaksAliases (m : Module) (inside : Forest) : Cause → Type 0 where
 -- what is broken of the last groups in a module with those in it
 abbrev pub links_in : Module → Forest → Links
 links_in m inside layers it OfDependencies = BreaksDependencies it.settings.lists m inside
-links_in m inside layers it OfRecipes = BreaksRecipeNames layers it m inside
+links_in m inside layers it OfRecipes = BreaksStanding layers it m inside
 links_in m inside layers it OfAliases = BreaksAliases m inside
 links_in m inside layers it _ = λ c. ⊥
+
+-- what an error may tell of them: what is broken, or a pattern that is past those limits
+abbrev pub told_in : Module → Forest → Links
+told_in m inside layers it OfRecipes = λ c. BreaksStanding layers it m inside c ⊎ IsPastLimitsIn layers it m inside c
+told_in m inside layers it g = links_in m inside layers it g

@@ -9,7 +9,7 @@ use Rattle.just_errors.specs.Causes.{Broken, Cause, Keeps, Reports}
 use Rattle.just_errors.specs.declared.error.Error.{Error}
 use Rattle.just_errors.specs.declared.error.Error.TheVariants as error
 use Rattle.just_errors.proofs.Lifts.{reports_by}
-use Rattle.just_module_contents.specs.Constants.{Docs, doc_fault, in_doc, value_among}
+use Rattle.just_module_contents.specs.Constants.{Docs, doc_fault, in_doc, text_of_value, value_among}
 use Rattle.just_module_contents.specs.Contents.{Contents}
 use Rattle.just_names.specs.Texts.{Text}
 use Rattle.just_name_resolution.proofs.Looking.{not_in_none}
@@ -20,7 +20,7 @@ use Rattle.just_parts.specs.Syntax.{SyntaxAnswers}
 use Rattle.just_ast_expressions.specs.declared.expression.Expression.{Expression}
 use Rattle.just_ast_references.specs.Numbers.{bare}
 use Rattle.just_parts.specs.Misnaming.{Misnames}
-use Rattle.just_module_variables.specs.Documented.{AreDocumented, DocFault, HasDoc, IsDocumented, doc_expressions, doc_of_value, known_by, misnamed, no_value, value_by}
+use Rattle.just_module_variables.specs.Documented.{AreDocumented, DocFault, HasDoc, IsDocumented, doc_expressions, known_by, misnamed, no_value, value_by}
 use Rattle.just_module_variables.specs.Variables.{AreVariablesOf}
 use Rattle.just_module_variables.specs.declared.variables.Variables.{Variables}
 use Rattle.just_module_variables.proofs.Asking.{misnames_known, misnames_tables, tables_functions}
@@ -130,5 +130,5 @@ module _ (m : Known) (value : Expression → Option (List Text)) (said : Option 
   names_kept hidden same kept d is_d =
       subst (λ (x : Expression). Keeps (Misnames m none_hidden x)) (same_Some e d (sym is ∙ is_d)) (subst (λ (x : Text → Bool). Keeps (Misnames m x e)) same kept)
 
-  pub doc_had : (texts : List Text) (doc : Option Text) (before : Option Text) → value e ≡ Some texts → doc ≡ doc_of_value texts → HasDoc value before said doc
+  pub doc_had : (texts : List Text) (doc : Option Text) (before : Option Text) → value e ≡ Some texts → doc ≡ text_of_value texts → HasDoc value before said doc
   doc_had texts doc before valued made = subst (λ (o : Option Expression). HasDoc value before o doc) (sym is) (texts, valued, made)

@@ -1,6 +1,6 @@
 -- What the declarations of modules say, with their docs evaluated.
-use Rattle.std.specs.Prelude.{◌≡◌, List, [], ◌∷◌, codes, flat_map, Option, None, Some, option_to_list}
-use Rattle.just_names.specs.Texts.{Text, joined}
+use Rattle.std.specs.Prelude.{◌≡◌, List, [], ◌∷◌, flat_map, Option, None, Some, option_to_list}
+use Rattle.just_names.specs.Texts.{Text}
 use Rattle.just_names.specs.Token.{Place}
 use Rattle.just_errors.specs.Causes.{Broken, Cause, Keeps}
 use Rattle.just_errors.specs.declared.error.CompileErrorKind.TheVariants as kind
@@ -12,19 +12,14 @@ use Rattle.just_ast_references.specs.Numbers.{bare}
 use Rattle.just_parts.specs.Misnaming.{Misnames}
 use Rattle.just_module_variables.specs.declared.variables.Variables.{Variables}
 use Rattle.just_module_contents.specs.declared.labels.Label.{Label}
-use Rattle.just_module_contents.specs.Constants.{value_among}
+use Rattle.just_module_contents.specs.Constants.{text_of_value, value_among}
 use Rattle.just_module_contents.specs.Contents.{Contents}
 use Rattle.just_ast_expressions.specs.declared.expression.Expression.{Expression}
-
--- the doc that a value is: its texts with a blank between them, and none where it has none
-abbrev pub doc_of_value : List Text → Option Text
-doc_of_value [] = None
-doc_of_value (text ∷ texts) = Some (joined (codes " ") (text ∷ texts))
 
 -- the doc of a declaration, as expressions have values: what its expression comes to, or what is said where it has none
 abbrev pub HasDoc : (Expression → Option (List Text)) → Option Text → Option Expression → Option Text → Type 0
 HasDoc value said None doc = doc ≡ said
-HasDoc value said (Some e) doc = (texts : List Text) × (value e ≡ Some texts) × (doc ≡ doc_of_value texts)
+HasDoc value said (Some e) doc = (texts : List Text) × (value e ≡ Some texts) × (doc ≡ text_of_value texts)
 
 -- A label with the doc evaluated.
 pub record IsDocumented (value : Expression → Option (List Text)) (said made : Label) : Type 0 where

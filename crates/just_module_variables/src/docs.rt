@@ -2,7 +2,7 @@
 
 ghost use Rattle.std.specs.Prelude.{◌≡◌, IfOk, IfErr};
 ghost use Rattle.just_module_variables.specs.Constants.{CoversAll};
-ghost use Rattle.just_module_variables.specs.Documented.{AreDocumentedIn, CoversDoc, DocFault, IsDocumented, KeepsDoc, doc_expressions, doc_of_value, known_by, value_by};
+ghost use Rattle.just_module_variables.specs.Documented.{AreDocumentedIn, CoversDoc, DocFault, IsDocumented, KeepsDoc, doc_expressions, known_by, value_by};
 ghost use Rattle.just_module_variables.specs.Variables.{AreVariablesOf};
 ghost use Rattle.just_errors.specs.Causes.{Keeps, Reports};
 ghost use Rattle.just_module_contents.specs.Constants.{Docs};
@@ -10,23 +10,12 @@ ghost use Rattle.just_module_contents.specs.Definitions.{contents_in, docs_in};
 ghost use Rattle.just_parts.specs.Evaluator.{values_of};
 
 use crate::variables::Variables;
-use just_data::{Text, copied};
-use just_module_contents::Label;
+use just_data::copied;
 use just_module_contents::definitions::Definitions;
+use just_module_contents::{Label, text_of_value};
 use just_name_resolution::{Known, check_expression};
-use just_parts::layers::{Error, Evaluation, Expression, Given, Scope, Syntax, joined};
-use std::alloc::{AllocError, Global};
+use just_parts::layers::{Error, Evaluation, Expression, Given, Scope, Syntax};
 use std::collections::HashSet;
-
-// The doc that a value is: its texts with a blank between them, and none where it has none.
-fn doc_of_value(alloc: Global, value: &[Text]) -> Result<Option<Text>, AllocError>
-    ensures { IfOk result (λ doc. doc ≡ doc_of_value value.now) }
-{
-    if value.is_empty() {
-        return Ok(None);
-    }
-    Ok(Some(joined(alloc, value)?))
-}
 
 // A label with the doc evaluated.
 fn documented<'k, 'src, S: Syntax, E: Evaluation>(
@@ -59,7 +48,7 @@ fn documented<'k, 'src, S: Syntax, E: Evaluation>(
         &variables.functions,
         expression,
     )?;
-    made.doc = doc_of_value(given.alloc, value.as_slice())?;
+    made.doc = text_of_value(given.alloc, value.as_slice())?;
     Ok(made)
 }
 

@@ -1,4 +1,3 @@
 mod Checked
-mod Reading
 mod Seen
 mod Walking

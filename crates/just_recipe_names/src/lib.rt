@@ -9,5 +9,5 @@ mod lines;
 mod numbering;
 pub mod steps;
 
-pub use checking::check_recipes;
+pub use checking::check_recipe;
 pub use numbering::{Meanings, numbered_recipe};

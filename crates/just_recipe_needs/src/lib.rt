@@ -6,4 +6,4 @@ mod direct;
 mod references;
 
 pub use collecting::Sources;
-pub use references::RecipeReferences;
+pub use references::{RecipeReferences, references_of_all};

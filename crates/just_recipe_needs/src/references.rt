@@ -6,11 +6,13 @@ ghost use Rattle.just_parts.specs.Needs.{has_number};
 ghost use Rattle.just_module_contents.specs.RecipeNames.{written_scopes};
 ghost use Rattle.just_recipe_needs.specs.Asked.{KnowsRight};
 ghost use Rattle.just_recipe_needs.specs.Known.{AreRight, IsRight};
-ghost use Rattle.just_recipe_needs.specs.Needed.{HasReferences};
+ghost use Rattle.just_module_contents.specs.Definitions.{recipes_in};
+ghost use Rattle.just_recipe_needs.specs.Needed.{HasReferences, HaveReferences, NeedsUnder};
 
 use crate::collecting::{Sources, needed_numbers};
 use crate::direct::{DirectNames, direct_names};
 use just_data::{Sequence, Shared, Text};
+use just_module_contents::definitions::Definitions;
 use just_name_resolution::Tables;
 use just_parts::UnresolvedRecipe;
 use just_parts::layers::{Number, Settings, Syntax};
@@ -85,4 +87,26 @@ impl<'a, 'src> RecipeReferences<'a, 'src> {
         let numbers = shared_numbers(alloc, &self.sources, names, &mut self.known)?;
         Ok(numbers)
     }
+}
+
+/// For each of these recipes of a module the numbers of the variables that it needs under the settings of the module, as
+/// `references_of` says.
+pub fn references_of_all<'a, 'b, 'src, S: Syntax>(
+    alloc: Global,
+    tables: Tables<'a, 'src>,
+    overrides: &'a HashMap<Number, Text>,
+    syntax: &S,
+    settings: &Settings,
+    recipes: &Definitions<'src, 'b>,
+) -> Result<Vec<Shared<Sequence<Number>>>, AllocError>
+    ensures { let needs = NeedsUnder (tables_in tables.entry) (has_number overrides.now) (S.answers syntax.now) settings.now in
+        IfOk result (λ made. HaveReferences needs (recipes_in recipes.now) made.items) }
+{
+    let mut references = RecipeReferences::new(alloc, tables, overrides);
+    let mut made = Vec::with_capacity(alloc, recipes.recipes.len())?;
+    for place in 0..recipes.recipes.len() {
+        let recipe = recipes.recipe_at(place);
+        made.push(references.references_of(alloc, syntax, settings, recipe)?)?;
+    }
+    Ok(made)
 }

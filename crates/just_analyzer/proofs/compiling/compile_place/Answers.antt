@@ -12,7 +12,7 @@ use Rattle.just_module_headers.specs.Files.{asts_in}
 use Rattle.just_module_contents.specs.Groups.{BreaksContents}
 use Rattle.just_analyzer.specs.Checked.{no_links}
 use Rattle.just_analyzer.specs.Noted.{notes_of_place}
-use Rattle.just_analyzer.specs.Parts.{BreaksChecked, around_by}
+use Rattle.just_analyzer.specs.Parts.{TellsChecked, around_by}
 use Rattle.just_analyzer.specs.Steps.{BreaksOver, BreaksPlace, made_in}
 use Rattle.just_module_headers.specs.OfPlaces.{contents_of_place}
 use Rattle.just_analyzer.proofs.Linking.{links_of, recipes_kept_over}
@@ -20,7 +20,7 @@ use Rattle.just_compiled.proofs.Settling.{around_settled, named_settled, ordered
 use Rattle.just_graph.proofs.Members.{contained}
 use Rattle.just_invoke.specs.Walks.{AreOrdered}
 use Rattle.just_module_contents.specs.declared.notes.Notes.{Notes}
-use Rattle.just_module_recipes.specs.Links.{Around, around as around_made, links_by}
+use Rattle.just_module_recipes.specs.Links.{Around, around as around_made, links_by, told_by}
 use Rattle.just_module_contents.specs.Named.{contents_from, naming_by, said_from, variable_by}
 use Rattle.just_module_contents.specs.Resolved.{HasPriors, unresolved_numbers}
 use Rattle.just_module_headers.proofs.Joining.{row_lent}
@@ -29,7 +29,7 @@ use Rattle.just_compiled.specs.Labelled.{by_name, with_labels}
 use Rattle.just_compiled.specs.Variables.{HasVariables}
 use Rattle.just_compiled.proofs.Makings.{is_of_same}
 use Rattle.just_compiled.proofs.NumbersApart.{has_tables}
-use Rattle.just_analyzer.proofs.Placed.{breaks_place, breaks_recipes, contents_are, evaluated_to, keeps_place, labels_many, labels_named, numbers_told, own_numbers, variables_resolved}
+use Rattle.just_analyzer.proofs.Placed.{breaks_place, breaks_recipes, contents_are, evaluated_to, is_covered, keeps_place, labels_many, labels_named, numbers_told, own_numbers, variables_resolved}
 use Rattle.just_analyzer.proofs.compiling.compile_place.Goals as goal
 use Rattle.just_parts.specs.Layers.{given_by, layers_at}
 
@@ -53,7 +53,7 @@ returns-in_err-checked-clause-named g c =
     let row = row_lent c.args.joined.now.files.items c.args.place c.index.result.now c.as_slice-row.result.now (omega (arith, c.requires.fits.ready.there, c.requires.fits.files_room)) c.index.ensures c.as_slice-row.ensures.value in
     let here = contents_from (g.S.Syntax.answers c.args.given.now.syntax.now).enabled (asts_in c.args.files.now) c.as_slice-row.result.now in
     let layers = layers_at (given_by g.S.Syntax.answers g.E.Evaluation.answers c.args.given.now) c.ast_at-ast.result.now.module_path in
-    IfErr-weaker c.from_residual.result (Reports (BreaksContents layers no_links here)) _
+    IfErr-weaker c.from_residual.result (Reports (BreaksContents layers no_links no_links here)) _
     (reports_by _ _ (breaks_place (given_by g.S.Syntax.answers g.E.Evaluation.answers c.args.given.now) c.args.files.now c.args.joined.now c.args.place c.as_slice-row.result.now row c.ast_at-ast.result.now c.ast_at-ast.ensures c.args.slots.now.items c.args.gathered.recipes)) (search rules)
 
 pub surroundings_at-requires-clause-labels : goal.surroundings_at-requires-clause-labels
@@ -80,6 +80,11 @@ pub analyze_checked-requires-clause-variables : goal.analyze_checked-requires-cl
 analyze_checked-requires-clause-variables g c =
     let row = row_lent c.args.joined.now.files.items c.args.place c.index.result.now c.as_slice-row.result.now (omega (arith, c.requires.fits.ready.there, c.requires.fits.files_room)) c.index.ensures c.as_slice-row.ensures.value in
     variables_resolved (given_by g.S.Syntax.answers g.E.Evaluation.answers c.args.given.now) c.args.files.now c.args.joined.now c.args.place c.as_slice-row.result.now row c.ast_at-ast.result.now c.ast_at-ast.ensures c.in_ok-checked.checked c.in_ok-checked.ensures.checked c.in_ok-checked.ensures.kept
+
+pub analyze_checked-requires-clause-covered : goal.analyze_checked-requires-clause-covered
+analyze_checked-requires-clause-covered g c =
+    let row = row_lent c.args.joined.now.files.items c.args.place c.index.result.now c.as_slice-row.result.now (omega (arith, c.requires.fits.ready.there, c.requires.fits.files_room)) c.index.ensures c.as_slice-row.ensures.value in
+    is_covered (given_by g.S.Syntax.answers g.E.Evaluation.answers c.args.given.now) c.args.files.now c.args.joined.now c.args.place c.as_slice-row.result.now row c.ast_at-ast.result.now c.ast_at-ast.ensures c.in_ok-checked.checked c.in_ok-checked.ensures.checked c.in_ok-checked.ensures.kept
 
 pub analyze_checked-requires-clause-numbers : goal.analyze_checked-requires-clause-numbers
 analyze_checked-requires-clause-numbers g c =
@@ -111,19 +116,20 @@ returns-in_err-justfile-clause-named g c =
     let there = c.in_ok-surroundings.ensures.made in
     let m = contents_are (given_by g.S.Syntax.answers g.E.Evaluation.answers c.args.given.now) c.args.files.now c.args.joined.now c.args.place c.as_slice-row.result.now row c.ast_at-ast.result.now c.ast_at-ast.ensures c.in_ok-checked.checked c.in_ok-checked.ensures.checked c.in_ok-checked.ensures.kept in
     let links = links_by (contents_in checked.definitions) (around_by around c.args.gathered.recipes) in
-    let breaks = BreaksChecked (layers_at (given_by g.S.Syntax.answers g.E.Evaluation.answers c.args.given.now) c.ast_at-ast.result.now.module_path) checked (around_by around c.args.gathered.recipes) in
+    let told = told_by (contents_in checked.definitions) (around_by around c.args.gathered.recipes) in
+    let breaks = TellsChecked (layers_at (given_by g.S.Syntax.answers g.E.Evaluation.answers c.args.given.now) c.ast_at-ast.result.now.module_path) checked (around_by around c.args.gathered.recipes) in
     let over = BreaksOver (given_by g.S.Syntax.answers g.E.Evaluation.answers c.args.given.now) c.args.files.now c.args.joined.now c.args.place c.args.slots.now.items c.args.gathered.recipes in
     IfErr-weaker c.from_residual-in_err-justfile.result (Reports breaks) _
-    (λ told h. reports_by breaks over (λ e b. record {
+    (λ error h. reports_by breaks over (λ e b. record {
       labels = checked.labels.items;
       named = labels_named (given_by g.S.Syntax.answers g.E.Evaluation.answers c.args.given.now) c.args.files.now c.args.joined.now c.args.place c.as_slice-row.result.now row c.ast_at-ast.result.now c.ast_at-ast.ensures c.in_ok-checked.checked c.in_ok-checked.ensures.checked c.in_ok-checked.ensures.kept;
       broken = λ inner same.
           let about : around_by around c.args.gathered.recipes ≡ around_made (notes_of_place (g.S.Syntax.answers c.args.given.now.syntax.now).enabled c.args.files.now c.args.joined.now c.args.place).absent_modules (by_name (with_labels inner checked.labels.items)) c.args.gathered.recipes =
           λ i. around_made (ap (λ (n : Notes). n.absent_modules) there.notes_are i) ((there.modules_are inner same ∙ ap (λ labels. by_name (with_labels inner labels)) c.as_slice.ensures.value) i) c.args.gathered.recipes in
-          subst (λ (x : Around). BreaksPlace (given_by g.S.Syntax.answers g.E.Evaluation.answers c.args.given.now) c.args.files.now c.args.joined.now c.args.place (links_by (contents_of_place (g.S.Syntax.answers c.args.given.now.syntax.now).enabled c.args.files.now c.args.joined.now c.args.place) x) e) about
-          (subst (λ (n : Contents). BreaksPlace (given_by g.S.Syntax.answers g.E.Evaluation.answers c.args.given.now) c.args.files.now c.args.joined.now c.args.place (links_by n (around_by around c.args.gathered.recipes)) e) m
-          (breaks_recipes (given_by g.S.Syntax.answers g.E.Evaluation.answers c.args.given.now) c.args.files.now c.args.joined.now c.args.place c.as_slice-row.result.now row c.ast_at-ast.result.now c.ast_at-ast.ensures c.in_ok-checked.checked c.in_ok-checked.ensures.checked c.in_ok-checked.ensures.kept links e b));
-    }) told h) (search rules)
+          subst (λ (x : Around). BreaksPlace (given_by g.S.Syntax.answers g.E.Evaluation.answers c.args.given.now) c.args.files.now c.args.joined.now c.args.place (links_by (contents_of_place (g.S.Syntax.answers c.args.given.now.syntax.now).enabled c.args.files.now c.args.joined.now c.args.place) x) (told_by (contents_of_place (g.S.Syntax.answers c.args.given.now.syntax.now).enabled c.args.files.now c.args.joined.now c.args.place) x) e) about
+          (subst (λ (n : Contents). BreaksPlace (given_by g.S.Syntax.answers g.E.Evaluation.answers c.args.given.now) c.args.files.now c.args.joined.now c.args.place (links_by n (around_by around c.args.gathered.recipes)) (told_by n (around_by around c.args.gathered.recipes)) e) m
+          (breaks_recipes (given_by g.S.Syntax.answers g.E.Evaluation.answers c.args.given.now) c.args.files.now c.args.joined.now c.args.place c.as_slice-row.result.now row c.ast_at-ast.result.now c.ast_at-ast.ensures c.in_ok-checked.checked c.in_ok-checked.ensures.checked c.in_ok-checked.ensures.kept links told e b));
+    }) error h) (search rules)
 
 pub returns-clause-compiled : goal.returns-clause-compiled
 returns-clause-compiled g c =

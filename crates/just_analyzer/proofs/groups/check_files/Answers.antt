@@ -29,8 +29,8 @@ check_module-requires-clause-numbers g c = subst (λ (m : Contents). IsOnce (ass
 pub returns-in_err-checked-clause-named : goal.returns-in_err-checked-clause-named
 returns-in_err-checked-clause-named g c =
     let layers = layers_at (given_by g.S.Syntax.answers g.E.Evaluation.answers c.args.given.now) c.args.path.now in
-    IfErr-weaker c.from_residual-in_err-checked.result (Reports (BreaksContents layers no_links (contents_in c.in_ok-definitions.definitions))) _
-    (λ e h. subst (λ m. Reports (BreaksContents layers no_links m) e) c.in_ok-definitions.ensures h) (search rules)
+    IfErr-weaker c.from_residual-in_err-checked.result (Reports (BreaksContents layers no_links no_links (contents_in c.in_ok-definitions.definitions))) _
+    (λ e h. subst (λ m. Reports (BreaksContents layers no_links no_links m) e) c.in_ok-definitions.ensures h) (search rules)
 
 pub returns-in_err-labels-clause-named : goal.returns-in_err-labels-clause-named
 returns-in_err-labels-clause-named g c =
@@ -40,8 +40,8 @@ returns-in_err-labels-clause-named g c =
     let docs = Docs layers.syntax layers.evaluator m (values_of constants.scope) in
     let named : Reports docs c.in_err-labels.field-0.0 = c.in_err-labels.ensures.named in
     IfErr-weaker c.from_residual-in_err-labels.result (Reports docs) _
-    (λ e h. subst (λ n. Reports (BreaksContents layers no_links n) e) c.in_ok-definitions.ensures
-    (reports_by docs (BreaksContents layers no_links m) (docs_broken layers no_links m (evaluated_in constants) c.in_ok-checked.ensures.constants.evaluated c.in_ok-checked.ensures.kept) e h)) (search (rules, named, c.from_residual-in_err-labels.ensures.1, c.from_residual-in_err-labels.ensures.0))
+    (λ e h. subst (λ n. Reports (BreaksContents layers no_links no_links n) e) c.in_ok-definitions.ensures
+    (reports_by docs (BreaksContents layers no_links no_links m) (docs_broken layers no_links m (evaluated_in constants) c.in_ok-checked.ensures.constants.evaluated c.in_ok-checked.ensures.kept) e h)) (search (rules, named, c.from_residual-in_err-labels.ensures.1, c.from_residual-in_err-labels.ensures.0))
 
 pub returns-clause-kept : goal.returns-clause-kept
 returns-clause-kept g c =

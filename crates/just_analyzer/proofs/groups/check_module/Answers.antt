@@ -20,21 +20,21 @@ evaluate_constants-requires-clause-apart g c = numbers_apart (g.S.Syntax.answers
 pub returns-in_err-check_headers-clause-named : goal.returns-in_err-check_headers-clause-named
 returns-in_err-check_headers-clause-named g c =
     IfErr-weaker c.from_residual.result (Reports (Headers (g.S.Syntax.answers c.args.given.now.syntax.now).conflicts (contents_in c.args.definitions.now))) _
-    (λ e h. reports_by (Headers _ _) (BreaksContents _ no_links _) (λ x k. record { group = OfHeaders; earlier = λ f lt. absurd (omega (arith, lt)); broken = k }) e h) (search rules)
+    (λ e h. reports_by (Headers _ _) (BreaksContents _ no_links no_links _) (λ x k. record { group = OfHeaders; earlier = λ f lt. absurd (omega (arith, lt)); broken = k }) e h) (search rules)
 
 pub returns-in_err-check_names-clause-named : goal.returns-in_err-check_names-clause-named
 returns-in_err-check_names-clause-named g c =
     let layers = layers_at (given_by g.S.Syntax.answers g.E.Evaluation.answers c.args.given.now) c.args.path.now in
     let m = contents_in c.args.definitions.now in
     IfErr-weaker c.from_residual-in_err-check_names.result (Reports (Names m)) _
-    (λ e h. reports_by (Names m) (BreaksContents layers no_links m) (λ x k. record { group = OfNames; earlier = before_names layers no_links m c.in_ok-check_headers.ensures.kept; broken = k }) e h) (search rules)
+    (λ e h. reports_by (Names m) (BreaksContents layers no_links no_links m) (λ x k. record { group = OfNames; earlier = before_names layers no_links m c.in_ok-check_headers.ensures.kept; broken = k }) e h) (search rules)
 
 pub returns-in_err-variables-clause-named : goal.returns-in_err-variables-clause-named
 returns-in_err-variables-clause-named g c =
     let layers = layers_at (given_by g.S.Syntax.answers g.E.Evaluation.answers c.args.given.now) c.args.path.now in
     let m = contents_in c.args.definitions.now in
     IfErr-weaker c.from_residual-in_err-variables.result (Reports (Expressions (known_of layers.syntax m))) _
-    (λ e h. reports_by (Expressions _) (BreaksContents layers no_links m)
+    (λ e h. reports_by (Expressions _) (BreaksContents layers no_links no_links m)
     (λ x k. record { group = OfExpressions; earlier = before_expressions layers no_links m c.in_ok-check_headers.ensures.kept c.in_ok-check_names.ensures.kept; broken = k }) e h) (search rules)
 
 pub returns-in_err-constants-clause-named : goal.returns-in_err-constants-clause-named
@@ -42,7 +42,7 @@ returns-in_err-constants-clause-named g c =
     let layers = layers_at (given_by g.S.Syntax.answers g.E.Evaluation.answers c.args.given.now) c.args.path.now in
     let m = contents_in c.args.definitions.now in
     IfErr-weaker c.from_residual-in_err-constants.result (Reports (Constants layers m)) _
-    (λ e h. reports_by (Constants layers m) (BreaksContents layers no_links m)
+    (λ e h. reports_by (Constants layers m) (BreaksContents layers no_links no_links m)
     (λ x k. record { group = OfConstants; earlier = before_constants layers no_links m c.in_ok-check_headers.ensures.kept c.in_ok-check_names.ensures.kept c.in_ok-variables.ensures.kept; broken = k }) e h) (search rules)
 
 pub returns-clause-kept : goal.returns-clause-kept

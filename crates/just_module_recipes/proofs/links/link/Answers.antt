@@ -1,10 +1,13 @@
 use Rattle.std.proofs.Common.{rules, ◌≡◌, ◌<◌, ◌∙◌, ◌++◌, ℕ, List, [], ap, arith, get_or, length, subst, sym}
+use Rattle.std.proofs.lemmas.Result.{IfErr-weaker}
 use Rattle.std.specs.BTreeSet.{BTreeSet}
+use Rattle.just_errors.proofs.Lifts.{reports_by}
+use Rattle.just_errors.specs.Causes.{Reports}
 use Rattle.just_module_contents.specs.Definitions.{recipes_in}
 use Rattle.just_module_contents.specs.Recipes.{recipe_at}
 use Rattle.just_module_contents.specs.Standing.{AreStanding}
 use Rattle.just_module_recipes.specs.Linked.{disabled_table}
-use Rattle.just_module_recipes.specs.Links.{Stands, around}
+use Rattle.just_module_recipes.specs.Links.{BreaksLinks, Stands, around}
 use Rattle.just_module_recipes.specs.Making.{fallen, made, standing}
 use Rattle.just_module_recipes.specs.Planned.{IsPlan}
 use Rattle.just_module_recipes.specs.Rows.{IsTargetOf}
@@ -13,8 +16,9 @@ use Rattle.just_module_recipes.proofs.Finished.{adds_linked}
 use Rattle.just_module_recipes.proofs.Splits.{disabled_exact, standing_exact}
 use Rattle.just_module_recipes.proofs.Zipped.{zip_length}
 use Rattle.just_paths.specs.declared.modulepath.Modulepath.{Modulepath}
-use Rattle.just_recipe_names.specs.Numbered.{numbered_by}
-use Rattle.just_module_recipes.proofs.Completed.{numbers_complete}
+use Rattle.just_module_recipes.specs.Completed.{BreaksOne, KeepOwn, OfUndisabled, TellsLinks, TellsOne, completed_by, of_links, of_own}
+use Rattle.just_module_recipes.proofs.Completed.{is_completing}
+use Rattle.just_module_recipes.proofs.OwnRules.{own_kept, own_told}
 use Rattle.just_module_recipes.proofs.links.link.Goals as goal
 
 pub resolve-requires-clause-counts : goal.resolve-requires-clause-counts
@@ -56,11 +60,48 @@ returns-clause-linked g c =
     let read : c.as_slice.result.now ≡ rows = search rules in
     let listed : c.as_slice-2.result.now ≡ order = search rules in
     let told : c.as_slice-3.result.now ≡ sets = search rules in
-    let by = numbered_by (g.S.Syntax.answers c.args.meanings.now.syntax.now) c.args.meanings.now in
-    let completes = numbers_complete (g.S.Syntax.answers c.args.meanings.now.syntax.now) c.args.meanings.now in
-    let lists = c.args.meanings.now.settings.now.lists in
+    let done = c.args.completing.now in
+    let answers = g.S.Syntax.answers done.meanings.syntax.now in
+    let evaluator = g.E.Evaluation.answers done.among.evaluation.now in
+    let by = completed_by answers evaluator done in
+    let needed = done.references.now in
+    let lists = done.meanings.settings.now.lists in
     let path = c.args.module_path.now in
-    adds_linked rs it sets plan.exact c.requires.different rows plan.rows by completes lists path c.requires.once c.requires.priors c.requires.apart order plan.order plan.there c.in_ok-all.all
-    (c.in_ok-all.ensures ∙ (ap (λ (xs : List (List Target)). c.args.recipes ++ made by lists rs c.args.recipes path xs c.as_slice-3.result.now c.as_slice-2.result.now) read
-    ∙ (ap (λ (xs : List (BTreeSet Modulepath)). c.args.recipes ++ made by lists rs c.args.recipes path rows xs c.as_slice-2.result.now) told
-    ∙ ap (λ (xs : List ℕ). c.args.recipes ++ made by lists rs c.args.recipes path rows sets xs) listed)))
+    adds_linked rs it sets plan.exact c.requires.different rows plan.rows by (is_completing answers evaluator done) needed lists path c.requires.once c.requires.priors c.requires.apart order plan.order plan.there c.in_ok-all.all
+    (c.in_ok-all.ensures.made ∙ (ap (λ (xs : List (List Target)). c.args.recipes ++ made by needed lists rs c.args.recipes path xs c.as_slice-3.result.now c.as_slice-2.result.now) read
+    ∙ (ap (λ (xs : List (BTreeSet Modulepath)). c.args.recipes ++ made by needed lists rs c.args.recipes path rows xs c.as_slice-2.result.now) told
+    ∙ ap (λ (xs : List ℕ). c.args.recipes ++ made by needed lists rs c.args.recipes path rows sets xs) listed)))
+
+pub returns-clause-own : goal.returns-clause-own
+returns-clause-own g c =
+    let rs = recipes_in c.args.kept.now in
+    let it = around c.args.absent.now c.args.modules.now c.args.recipes in
+    let plan : IsPlan rs it c.in_ok-rows.field-0 = c.in_ok-rows.ensures.plan in
+    let done = c.args.completing.now in
+    let answers = g.S.Syntax.answers done.meanings.syntax.now in
+    let evaluator = g.E.Evaluation.answers done.among.evaluation.now in
+    let told : c.as_slice-3.result.now ≡ c.in_ok-rows.field-0.sets.items = search rules in
+    own_kept rs it c.in_ok-rows.field-0.sets.items plan.exact (BreaksOne answers evaluator done) (subst (KeepOwn answers evaluator done rs) told c.in_ok-all.ensures.kept)
+
+pub returns-in_err-rows-clause-named : goal.returns-in_err-rows-clause-named
+returns-in_err-rows-clause-named g c =
+    let rs = recipes_in c.args.kept.now in
+    let it = around c.args.absent.now c.args.modules.now c.args.recipes in
+    let done = c.args.completing.now in
+    let lists = done.meanings.settings.now.lists in
+    let tells = TellsOne (g.S.Syntax.answers done.meanings.syntax.now) (g.E.Evaluation.answers done.among.evaluation.now) done in
+    IfErr-weaker c.from_residual.result (Reports (BreaksLinks lists rs it)) _ (λ e h. reports_by (BreaksLinks lists rs it) (TellsLinks lists tells rs it) (λ x k. of_links k) e h) (search rules)
+
+pub returns-in_err-all-clause-named : goal.returns-in_err-all-clause-named
+returns-in_err-all-clause-named g c =
+    let rs = recipes_in c.args.kept.now in
+    let it = around c.args.absent.now c.args.modules.now c.args.recipes in
+    let plan : IsPlan rs it c.in_ok-rows.field-0 = c.in_ok-rows.ensures.plan in
+    let sets = c.in_ok-rows.field-0.sets.items in
+    let done = c.args.completing.now in
+    let lists = done.meanings.settings.now.lists in
+    let tells = TellsOne (g.S.Syntax.answers done.meanings.syntax.now) (g.E.Evaluation.answers done.among.evaluation.now) done in
+    let told : c.as_slice-3.result.now ≡ sets = search rules in
+    IfErr-weaker c.from_residual-in_err-all.result (Reports (OfUndisabled tells rs c.as_slice-3.result.now)) _
+    (λ e h. reports_by (OfUndisabled tells rs c.as_slice-3.result.now) (TellsLinks lists tells rs it)
+    (λ x k. of_own c.in_ok-rows.ensures.kept (own_told rs it sets plan.exact tells x (subst (λ ss. OfUndisabled tells rs ss x) told k))) e h) (search rules)

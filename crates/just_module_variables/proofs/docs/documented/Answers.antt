@@ -7,7 +7,8 @@ use Rattle.just_module_contents.specs.declared.labels.Label.{Label}
 use Rattle.just_parts.specs.Evaluator.{FaultsAt, values_of}
 use Rattle.just_name_resolution.proofs.Checked.{nothing_hides}
 use Rattle.just_parts.specs.Misnaming.{Misnames}
-use Rattle.just_module_variables.specs.Documented.{doc_of_value, known_by, value_by}
+use Rattle.just_module_contents.specs.Constants.{text_of_value}
+use Rattle.just_module_variables.specs.Documented.{known_by, value_by}
 use Rattle.just_module_variables.proofs.Documenting.{doc_had, misnamed_told, names_kept, no_value_told}
 use Rattle.just_module_variables.proofs.docs.documented.Goals as goal
 
@@ -53,5 +54,5 @@ returns-clause-label g c =
       name = ap (λ (l : Label). l.name) c.in_ok-made.ensures;
       groups = ap (λ (l : Label). l.groups) c.in_ok-made.ensures;
       private = ap (λ (l : Label). l.private) c.in_ok-made.ensures;
-      doc = doc_had m value said e c.in-Some.is c.in_ok-value.value c.in_ok-made-2.field-0 c.args.label.now.doc c.in_ok-value.ensures.value (c.in_ok-made-2.ensures ∙ ap doc_of_value c.as_slice.ensures);
+      doc = doc_had m value said e c.in-Some.is c.in_ok-value.value c.in_ok-made-2.field-0 c.args.label.now.doc c.in_ok-value.ensures.value (c.in_ok-made-2.ensures ∙ ap text_of_value c.as_slice.ensures);
     }

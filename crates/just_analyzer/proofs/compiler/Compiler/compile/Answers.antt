@@ -12,10 +12,11 @@ use Rattle.just_overrides.specs.Applied.{Tells}
 use Rattle.just_overrides.specs.Reached.{unknown}
 use Rattle.just_analyzer.specs.Analyzed.{IsAnalyzed}
 use Rattle.just_module_tree.specs.Groups.{NamesModules}
+use Rattle.just_module_tree.specs.Standing.{told_in}
 use Rattle.just_module_tree.specs.Modules.{heading, label}
 use Rattle.just_module_headers.specs.Reading.{reading_of}
 use Rattle.just_analyzer.specs.Readings.{given_in, root_heading}
-use Rattle.just_analyzer.specs.Rules.{Names, in_files, in_modules}
+use Rattle.just_analyzer.specs.Rules.{MayTell, in_files, in_modules}
 use Rattle.just_analyzer.proofs.Compilations.{all_kept, none_named, put_onto, refused, told}
 use Rattle.just_analyzer.proofs.Readings.{are_analyzable, is_reading}
 use Rattle.just_analyzer.proofs.compiler.Compiler.compile.Goals as goal
@@ -27,7 +28,7 @@ returns-in_err-path g c =
 pub returns-in_err-asts : goal.returns-in_err-asts
 returns-in_err-asts g c =
     let w : World = world_of c.args.sources.now c.args.config.now (g.S.Syntax.answers c.args.syntax.now) c.args.root.now in
-    refused (g.E.Evaluation.answers c.args.evaluation.now) c.args.config.now.overrides w c.from_residual-in_err-asts.result (search rules) (lifted (NamesInFiles w) (Names (g.E.Evaluation.answers c.args.evaluation.now) c.args.config.now.overrides w) (λ _ n. in_files n) c.from_residual-in_err-asts.result (let here : Reports (NamesInFiles w) c.in_err-asts.field-0.0 = c.in_err-asts.ensures.named in search (rules, here)))
+    refused (g.E.Evaluation.answers c.args.evaluation.now) c.args.config.now.overrides w c.from_residual-in_err-asts.result (search rules) (lifted (NamesInFiles w) (MayTell (g.E.Evaluation.answers c.args.evaluation.now) c.args.config.now.overrides w) (λ _ n. in_files n) c.from_residual-in_err-asts.result (let here : Reports (NamesInFiles w) c.in_err-asts.field-0.0 = c.in_err-asts.ensures.named in search (rules, here)))
 
 pub returns-in_err-loaded : goal.returns-in_err-loaded
 returns-in_err-loaded g c =
@@ -58,8 +59,8 @@ returns-in_err-justfile g c =
     let asts = get same_ast_key c.in_ok-asts.field-0.asts in
     let reading = reading_of w.answers.enabled asts in
     let top : c.root-module_path.result ≡ record { components = []; spaced = false } = λ j. record { components = c.root-module_path.ensures.components j; spaced = c.root-module_path.ensures.spaced j } in
-    refused (g.E.Evaluation.answers c.args.evaluation.now) c.args.config.now.overrides w c.from_residual-in_err-justfile.result (search rules) (lifted (NamesModules (given_in (g.E.Evaluation.answers c.args.evaluation.now) c.args.config.now.overrides w) reading (heading (c.root-module_path.result, c.args.root.now) (label None None [] false))) (Names (g.E.Evaluation.answers c.args.evaluation.now) c.args.config.now.overrides w)
-    (λ x n. in_modules reading c.in_ok-asts.ensures.kept (is_reading w asts c.in_ok-asts.field-0.loaded c.in_ok-asts.ensures.loaded) (subst (λ m. NamesModules (given_in (g.E.Evaluation.answers c.args.evaluation.now) c.args.config.now.overrides w) reading (heading (m, w.root) (label None None [] false)) x) top n))
+    refused (g.E.Evaluation.answers c.args.evaluation.now) c.args.config.now.overrides w c.from_residual-in_err-justfile.result (search rules) (lifted (NamesModules told_in (given_in (g.E.Evaluation.answers c.args.evaluation.now) c.args.config.now.overrides w) reading (heading (c.root-module_path.result, c.args.root.now) (label None None [] false))) (MayTell (g.E.Evaluation.answers c.args.evaluation.now) c.args.config.now.overrides w)
+    (λ x n. in_modules reading c.in_ok-asts.ensures.kept (is_reading w asts c.in_ok-asts.field-0.loaded c.in_ok-asts.ensures.loaded) (subst (λ m. NamesModules told_in (given_in (g.E.Evaluation.answers c.args.evaluation.now) c.args.config.now.overrides w) reading (heading (m, w.root) (label None None [] false)) x) top n))
     c.from_residual-in_err-justfile.result (search rules))
 
 pub apply_overrides-requires : goal.apply_overrides-requires
@@ -80,7 +81,7 @@ returns-in_err-apply_overrides g c =
     let named : Reports tells c.in_err-apply_overrides.field-0.0 = c.in_err-apply_overrides.ensures.named in
     refused (g.E.Evaluation.answers c.args.evaluation.now) c.args.config.now.overrides w c.from_residual-in_err-apply_overrides.result
     (search (rules, c.from_residual-in_err-apply_overrides.ensures.1, c.from_residual-in_err-apply_overrides.ensures.0))
-    (lifted tells (Names (g.E.Evaluation.answers c.args.evaluation.now) c.args.config.now.overrides w)
+    (lifted tells (MayTell (g.E.Evaluation.answers c.args.evaluation.now) c.args.config.now.overrides w)
     (told (g.E.Evaluation.answers c.args.evaluation.now) c.args.config.now.overrides w asts loaded c.in_ok-asts.ensures.loaded c.in_ok-asts.ensures.kept c.in_ok-justfile.justfile c.in_ok-justfile.recipes made.overridden analyzed)
     c.from_residual-in_err-apply_overrides.result (search (rules, named, c.from_residual-in_err-apply_overrides.ensures.1, c.from_residual-in_err-apply_overrides.ensures.0)))
 
