@@ -8,6 +8,7 @@ mod given;
 mod links;
 pub mod lists;
 mod modules;
+mod sayings;
 pub mod written;
 
 pub use given::add_given;

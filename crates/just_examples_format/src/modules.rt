@@ -1,6 +1,7 @@
 //! The lines that tell what a compilation has.
 use crate::links::{add_aliases, add_dependencies, add_disabled};
 use crate::lists::{add_list, next};
+use crate::sayings::{add_needed, add_sayings};
 use just_data::Text;
 use just_invoke::{Justfile, RecipeKey, Recipes};
 use just_parts::Recipe;
@@ -26,6 +27,8 @@ struct Lines {
     recipes: String,
     entrances: String,
     dependencies: String,
+    sayings: String,
+    needed: String,
     numbers: HashSet<u64>,
     count: u64,
     copied: u64,
@@ -50,6 +53,8 @@ impl Lines {
             recipes: String::new(alloc),
             entrances: String::new(alloc),
             dependencies: String::new(alloc),
+            sayings: String::new(alloc),
+            needed: String::new(alloc),
             numbers: HashSet::new(alloc),
             count: 0,
             copied: 0,
@@ -241,6 +246,8 @@ fn add_recipes<'src>(
         if let Some(recipe) = recipes.get(key.number) {
             add_recipe(recipe, alloc, lines)?;
             add_dependencies(recipe, recipes, &mut lines.dependencies)?;
+            add_sayings(recipe, &mut lines.sayings)?;
+            add_needed(module, recipe, &mut lines.needed)?;
             add_copies(key, recipe, lines);
         }
     }
@@ -308,13 +315,15 @@ fn add_lines(lines: &Lines, text: &mut String) -> Result<(), AllocError> {
     writeln!(text, "recipes{}", lines.recipes)?;
     writeln!(text, "entrances{}", lines.entrances)?;
     writeln!(text, "dependencies{}", lines.dependencies)?;
+    writeln!(text, "sayings{}", lines.sayings)?;
+    writeln!(text, "needed{}", lines.needed)?;
     writeln!(text, "numbers {} of {}", lines.numbers.len(), lines.count)?;
     writeln!(text, "copied {} of {}", lines.copied, lines.count)
 }
 
 /// Adds what the root's module and those in it have: their files, docs, settings and variables, which recipes are disabled,
-/// what aliases mean, and of the other recipes the depths, the files, what they depend on, how many different numbers they
-/// have, and how many could be copied.
+/// what aliases mean, and of the other recipes the depths, the files, what they depend on, what they say of themselves, which variables
+/// they need, how many different numbers they have, and how many could be copied.
 pub fn add_modules<'src>(
     root: &Justfile<'src>,
     recipes: &Recipes<'src>,
