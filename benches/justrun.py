@@ -186,10 +186,21 @@ def docs(count):
     return listed(lines + ["a:"], [(f"/m{n}.just", "b:") for n in range(count)]), ["a"]
 
 
-def docs_through_functions(count):
-    """Functions that call each other in a chain, and as many recipes whose docs call the first."""
-    functions = [f"f{n}() := f{n + 1}()" for n in range(count - 1)] + [f"f{count - 1}() := 'a'"]
+def docs_through_functions(count, depth):
+    """Functions that call each other in a chain, and recipes whose docs call the first."""
+    functions = [f"f{n}() := f{n + 1}()" for n in range(depth - 1)] + [f"f{depth - 1}() := 'a'"]
     return bundle(*functions, *(line for n in range(count) for line in ("[doc(f0())]", f"r{n}:")), "a:"), ["a"]
+
+
+def patterns(count):
+    """A recipe with many parameters, each of which has a pattern of its own."""
+    attributes = (f"[arg('x{n}', pattern='[0-9]+|{n}')]" for n in range(count))
+    return bundle("a:", *attributes, "r " + " ".join(f"x{n}" for n in range(count)) + ":"), ["a"]
+
+
+def recipes_with_patterns(count):
+    """Many recipes, each with a doc and a pattern."""
+    return bundle("a:", *(line for n in range(count) for line in ("[doc('d')]", "[arg('x', pattern='[0-9]+')]", f"r{n} x:"))), ["a"]
 
 
 def variable_twice(count):
@@ -339,7 +350,9 @@ INPUTS = {
     "2,000 modules with 10 constants each": constants(2_000),
     "chain of 20,000 constants that a doc reads": constant_chain(20_000),
     "2,000 modules, each with a doc that reads one of 2,000 variables": docs(2_000),
-    "2,000 docs of recipes that call the first of 2,000 functions in a chain": docs_through_functions(2_000),
+    "2,000 docs of recipes that call the first of 60 functions in a chain": docs_through_functions(2_000, 60),
+    "a recipe of 10,000 parameters with a pattern each": patterns(10_000),
+    "10,000 recipes with a doc and a pattern each": recipes_with_patterns(10_000),
     "a variable that is assigned 100,000 times": variable_twice(100_000),
     "1,000 recipes, each in every one of 100 files": duplicates(100_000),
     "a recipe that is defined 100,000 times over 100 files": one_name(100_000),
