@@ -46,7 +46,8 @@ reached_in w (and_next {files = files} {g = h} c l) g i = elim (in_cases g files
     leads_after w (by_edge m) l = by_edges m (by_edge l)
     leads_after w (by_edges m more) l = by_edges m (leads_after w more l)
 
-no_circle : (w : World) → ((f : List ℕ) → Reached w f → LeadsOn w f f → ⊥) → (c : Cause) → NamesCircle w c → ⊥
+-- where no file leads back to itself, there is no circle
+pub no_circle : (w : World) → ((f : List ℕ) → Reached w f → LeadsOn w f f → ⊥) → (c : Cause) → NamesCircle w c → ⊥
 no_circle w none _ (leads_back {current} {next} files r l chain back) = elim (reached_in w chain next (is_in next files back)) [
   | inl e ↦ none current r (by_edge (subst (LeadsTo w current) e l))
   | inr more ↦ none current r (by_edges l more)
@@ -89,9 +90,9 @@ module _ (w : World) (scan : Scan) (is : IsScan w scan) (us : List Unfolded) (ke
       subst (IsKey w) u.2 (to_key w scan is (unfolded_key u.0) (reached at.0 u.0 (get_take us n at.0 u.0 u.1).1))
 
   -- the first texts take too many numbers
-  pub many : (n : ℕ) → 2 ^ 64 < sum_by takes (take n us) → NamesInFiles w NoNumber
-  many n h =
-      too_many (map key_of (take n us)) (each_once n) (each_key n)
+  pub many : Keeps (NamesInScan w) → Keeps (NamesCircle w) → (n : ℕ) → 2 ^ 64 < sum_by takes (take n us) → NamesInFiles w NoNumber
+  many kept straight n h =
+      too_many kept straight (map key_of (take n us)) (each_once n) (each_key n)
       (subst (λ m. 2 ^ 64 < m) (sym (sum_map (λ (k : FileKey). spends_at w k.node) key_of (take n us))) h)
 
   has_key : (k : FileKey) → IsKey w k → In k (map key_of us)
@@ -112,4 +113,4 @@ module _ (w : World) (scan : Scan) (is : IsScan w scan) (us : List Unfolded) (ke
   files_kept there kept none total _ (no_root e same) = not_there (text_at w.files w.root) e there
   files_kept there kept none total c (at_fault n) = kept c n
   files_kept there kept none total c (in_circle n) = no_circle w none c n
-  files_kept there kept none total _ (too_many these once are h) = few total these once are h
+  files_kept there kept none total _ (too_many clean straight these once are h) = few total these once are h

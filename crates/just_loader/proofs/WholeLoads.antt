@@ -13,7 +13,7 @@ use Rattle.just_errors.specs.declared.error.Error.{Error}
 use Rattle.just_errors.specs.declared.error.Error.TheVariants as error
 use Rattle.just_parts.specs.Asts.{AstKey}
 use Rattle.just_errors.specs.Causes.{Keeps, Reports}
-use Rattle.just_loader.specs.FileCircles.{LeadsOn}
+use Rattle.just_loader.specs.FileCircles.{LeadsOn, NamesCircle}
 use Rattle.just_loader.specs.Keys.{FileKey, NamesInFiles}
 use Rattle.just_loader.specs.Loaded.{Loads}
 use Rattle.just_loader.specs.Placed.{name_at}
@@ -38,13 +38,13 @@ whole_lent {rows} {lent} {us} {shown} e f whole = subst (IsWhole rows) (sym f) (
 
 module _ (w : World) (scan : Scan) (is : IsScan w scan) (us : List Unfolded) (whole : IsWhole scan.rows.items us) where
   -- an error of parsing
-  pub stop_named : (e : Error) → Stops w scan us e → Reports (NamesInFiles w) e
-  stop_named (error.Load e) h = absurd h
-  stop_named (error.Compile e) h = absurd h
-  stop_named (error.Invocation e) h = absurd h
-  stop_named (error.Run e) h = absurd h
-  stop_named error.Exhausted h = many w scan is us whole.keys whole.once h.0 h.2
-  stop_named error.Memory h = tt
+  pub stop_named : Keeps (NamesInScan w) → Keeps (NamesCircle w) → (e : Error) → Stops w scan us e → Reports (NamesInFiles w) e
+  stop_named kept straight (error.Load e) h = absurd h
+  stop_named kept straight (error.Compile e) h = absurd h
+  stop_named kept straight (error.Invocation e) h = absurd h
+  stop_named kept straight (error.Run e) h = absurd h
+  stop_named kept straight error.Exhausted h = many w scan is us whole.keys whole.once kept straight h.0 h.2
+  stop_named kept straight error.Memory h = tt
 
   pub nodes_inside : (k : ℕ) (u : Unfolded) → slice_get us k ≡ Some u → u.node < length scan.files.items
   nodes_inside = node_inside w scan is us whole.keys whole.once

@@ -13,6 +13,7 @@ use Rattle.just_loader.specs.Parsed.{AreHeld, AreKeyed, relative_at}
 use Rattle.just_loader.specs.Reached.{World, world_of, NamesInScan}
 use Rattle.just_loader.proofs.ComingIn.{are_unfolded}
 use Rattle.just_loader.proofs.InPaths.{is_loaded}
+use Rattle.just_loader.proofs.KeySums.{no_circle}
 use Rattle.just_loader.proofs.LoadedPaths.{places_of}
 use Rattle.just_errors.proofs.Lifts.{lifted}
 use Rattle.just_loader.proofs.WholeLoads.{IsWhole, whole_lent, are_keyed, are_kept, nodes_inside, refused, stop_named}
@@ -53,7 +54,7 @@ returns-in_err-asts g c =
     let by : IsScanBy w c.in_ok-scan.scan (g.S.Syntax.answers c.args.syntax.now) = record { is_scan = c.in_ok-scan.ensures.scan; same = refl } in
     let whole : IsWhole c.in_ok-scan.scan.rows.items c.as_slice-2.result.now =
     whole_lent c.as_slice.ensures.value c.as_slice-2.ensures.value (record { first = c.in_ok-nodes.ensures.first; keys = c.in_ok-nodes.ensures.keys; once = c.in_ok-nodes.ensures.once }) in
-    let here : Reports (NamesInFiles w) c.in_err-asts.field-0.0 = stop_named w c.in_ok-scan.scan c.in_ok-scan.ensures.scan c.as_slice-2.result.now whole c.in_err-asts.field-0.0 (c.in_err-asts.ensures.stopped w by) in
+    let here : Reports (NamesInFiles w) c.in_err-asts.field-0.0 = stop_named w c.in_ok-scan.scan c.in_ok-scan.ensures.scan c.as_slice-2.result.now whole c.in_ok-scan.ensures.kept (no_circle w (c.in_ok-check_circles.ensures.none w c.in_ok-scan.ensures.scan)) c.in_err-asts.field-0.0 (c.in_err-asts.ensures.stopped w by) in
     refused w c.from_residual-in_err-asts.result (search rules) (search (rules, here))
 
 pub hold-requires : goal.hold-requires
