@@ -10,7 +10,6 @@ use Rattle.just_parts.specs.Scopes.{Scoped, scopes_of}
 use Rattle.just_parts.specs.Syntax.{SyntaxAnswers}
 use Rattle.just_recipe.specs.declared.dependency.UnresolvedDependency.{UnresolvedDependency}
 use Rattle.just_recipe.specs.declared.recipe.Recipe.{Recipe}
-use Rattle.just_module_contents.specs.Standing.{InOne}
 
 -- whatever a recipe reads, as a text says it
 abbrev pub written_scopes : SyntaxAnswers → Settings → Recipe UnresolvedDependency → List Scoped
@@ -21,7 +20,3 @@ pub record RecipeNames (answers : SyntaxAnswers) (m : Known) (settings : Setting
   pub from : Scoped
   pub there : Contains (written_scopes answers settings r) from
   pub wrong : Misnames m from.hidden from.expression c
-
--- a name is at fault in what one of these recipes reads
-abbrev pub ReadNames : SyntaxAnswers → Known → Settings → List (Recipe UnresolvedDependency) → Cause → Type 0
-ReadNames answers m settings = InOne (RecipeNames answers m settings)

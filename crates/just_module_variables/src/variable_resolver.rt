@@ -45,6 +45,7 @@ impl<'a, 'src, S: Syntax> VariableResolver<'a, 'src, S> {
     /// there the number of what it means, and answers the numbers of the variables, by their names, and their names in an
     /// evaluation order. An error names a function that is not there or is given a wrong number of arguments, a variable
     /// that is not there, or variables that read one another in a circle. After a refusal both tables are as they were.
+    /// What is answered is told of tables whose values stand under their own names, as `Table` puts them.
     pub fn resolve_assignments(
         alloc: Global,
         assignments: &mut Table<'src, Assignment<'src>>,
@@ -100,6 +101,27 @@ impl<'a, 'src, S: Syntax> VariableResolver<'a, 'src, S> {
             bindings,
             overrides,
         }
+    }
+
+    /// What names stand for in the module.
+    pub fn known(&self) -> &Known<'a, 'src, S>
+        ensures { result.now ≡ self.now.known }
+    {
+        &self.known
+    }
+
+    /// The numbers of its variables, by their names.
+    pub fn bindings(&self) -> &HashMap<BorrowedText<'src>, Number>
+        ensures { result.now ≡ self.now.bindings }
+    {
+        &self.bindings
+    }
+
+    /// The values that some of them have in place of their own, by their numbers.
+    pub fn overrides(&self) -> &'a HashMap<Number, Text>
+        ensures { result.now ≡ self.now.overrides.now }
+    {
+        self.overrides
     }
 
     /// Checks a call: that it names a function of the module or a built-in one, and gives it as many arguments as it takes.

@@ -12,6 +12,7 @@ use just_data::{BorrowedText, Chain, Exact, Sequence, Shared, Text};
 use just_errors::{ArgumentRange, InvocationError};
 use just_names::{Name, Number};
 use just_paths::Modulepath;
+use just_table::Keyed;
 use std::alloc::AllocError;
 
 /// A recipe. Its first `priors` dependencies run before it, the others after it. The last three fields are there once
@@ -231,6 +232,16 @@ impl<'src, D: Drop> Recipe<'src, D> {
             recipe_path: Some(recipe_path),
             variable_references: self.variable_references,
         }
+    }
+}
+
+impl<'src, D> Keyed<'src> for Recipe<'src, D> {
+    ghost use Rattle.just_names.specs.Token.{lexeme};
+
+    ghost key_of = { λ recipe. lexeme recipe.name.token };
+
+    fn key(&self) -> &'src str {
+        self.name.lexeme()
     }
 }
 
