@@ -6,11 +6,12 @@ use Rattle.std.proofs.lemmas.Bool.{cases_lt}
 use Rattle.std.proofs.lemmas.List.Elements.{All-push}
 use Rattle.just_ast_definitions.specs.Parameter.{least_arguments, most_arguments}
 use Rattle.just_ast_definitions.specs.declared.parameter.Parameter.{Parameter}
-use Rattle.just_errors.specs.Causes.{Broken}
+use Rattle.just_errors.specs.Causes.{Broken, Cause, Keeps}
 use Rattle.just_errors.specs.declared.error.CompileErrorKind.TheVariants as kind
 use Rattle.just_invoke.specs.declared.resolution.Resolution.TheVariants as resolution
 use Rattle.just_module_contents.specs.Recipes.{name_of, names_of, recipe_at}
 use Rattle.just_module_contents.specs.Rules.{IsOutside, StandsWith, argument_count, starred}
+use Rattle.just_module_recipes.specs.Given.{Misgiven, of_count, of_star}
 use Rattle.just_module_recipes.specs.Links.{Around, BreaksLinks, HasParameters, Stands, Takes, found_by, of_far, of_near}
 use Rattle.just_module_recipes.specs.Making.{AreGiven, IsGiven, IsThere, parameters_in, parameters_of}
 use Rattle.just_module_recipes.specs.Rows.{IsTarget, keys_at}
@@ -28,10 +29,21 @@ use Rattle.just_recipe.specs.Starred.{has_star}
 use Rattle.just_recipe.specs.declared.dependency.UnresolvedDependency.{UnresolvedDependency}
 use Rattle.just_recipe.specs.declared.recipe.Recipe.{Recipe}
 
-module _ (lists : Bool) (rs : List (Recipe UnresolvedDependency)) (it : Around) (d : UnresolvedDependency) where
-  pub is_starred : (place : Place) → StandsWith (Stands rs it) rs d → lists ≡ false → has_star d.arguments ≡ true → place ≡ d.recipe.last.token → BreaksLinks lists rs it (Broken place kind.MappedDependencyWithoutListsSetting)
-  is_starred place s off on told = subst (λ (p : Place). BreaksLinks lists rs it (Broken p kind.MappedDependencyWithoutListsSetting)) (sym told) (starred s off on)
+-- what is told of arguments
+module _ (lists : Bool) (d : UnresolvedDependency) (least most : ℕ) where
+  pub star_told : (place : Place) → lists ≡ false → has_star d.arguments ≡ true → place ≡ d.recipe.last.token → Misgiven lists d least most (Broken place kind.MappedDependencyWithoutListsSetting)
+  star_told place off on told = subst (λ (p : Place). Misgiven lists d least most (Broken p kind.MappedDependencyWithoutListsSetting)) (sym told) (of_star off on)
 
+  pub count_told : (found : ℕ) (path : Namepath) (place : Place) → found ≡ length d.arguments → IsOutside found least most → path ≡ d.recipe → place ≡ d.recipe.last.token → Misgiven lists d least most (Broken place (kind.DependencyArgumentCountMismatch path found least most))
+  count_told found path place given wrong copied told =
+      subst (λ n. Misgiven lists d least most (Broken place (kind.DependencyArgumentCountMismatch path n least most))) (sym given)
+      (subst₂ (λ (p : Place) (x : Namepath). Misgiven lists d least most (Broken p (kind.DependencyArgumentCountMismatch x (length d.arguments) least most))) (sym told) (sym copied) (of_count (subst (λ n. IsOutside n least most) given wrong)))
+
+  pub rightly_given : (found : ℕ) → found ≡ length d.arguments → (lists ≡ false → has_star d.arguments ≡ true → ⊥) → (IsOutside found least most → ⊥) → Keeps (Misgiven lists d least most)
+  rightly_given found given star right c (of_star off on) = star off on
+  rightly_given found given star right c (of_count wrong) = right (subst (λ n. IsOutside n least most) (sym given) wrong)
+
+module _ (lists : Bool) (rs : List (Recipe UnresolvedDependency)) (it : Around) (d : UnresolvedDependency) where
   -- what a target says of the parameters
   has_parameters : (t : Target) → IsTarget rs it d.recipe t → IsThere rs it.held t → HasParameters rs it d.recipe (parameters_of rs it.held t)
   has_parameters (Near j) n h = of_near j n refl
@@ -49,21 +61,20 @@ module _ (lists : Bool) (rs : List (Recipe UnresolvedDependency)) (it : Around) 
       far_only (Gone set) n f e = let wrong = sym f ∙ e in absurd (cc)
 
   module _ (t : Target) (target : IsTarget rs it d.recipe t) (there : IsThere rs it.held t) where
-    pub is_miscounted : StandsWith (Stands rs it) rs d → (found least most : ℕ) (path : Namepath) (place : Place) → found ≡ length d.arguments → least ≡ least_arguments (parameters_of rs it.held t) → most ≡ most_arguments lists (parameters_of rs it.held t) → IsOutside found least most
-        → path ≡ d.recipe → place ≡ d.recipe.last.token → BreaksLinks lists rs it (Broken place (kind.DependencyArgumentCountMismatch path found least most))
-    is_miscounted s found least most path place given is_least is_most wrong copied told =
+    pub misgiven_told : StandsWith (Stands rs it) rs d → (least most : ℕ) → least ≡ least_arguments (parameters_of rs it.held t) → most ≡ most_arguments lists (parameters_of rs it.held t) → (c : Cause) → Misgiven lists d least most c → BreaksLinks lists rs it c
+    misgiven_told s least most is_least is_most c (of_star off on) = starred s off on
+    misgiven_told s least most is_least is_most c (of_count wrong) =
         let takes : Takes lists rs it d.recipe least most = record { parameters = parameters_of rs it.held t; has = has_parameters t target there; least_is = sym is_least; most_is = sym is_most } in
-        subst₂ (λ (p : Place) (x : Namepath). BreaksLinks lists rs it (Broken p (kind.DependencyArgumentCountMismatch x found least most))) (sym told) (sym copied) (argument_count s takes (sym given) wrong)
+        argument_count s takes refl wrong
 
-    pub is_given : AreDifferent (names_of rs) → (found least most : ℕ) → found ≡ length d.arguments → least ≡ least_arguments (parameters_of rs it.held t) → most ≡ most_arguments lists (parameters_of rs it.held t) → (IsOutside found least most → ⊥)
-        → (lists ≡ false → has_star d.arguments ≡ true → ⊥) → IsGiven lists rs it d
-    is_given different found least most given is_least is_most right star = record {
-      star = star;
+    pub is_given : AreDifferent (names_of rs) → (least most : ℕ) → least ≡ least_arguments (parameters_of rs it.held t) → most ≡ most_arguments lists (parameters_of rs it.held t) → Keeps (Misgiven lists d least most) → IsGiven lists rs it d
+    is_given different least most is_least is_most kept = record {
+      star = λ off on. kept _ (of_star off on);
       count = λ l m takes wrong.
           let same : takes.parameters ≡ parameters_of rs it.held t = only_parameters different t target there takes.parameters takes.has in
           let a : l ≡ least = sym takes.least_is ∙ (ap least_arguments same ∙ sym is_least) in
           let b : m ≡ most = sym takes.most_is ∙ (ap (most_arguments lists) same ∙ sym is_most) in
-          right (subst (λ n. IsOutside n least most) (sym given) (subst₂ (IsOutside (length d.arguments)) a b wrong));
+          kept _ (of_count (subst₂ (IsOutside (length d.arguments)) a b wrong));
     }
 
 -- one recipe more

@@ -5,7 +5,6 @@ pub mod Defaults
 pub mod Finding
 pub mod Finished
 pub mod Grounds
-pub mod Grouping
 pub mod Held
 pub mod Later
 pub mod Made

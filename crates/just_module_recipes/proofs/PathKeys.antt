@@ -29,10 +29,11 @@ path_ties a b =
     let lists = lists_ties (slice_cmp nat_cmp) texts_ties a.components b.components in
     grind (arith, lists)
 
+-- the order tells paths apart that differ
 exact : (a b : Modulepath) → path_cmp a b ≡ Equal → a ≡ b
 exact a b e = path_same a b (sym (path_ties a b) ∙ ap is_eq e)
 
-at_path : (a b : Modulepath) → is_at (path_cmp a) b ≡ true → a ≡ b
+pub at_path : (a b : Modulepath) → is_at (path_cmp a) b ≡ true → a ≡ b
 at_path a b t = path_same a b (sym (path_ties a b) ∙ t)
 
 -- a path that is found is there already

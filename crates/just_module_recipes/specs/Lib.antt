@@ -2,6 +2,7 @@ pub mod Aliased
 pub mod Broken
 pub mod Completed
 pub mod Completing
+pub mod Given
 pub mod Linked
 pub mod Links
 pub mod Making

@@ -2,10 +2,11 @@
 ghost use Rattle.std.specs.Prelude.{◌≡◌, ◌<◌, false, length, IfErr, IsTrue, OnOk};
 ghost use Rattle.std.specs.List.{All};
 ghost use Rattle.just_ast_definitions.specs.Parameter.{least_arguments, most_arguments};
-ghost use Rattle.just_errors.specs.Causes.{Reports};
+ghost use Rattle.just_errors.specs.Causes.{Keeps, Reports};
 ghost use Rattle.just_module_contents.specs.Definitions.{recipes_in};
 ghost use Rattle.just_module_contents.specs.Recipes.{name_of, names_of, recipe_at};
 ghost use Rattle.just_module_contents.specs.Rules.{IsOutside, StandsWith};
+ghost use Rattle.just_module_recipes.specs.Given.{Misgiven};
 ghost use Rattle.just_module_recipes.specs.Links.{BreaksLinks, Stands};
 ghost use Rattle.just_module_recipes.specs.Making.{AreAllThere, AreExact, AreGiven, AreGivenAt, IsGiven, IsThere, parameters_of};
 ghost use Rattle.just_module_recipes.specs.Rows.{AreRows, AreTargets, IsTargetOf, around_by};
@@ -46,7 +47,37 @@ fn is_outside(found: usize, range: &ArgumentRange) -> bool
     found < range.min || range.max < found
 }
 
-// Refuses a starred argument where values are no lists, and too few or too many arguments.
+/// Refuses a starred argument where values are no lists, and too few or too many arguments for a recipe that takes so many.
+pub fn check_arguments<'src>(
+    settings: &Settings,
+    dependency: &UnresolvedDependency<'src>,
+    range: &ArgumentRange,
+) -> Result<(), Error<'src>>
+    ensures kept { OnOk result (Keeps (Misgiven settings.now.lists dependency.now range.now.min range.now.max)) }
+    ensures named { IfErr result (Reports (Misgiven settings.now.lists dependency.now range.now.min range.now.max)) }
+{
+    if !settings.lists && dependency.starred() {
+        return Err(Error::Compile(CompileError {
+            token: dependency.recipe.last.token.copied(),
+            kind: CompileErrorKind::MappedDependencyWithoutListsSetting,
+        }));
+    }
+    let found = dependency.arguments.len();
+    if is_outside(found, range) {
+        return Err(Error::Compile(CompileError {
+            token: dependency.recipe.last.token.copied(),
+            kind: CompileErrorKind::DependencyArgumentCountMismatch {
+                dependency: dependency.recipe.clone()?,
+                found,
+                min: range.min,
+                max: range.max,
+            },
+        }));
+    }
+    Ok(())
+}
+
+// Refuses that of a dependency of a recipe that stands.
 fn check_dependency<'a, 's, 'src>(
     kept: &Definitions<'src, 'a>,
     settings: &Settings,
@@ -61,29 +92,11 @@ fn check_dependency<'a, 's, 'src>(
     ensures given { OnOk result (IsGiven settings.now.lists (recipes_in kept.now) (around_by it.now) dependency.now) }
     ensures named { IfErr result (Reports (BreaksLinks settings.now.lists (recipes_in kept.now) (around_by it.now))) }
 {
-    if !settings.lists && dependency.starred() {
-        return Err(Error::Compile(CompileError {
-            token: dependency.recipe.last.token.copied(),
-            kind: CompileErrorKind::MappedDependencyWithoutListsSetting,
-        }));
-    }
     let range = range_of(kept, settings, it.recipes, target);
-    let found = dependency.arguments.len();
-    if is_outside(found, &range) {
-        return Err(Error::Compile(CompileError {
-            token: dependency.recipe.last.token.copied(),
-            kind: CompileErrorKind::DependencyArgumentCountMismatch {
-                dependency: dependency.recipe.clone()?,
-                found,
-                min: range.min,
-                max: range.max,
-            },
-        }));
-    }
-    Ok(())
+    check_arguments(settings, dependency, &range)
 }
 
-// Refuses that of the dependencies of a recipe that stands.
+// Refuses that of all dependencies of a recipe that stands.
 fn check_dependencies<'a, 's, 'src>(
     kept: &Definitions<'src, 'a>,
     settings: &Settings,

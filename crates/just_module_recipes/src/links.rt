@@ -17,9 +17,9 @@ ghost use Rattle.just_module_recipes.specs.Planned.{IsPlan};
 ghost use Rattle.just_module_recipes.specs.Rows.{around_by};
 ghost use Rattle.just_names.specs.Index.{AreDifferent};
 
-use crate::bodies::index_recipes;
 use crate::completing::Completing;
 use crate::counts::check_counts;
+use crate::index::index_recipes;
 use crate::merging::merge;
 use crate::recipe_order::ordered;
 use crate::resolving::resolve;

@@ -1,0 +1,7 @@
+use Rattle.std.proofs.Common.{◌≡◌, take}
+use Rattle.just_module_contents.specs.Recipes.{names_of}
+use Rattle.just_module_contents.specs.Definitions.{recipes_in}
+use Rattle.just_module_recipes.proofs.index.recipe_names.Given as goal
+
+abbrev pub invariant-loop-place : goal.invariant-loop-place
+invariant-loop-place l = l.names.items ≡ names_of (take l.place (recipes_in l.definitions))
