@@ -2,6 +2,7 @@ pub mod Agreeing
 pub mod AliasTargets
 pub mod Aliasing
 pub mod Bridges
+pub mod Building
 pub mod ByName
 pub mod Closing
 pub mod Linking

@@ -1,6 +1,7 @@
 -- Each recipe that is compiled is that of a module that stands in the root.
 use Rattle.std.proofs.Common.{◌≡◌, ◌≢◌, ◌∙◌, suc, Bool, List, [], ◌∷◌, map, Option, None, Some, refl, sym, ap, subst, inl, inr, arith}
 use Rattle.std.specs.Prelude.{flat_map}
+use Rattle.std.specs.List.{Contains}
 use Rattle.std.specs.Map.{values_of}
 use Rattle.std.specs.Str.{bytes_eq}
 use Rattle.std.proofs.lemmas.Bool.{cases_Bool}
@@ -33,7 +34,7 @@ use Rattle.just_names.specs.declared.name.Namepath.{Namepath}
 use Rattle.just_names.specs.declared.number.Number.{Number}
 use Rattle.just_module_headers.specs.Reading.{Reading, Submodule, declared, items_in, submodules_of}
 use Rattle.just_compiled.specs.Labelled.{by_name, held_by_name, label_in}
-use Rattle.just_compiled.specs.Justfiles.{AreCompiled, Built, none, one}
+use Rattle.just_compiled.specs.Justfiles.{AreCompiled, Built, IsCompiled, Made, none, one, recipes_of_all}
 use Rattle.just_module_tree.specs.Modules.{Forest, HasModule, Module, after_it, first, in_it, path_of}
 use Rattle.just_module_tree.proofs.ModulePlaces.{nobody}
 
@@ -117,27 +118,37 @@ pub made_path : {Stands : Text → Type 0} {HasNumber : Namepath → Number → 
 made_path {added = added} linked r i = (linked.only r (contained r added i)).1.made_of.resolved.module_path
 
 module _ (given : Given) (asts : AstKey → Option Ast) (paths : (k : AstKey) (a : Ast) → asts k ≡ Some a → a.module_path ≡ k.0) (loaded : List Text) (built : List Built) where
-  -- the justfile of a module of a forest stands in one of those that the forest is compiled to
+  -- the justfile of a module of a forest, which adds what is built of it, stands in one of those that the forest is compiled to
   pub record Standing (js : List Justfile) (m : Module) : Type 0 where
     pub top : Justfile
     pub among : In top js
     pub it : Justfile
     pub stands : StandsIn top it
     pub path : (out-Justfile it).module_path ≡ path_of m
+    pub made : Made
+    pub said : Contains built (m.heading.key, made)
+    pub below : Forest
+    pub inner : List Justfile
+    pub compiled : IsCompiled given asts loaded (recipes_of_all built) m below inner made it
 
   pub standing : {f : Forest} {js : List Justfile} → AreCompiled given asts loaded built f js → {m : Module} {below : Forest} → HasModule f m below → Standing js m
   standing none has = absurd (nobody has refl)
-  standing (one {m = x} {j = j} made there inner is aliased after) first = record {
+  standing (one {m = x} {inside = within} {inner = inner} {j = j} made there below is aliased after) first = record {
     top = j;
     among = inl refl;
     it = j;
     stands = itself;
     path = is.fields.module_path ∙ paths x.heading.key is.own is.own_said;
+    made = made;
+    said = there;
+    below = within;
+    inner = inner;
+    compiled = is;
   }
   standing (one {m = x} {inner = inner} {j = j} made there below is aliased after) (in_it has) =
       let s = standing below has in
       let there : In s.top (out-Justfile j).modules = subst (In s.top) (sym is.modules) (each_named inner is.different s.top s.among) in
-      record { top = j; among = inl refl; it = s.it; stands = inside (contained s.top (out-Justfile j).modules there) s.stands; path = s.path }
+      record { top = j; among = inl refl; it = s.it; stands = inside (contained s.top (out-Justfile j).modules there) s.stands; path = s.path; made = s.made; said = s.said; below = s.below; inner = s.inner; compiled = s.compiled }
   standing (one made there below is aliased after) (after_it has) =
       let s = standing after has in
-      record { top = s.top; among = inr s.among; it = s.it; stands = s.stands; path = s.path }
+      record { top = s.top; among = inr s.among; it = s.it; stands = s.stands; path = s.path; made = s.made; said = s.said; below = s.below; inner = s.inner; compiled = s.compiled }

@@ -76,7 +76,8 @@ module _ (given : Given) (asts : AstKey → Option Ast) (loaded : List Text) (bu
     shows : Shows given asts loaded built m inside root
     shows = first_shows compiled (forest_says given asts are) m inside Empty root [] refl refl
 
-    at_root : (out-Justfile root).module_path.components ≡ []
+    -- the path of the root has no names
+    pub at_root : (out-Justfile root).module_path.components ≡ []
     at_root = ap (λ (p : Modulepath). p.components) shows.is.path ∙ ap (λ (h : Heading). h.key.0.components) (first_heading are top [] m inside Empty refl refl) ∙ rooted
 
     at : At given asts loaded built recipes root closed at_root m inside root

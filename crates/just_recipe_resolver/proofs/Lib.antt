@@ -1,0 +1,4 @@
+mod Along
+mod Given
+pub mod Needed
+mod Placed

@@ -1,0 +1,11 @@
+//! Resolves recipes of a module: those that it keeps all at once, or one over those that it depends on.
+#![tactic(auto)]
+
+mod keys;
+pub mod recipe_resolver;
+mod resolving;
+pub mod unresolved_recipe;
+
+pub use keys::recipe_keys;
+pub use recipe_resolver::RecipeResolver;
+pub use resolving::{Resolving, resolve_kept};
