@@ -8,6 +8,7 @@ pub mod Grounds
 pub mod GroupGrounds
 pub mod Keeping
 pub mod Linking
+pub mod Meant
 pub mod Meeting
 pub mod NamesRead
 pub mod Numbers

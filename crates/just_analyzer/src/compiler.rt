@@ -34,13 +34,12 @@ impl Compiler {
     }
 
     /// Compiles the file at `root` and those that it reaches, or names a rule that is broken. Where it succeeds no rule
-    /// is broken, and each recipe that the compilation names is held, after those that it depends on. Whether the docs, helps
-    /// and patterns of recipes have values is not judged yet.
+    /// is broken, and each recipe that the compilation names is held, after those that it depends on.
     ///
     /// The evaluation is asked for the constants of each module: the values of the variables that its settings need, and
     /// the docs, helps and patterns of its attributes, each with whatever it reads. A variable that the configuration
-    /// overrides has that value, and its own is not evaluated. Then it is asked for the settings of each module, and for
-    /// the docs of the modules that it declares. At last each key by which the configuration overrides means a variable, also
+    /// overrides has that value, and its own is not evaluated. Then it is asked for the settings of each module, for the docs
+    /// of the modules that it declares, and for the docs, helps and patterns of its recipes that stand. At last each key by which the configuration overrides means a variable, also
     /// through aliases of modules, or all that mean none are told. The compilation has the values that override variables,
     /// by their numbers; of several keys that mean one variable the value of the last.
     pub fn compile<'src, S: Syntax, E: Evaluation>(

@@ -5,7 +5,7 @@
 ghost use Rattle.std.specs.Prelude.{◌≡◌, ◌<◌, IfErr, IfOk, OnOk, Some, length};
 ghost use Rattle.std.specs.List.{All};
 ghost use Rattle.just_analyzer.specs.Checked.{HasConstants, IsChecked, no_links};
-ghost use Rattle.just_analyzer.specs.Parts.{AreLinkedIn, BreaksChecked, BreaksOwn, IsCovered, TellsChecked, around_by, completion_here, own_targets};
+ghost use Rattle.just_analyzer.specs.Parts.{AreLinkedIn, BreaksChecked, BreaksOwn, IsCovered, TellsChecked, around_by, own_targets};
 ghost use Rattle.just_errors.specs.Causes.{Keeps, Reports};
 ghost use Rattle.just_graph.specs.Steps.{IsOnce};
 ghost use Rattle.just_invoke.specs.Walks.{AreOrdered};
@@ -29,29 +29,27 @@ ghost use Rattle.just_module_variables.specs.Constants.{CoversAll};
 ghost use Rattle.just_module_variables.specs.Documented.{AreDocumentedIn};
 ghost use Rattle.just_module_variables.specs.Variables.{AreVariablesOf, HasNumbers};
 ghost use Rattle.just_names.specs.Index.{AreDifferent};
-ghost use Rattle.just_recipe_needs.specs.Needed.{HaveReferences};
 ghost use Rattle.just_parts.specs.Evaluator.{values_of};
 ghost use Rattle.just_parts.specs.Layers.{given_by, layers_at};
 
-use crate::making::{OwnRecipes, Surroundings, recipe_keys};
+use crate::making::{OwnRecipes, Surroundings};
 use crate::notes::labels_at;
-use just_data::{Sequence, Shared};
 use just_execution::Recipes;
+use just_module_bodies::check_bodies;
 use just_module_contents::Label;
 use just_module_contents::definitions::Definitions;
 use just_module_contents::kept::keep_recipes;
 use just_module_headers::files::Files;
 use just_module_headers::headers::check_headers;
 use just_module_headers::variables::check_names;
-use just_module_recipes::{Completing, Linked, check_bodies, default_of, link, resolve_aliases};
+use just_module_recipes::{Linked, default_of, resolve_aliases};
 use just_module_variables::{
     Constants, Variables, document, evaluate_constants, resolve_variables,
 };
-use just_name_resolution::Tables;
-use just_parts::layers::{Ast, Error, Evaluation, Given, Number, Syntax};
+use just_parts::layers::{Ast, Error, Evaluation, Given, Syntax};
 use just_paths::Modulepath;
 use just_recipe_names::Meanings;
-use just_recipe_needs::references_of_all;
+use just_recipe_resolver::{Resolving, recipe_keys, resolve_kept};
 use just_recipe_values::Among;
 use std::alloc::{AllocError, Global};
 
@@ -182,29 +180,6 @@ pub fn check_files<'b, 'a, 'src, S: Syntax, E: Evaluation>(
     })
 }
 
-// For each of these recipes of a checked module the numbers of the variables that it needs.
-fn references_among<'src, 'a, 'b, S: Syntax, E: Evaluation>(
-    given: &Given<S, E>,
-    checked: &Checked<'src, 'a>,
-    recipes: &Definitions<'src, 'b>,
-) -> Result<Vec<Shared<Sequence<Number>>>, AllocError>
-    ensures { let needs = (completion_here (S.answers given.now.syntax.now) (E.answers given.now.evaluation.now) checked.now).Needs in
-        IfOk result (λ made. HaveReferences needs (recipes_in recipes.now) made.items) }
-{
-    let tables = Tables {
-        assignments: &checked.variables.assignments,
-        functions: &checked.variables.functions,
-    };
-    references_of_all(
-        given.alloc,
-        tables,
-        &checked.constants.overrides,
-        given.syntax,
-        &checked.constants.settings,
-        recipes,
-    )
-}
-
 // Links the recipes of a checked module at a path that are kept, under its settings, with what names mean in it and with what
 // is evaluated of it, over what is around them. An error tells a rule that is broken in its bodies, or where these are kept
 // of its dependencies or of one of its recipes that stands.
@@ -238,8 +213,7 @@ fn link_recipes<'src, 'a, S: Syntax, E: Evaluation>(
     let settings = &checked.constants.settings;
     check_bodies(given.alloc, given.syntax, &checked.definitions, settings)?;
     let kept = keep_recipes(given.alloc, &checked.definitions)?;
-    let references = references_among(given, checked, &kept)?;
-    let completing = Completing {
+    let resolving = Resolving {
         meanings: Meanings {
             bindings: &checked.variables.numbers,
             settings,
@@ -251,12 +225,12 @@ fn link_recipes<'src, 'a, S: Syntax, E: Evaluation>(
             evaluation: given.evaluation,
             functions: &checked.variables.functions,
         },
-        references: references.as_slice(),
+        overrides: &checked.constants.overrides,
     };
-    link(
+    resolve_kept(
         given.alloc,
         &kept,
-        &completing,
+        resolving,
         path,
         &around.notes.absent_modules,
         around.modules.as_slice(),

@@ -53,9 +53,15 @@ pub mod recipe {
     pub use just_parts::Recipe;
 }
 
-/// Recipes as a text says them.
+/// Recipes as a text says them, and how one is resolved.
 pub mod unresolved_recipe {
     pub use just_parts::UnresolvedRecipe;
+    pub use just_recipe_resolver::unresolved_recipe::resolve;
+}
+
+/// The recipes of a module, resolved.
+pub mod recipe_resolver {
+    pub use just_recipe_resolver::RecipeResolver;
 }
 
 /// What paths lead to, and recipes that are not there.
@@ -87,6 +93,7 @@ pub use invocation_parser::{Invocation, InvocationParser};
 pub use justfile::{Justfile, RecipeKey, Report};
 pub use modulepath::Modulepath;
 pub use recipe::{Recipe, Recipes};
+pub use recipe_resolver::RecipeResolver;
 pub use references::{Reference, References};
 pub use resolution::{Disabled, Resolution};
 pub use source::{Source, Sources, is_clean};

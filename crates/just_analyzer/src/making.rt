@@ -17,25 +17,6 @@ use just_parts::layers::{Ast, Name, Number};
 use just_table::Table;
 use std::alloc::{AllocError, Global};
 
-/// The keys of the recipes, under their names.
-pub fn recipe_keys<'a, 'src>(
-    alloc: Global,
-    definitions: &Definitions<'src, 'a>,
-) -> Result<Table<'src, RecipeKey<'src>>, AllocError>
-    ensures { IfOk result (λ keys. keys ≡ recipe_table (recipes_in definitions.now)) }
-{
-    let mut keys = Table::new(alloc);
-    for place in 0..definitions.recipes.len() {
-        let recipe = definitions.recipe_at(place);
-        let key = RecipeKey {
-            name: recipe.name.copied(),
-            number: recipe.number,
-        };
-        keys.insert(key)?;
-    }
-    Ok(keys)
-}
-
 // The names once more.
 fn copied_names<'src>(
     alloc: Global,

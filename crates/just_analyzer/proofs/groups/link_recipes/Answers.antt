@@ -1,4 +1,4 @@
-use Rattle.std.proofs.Common.{◌≡◌, ◌∙◌, ◌⊎◌, IfOk, List, ap, length, subst, subst₂, sym, rules}
+use Rattle.std.proofs.Common.{◌≡◌, ◌⊎◌, IfOk, List, ap, subst, subst₂, sym, rules}
 use Rattle.std.specs.Prelude.{IfErr}
 use Rattle.std.specs.List.{All}
 use Rattle.std.specs.HashMap.{get}
@@ -17,44 +17,36 @@ use Rattle.just_module_contents.specs.Resolved.{AreNew, HasPriors, unresolved_nu
 use Rattle.just_module_contents.specs.Rules.{Bodies}
 use Rattle.just_module_contents.specs.Standing.{InStanding}
 use Rattle.just_module_contents.proofs.Keeping.{kept_all, kept_different, kept_number, kept_once}
-use Rattle.just_module_contents.proofs.RecipePlaces.{length-lent}
 use Rattle.just_module_recipes.specs.Broken.{BreaksRecipes, in_bodies}
 use Rattle.just_module_recipes.specs.Completed.{TellsLinks}
 use Rattle.just_module_recipes.specs.Links.{BreaksLinks, Stands, around}
 use Rattle.just_names.specs.Index.{AreDifferent}
-use Rattle.just_names.specs.declared.number.Number.{Number}
 use Rattle.just_parts.specs.Evaluator.{values_of}
 use Rattle.just_parts.specs.Layers.{given_by, layers_at}
 use Rattle.just_recipe.specs.declared.dependency.UnresolvedDependency.{UnresolvedDependency}
 use Rattle.just_recipe.specs.declared.recipe.Recipe.{Recipe}
 use Rattle.just_recipe_names.specs.Numbered.{numbered_recipe}
-use Rattle.just_recipe_needs.specs.Needed.{HaveReferences}
 use Rattle.just_recipe_values.specs.Valued.{with_values}
 use Rattle.just_analyzer.proofs.NamesRead.{rule_back, rule_here, rule_said, value_here, value_same}
 use Rattle.just_analyzer.proofs.Numbered.{links_as, told_numbers}
 use Rattle.just_analyzer.proofs.OwnRules.{covers_kept, links_told, standing_so}
 use Rattle.just_analyzer.proofs.groups.link_recipes.Goals as goal
 
-pub link-requires-clause-different : goal.link-requires-clause-different
-link-requires-clause-different g c = subst (λ (rs : List (Recipe UnresolvedDependency)). AreDifferent (names_of rs)) (sym c.in_ok-kept.ensures) (kept_different (recipes_in c.args.checked.now.definitions))
+pub resolve_kept-requires-clause-different : goal.resolve_kept-requires-clause-different
+resolve_kept-requires-clause-different g c = subst (λ (rs : List (Recipe UnresolvedDependency)). AreDifferent (names_of rs)) (sym c.in_ok-kept.ensures) (kept_different (recipes_in c.args.checked.now.definitions))
 
-pub link-requires-clause-once : goal.link-requires-clause-once
-link-requires-clause-once g c = subst (λ (rs : List (Recipe UnresolvedDependency)). IsOnce (unresolved_numbers rs)) (sym c.in_ok-kept.ensures) (kept_once (recipes_in c.args.checked.now.definitions) c.requires.once)
+pub resolve_kept-requires-clause-once : goal.resolve_kept-requires-clause-once
+resolve_kept-requires-clause-once g c = subst (λ (rs : List (Recipe UnresolvedDependency)). IsOnce (unresolved_numbers rs)) (sym c.in_ok-kept.ensures) (kept_once (recipes_in c.args.checked.now.definitions) c.requires.once)
 
-pub link-requires-clause-priors : goal.link-requires-clause-priors
-link-requires-clause-priors g c = subst (λ (rs : List (Recipe UnresolvedDependency)). All HasPriors rs) (sym c.in_ok-kept.ensures) (kept_all HasPriors (recipes_in c.args.checked.now.definitions) c.requires.priors)
+pub resolve_kept-requires-clause-priors : goal.resolve_kept-requires-clause-priors
+resolve_kept-requires-clause-priors g c = subst (λ (rs : List (Recipe UnresolvedDependency)). All HasPriors rs) (sym c.in_ok-kept.ensures) (kept_all HasPriors (recipes_in c.args.checked.now.definitions) c.requires.priors)
 
-pub link-requires-clause-apart : goal.link-requires-clause-apart
-link-requires-clause-apart g c = subst (λ (rs : List (Recipe UnresolvedDependency)). AreNew c.args.recipes rs) (sym c.in_ok-kept.ensures)
+pub resolve_kept-requires-clause-apart : goal.resolve_kept-requires-clause-apart
+resolve_kept-requires-clause-apart g c = subst (λ (rs : List (Recipe UnresolvedDependency)). AreNew c.args.recipes rs) (sym c.in_ok-kept.ensures)
     (λ n a b. let qs = recipes_in c.args.checked.now.definitions in c.requires.apart n a (contained n (unresolved_numbers qs) (kept_number qs n (is_in n (unresolved_numbers (kept_recipes qs)) b))))
 
-pub link-requires-clause-references : goal.link-requires-clause-references
-link-requires-clause-references g c =
-    let long : length (recipes_in c.in_ok-kept.kept) ≡ length c.in_ok-kept.kept.recipes.items = length-lent c.in_ok-kept.kept.recipes.items in
-    ap (λ (xs : List (List Number)). length xs) c.as_slice.ensures.value ∙ (c.in_ok-references.ensures.count ∙ long)
-
-pub link-requires-clause-covered : goal.link-requires-clause-covered
-link-requires-clause-covered g c = λ i h.
+pub resolve_kept-requires-clause-covered : goal.resolve_kept-requires-clause-covered
+resolve_kept-requires-clause-covered g c = λ i h.
     let checked = c.args.checked.now in
     let qs = recipes_in checked.definitions in
     covers_kept checked.variables (values_of checked.constants.scope) (contents_in checked.definitions) c.requires.covered (recipes_in c.in_ok-kept.kept) c.in_ok-kept.ensures i h
@@ -68,9 +60,9 @@ pub returns-clause-kept : goal.returns-clause-kept
 returns-clause-kept g c =
     let checked = c.args.checked.now in
     let lists = checked.constants.settings.lists in
-    let lent = around c.args.around.now.notes.absent_modules c.as_slice-2.result.now c.args.recipes in
-    let same : lent ≡ around_by c.args.around.now c.args.recipes = ap (λ ms. around c.args.around.now.notes.absent_modules ms c.args.recipes) c.as_slice-2.ensures in
-    subst₂ (λ rs x. IfOk c.link.result (λ _. Keeps (BreaksLinks lists rs x))) c.in_ok-kept.ensures same c.link.ensures.kept
+    let lent = around c.args.around.now.notes.absent_modules c.as_slice.result.now c.args.recipes in
+    let same : lent ≡ around_by c.args.around.now c.args.recipes = ap (λ ms. around c.args.around.now.notes.absent_modules ms c.args.recipes) c.as_slice.ensures in
+    subst₂ (λ rs x. IfOk c.resolve_kept.result (λ _. Keeps (BreaksLinks lists rs x))) c.in_ok-kept.ensures same c.resolve_kept.ensures.kept
 
 pub returns-clause-own : goal.returns-clause-own
 returns-clause-own g c =
@@ -82,12 +74,12 @@ returns-clause-own g c =
     let settings = checked.constants.settings in
     let here = rule_here answers evaluator m checked.variables c.requires.variables values settings in
     let said = rule_said answers evaluator m checked.variables c.requires.variables values settings in
-    let lent = around c.args.around.now.notes.absent_modules c.as_slice-2.result.now c.args.recipes in
+    let lent = around c.args.around.now.notes.absent_modules c.as_slice.result.now c.args.recipes in
     let it = around_by c.args.around.now c.args.recipes in
-    let same : lent ≡ it = ap (λ ms. around c.args.around.now.notes.absent_modules ms c.args.recipes) c.as_slice-2.ensures in
-    let own : IfOk c.link.result (λ _. Keeps (InStanding (Stands (kept_recipes (recipes_in checked.definitions)) it) here (kept_recipes (recipes_in checked.definitions)))) =
-    subst₂ (λ rs x. IfOk c.link.result (λ _. Keeps (InStanding (Stands rs x) here rs))) c.in_ok-kept.ensures same c.link.ensures.own in
-    IfOk-weaker c.link.result _ _ (λ made kept e b. kept e (standing_so said here (rule_back answers evaluator m checked.variables c.requires.variables values settings) e b)) own
+    let same : lent ≡ it = ap (λ ms. around c.args.around.now.notes.absent_modules ms c.args.recipes) c.as_slice.ensures in
+    let own : IfOk c.resolve_kept.result (λ _. Keeps (InStanding (Stands (kept_recipes (recipes_in checked.definitions)) it) here (kept_recipes (recipes_in checked.definitions)))) =
+    subst₂ (λ rs x. IfOk c.resolve_kept.result (λ _. Keeps (InStanding (Stands rs x) here rs))) c.in_ok-kept.ensures same c.resolve_kept.ensures.own in
+    IfOk-weaker c.resolve_kept.result _ _ (λ made kept e b. kept e (standing_so said here (rule_back answers evaluator m checked.variables c.requires.variables values settings) e b)) own
 
 pub returns-clause-named : goal.returns-clause-named
 returns-clause-named g c =
@@ -101,12 +93,12 @@ returns-clause-named g c =
     let recipes = kept_recipes (recipes_in checked.definitions) in
     let it = around_by c.args.around.now c.args.recipes in
     let absent = c.args.around.now.notes.absent_modules in
-    let lent = around absent c.as_slice-2.result.now c.args.recipes in
-    let same : lent ≡ it = ap (λ ms. around absent ms c.args.recipes) c.as_slice-2.ensures in
+    let lent = around absent c.as_slice.result.now c.args.recipes in
+    let same : lent ≡ it = ap (λ ms. around absent ms c.args.recipes) c.as_slice.ensures in
     let tells : Recipe UnresolvedDependency → Cause → Type 0 = λ r x. here r x ⊎ IsPastLimits value r x in
-    let told : IfErr c.link.result (Reports (TellsLinks settings.lists tells recipes it)) =
-    subst₂ (λ rs x. IfErr c.link.result (Reports (TellsLinks settings.lists tells rs x))) c.in_ok-kept.ensures same c.link.ensures.named in
-    IfErr-weaker c.link.result (Reports (TellsLinks settings.lists tells recipes it)) _
+    let told : IfErr c.resolve_kept.result (Reports (TellsLinks settings.lists tells recipes it)) =
+    subst₂ (λ rs x. IfErr c.resolve_kept.result (Reports (TellsLinks settings.lists tells rs x))) c.in_ok-kept.ensures same c.resolve_kept.ensures.named in
+    IfErr-weaker c.resolve_kept.result (Reports (TellsLinks settings.lists tells recipes it)) _
     (λ e h. reports_by (TellsLinks settings.lists tells recipes it) (TellsChecked layers checked it)
     (links_told layers checked it c.requires.variables c.in_ok-check_bodies.ensures.kept) e h) told
 
@@ -119,13 +111,12 @@ returns-clause-linked g c =
     let m = contents_in checked.definitions in
     let settings = checked.constants.settings in
     let rs = kept_recipes (recipes_in checked.definitions) in
-    let lent = around c.args.around.now.notes.absent_modules c.as_slice-2.result.now c.args.recipes in
-    let same : lent ≡ around_by c.args.around.now c.args.recipes = ap (λ ms. around c.args.around.now.notes.absent_modules ms c.args.recipes) c.as_slice-2.ensures in
+    let lent = around c.args.around.now.notes.absent_modules c.as_slice.result.now c.args.recipes in
+    let same : lent ≡ around_by c.args.around.now c.args.recipes = ap (λ ms. around c.args.around.now.notes.absent_modules ms c.args.recipes) c.as_slice.ensures in
     let numbers = told_numbers checked.variables.numbers checked.variables.assignments c.requires.numbers in
     let value = value_same answers evaluator m checked.variables c.requires.variables values settings in
     let needs = (completion_here answers evaluator checked).Needs in
     let by : Recipe UnresolvedDependency → Recipe UnresolvedDependency = λ r. with_values (value_here answers evaluator m checked.variables c.requires.variables values settings) (numbered_recipe (get bytes_eq checked.variables.numbers) answers settings r) in
     let by_same : by ≡ (completion_here answers evaluator checked).by = λ i r. with_values (value i) (numbered_recipe (numbers i) answers settings r) in
-    let have : HaveReferences needs (recipes_in c.in_ok-kept.kept) c.as_slice.result.now = subst (HaveReferences needs (recipes_in c.in_ok-kept.kept)) (sym c.as_slice.ensures.value) c.in_ok-references.ensures in
-    links_as needs by (completion_here answers evaluator checked).by by_same settings.lists (recipes_in c.in_ok-kept.kept) rs c.in_ok-kept.ensures c.as_slice.result.now have lent (around_by c.args.around.now c.args.recipes) same c.args.path.now c.link.result
-    c.link.ensures.standing c.link.ensures.disabled c.link.ensures.linked
+    links_as needs by (completion_here answers evaluator checked).by by_same settings.lists (recipes_in c.in_ok-kept.kept) rs c.in_ok-kept.ensures lent (around_by c.args.around.now c.args.recipes) same c.args.path.now c.resolve_kept.result
+    c.resolve_kept.ensures.standing c.resolve_kept.ensures.disabled c.resolve_kept.ensures.linked

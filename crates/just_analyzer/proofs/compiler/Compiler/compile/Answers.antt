@@ -1,4 +1,4 @@
-use Rattle.std.proofs.Common.{◌≡◌, ◌∙◌, false, [], None, IsSome, refl, sym, ap, subst, rules}
+use Rattle.std.proofs.Common.{◌≡◌, ◌∙◌, false, [], None, IsSome, is_some, refl, sym, ap, subst, rules}
 use Rattle.std.specs.HashMap.{get}
 use Rattle.just_invoke.specs.Closed.{is_closed, is_ordered}
 use Rattle.just_parts.specs.Asts.{root_ast_key, same_ast_key}
@@ -18,6 +18,7 @@ use Rattle.just_module_headers.specs.Reading.{reading_of}
 use Rattle.just_analyzer.specs.Readings.{given_in, root_heading}
 use Rattle.just_analyzer.specs.Rules.{MayTell, in_files, in_modules}
 use Rattle.just_analyzer.proofs.Compilations.{all_kept, none_named, put_onto, refused, told}
+use Rattle.just_analyzer.proofs.Meant.{by_keys, held_meant, is_meant, rooted}
 use Rattle.just_analyzer.proofs.Readings.{are_analyzable, is_reading}
 use Rattle.just_analyzer.proofs.compiler.Compiler.compile.Goals as goal
 
@@ -97,6 +98,9 @@ returns g c =
     subst (λ l. IsAnalyzed (given_in (g.E.Evaluation.answers c.args.evaluation.now) c.args.config.now.overrides w) asts l (root_heading w) c.in_ok-justfile.justfile c.in_ok-justfile.recipes made.overridden) shared
     (subst (λ m. IsAnalyzed (given_in (g.E.Evaluation.answers c.args.evaluation.now) c.args.config.now.overrides w) asts c.in_ok-loaded.loaded (heading (m, w.root) (label None None [] false)) c.in_ok-justfile.justfile c.in_ok-justfile.recipes made.overridden) top made.analyzed) in
     let known : unknown c.in_ok-justfile.justfile c.args.config.now.overrides.entries ≡ [] = c.in_ok-apply_overrides.ensures.applied.0 in
+    let paths = (are_analyzable w asts loaded c.in_ok-asts.ensures.loaded).paths in
+    let evaluator = g.E.Evaluation.answers c.args.evaluation.now in
+    let values = c.args.config.now.overrides in
     record {
       kept = all_kept (g.E.Evaluation.answers c.args.evaluation.now) c.args.config.now.overrides w asts loaded c.in_ok-asts.ensures.loaded c.in_ok-asts.ensures.kept c.in_ok-justfile.justfile c.in_ok-justfile.recipes made.overridden analyzed known;
       unnamed = none_named (g.E.Evaluation.answers c.args.evaluation.now) c.args.config.now.overrides w asts loaded c.in_ok-asts.ensures.loaded c.in_ok-asts.ensures.kept c.in_ok-justfile.justfile c.in_ok-justfile.recipes made.overridden analyzed known;
@@ -106,12 +110,18 @@ returns g c =
         reading = is_reading w asts loaded c.in_ok-asts.ensures.loaded;
         analyzed = analyzed;
         overridden = made.overridden;
-        overrides_are = λ n. put_onto _ _ _ _ _ (search rules) (made.added n) (c.in_ok-apply_overrides.ensures.applied.1 n);
+        overrides_are = λ n. put_onto _ _ _ _ _ (search rules) (made.added n) (c.in_ok-apply_overrides.ensures.applied.1 n)
+            ∙ by_keys _ _ (is_meant evaluator values w asts paths loaded c.in_ok-justfile.justfile c.in_ok-justfile.recipes made.overridden analyzed n);
       };
+      top = rooted evaluator values w asts paths loaded c.in_ok-justfile.justfile c.in_ok-justfile.recipes made.overridden analyzed;
       rooted = record { closed = is_closed analyzed.closed; placed = analyzed.placed };
       all_closed = analyzed.closed;
       tables = analyzed.tables;
       numbers = analyzed.numbers;
+      overridden = λ j n stands has.
+          let held = held_meant evaluator values w asts paths loaded c.in_ok-justfile.justfile c.in_ok-justfile.recipes made.overridden analyzed j n stands has in
+          ap is_some (put_onto _ _ _ _ _ (search rules) (made.added n) (c.in_ok-apply_overrides.ensures.applied.1 n)
+          ∙ (by_keys _ _ (is_meant evaluator values w asts paths loaded c.in_ok-justfile.justfile c.in_ok-justfile.recipes made.overridden analyzed n) ∙ held.1));
       root = c.in_ok-path.ensures;
       root_ast = subst (λ r. IsSome (asts (root_ast_key r))) (sym c.in_ok-path.ensures) (subst (λ o. IsSome o) (sym (root_held w asts loaded c.in_ok-asts.ensures.loaded).1) refl);
       named = tt;
