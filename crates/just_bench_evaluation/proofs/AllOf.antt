@@ -2,8 +2,7 @@
 use Rattle.std.proofs.Common.{◌≡◌, refl, ◌∙◌, ap, ℕ, zero, suc, ◌+◌, ◌<◌, arith, List, [], ◌∷◌, ◌++◌, length, get_or, map, take, Option, None, Some}
 use Rattle.std.specs.Option.{option_and_then, option_map}
 use Rattle.std.proofs.lemmas.List.{map-append, take_more}
-use Rattle.just_bench_evaluation.specs.Values.{all_of, put_together}
-use Rattle.just_names.specs.Texts.{Text}
+use Rattle.just_bench_evaluation.specs.Values.{all_of}
 
 module _ {A : Type 0} where
   abbrev and_more : Option A → Option (List A) → Option (List A)
@@ -45,16 +44,3 @@ module _ {A : Type 0} where
     all_none [] i d inside none = absurd (omega arith)
     all_none (e ∷ es) zero d inside none = ap (λ o. and_more o (all_of (map f es))) none
     all_none (e ∷ es) (suc i) d inside none = ap (and_more (f e)) (all_none es i d (omega arith) none) ∙ none_more (f e)
-
--- both sides
-pub both_put : (lhs rhs : Option (List Text)) (l r : List Text) → lhs ≡ Some l → rhs ≡ Some r →
-    option_and_then (λ left. option_map (put_together left) rhs) lhs ≡ Some (put_together l r)
-both_put lhs rhs l r left right = λ i. option_and_then (λ x. option_map (put_together x) (right i)) (left i)
-
--- none where either has none
-pub no_left : (lhs rhs : Option (List Text)) → lhs ≡ None → option_and_then (λ left. option_map (put_together left) rhs) lhs ≡ None
-no_left lhs rhs none = ap (option_and_then (λ left. option_map (put_together left) rhs)) none
-
-pub no_right : (lhs rhs : Option (List Text)) → rhs ≡ None → option_and_then (λ left. option_map (put_together left) rhs) lhs ≡ None
-no_right None rhs none = refl
-no_right (Some l) rhs none = ap (option_map (put_together l)) none

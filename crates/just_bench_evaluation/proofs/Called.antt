@@ -14,7 +14,7 @@ use Rattle.just_ast_definitions.specs.declared.function_definition.FunctionDefin
 use Rattle.just_ast_definitions.specs.declared.function_definition.FunctionParameter.{FunctionParameter}
 use Rattle.just_ast_references.specs.Numbers.{bare}
 use Rattle.just_table.specs.Entries.{find}
-use Rattle.just_bench_evaluation.specs.Among.{call_with}
+use Rattle.just_bench_evaluation.specs.Tasks.{call_with}
 use Rattle.just_bench_evaluation.specs.Values.{Outcome, body_with, bound, value_with}
 use Rattle.just_bench_evaluation.proofs.Alike.{bare_value}
 use Rattle.just_bench_evaluation.proofs.Branches.{with_is}

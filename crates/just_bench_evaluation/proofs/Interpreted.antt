@@ -1,5 +1,5 @@
 -- A program has no texts where its command or its arguments have none.
-use Rattle.std.proofs.Common.{◌≡◌, refl, ap, List, map, Option, None, Some}
+use Rattle.std.proofs.Common.{◌≡◌, refl, ap, map, Option, None, Some}
 use Rattle.std.specs.Option.{option_and_then, option_map}
 use Rattle.just_ast_expressions.specs.declared.expression.Expression.{Expression}
 use Rattle.just_ast_expressions.specs.declared.interpreter.Interpreter.{Interpreter}

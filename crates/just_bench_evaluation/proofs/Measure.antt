@@ -1,28 +1,15 @@
--- How long an evaluation goes on.
-use Rattle.std.proofs.Common.{◌≡◌, ap, ℕ, zero, suc, ◌+◌, ◌-◌, ◌<◌, ◌≤◌, arith, Bool, true, false, cond, List, [], ◌∷◌, Option, Some}
+-- How much of an evaluation is left.
+use Rattle.std.proofs.Common.{◌≡◌, ◌∙◌, ap, ℕ, zero, suc, ◌+◌, ◌-◌, ◌*◌, ◌<◌, ◌≤◌, arith, Bool, true, false, cond, List, [], ◌∷◌, Option, Some}
 use Rattle.std.specs.List.{sum_by}
 use Rattle.std.proofs.lemmas.List.Sums.{sum_by-cons}
 use Rattle.std.specs.Str.{bytes_eq}
 use Rattle.just_names.specs.Texts.{Text}
 use Rattle.just_ast_definitions.specs.declared.function_definition.FunctionDefinition.{FunctionDefinition}
-use Rattle.just_ast_references.proofs.Fold.{size}
+use Rattle.just_ast_expressions.specs.declared.expression.Expression.{Expression}
+use Rattle.just_ast_references.specs.Parts.{parts}
+use Rattle.just_ast_references.proofs.Fold.{size, size_is}
 use Rattle.just_table.specs.Entries.{find}
-use Rattle.just_bench_evaluation.specs.declared.values.Among.{Among}
-
--- how many expressions there are in the bodies of functions
-abbrev pub body_size : (Text × FunctionDefinition) → ℕ
-body_size entry = size entry.1.body
-
-abbrev pub bodies_size : List (Text × FunctionDefinition) → ℕ
-bodies_size = sum_by body_size
-
--- what so many calls inside each other may take
-unfoldable pub rounds : ℕ → ℕ → ℕ
-rounds zero bodies = 0
-rounds (suc calls) bodies = rounds calls bodies + (bodies + bodies + 2)
-
-abbrev pub rounds_left : Among → ℕ
-rounds_left a = rounds a.calls (bodies_size a.functions.now)
+use Rattle.just_bench_evaluation.specs.Tasks.{bodies_size, body_size, cost, room}
 
 -- a body is no larger than all together
 larger : (b : Bool) (entry : Text × FunctionDefinition) (rest : Option FunctionDefinition) (all : ℕ) (f : FunctionDefinition) → ((f : FunctionDefinition) → rest ≡ Some f → size f.body ≤ all) →
@@ -38,11 +25,32 @@ body_smaller name (entry ∷ rest) f is =
     let below : size f.body ≤ body_size entry + bodies_size rest = larger (bytes_eq name entry.0) entry (find name rest) (bodies_size rest) f (body_smaller name rest) is in
     omega (arith, sum_by-cons body_size entry rest)
 
+-- a product grows with its first factor
+times : (k a b : ℕ) → a ≤ b → a * k ≤ b * k
+times k a b h = grind arith
+
 pub one_less : (calls : ℕ) → suc calls - 1 ≡ calls
 one_less calls = omega arith
 
--- a call leaves more than its body takes
-pub rounds_down : (calls bodies inside : ℕ) → 0 < calls → inside ≤ bodies → rounds (calls - 1) bodies + (inside + inside) + 1 < rounds calls bodies
-unfolding rounds
-rounds_down zero bodies inside some below = absurd (omega arith)
-rounds_down (suc calls) bodies inside some below = omega (arith, ap (λ n. rounds n bodies) (one_less calls))
+module _ (functions : List (Text × FunctionDefinition)) (calls : ℕ) where
+  abbrev r : ℕ
+  r = room (bodies_size functions) calls
+
+  -- one expression and others
+  pub cost_cons : (e : Expression) (es : List Expression) → cost functions calls (e ∷ es) ≡ cost functions calls (parts e) + 4 + cost functions calls es
+  cost_cons e es =
+      let one : sum_by size (e ∷ es) * (r + 4) ≡ (suc (sum_by size (parts e)) + sum_by size es) * (r + 4) =
+      ap (λ n. n * (r + 4)) (sum_by-cons size e es ∙ ap (λ n. n + sum_by size es) (size_is e)) in
+      omega arith
+
+-- a call may take more than its body does
+pub body_less : (functions : List (Text × FunctionDefinition)) (calls : ℕ) (name : Text) (f : FunctionDefinition) → 0 < calls → find name functions ≡ Some f →
+    cost functions (calls - 1) (parts f.body) + 4 ≤ cost functions calls []
+unfolding room
+body_less functions zero name f some is = absurd (omega arith)
+body_less functions (suc calls) name f some is =
+    let k : ℕ = room (bodies_size functions) calls + 4 in
+    let down : cost functions (suc calls - 1) (parts f.body) ≡ cost functions calls (parts f.body) = ap (λ n. cost functions n (parts f.body)) (one_less calls) in
+    let inside : size f.body * k ≤ bodies_size functions * k = times k (size f.body) (bodies_size functions) (body_smaller name functions f is) in
+    let whole : size f.body * k ≡ suc (sum_by size (parts f.body)) * k = ap (λ n. n * k) (size_is f.body) in
+    omega arith

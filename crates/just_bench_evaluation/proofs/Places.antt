@@ -1,8 +1,8 @@
 -- Places of the parts of an expression are places of the expression.
-use Rattle.std.proofs.Common.{◌≡◌, sym, ◌∙◌, ap, subst, zero, suc, arith, Bool, true, false, cond, List, [], ◌∷◌, ◌++◌, length, Option, Some, refl}
+use Rattle.std.proofs.Common.{◌≡◌, sym, ◌∙◌, ap, subst, zero, suc, arith, Bool, true, false, cond, List, [], ◌∷◌, length, Option, Some, refl}
 use Rattle.std.specs.List.{Contains, flat_map}
 use Rattle.std.proofs.lemmas.List.Concat.{flat_map-cons}
-use Rattle.std.proofs.lemmas.List.Elements.{Contains-append_left, Contains-append_right, Contains-get_or}
+use Rattle.std.proofs.lemmas.List.Elements.{Contains-append_left, Contains-append_right}
 use Rattle.just_names.specs.Texts.{Text}
 use Rattle.just_names.specs.Token.{Place}
 use Rattle.just_names.specs.declared.name.Name.{Name}
@@ -20,10 +20,8 @@ use Rattle.just_ast_references.specs.declared.references.Reference.{Reference}
 use Rattle.just_ast_references.specs.declared.references.Reference.TheVariants as reference
 use Rattle.just_ast_references.proofs.MentionsOf.{mention_of-Call, mention_of-Variable}
 use Rattle.just_ast_references.proofs.PartsOf.{parts_of-Call, parts_of-Concatenation, parts_of-Group, parts_of-List}
-use Rattle.just_errors.specs.declared.error.Error.{Error}
-use Rattle.just_parts.specs.Told.{IsPlaceIn, IsPlaceInOne, IsToldIn, assigned_values, at_name, in_body, in_part, of_no_name, nowhere}
+use Rattle.just_parts.specs.Told.{IsPlaceIn, IsPlaceInOne, assigned_values, at_name, in_body, in_part, of_no_name, nowhere}
 use Rattle.just_bench_evaluation.specs.Lookup.{IsPlaceOfCall, at_call, in_called}
-use Rattle.just_bench_evaluation.proofs.Told.{told_on}
 
 pub in_flat : {A B : Type 0} (f : A → List B) (xs : List A) (x : A) (y : B) → Contains xs x → Contains (f x) y → Contains (flat_map f xs) y
 in_flat f [] x y c h = absurd (omega (arith, c.1))
@@ -80,10 +78,6 @@ in_element fs es e c place inside = record { e = e; there = c; in_it = inside }
 -- a place of one of some expressions is one of more
 pub in_more : (fs : List (Text × FunctionDefinition)) (es more : List Expression) → ((e : Expression) → Contains es e → Contains more e) → (place : Place) → IsPlaceInOne fs es place → IsPlaceInOne fs more place
 in_more fs es more within place one = record { e = one.e; there = within one.e one.there; in_it = one.in_it }
-
--- what is told at the name of a call is told at a place of the call
-pub call_told : (fs : List (Text × FunctionDefinition)) (name : Name) (e : Error) → IsToldIn (λ place. place ≡ name.token) e → IsToldIn (IsPlaceOfCall fs name) e
-call_told fs name = told_on {P = λ place. place ≡ name.token} {Q = IsPlaceOfCall fs name} (λ place. at_call)
 
 -- the value of a variable of a table is one of the values that are assigned
 assigned_here : (b : Bool) (entry : Text × Assignment) (es : List (Text × Assignment)) (rest : Option Assignment) (a : Assignment) → (rest ≡ Some a → Contains (assigned_values es) a.value)

@@ -12,7 +12,7 @@ use Rattle.just_ast_expressions.specs.declared.expression.Expression.{Expression
 use Rattle.just_ast_definitions.specs.declared.function_definition.FunctionDefinition.{FunctionDefinition}
 use Rattle.just_ast_references.specs.Body.{Calls, Mention, Names}
 use Rattle.just_table.specs.Entries.{find}
-use Rattle.just_bench_evaluation.specs.Among.{call_with}
+use Rattle.just_bench_evaluation.specs.Tasks.{call_with}
 use Rattle.just_bench_evaluation.specs.Values.{Outcome, bound, hiding, value_with}
 use Rattle.just_bench_evaluation.proofs.Alike.{Agree, agreed_value}
 use Rattle.just_bench_evaluation.proofs.Branches.{with_is}

@@ -1,5 +1,6 @@
-pub mod Among
 pub mod Constants
 pub mod Lookup
 pub mod Settings
+pub mod Sink
+pub mod Tasks
 pub mod Values

@@ -1,5 +1,5 @@
 -- What settings come to.
-use Rattle.std.specs.Prelude.{List, [], ◌∷◌, map, Option, Some}
+use Rattle.std.specs.Prelude.{List, [], ◌∷◌, codes, map, Option, Some, IsSome}
 use Rattle.std.specs.Option.{option_and_then, option_map}
 use Rattle.just_names.specs.Texts.{Text}
 use Rattle.just_parts.specs.Evaluator.{Functions, Values}
@@ -45,6 +45,18 @@ module _ (value : Expression → Outcome) where
   settings_with [] s = Some s
   settings_with (x ∷ xs) s = option_and_then (settings_with xs) (setting_with x.value s)
 
+-- `sh` with an option
+abbrev pub shell_with : Text → Interpreter Text
+shell_with option = record { command = codes "sh"; arguments = option ∷ [] }
+
+-- Settings before any is set: none is on, `sh -cu` runs lines, and `sh -eu` runs scripts.
+abbrev pub plain_settings : Settings
+plain_settings = record default_settings { script_interpreter = Some (shell_with (codes "-eu")); shell = Some (shell_with (codes "-cu")) }
+
+-- something runs lines, and something runs scripts
+abbrev pub HasPrograms : Settings → Type 0
+HasPrograms s = IsSome s.shell × IsSome s.script_interpreter
+
 -- the settings of a module
 abbrev pub settings_of : Functions → Values → List Set → Option Settings
-settings_of functions constants sets = settings_with (value_of functions constants) sets default_settings
+settings_of functions constants sets = settings_with (value_of functions constants) sets plain_settings

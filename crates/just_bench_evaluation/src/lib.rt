@@ -1,10 +1,14 @@
 //! What expressions of the small grammar come to: values, which are lists of texts, and their evaluation as a layer.
 #![tactic(auto)]
 
+mod buffer;
 mod constants;
 mod lookup;
 pub mod plain_evaluation;
 mod settings;
+mod sink;
+mod stack;
+mod tasks;
 mod values;
 
 pub use constants::constants_of;

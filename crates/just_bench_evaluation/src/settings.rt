@@ -4,6 +4,7 @@ ghost use Rattle.just_parts.specs.Evaluator.{FaultsAt, bare_set, functions_by_na
 ghost use Rattle.just_parts.specs.Told.{IsPlaceIn, IsPlaceInOne, IsToldIn};
 ghost use Rattle.just_bench_evaluation.specs.Lookup.{Tells};
 ghost use Rattle.just_bench_evaluation.specs.Settings as spec;
+ghost use Rattle.just_bench_evaluation.specs.Settings.{HasPrograms};
 ghost use Rattle.just_bench_evaluation.specs.Values as value;
 
 use crate::lookup::Constants;
@@ -13,7 +14,7 @@ use just_parts::layers::{
     Error, Expression, FunctionDefinition, Interpreter, Scope, Set, Setting, Settings, joined,
 };
 use just_table::Table;
-use std::alloc::Global;
+use std::alloc::{AllocError, Global};
 
 // The text of an expression.
 fn text<'src>(
@@ -104,8 +105,30 @@ fn set<'src>(
     Ok(())
 }
 
-/// The settings that these come to among constants, each in turn, and the others off. Where an expression has no value a
-/// fault is told.
+// `sh` with an option.
+fn shell_with(alloc: Global, option: &str) -> Result<Interpreter<Text>, AllocError>
+    ensures { IfOk result (λ made. made ≡ spec.shell_with option.now) }
+{
+    let mut arguments = Sequence::new(alloc);
+    arguments.push(Text::from_str(alloc, option)?)?;
+    Ok(Interpreter {
+        command: Text::from_str(alloc, "sh")?,
+        arguments,
+    })
+}
+
+// Settings before any is set.
+fn plain_settings(alloc: Global) -> Result<Settings, AllocError>
+    ensures { IfOk result (λ made. made ≡ spec.plain_settings) }
+{
+    let mut settings = Settings::default();
+    settings.shell = Some(shell_with(alloc, "-cu")?);
+    settings.script_interpreter = Some(shell_with(alloc, "-eu")?);
+    Ok(settings)
+}
+
+/// The settings that these come to among constants, each in turn, and the others off. Where none says what runs lines it is
+/// `sh -cu`, and what runs scripts `sh -eu`. Where an expression has no value a fault is told.
 pub fn settings_of<'src>(
     alloc: Global,
     functions: &Table<'src, FunctionDefinition<'src>>,
@@ -114,10 +137,11 @@ pub fn settings_of<'src>(
 ) -> Result<Settings, Error<'src>>
     ensures settings { let among = spec.settings_of (functions_by_name functions.now) (values_of constants.now) in
         IfOk result (λ made. among (map bare_set sets.now) ≡ Some made) }
+    ensures programs { IfOk result (λ made. HasPrograms made) }
     ensures refused { IfErr result (FaultsAt (spec.settings_of (functions_by_name functions.now) (values_of constants.now) (map bare_set sets.now))) }
     ensures told { IfErr result (IsToldIn (IsPlaceInOne functions.now (flat_map set_expressions sets.now))) }
 {
-    let mut settings = Settings::default();
+    let mut settings = plain_settings(alloc)?;
     for one in sets {
         set(alloc, functions, constants, &one.value, &mut settings)?;
     }

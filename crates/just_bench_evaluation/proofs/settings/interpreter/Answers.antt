@@ -1,4 +1,4 @@
-use Rattle.std.proofs.Common.{◌≡◌, ◌∙◌, sym, ap, subst, arith, rules, refl, ◌∷◌, []}
+use Rattle.std.proofs.Common.{◌∙◌, sym, ap, subst, arith, rules, refl, ◌∷◌, []}
 use Rattle.std.specs.List.{Contains}
 use Rattle.std.specs.Prelude.{map}
 use Rattle.std.proofs.lemmas.List.Elements.{Contains-append_right}
