@@ -1,0 +1,14 @@
+pub mod Places
+pub mod Names
+pub mod Fronts
+pub mod Refusals
+pub mod Once
+pub mod Readings
+pub mod WordLemmas
+pub mod Outcomes
+pub mod GroupLemmas
+pub mod OptionLemmas
+pub mod OptionWords
+pub mod TailLemmas
+pub mod CheckLemmas
+pub mod Decides

@@ -1,0 +1,31 @@
+-- Why words are no arguments.
+use Rattle.std.specs.Prelude.{ℕ, Option, Some, None}
+use Rattle.just_names.specs.Texts.{Text}
+use Rattle.just_tail.specs.declared.switch.Switch.{Switch}
+use Rattle.just_tail.specs.declared.error.TailError.{TailError}
+use Rattle.just_tail.specs.declared.error.TailError.TheVariants as error
+
+-- why words are no arguments, with the fields of the error that says it
+pub data Cause : Type 0 where
+  invalid_option : Text → Cause
+  unknown_option : Switch → Cause
+  duplicate_option : Switch → Cause
+  flag_with_value : Switch → Cause
+  option_missing_value : Switch → Cause
+  missing_option : Switch → Cause
+  count_mismatch : ℕ → ℕ → ℕ → Cause
+  value_count : Text → Text → Cause
+  pattern_mismatch : Text → Text → Cause
+
+-- what an error says of the words; want of memory says nothing
+abbrev pub cause_of : TailError → Option Cause
+cause_of error.Memory = None
+cause_of (error.InvalidOption argument) = Some (invalid_option argument)
+cause_of (error.UnknownOption switch) = Some (unknown_option switch)
+cause_of (error.DuplicateOption switch) = Some (duplicate_option switch)
+cause_of (error.FlagWithValue switch) = Some (flag_with_value switch)
+cause_of (error.OptionMissingValue switch) = Some (option_missing_value switch)
+cause_of (error.MissingOption switch) = Some (missing_option switch)
+cause_of (error.PositionalArgumentCountMismatch found min max) = Some (count_mismatch found min max)
+cause_of (error.ValueCount parameter fault) = Some (value_count parameter fault)
+cause_of (error.ArgumentPatternMismatch parameter argument) = Some (pattern_mismatch parameter argument)

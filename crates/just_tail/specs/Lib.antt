@@ -1,0 +1,8 @@
+pub mod Words
+pub mod Options
+pub mod Pieces
+pub mod Steps
+pub mod Cause
+pub mod Tail
+pub mod Reader
+pub mod Checks

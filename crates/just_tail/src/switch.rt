@@ -1,0 +1,36 @@
+//! What names an option.
+ghost use Rattle.std.specs.Prelude.{◌≡◌, IfOk};
+ghost use Rattle.just_tail.specs.Reader.{switch_of};
+
+use just_data::Text;
+use std::alloc::{AllocError, Global};
+
+/// What names an option.
+#[derive(Debug, PartialEq, Eq, Drop)]
+pub enum Switch {
+    /// A long name, as in `--NAME`.
+    Long(Text),
+    /// A letter, as in `-c`.
+    Short(char),
+}
+
+/// What names an option, in the words or in a parameter.
+#[derive(Clone, Copy)]
+pub enum BorrowedSwitch<'text> {
+    /// A long name, as in `--NAME`.
+    Long(&'text str),
+    /// A letter, as in `-c`.
+    Short(char),
+}
+
+impl BorrowedSwitch<'_> {
+    /// A copy that keeps its name.
+    pub fn owned(self, alloc: Global) -> Result<Switch, AllocError>
+        ensures { IfOk result (λ switch. switch ≡ switch_of self.entry) }
+    {
+        match self {
+            BorrowedSwitch::Long(name) => Ok(Switch::Long(Text::from_str(alloc, name)?)),
+            BorrowedSwitch::Short(letter) => Ok(Switch::Short(letter)),
+        }
+    }
+}
