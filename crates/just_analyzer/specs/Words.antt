@@ -8,10 +8,10 @@ pub use Rattle.just_parts.specs.Layers.{override_at}
 pub use Rattle.just_parts.specs.Steps.{kept_by}
 pub use Rattle.just_loader.specs.ModuleFile.{module_files}
 pub use Rattle.just_loader.specs.Reached.{world_of}
-pub use Rattle.just_invoke.specs.Closed.{AreClosed, IsClosed, IsHeld, IsRooted, is_ordered}
+pub use Rattle.just_justfile.specs.Closed.{AreClosed, IsClosed, IsHeld, IsRooted, is_ordered}
 pub use Rattle.just_invoke.specs.Outcome.{IsExpected, IsOutcome}
 pub use Rattle.just_invoke.specs.Split.{IsFault, IsSplit, invoked_of}
-pub use Rattle.just_invoke.specs.Walks.{AreOrdered, IsOrdered}
+pub use Rattle.just_justfile.specs.Walks.{AreOrdered, IsOrdered}
 pub use Rattle.just_overrides.specs.Inserted.{AreAsBefore}
-pub use Rattle.just_analyzer.specs.Analyzed.{Analyzes, NamesAnalyzed}
-pub use Rattle.just_analyzer.specs.Compiled.{Compiles}
+pub use Rattle.just_compiler.specs.Analyzed.{Analyzes, NamesAnalyzed}
+pub use Rattle.just_compiler.specs.Compiled.{Compiles}

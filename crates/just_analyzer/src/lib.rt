@@ -2,15 +2,20 @@
 //! modules of the original.
 #![tactic(auto)]
 
-pub mod analyzer;
-pub mod compilation;
-pub mod compiler;
-mod compiling;
-mod groups;
-mod inner;
-mod making;
-mod notes;
-mod paths;
+/// Modules, analysed one by one.
+pub mod analyzer {
+    pub use just_compiler::Analyzer;
+}
+
+/// What a compilation has.
+pub mod compilation {
+    pub use just_compiler::Compilation;
+}
+
+/// Source maps, compiled.
+pub mod compiler {
+    pub use just_compiler::Compiler;
+}
 
 /// Tables: values under their keys, in byte order.
 pub mod table {
@@ -49,7 +54,7 @@ pub mod dependency {
 
 /// Recipes that are resolved, and all of a compilation by their numbers.
 pub mod recipe {
-    pub use just_invoke::Recipes;
+    pub use just_justfile::Recipes;
     pub use just_parts::Recipe;
 }
 
@@ -66,7 +71,7 @@ pub mod recipe_resolver {
 
 /// What paths lead to, and recipes that are not there.
 pub mod resolution {
-    pub use just_invoke::{Disabled, Resolution};
+    pub use just_justfile::{Disabled, Resolution};
 }
 
 /// What command words mean.
@@ -74,9 +79,10 @@ pub mod invocation_parser {
     pub use just_invoke::{Invocation, InvocationParser};
 }
 
-/// A module as it is compiled, and what is told of a run.
+/// A module as it is compiled, its run, and what is told of one.
 pub mod justfile {
-    pub use just_invoke::{Justfile, RecipeKey, Report};
+    pub use just_invoke::{Report, Run};
+    pub use just_justfile::{Justfile, RecipeKey};
 }
 
 /// Texts, lists and shared values that contracts see as plain data.
@@ -90,7 +96,7 @@ pub use compiler::Compiler;
 pub use data::{BorrowedText, Sequence, Shared, Text};
 pub use dependency::Dependency;
 pub use invocation_parser::{Invocation, InvocationParser};
-pub use justfile::{Justfile, RecipeKey, Report};
+pub use justfile::{Justfile, RecipeKey, Report, Run};
 pub use modulepath::Modulepath;
 pub use recipe::{Recipe, Recipes};
 pub use recipe_resolver::RecipeResolver;

@@ -1,12 +1,12 @@
 //! The run of a compiled module, and what is written of it.
-ghost use Rattle.just_invoke.specs.Closed.{IsRooted};
+ghost use Rattle.just_justfile.specs.Closed.{IsRooted};
 
 use crate::entries::write_entries;
 use crate::program_error::ProgramError;
 use crate::recorder::Recorder;
 use crate::words::run_words;
 use just_data::Text;
-use just_invoke::{Justfile, Recipes};
+use just_justfile::{Justfile, Recipes};
 use just_parts::layers::{Config, Number};
 use std::alloc::Global;
 use std::collections::HashMap;

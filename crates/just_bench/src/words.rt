@@ -1,12 +1,13 @@
 //! The run of a compiled module over the layers of the bench.
-ghost use Rattle.just_invoke.specs.Closed.{IsRooted};
+ghost use Rattle.just_justfile.specs.Closed.{IsRooted};
 
 use crate::recorder::Recorder;
 use crate::stop_writer::StopWriter;
 use just_bench_evaluation::PlainEvaluation;
 use just_bench_syntax::PlainSyntax;
 use just_data::Text;
-use just_invoke::{Justfile, Recipes, Report};
+use just_invoke::Report;
+use just_justfile::{Justfile, Recipes};
 use just_parts::layers::{Config, Error, Number};
 use std::alloc::Global;
 use std::collections::HashMap;

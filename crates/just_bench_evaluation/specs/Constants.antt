@@ -10,6 +10,7 @@ use Rattle.just_table.specs.Entries.{find, put}
 use Rattle.just_bench_evaluation.specs.Lookup.{table_values}
 use Rattle.just_bench_evaluation.specs.declared.lookup.Constant.{Constant}
 use Rattle.just_bench_evaluation.specs.Settings.{settings_of}
+use Rattle.just_bench_evaluation.specs.Counts.{count_fault}
 use Rattle.just_bench_evaluation.specs.Values.{Outcome, value_of}
 
 -- what overrides a value, or else the value
@@ -46,7 +47,7 @@ abbrev pub constants_of : Wanted → Option Values
 constants_of wanted = constants_among wanted (values_after (length wanted.assignments) wanted)
 
 abbrev pub evaluator : Evaluator
-evaluator = record { constants = constants_of; value = value_of; settings = settings_of }
+evaluator = record { constants = constants_of; value = value_of; settings = settings_of; count_fault = λ recipe p. count_fault p.kind }
 
 -- A table of constants has one more: that of a variable of this name.
 pub record Adds (assignments : List (Text × Assignment)) (wanted : Wanted) (name : Text) (old new : List (Text × Constant)) : Type 0 where

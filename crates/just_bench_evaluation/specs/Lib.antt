@@ -1,4 +1,5 @@
 pub mod Constants
+pub mod Counts
 pub mod Lookup
 pub mod Settings
 pub mod Sink

@@ -3,6 +3,7 @@
 
 mod buffer;
 mod constants;
+mod counts;
 mod lookup;
 pub mod plain_evaluation;
 mod settings;

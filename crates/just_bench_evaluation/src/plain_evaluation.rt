@@ -1,14 +1,15 @@
 //! The evaluation that goes with the small grammar.
 use crate::constants::constants_of;
+use crate::counts::count_fault;
 use crate::settings::settings_of;
 use crate::values::value_of;
 use just_data::{Sequence, Text};
 use just_parts::layers::{
-    Assignment, Error, Evaluation, Expression, FunctionDefinition, Name, Number, Scope, Set,
-    Settings,
+    Assignment, Error, Evaluation, Expression, Fault, FunctionDefinition, Name, Number, Parameter,
+    Scope, Set, Settings,
 };
 use just_table::Table;
-use std::alloc::Global;
+use std::alloc::{AllocError, Global};
 use std::collections::{HashMap, HashSet};
 
 /// Evaluates expressions as `docs/plain.md` says: values are lists of texts, whether or not the settings say so. It promises
@@ -60,5 +61,15 @@ impl Evaluation for PlainEvaluation {
         sets: &[Set<'src>],
     ) -> Result<Settings, Error<'src>> {
         settings_of(alloc, functions, constants, sets)
+    }
+
+    fn check_value_count<'src>(
+        &self,
+        alloc: Global,
+        recipe: &str,
+        parameter: &Parameter<'src>,
+        group: &[&str],
+    ) -> Result<Option<Fault>, AllocError> {
+        count_fault(alloc, parameter.kind, group)
     }
 }

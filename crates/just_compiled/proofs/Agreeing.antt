@@ -6,14 +6,14 @@ use Rattle.std.specs.Prelude.{if◌then◌else◌, is_some}
 use Rattle.std.specs.Str.{bytes_eq}
 use Rattle.std.proofs.lemmas.List.{get_or_default}
 use Rattle.just_graph.proofs.Members.{In, contained, from_map, in_map, is_in}
-use Rattle.just_invoke.specs.Module.{module_name}
-use Rattle.just_invoke.specs.Walks as walks
-use Rattle.just_invoke.specs.Walks.{End, end_of, module_named, only, path_along, recipe_at as found_at, recipe_by}
-use Rattle.just_invoke.specs.declared.disabled.Disabled.{Disabled}
-use Rattle.just_invoke.specs.declared.justfile.Justfile.{Justfile, out-Justfile}
-use Rattle.just_invoke.specs.declared.justfile.RecipeKey.{RecipeKey}
-use Rattle.just_invoke.specs.declared.resolution.Resolution.{Resolution}
-use Rattle.just_invoke.specs.declared.resolution.Resolution.TheVariants as resolution
+use Rattle.just_justfile.specs.Module.{module_name}
+use Rattle.just_justfile.specs.Walks as walks
+use Rattle.just_justfile.specs.Walks.{End, end_of, module_named, only, path_along, recipe_at as found_at, recipe_by}
+use Rattle.just_justfile.specs.declared.disabled.Disabled.{Disabled}
+use Rattle.just_justfile.specs.declared.justfile.Justfile.{Justfile, out-Justfile}
+use Rattle.just_justfile.specs.declared.justfile.RecipeKey.{RecipeKey}
+use Rattle.just_justfile.specs.declared.resolution.Resolution.{Resolution}
+use Rattle.just_justfile.specs.declared.resolution.Resolution.TheVariants as resolution
 use Rattle.just_module_contents.specs.Recipes.{name_of, names_of, no_recipe, recipe_at}
 use Rattle.just_module_headers.proofs.Alike.{same_names}
 use Rattle.just_module_recipes.specs.Linked.{name_of_disabled}

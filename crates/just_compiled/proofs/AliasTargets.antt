@@ -5,12 +5,12 @@ use Rattle.std.proofs.lemmas.List.{get_or_default}
 use Rattle.just_graph.proofs.Members.{contained, in_map, is_in}
 use Rattle.just_ast_definitions.specs.declared.alias.Alias.{Alias}
 use Rattle.just_errors.specs.Causes.{Cause, Keeps}
-use Rattle.just_invoke.specs.Walks.{Absent, End, Here, Inside, Nowhere, beyond, end_of, module_by, module_named, recipe_by}
-use Rattle.just_invoke.specs.declared.disabled.Disabled.{Disabled}
-use Rattle.just_invoke.specs.declared.justfile.Justfile.{Justfile, out-Justfile}
-use Rattle.just_invoke.specs.declared.justfile.RecipeKey.{RecipeKey}
-use Rattle.just_invoke.specs.declared.resolution.Resolution.{Resolution}
-use Rattle.just_invoke.specs.declared.resolution.Resolution.TheVariants as resolution
+use Rattle.just_justfile.specs.Walks.{Absent, End, Here, Inside, Nowhere, beyond, end_of, module_by, module_named, recipe_by}
+use Rattle.just_justfile.specs.declared.disabled.Disabled.{Disabled}
+use Rattle.just_justfile.specs.declared.justfile.Justfile.{Justfile, out-Justfile}
+use Rattle.just_justfile.specs.declared.justfile.RecipeKey.{RecipeKey}
+use Rattle.just_justfile.specs.declared.resolution.Resolution.{Resolution}
+use Rattle.just_justfile.specs.declared.resolution.Resolution.TheVariants as resolution
 use Rattle.just_module_contents.specs.Recipes.{name_of, no_recipe, recipe_at}
 use Rattle.just_module_contents.specs.Rules.{Aliases, unknown_target}
 use Rattle.just_module_contents.specs.Standing.{AreStanding}

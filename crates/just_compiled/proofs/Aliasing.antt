@@ -5,14 +5,14 @@ use Rattle.std.specs.Str.{bytes_eq}
 use Rattle.just_graph.proofs.Index.{some_same}
 use Rattle.just_graph.proofs.Members.{In, from_flat}
 use Rattle.just_ast_definitions.specs.declared.alias.Alias.{Alias}
-use Rattle.just_invoke.specs.Closed.{IsPathIn}
-use Rattle.just_invoke.specs.Walks as walks
-use Rattle.just_invoke.specs.Walks.{End, end_of, module_named, recipe_by, recipe_from}
-use Rattle.just_invoke.specs.declared.aliases.Aliases.{Aliases}
-use Rattle.just_invoke.specs.declared.justfile.Justfile.{Justfile, out-Justfile}
-use Rattle.just_invoke.specs.declared.resolution.Resolution.{Resolution}
-use Rattle.just_invoke.specs.declared.resolution.Resolution.TheVariants as resolution
-use Rattle.just_invoke.proofs.Leading.{stands_along, walk_along}
+use Rattle.just_justfile.specs.Closed.{IsPathIn}
+use Rattle.just_justfile.specs.Walks as walks
+use Rattle.just_justfile.specs.Walks.{End, end_of, module_named, recipe_by, recipe_from}
+use Rattle.just_justfile.specs.declared.aliases.Aliases.{Aliases}
+use Rattle.just_justfile.specs.declared.justfile.Justfile.{Justfile, out-Justfile}
+use Rattle.just_justfile.specs.declared.resolution.Resolution.{Resolution}
+use Rattle.just_justfile.specs.declared.resolution.Resolution.TheVariants as resolution
+use Rattle.just_justfile.proofs.Leading.{stands_along, walk_along}
 use Rattle.just_module_recipes.specs.Aliased.{Targets, aliases_onto, as_module_alias, as_recipe, as_recipe_alias, meant, modules_among, name_of_alias, recipes_among, targets_of, with_meaning}
 use Rattle.just_module_recipes.specs.declared.aliases.Meaning.{Meaning}
 use Rattle.just_module_recipes.specs.declared.aliases.Meaning.TheVariants as meaning

@@ -10,10 +10,10 @@ use Rattle.just_ast_definitions.specs.declared.alias.Alias.{Alias}
 use Rattle.just_ast_definitions.specs.Parameter.{least_arguments, most_arguments}
 use Rattle.just_ast_definitions.specs.declared.parameter.Parameter.{Parameter}
 use Rattle.just_errors.specs.Causes.{Cause}
-use Rattle.just_invoke.specs.declared.justfile.Justfile.{out-Justfile}
-use Rattle.just_invoke.specs.Walks.{end_of, module_named, path_along, recipe_by}
-use Rattle.just_invoke.specs.declared.resolution.Resolution.{Resolution}
-use Rattle.just_invoke.specs.declared.resolution.Resolution.TheVariants as resolution
+use Rattle.just_justfile.specs.declared.justfile.Justfile.{out-Justfile}
+use Rattle.just_justfile.specs.Walks.{end_of, module_named, path_along, recipe_by}
+use Rattle.just_justfile.specs.declared.resolution.Resolution.{Resolution}
+use Rattle.just_justfile.specs.declared.resolution.Resolution.TheVariants as resolution
 use Rattle.just_module_contents.specs.Constants.{Evaluated}
 use Rattle.just_module_contents.specs.Contents.{Contents}
 use Rattle.just_module_contents.specs.Groups.{Group, OfAliases, OfBodies, OfConstants, OfDependencies, OfExpressions, OfHeaders, OfNames, OfRecipes}

@@ -2,8 +2,8 @@
 use Rattle.std.proofs.Common.{◌≡◌, ◌∙◌, List, Option, inl, inr, sym, subst}
 use Rattle.std.specs.List.{Contains}
 use Rattle.just_graph.proofs.Members.{In, is_in}
-use Rattle.just_invoke.specs.Closed.{StandsIn}
-use Rattle.just_invoke.specs.declared.justfile.Justfile.{Justfile, out-Justfile}
+use Rattle.just_justfile.specs.Closed.{StandsIn}
+use Rattle.just_justfile.specs.declared.justfile.Justfile.{Justfile, out-Justfile}
 use Rattle.just_module_tree.specs.Modules.{Forest, Module}
 use Rattle.just_names.specs.Texts.{Text}
 use Rattle.just_parts.specs.Asts.{AstKey}

@@ -16,9 +16,9 @@ use Rattle.just_parts.specs.Asts.{AstKey, same_ast_key}
 use Rattle.just_parts.specs.Items.{Ast, Item}
 use Rattle.just_parts.specs.Layers.{Given}
 use Rattle.just_paths.specs.declared.modulepath.Modulepath.{Modulepath}
-use Rattle.just_invoke.specs.Closed.{path_on}
-use Rattle.just_invoke.specs.Module as naming
-use Rattle.just_invoke.specs.declared.justfile.Justfile.{Justfile, out-Justfile}
+use Rattle.just_justfile.specs.Closed.{path_on}
+use Rattle.just_justfile.specs.Module as naming
+use Rattle.just_justfile.specs.declared.justfile.Justfile.{Justfile, out-Justfile}
 use Rattle.just_module_contents.specs.Resolved.{path_to}
 use Rattle.just_module_headers.specs.Reading.{Reading, Submodule, declared, imported, imports_of, items_in, submodules_of}
 use Rattle.just_module_tree.specs.Modules.{AreModules, Forest, Heading, IsModule, Module, a_module, heading_of, no_module}

@@ -20,11 +20,11 @@ use Rattle.just_parts.specs.Items.{Ast}
 use Rattle.just_recipe.specs.declared.dependency.UnresolvedDependency.{UnresolvedDependency}
 use Rattle.just_names.specs.declared.number.Number.{Number}
 use Rattle.just_recipe.specs.declared.recipe.Recipe.{Recipe}
-use Rattle.just_invoke.specs.Closed.{AreClosed, HasRecipe, IsClosed, StandsIn, all_closed, inside as stands_inside, itself, path_on, recipe_of_alias, recipe_of_key, recipe_of_number}
+use Rattle.just_justfile.specs.Closed.{AreClosed, HasRecipe, IsClosed, StandsIn, all_closed, inside as stands_inside, itself, path_on, recipe_of_alias, recipe_of_key, recipe_of_number}
 use Rattle.just_recipe.specs.Recipes.{IsResolved, find_number}
-use Rattle.just_invoke.specs.Module.{module_name}
-use Rattle.just_invoke.specs.declared.justfile.Justfile.{Justfile, out-Justfile}
-use Rattle.just_invoke.specs.declared.justfile.RecipeKey.{RecipeKey}
+use Rattle.just_justfile.specs.Module.{module_name}
+use Rattle.just_justfile.specs.declared.justfile.Justfile.{Justfile, out-Justfile}
+use Rattle.just_justfile.specs.declared.justfile.RecipeKey.{RecipeKey}
 use Rattle.just_module_contents.specs.Defaults.{IsDefaultAmong, IsDefaultOf}
 use Rattle.just_compiled.specs.Variables.{HasTables}
 use Rattle.just_compiled.specs.Labelled.{by_name, held_by_name}

@@ -9,9 +9,9 @@ use Rattle.std.proofs.lemmas.Bool.{cases_Bool, false_from_ne_true}
 use Rattle.std.proofs.lemmas.List.Elements.{All-head, All-nil, All-tail}
 use Rattle.std.proofs.lemmas.Slice.Eq.{bytes_eq-Decides}
 use Rattle.just_graph.proofs.Members.{In, in_map}
-use Rattle.just_invoke.specs.Module.{module_name}
-use Rattle.just_invoke.specs.Walks.{module_named}
-use Rattle.just_invoke.specs.declared.justfile.Justfile.{Justfile}
+use Rattle.just_justfile.specs.Module.{module_name}
+use Rattle.just_justfile.specs.Walks.{module_named}
+use Rattle.just_justfile.specs.declared.justfile.Justfile.{Justfile}
 use Rattle.just_names.specs.Index.{AreDifferent}
 use Rattle.just_names.specs.Texts.{Text}
 use Rattle.just_table.specs.Entries.{IsKeyed, find, put, put_all}

@@ -13,7 +13,7 @@ use Rattle.just_parts.specs.Syntax.{SyntaxAnswers}
 use Rattle.just_ast_definitions.specs.declared.assignment.Assignment.{Assignment}
 use Rattle.just_table.specs.Entries.{find, put, put_all}
 use Rattle.just_module_variables.specs.Variables.{known_with_numbers}
-use Rattle.just_invoke.specs.declared.justfile.Justfile.{Justfile}
+use Rattle.just_justfile.specs.declared.justfile.Justfile.{Justfile}
 use Rattle.just_compiled.specs.Variables.{HasTables, HasVariables}
 use Rattle.just_module_variables.proofs.Tabled.{are_tables}
 use Rattle.just_module_headers.specs.Analyzable.{assignment_numbers}

@@ -22,8 +22,8 @@ use Rattle.just_module_headers.specs.Reading.{Reading}
 use Rattle.just_module_tree.specs.Modules.{AreModules, Forest, Heading, IsModule, Module, a_module, no_module}
 use Rattle.just_module_variables.specs.Numbered.{numbered_assignment}
 use Rattle.just_module_variables.specs.Variables.{known_with_numbers}
-use Rattle.just_invoke.specs.Closed.{StandsIn}
-use Rattle.just_invoke.specs.declared.justfile.Justfile.{Justfile, out-Justfile}
+use Rattle.just_justfile.specs.Closed.{StandsIn}
+use Rattle.just_justfile.specs.declared.justfile.Justfile.{Justfile, out-Justfile}
 use Rattle.just_compiled.specs.Justfiles.{AreCompiled, Built, IsCompiled, Made, contents_in, none, one, recipes_of_all}
 use Rattle.just_compiled.specs.Variables.{HaveOwnNumbers}
 use Rattle.just_compiled.proofs.ByName.{files_path}

@@ -24,9 +24,9 @@ use Rattle.just_recipe.specs.declared.dependency.Dependency.{Dependency}
 use Rattle.just_recipe.specs.declared.dependency.UnresolvedDependency.{UnresolvedDependency}
 use Rattle.just_recipe.specs.declared.recipe.Recipe.{Recipe}
 use Rattle.just_module_contents.specs.declared.labels.Label.{Label}
-use Rattle.just_invoke.specs.Closed.{StandsIn, itself, inside}
-use Rattle.just_invoke.specs.Module as naming
-use Rattle.just_invoke.specs.declared.justfile.Justfile.{Justfile, out-Justfile}
+use Rattle.just_justfile.specs.Closed.{StandsIn, itself, inside}
+use Rattle.just_justfile.specs.Module as naming
+use Rattle.just_justfile.specs.declared.justfile.Justfile.{Justfile, out-Justfile}
 use Rattle.just_module_variables.specs.Documented.{AreDocumented}
 use Rattle.just_module_recipes.specs.Completing.{Completion}
 use Rattle.just_module_recipes.specs.Linked.{AreLinked}

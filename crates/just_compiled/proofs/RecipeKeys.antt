@@ -8,7 +8,7 @@ use Rattle.just_graph.proofs.Members.{In, from_map}
 use Rattle.just_names.specs.Texts.{Text}
 use Rattle.just_recipe.specs.declared.dependency.UnresolvedDependency.{UnresolvedDependency}
 use Rattle.just_recipe.specs.declared.recipe.Recipe.{Recipe}
-use Rattle.just_invoke.specs.declared.justfile.RecipeKey.{RecipeKey}
+use Rattle.just_justfile.specs.declared.justfile.RecipeKey.{RecipeKey}
 use Rattle.just_table.specs.Entries.{find, put, put_all}
 use Rattle.just_table.proofs.Puts.{find_put}
 use Rattle.just_module_contents.specs.Recipes.{name_of, no_recipe, recipe_at}

@@ -12,13 +12,13 @@ use Rattle.just_compiled.proofs.ByName.{names_sorted}
 use Rattle.just_compiled.proofs.Closing.{named_in}
 use Rattle.just_compiled.proofs.RecipeKeys.{found_among, key_found}
 use Rattle.just_graph.proofs.Members.{In, is_in}
-use Rattle.just_invoke.specs.Walks.{Absent, AreOrdered, End, Here, Inside, IsOrdered, NamesRise, Nowhere, beyond, end_of, in_order, module_named, only, path_along, recipe_at as key_at, recipe_by}
-use Rattle.just_invoke.specs.declared.disabled.Disabled.{Disabled}
-use Rattle.just_invoke.specs.declared.justfile.Justfile.{Justfile, out-Justfile, out-roll-Justfile}
-use Rattle.just_invoke.specs.declared.justfile.RecipeKey.{RecipeKey}
-use Rattle.just_invoke.specs.declared.resolution.Resolution.{Resolution}
-use Rattle.just_invoke.specs.declared.resolution.Resolution.TheVariants as resolution
-use Rattle.just_invoke.proofs.Leading.{named_there}
+use Rattle.just_justfile.specs.Walks.{Absent, AreOrdered, End, Here, Inside, IsOrdered, NamesRise, Nowhere, beyond, end_of, in_order, module_named, only, path_along, recipe_at as key_at, recipe_by}
+use Rattle.just_justfile.specs.declared.disabled.Disabled.{Disabled}
+use Rattle.just_justfile.specs.declared.justfile.Justfile.{Justfile, out-Justfile, out-roll-Justfile}
+use Rattle.just_justfile.specs.declared.justfile.RecipeKey.{RecipeKey}
+use Rattle.just_justfile.specs.declared.resolution.Resolution.{Resolution}
+use Rattle.just_justfile.specs.declared.resolution.Resolution.TheVariants as resolution
+use Rattle.just_justfile.proofs.Leading.{named_there}
 use Rattle.just_module_contents.specs.declared.labels.Label.{Label}
 use Rattle.just_module_contents.specs.Recipes.{name_of, recipe_at}
 use Rattle.just_module_contents.specs.Resolved.{number_at}

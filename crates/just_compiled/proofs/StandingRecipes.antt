@@ -2,7 +2,7 @@
 use Rattle.std.proofs.Common.{◌≡◌, ◌≢◌, ◌↔◌, ◌⊎◌, List, [], ◌∷◌, inl, inr, refl, sym, ap, subst, ◌∙◌}
 use Rattle.std.specs.List.{Contains}
 use Rattle.just_graph.proofs.Members.{In}
-use Rattle.just_invoke.specs.declared.disabled.Disabled.{Disabled}
+use Rattle.just_justfile.specs.declared.disabled.Disabled.{Disabled}
 use Rattle.just_module_contents.specs.Recipes.{name_of}
 use Rattle.just_module_contents.specs.Standing.{AreStanding}
 use Rattle.just_module_contents.specs.Standing as standing

@@ -9,8 +9,8 @@ use Rattle.just_graph.proofs.Index.{get_map, map_get, some_same}
 use Rattle.just_table.specs.Entries.{put}
 use Rattle.just_names.specs.Texts.{Text}
 use Rattle.just_module_contents.specs.declared.labels.Label.{Label}
-use Rattle.just_invoke.specs.Module.{module_name}
-use Rattle.just_invoke.specs.declared.justfile.Justfile.{Justfile}
+use Rattle.just_justfile.specs.Module.{module_name}
+use Rattle.just_justfile.specs.declared.justfile.Justfile.{Justfile}
 use Rattle.just_compiled.specs.Labelled.{held_by_name, labelled_as, slot, with_labels}
 
 pub held_more : (held : List (Text × Justfile)) (js : List Justfile) (j : Justfile) → held_by_name held (js ++ j ∷ []) ≡ put (module_name j) j (held_by_name held js)

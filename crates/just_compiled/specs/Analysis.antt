@@ -16,10 +16,10 @@ use Rattle.just_module_variables.specs.Variables.{variable_number}
 use Rattle.just_recipe_names.specs.Numbered.{numbered_recipe}
 use Rattle.just_recipe_needs.specs.Needed.{NeedsUnder}
 use Rattle.just_recipe_values.specs.Valued.{with_values}
-use Rattle.just_invoke.specs.declared.justfile.Justfile.{Justfile, out-Justfile}
+use Rattle.just_justfile.specs.declared.justfile.Justfile.{Justfile, out-Justfile}
 use Rattle.just_recipe.specs.declared.dependency.UnresolvedDependency.{UnresolvedDependency}
 use Rattle.just_recipe.specs.declared.recipe.Recipe.{Recipe}
-use Rattle.just_invoke.specs.declared.justfile.RecipeKey.{RecipeKey}
+use Rattle.just_justfile.specs.declared.justfile.RecipeKey.{RecipeKey}
 use Rattle.just_compiled.specs.Labelled.{label_in}
 use Rattle.just_module_contents.specs.Contents.{Contents}
 use Rattle.just_paths.specs.declared.modulepath.Modulepath.{Modulepath}

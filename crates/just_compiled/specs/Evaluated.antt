@@ -2,7 +2,7 @@
 use Rattle.std.specs.Prelude.{◌≡◌, List}
 use Rattle.std.specs.HashMap.{get}
 use Rattle.just_module_variables.specs.Documented.{AreDocumentedIn}
-use Rattle.just_invoke.specs.declared.justfile.Justfile.{Justfile, out-Justfile}
+use Rattle.just_justfile.specs.declared.justfile.Justfile.{Justfile, out-Justfile}
 use Rattle.just_module_contents.specs.Constants.{Evaluated, IsEvaluated}
 use Rattle.just_module_contents.specs.Contents.{Contents}
 use Rattle.just_names.specs.Texts.{Text}

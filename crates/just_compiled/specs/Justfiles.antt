@@ -11,13 +11,13 @@ use Rattle.just_recipe.specs.declared.recipe.Recipe.{Recipe}
 use Rattle.std.specs.BTreeSet.{BTreeSet}
 use Rattle.std.specs.List.{Contains}
 use Rattle.just_ast_definitions.specs.declared.alias.Alias.{Alias}
-use Rattle.just_invoke.specs.Walks.{only, path_along}
-use Rattle.just_invoke.specs.declared.aliases.Aliases.{Aliases}
+use Rattle.just_justfile.specs.Walks.{only, path_along}
+use Rattle.just_justfile.specs.declared.aliases.Aliases.{Aliases}
 use Rattle.just_module_recipes.specs.Aliased.{no_aliases, with_meaning}
 use Rattle.just_module_recipes.specs.declared.aliases.Meaning.{Meaning}
 use Rattle.just_module_recipes.specs.declared.aliases.Meaning.TheVariants as meaning
 use Rattle.just_paths.specs.declared.modulepath.Modulepath.{Modulepath}
-use Rattle.just_invoke.specs.declared.justfile.Justfile.{Justfile, out-Justfile}
+use Rattle.just_justfile.specs.declared.justfile.Justfile.{Justfile, out-Justfile}
 use Rattle.just_compiled.specs.Analysis.{HasDefault, IsOf, completion_of}
 use Rattle.just_compiled.specs.Labelled.{by_name, label_in, notes_in}
 use Rattle.just_compiled.specs.Evaluated.{IsEvaluatedTo}
@@ -35,7 +35,7 @@ use Rattle.just_module_contents.specs.Said.{said_in}
 use Rattle.just_module_contents.specs.Recipes.{name_of, recipe_at, recipes_of}
 use Rattle.just_module_headers.specs.Reading.{Submodule, items_in}
 use Rattle.just_module_contents.specs.Standing.{AreStanding}
-use Rattle.just_invoke.specs.Module.{module_name}
+use Rattle.just_justfile.specs.Module.{module_name}
 use Rattle.just_module_recipes.specs.Linked.{AreLinked, HasDisabled}
 use Rattle.just_module_tree.specs.Standing.{DisabledBy, In, Missing, Nowhere, StandsIn, follow, leads, name_in}
 use Rattle.just_names.specs.Index.{AreDifferent}

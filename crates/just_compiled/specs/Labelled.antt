@@ -1,8 +1,8 @@
 -- Justfiles under labels, by their names.
 use Rattle.std.specs.Prelude.{◌≡◌, ℕ, List, [], ◌∷◌, map, get_or, Option, None, Some}
 use Rattle.std.specs.Map.{values_of}
-use Rattle.just_invoke.specs.Module.{module_name}
-use Rattle.just_invoke.specs.declared.justfile.Justfile.{Justfile, out-Justfile, roll-Justfile}
+use Rattle.just_justfile.specs.Module.{module_name}
+use Rattle.just_justfile.specs.declared.justfile.Justfile.{Justfile, out-Justfile, roll-Justfile}
 use Rattle.just_names.specs.Texts.{Text}
 use Rattle.just_module_contents.specs.declared.labels.Label.{Label}
 use Rattle.just_module_contents.specs.declared.notes.Notes.{Notes}

@@ -2,10 +2,10 @@
 use Rattle.std.specs.Prelude.{◌≡◌, ◌≢◌, ℕ, List, [], map, IsSome, Option, Some}
 use Rattle.std.specs.List.{Contains}
 use Rattle.just_compiled.specs.Labelled.{slot}
-use Rattle.just_invoke.specs.Walks.{NamesRise}
-use Rattle.just_invoke.specs.declared.disabled.Disabled.{Disabled}
-use Rattle.just_invoke.specs.declared.justfile.Justfile.{Justfile, out-Justfile}
-use Rattle.just_invoke.specs.declared.justfile.RecipeKey.{RecipeKey}
+use Rattle.just_justfile.specs.Walks.{NamesRise}
+use Rattle.just_justfile.specs.declared.disabled.Disabled.{Disabled}
+use Rattle.just_justfile.specs.declared.justfile.Justfile.{Justfile, out-Justfile}
+use Rattle.just_justfile.specs.declared.justfile.RecipeKey.{RecipeKey}
 use Rattle.just_names.specs.Texts.{Text}
 use Rattle.just_recipe.specs.Recipes.{find_number}
 use Rattle.just_recipe.specs.declared.dependency.Dependency.{Dependency}

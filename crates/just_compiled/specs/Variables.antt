@@ -3,8 +3,8 @@ use Rattle.std.specs.Prelude.{◌≡◌, Some}
 use Rattle.just_ast_definitions.specs.declared.assignment.Assignment.{Assignment}
 use Rattle.just_names.specs.Texts.{Text}
 use Rattle.just_table.specs.Entries.{find}
-use Rattle.just_invoke.specs.declared.justfile.Justfile.{Justfile, out-Justfile}
-use Rattle.just_invoke.specs.Closed.{StandsIn}
+use Rattle.just_justfile.specs.declared.justfile.Justfile.{Justfile, out-Justfile}
+use Rattle.just_justfile.specs.Closed.{StandsIn}
 use Rattle.just_module_contents.specs.Contents.{Contents}
 use Rattle.just_parts.specs.Syntax.{SyntaxAnswers}
 use Rattle.just_module_variables.specs.Variables.{AreTables, AreVariables}

@@ -1,7 +1,10 @@
 -- Parts of messages: counts of arguments, and places in a file.
 use Rattle.std.specs.Prelude.{ℕ, Bool, ◌+◌, ◌==◌, ◌&&◌, nat_le, min, List, [], ◌∷◌, ◌++◌, codes, decimal, if◌then◌else◌}
 use Rattle.std.specs.List.{flat_map}
+use Rattle.std.specs.Char.{encode_utf8}
 use Rattle.just_names.specs.Token.{Place}
+use Rattle.just_errors.specs.declared.switch.Switch.{Switch}
+use Rattle.just_errors.specs.declared.switch.Switch.TheVariants.{Long, Short}
 use Rattle.just_errors.specs.declared.wording.ArgumentRange.{ArgumentRange}
 
 abbrev pub noun_text : ℕ → List ℕ
@@ -33,3 +36,8 @@ at_text token = token.path ++ (codes ":" ++ (place_text token.line ++ (codes ":"
 abbrev pub listed_text : List (List ℕ) → List ℕ
 listed_text [] = []
 listed_text (path ∷ paths) = (codes "`" ++ (path ++ codes "`")) ++ flat_map (λ p. codes ", `" ++ (p ++ codes "`")) paths
+
+-- what names an option, as it is written in the words
+abbrev pub switch_text : Switch → List ℕ
+switch_text (Long name) = codes "--" ++ name
+switch_text (Short letter) = codes "-" ++ encode_utf8 letter

@@ -4,6 +4,7 @@ ghost use Rattle.std.specs.Fmt.{HasWritten, IsPlainFormatter, WritesOnOk};
 ghost use Rattle.just_names.specs.Texts.{joined};
 ghost use Rattle.just_errors.specs.Messages.{load_name, kind_name, invocation_name, run_name, error_name, chain_text, circle_text, reading_text, readings_text};
 
+use crate::switch::Switch;
 use crate::wording::{ArgumentRange, Arguments, At, Listed, noun};
 use just_data::{BorrowedText, Sequence, Text};
 use just_names::{Exhausted, ListFeature, Name, Namepath, Token};
@@ -523,6 +524,23 @@ pub enum InvocationError<'src> {
     ExpectedSubmoduleButFoundRecipe {
         path: Text,
     },
+    /// Words name a recipe that these optional modules without a file disable. Each is told by its path, as paths are shown.
+    #[error("Recipe `{recipe}` is disabled, since it needs modules that have no file: {}", Listed(.modules.as_slice()))]
+    RecipeDisabled {
+        recipe: Text,
+        modules: Sequence<Text>,
+    },
+    /// Words name an alias whose target these optional modules without a file disable.
+    #[error("Alias `{alias}` is disabled, since its target needs modules that have no file: {}", Listed(.modules.as_slice()))]
+    AliasDisabled {
+        alias: Text,
+        modules: Sequence<Text>,
+    },
+    /// Words walk through an optional module without a file, told by its path from the root.
+    #[error("Module `{module}` is optional, and has no file")]
+    ModuleAbsent {
+        module: Text,
+    },
     /// There are no words, and the module has no recipes.
     #[error("Justfile contains no recipes")]
     NoRecipes,
@@ -535,6 +553,41 @@ pub enum InvocationError<'src> {
         recipe: BorrowedText<'src>,
         min_arguments: usize,
     },
+    /// An option has no name.
+    #[error("`{argument}` has no option's name; after `--` each word is a positional argument")]
+    InvalidOption {
+        argument: Text,
+    },
+    /// No parameter of the recipe has the switch.
+    #[error("Recipe `{recipe}` does not have option `{switch}`; after `--` each word is a positional argument")]
+    UnknownOption {
+        recipe: BorrowedText<'src>,
+        switch: Switch,
+    },
+    /// The switch takes no value, and is given one.
+    #[error("Recipe `{recipe}` flag `{switch}` does not take a value; give `{switch}` alone")]
+    FlagWithValue {
+        recipe: BorrowedText<'src>,
+        switch: Switch,
+    },
+    /// The switch takes a value, and is given none.
+    #[error("Recipe `{recipe}` option `{switch}` is missing its value; give it as `{switch}=VALUE`")]
+    OptionMissingValue {
+        recipe: BorrowedText<'src>,
+        switch: Switch,
+    },
+    /// The switch is given again, and its parameter takes one value.
+    #[error("Recipe `{recipe}` option `{switch}` cannot be passed more than once")]
+    DuplicateOption {
+        recipe: BorrowedText<'src>,
+        switch: Switch,
+    },
+    /// A parameter that needs a value is given none by its switch, the long one if it has one.
+    #[error("Recipe `{recipe}` requires option `{switch}`; give it as `{switch}=VALUE`")]
+    MissingOption {
+        recipe: BorrowedText<'src>,
+        switch: Switch,
+    },
     /// A recipe is given too few words.
     #[error("Recipe `{recipe}` got {found} positional {} but takes {}", noun(*.found), ArgumentRange {min: *.min, max: *.max})]
     PositionalArgumentCountMismatch {
@@ -542,6 +595,20 @@ pub enum InvocationError<'src> {
         found: usize,
         min: usize,
         max: usize,
+    },
+    /// A parameter is given more or fewer texts than it may have.
+    #[error("Recipe `{recipe}` parameter `{parameter}`: {fault}")]
+    ValueCount {
+        recipe: BorrowedText<'src>,
+        parameter: BorrowedText<'src>,
+        fault: Fault,
+    },
+    /// The pattern of a parameter does not match an argument.
+    #[error("Argument `{argument}` passed to recipe `{recipe}` parameter `{parameter}` does not match the parameter's pattern")]
+    ArgumentPatternMismatch {
+        recipe: BorrowedText<'src>,
+        parameter: BorrowedText<'src>,
+        argument: Text,
     },
 }
 
@@ -556,14 +623,25 @@ impl<'src> InvocationError<'src> {
             InvocationError::ExpectedSubmoduleButFoundRecipe { .. } => {
                 "ExpectedSubmoduleButFoundRecipe"
             }
+            InvocationError::RecipeDisabled { .. } => "RecipeDisabled",
+            InvocationError::AliasDisabled { .. } => "AliasDisabled",
+            InvocationError::ModuleAbsent { .. } => "ModuleAbsent",
             InvocationError::NoRecipes => "NoRecipes",
             InvocationError::NoDefaultRecipe => "NoDefaultRecipe",
             InvocationError::DefaultRecipeRequiresArguments { .. } => {
                 "DefaultRecipeRequiresArguments"
             }
+            InvocationError::InvalidOption { .. } => "InvalidOption",
+            InvocationError::UnknownOption { .. } => "UnknownOption",
+            InvocationError::FlagWithValue { .. } => "FlagWithValue",
+            InvocationError::OptionMissingValue { .. } => "OptionMissingValue",
+            InvocationError::DuplicateOption { .. } => "DuplicateOption",
+            InvocationError::MissingOption { .. } => "MissingOption",
             InvocationError::PositionalArgumentCountMismatch { .. } => {
                 "PositionalArgumentCountMismatch"
             }
+            InvocationError::ValueCount { .. } => "ValueCount",
+            InvocationError::ArgumentPatternMismatch { .. } => "ArgumentPatternMismatch",
         }
     }
 }

@@ -1,11 +1,11 @@
 //! The lines that tell what a compilation has, what words mean in it, and what a run of them did.
-ghost use Rattle.just_invoke.specs.Closed.{IsRooted};
+ghost use Rattle.just_justfile.specs.Closed.{IsRooted};
 
 use crate::runs::{add_run, add_split};
 use just_data::Text;
 use just_examples_format::asked::Asked;
 use just_examples_format::{add_given, add_loaded, add_modules};
-use just_invoke::{Justfile, Recipes};
+use just_justfile::{Justfile, Recipes};
 use just_parts::layers::Number;
 use std::alloc::{AllocError, Global};
 use std::collections::HashMap;

@@ -1,5 +1,5 @@
 //! Calls of the recipes and the modules of a compilation.
-use just_invoke::{Justfile, Recipes};
+use just_justfile::{Justfile, Recipes};
 use just_parts::layers::Number;
 use std::alloc::AllocError;
 

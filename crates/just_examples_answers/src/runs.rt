@@ -1,12 +1,13 @@
 //! The lines that tell what words mean, and what a run of them did.
-ghost use Rattle.just_invoke.specs.Closed.{IsRooted};
+ghost use Rattle.just_justfile.specs.Closed.{IsRooted};
 
 use just_bench::{Recorder, run_words};
 use just_bench_evaluation::PlainEvaluation;
 use just_data::Text;
 use just_examples_format::faults::add_fault;
 use just_examples_format::lists::{add_group, add_list, before};
-use just_invoke::{Invocation, InvocationParser, Justfile, Recipes};
+use just_invoke::{Invocation, InvocationParser};
+use just_justfile::{Justfile, Recipes};
 use just_parts::layers::{Config, Entry, Groups, Number};
 use std::alloc::{AllocError, Global};
 use std::collections::HashMap;

@@ -1,6 +1,6 @@
 //! The lines that tell what a variable refers to, and which variables it needs.
 use just_ast_references::{Reference, References};
-use just_invoke::Justfile;
+use just_justfile::Justfile;
 use just_parts::layers::Assignment;
 use std::alloc::{AllocError, Global};
 

@@ -1,8 +1,8 @@
 //! Where paths lead from the root's module of a compilation. The names of a path are those of the parameters of a recipe.
-ghost use Rattle.just_invoke.specs.Walks.{IsOrdered};
+ghost use Rattle.just_justfile.specs.Walks.{IsOrdered};
 
 use just_data::Sequence;
-use just_invoke::{Justfile, RecipeAlias, Recipes, Resolution};
+use just_justfile::{Justfile, RecipeAlias, Recipes, Resolution};
 use just_parts::Recipe;
 use just_parts::layers::{Namepath, Parameter};
 use just_paths::Modulepath;

@@ -1,7 +1,7 @@
 //! The line that tells which values override variables.
 use crate::modules::add_variable;
 use just_data::Text;
-use just_invoke::Justfile;
+use just_justfile::Justfile;
 use just_parts::layers::Number;
 use std::alloc::{AllocError, Global};
 use std::collections::HashMap;

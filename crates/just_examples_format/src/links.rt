@@ -1,6 +1,6 @@
 //! The lines that tell what recipes depend on, which are disabled, and what aliases mean.
 use crate::modules::{add_path, add_source};
-use just_invoke::{Disabled, Justfile, Recipes};
+use just_justfile::{Disabled, Justfile, Recipes};
 use just_parts::layers::{DependencyArgument, Number};
 use just_parts::{Dependency, Recipe};
 use std::alloc::AllocError;

@@ -3,7 +3,7 @@ use crate::links::{add_aliases, add_dependencies, add_disabled};
 use crate::lists::{add_list, next};
 use crate::sayings::{add_needed, add_sayings};
 use just_data::Text;
-use just_invoke::{Justfile, RecipeKey, Recipes};
+use just_justfile::{Justfile, RecipeKey, Recipes};
 use just_parts::Recipe;
 use just_parts::layers::{Interpreter, Name, Number};
 use std::alloc::{AllocError, Global};

@@ -1,7 +1,7 @@
 //! The lines that tell what recipes say of themselves, and which variables they need.
 use crate::lists::next;
 use crate::modules::add_path;
-use just_invoke::Justfile;
+use just_justfile::Justfile;
 use just_parts::Recipe;
 use just_parts::layers::Parameter;
 use std::alloc::AllocError;

@@ -19,11 +19,11 @@ use Rattle.just_parts.specs.Host.{Answer}
 use Rattle.just_execution.specs.declared.running.Report.{Report}
 use Rattle.just_execution.specs.Reports.{IsAsExpected}
 use Rattle.just_execution.specs.Unready.{IsUnready, AreReady}
-use Rattle.just_invoke.specs.declared.justfile.Justfile.{Justfile}
+use Rattle.just_justfile.specs.declared.justfile.Justfile.{Justfile}
 use Rattle.just_invoke.specs.Cause as cause
 use Rattle.just_invoke.specs.Going.{TasksComeTo, IsHindered}
 use Rattle.just_invoke.specs.Outcome.{tops, Refuses, fault, excess, variables, not_yet, memory, MayRun, IsOutcome, refused, ran}
-use Rattle.just_invoke.specs.Split.{Invoked, IsSplit, IsFault}
+use Rattle.just_invoke.specs.Split.{Counts, Invoked, IsSplit, IsFault}
 use Rattle.just_invoke.specs.Variables.{SomeVariable, IsHeldBack}
 use Rattle.just_invoke.proofs.Faults.{split_no_fault}
 use Rattle.just_invoke.proofs.Unique.{split_once}
@@ -33,15 +33,14 @@ abbrev IsSo : (Inquiry → Option Answer) → (Entry → Option Answer) → List
 IsSo evaluator host recipes invoked old new result =
     (ended : Result Report Halt) × (result ≡ come_to ended) × IsAsExpected evaluator host recipes (tops recipes invoked) old new ended
 
-module _ (root : Justfile) (recipes : List (Recipe Dependency)) (words : List (List ℕ)) (config : Config) where
+module _ (counts : Counts) (root : Justfile) (recipes : List (Recipe Dependency)) (words : List (List ℕ)) (config : Config) where
   -- words that are not read
-  unread : (e : Error) → cause.IsExpected e → IfSome (cause.cause_of e) (IsFault root recipes words) → Refuses root recipes words config.one e
+  unread : (e : Error) → cause.IsExpected e → IfSome (cause.cause_of e) (IsFault counts root recipes words) → Refuses counts root recipes words config.one e
   unread (Invocation e) x h = fault (Invocation e) (cause.cause_of_fault e) refl h
   unread Memory x h = memory
   unread (Load e) x h = absurd x
   unread (Compile e) x h = absurd x
-  unread (Run (NotYet name)) x h = fault (Run (NotYet name)) (cause.not_yet name) refl h
-  unread (Run (ExcessInvocations n)) x h = absurd x
+  unread (Run e) x h = absurd x
   unread Exhausted x h = absurd x
 
   -- they are not expected to run
@@ -49,14 +48,13 @@ module _ (root : Justfile) (recipes : List (Recipe Dependency)) (words : List (L
   out p q invoked old = (Err halt.Memory, refl, λ f steady even. inr (inl refl, ([], _, refl, sym (after-none old))))
 
   -- nor are words that have a fault
-  unread-expected : (e : Error) → cause.IsExpected e → IfSome (cause.cause_of e) (IsFault root recipes words) → (p : Inquiry → Option Answer) (q : Entry → Option Answer) (invoked : List Invoked) → IsSplit root recipes words invoked →
+  unread-expected : (e : Error) → cause.IsExpected e → IfSome (cause.cause_of e) (IsFault counts root recipes words) → (p : Inquiry → Option Answer) (q : Entry → Option Answer) (invoked : List Invoked) → IsSplit counts root recipes words invoked →
       (old : Kept) → IsSo p q recipes invoked old old (Err e)
-  unread-expected (Invocation e) x h p q invoked split old = absurd (split_no_fault root recipes words invoked (cause.cause_of_fault e) split h)
+  unread-expected (Invocation e) x h p q invoked split old = absurd (split_no_fault counts root recipes words invoked (cause.cause_of_fault e) split h)
   unread-expected Memory x h p q invoked split old = out p q invoked old
   unread-expected (Load e) x h p q invoked split old = absurd x
   unread-expected (Compile e) x h p q invoked split old = absurd x
-  unread-expected (Run (NotYet name)) x h p q invoked split old = absurd (split_no_fault root recipes words invoked (cause.not_yet name) split h)
-  unread-expected (Run (ExcessInvocations n)) x h p q invoked split old = absurd x
+  unread-expected (Run e) x h p q invoked split old = absurd x
   unread-expected Exhausted x h p q invoked split old = absurd x
 
   -- what is answered for them
@@ -64,12 +62,12 @@ module _ (root : Justfile) (recipes : List (Recipe Dependency)) (words : List (L
   answered (Ok report) e h = absurd h
   answered (Err y) e h = ap (λ y. Err y) h
 
-  pub unread-outcome : (e : Error) → cause.IsExpected e → IfSome (cause.cause_of e) (IsFault root recipes words) → (r : Result Report Error) → IsErrAnd r (λ y. y ≡ e) → (old : Kept) →
-      IsOutcome root recipes words config old old r
+  pub unread-outcome : (e : Error) → cause.IsExpected e → IfSome (cause.cause_of e) (IsFault counts root recipes words) → (r : Result Report Error) → IsErrAnd r (λ y. y ≡ e) → (old : Kept) →
+      IsOutcome counts root recipes words config old old r
   unread-outcome e x h r is old = refused e (answered r e is) (unread e x h) refl
 
-  pub unread-so : (e : Error) → cause.IsExpected e → IfSome (cause.cause_of e) (IsFault root recipes words) → (r : Result Report Error) → IsErrAnd r (λ y. y ≡ e) → (p : Inquiry → Option Answer) (q : Entry → Option Answer) (old : Kept) →
-      (invoked : List Invoked) → MayRun root recipes words config.one invoked → IsSo p q recipes invoked old old r
+  pub unread-so : (e : Error) → cause.IsExpected e → IfSome (cause.cause_of e) (IsFault counts root recipes words) → (r : Result Report Error) → IsErrAnd r (λ y. y ≡ e) → (p : Inquiry → Option Answer) (q : Entry → Option Answer) (old : Kept) →
+      (invoked : List Invoked) → MayRun counts root recipes words config.one invoked → IsSo p q recipes invoked old old r
   unread-so e x h r is p q old invoked may = subst (λ r. IsSo p q recipes invoked old old r) (sym (answered r e is)) (unread-expected e x h p q invoked may.split old)
 
   -- what leads to a recipe that cannot be run is not ready
@@ -77,31 +75,31 @@ module _ (root : Justfile) (recipes : List (Recipe Dependency)) (words : List (L
   not-ready invoked name (place, recipe, led, at, unready, is) ready = true≢false (sym unready ∙ ready place recipe led at)
 
   -- where there is a variable
-  module _ (invoked : List Invoked) (split : IsSplit root recipes words invoked) (few : config.one ≡ true → length invoked ≤ 1) (old : Kept) where
-    held-back : (e : Error) → IsHeldBack root invoked e → Refuses root recipes words config.one e
-    held-back e (inl is) = subst (Refuses root recipes words config.one) (sym is) memory
+  module _ (invoked : List Invoked) (split : IsSplit counts root recipes words invoked) (few : config.one ≡ true → length invoked ≤ 1) (old : Kept) where
+    held-back : (e : Error) → IsHeldBack root invoked e → Refuses counts root recipes words config.one e
+    held-back e (inl is) = subst (Refuses counts root recipes words config.one) (sym is) memory
     held-back e (inr (first, rest, are, is, has)) =
-        subst (Refuses root recipes words config.one) (sym is)
-        (variables first rest (subst (IsSplit root recipes words) are split) (subst (λ invoked. config.one ≡ true → length invoked ≤ 1) are few) has)
+        subst (Refuses counts root recipes words config.one) (sym is)
+        (variables first rest (subst (IsSplit counts root recipes words) are split) (subst (λ invoked. config.one ≡ true → length invoked ≤ 1) are few) has)
 
-    pub held-outcome : (e : Error) → IsHeldBack root invoked e → (r : Result Report Error) → IsErrAnd r (λ y. y ≡ e) → IsOutcome root recipes words config old old r
+    pub held-outcome : (e : Error) → IsHeldBack root invoked e → (r : Result Report Error) → IsErrAnd r (λ y. y ≡ e) → IsOutcome counts root recipes words config old old r
     held-outcome e held r is = refused e (answered r e is) (held-back e held) refl
 
-    held-expected : (e : Error) → IsHeldBack root invoked e → (p : Inquiry → Option Answer) (q : Entry → Option Answer) (others : List Invoked) → MayRun root recipes words config.one others → IsSo p q recipes others old old (Err e)
+    held-expected : (e : Error) → IsHeldBack root invoked e → (p : Inquiry → Option Answer) (q : Entry → Option Answer) (others : List Invoked) → MayRun counts root recipes words config.one others → IsSo p q recipes others old old (Err e)
     held-expected e (inl is) p q others may = subst (λ e. IsSo p q recipes others old old (Err e)) (sym is) (out p q others old)
     held-expected e (inr (first, rest, are, is, has)) p q others may = absurd (may.plain has)
 
     pub held-so : (e : Error) → IsHeldBack root invoked e → (r : Result Report Error) → IsErrAnd r (λ y. y ≡ e) → (p : Inquiry → Option Answer) (q : Entry → Option Answer) (others : List Invoked) →
-        MayRun root recipes words config.one others → IsSo p q recipes others old old r
+        MayRun counts root recipes words config.one others → IsSo p q recipes others old old r
     held-so e held r is p q others may = subst (λ r. IsSo p q recipes others old old r) (sym (answered r e is)) (held-expected e held p q others may)
 
-  module _ (p : Inquiry → Option Answer) (q : Entry → Option Answer) (invoked : List Invoked) (split : IsSplit root recipes words invoked) (few : config.one ≡ true → length invoked ≤ 1) (plain : SomeVariable root → ⊥)
+  module _ (p : Inquiry → Option Answer) (q : Entry → Option Answer) (invoked : List Invoked) (split : IsSplit counts root recipes words invoked) (few : config.one ≡ true → length invoked ≤ 1) (plain : SomeVariable root → ⊥)
       (old new : Kept) (result : Result Report Error) where
-    stopped : (e : Error) → IsHindered recipes (tops recipes invoked) e → Refuses root recipes words config.one e
-    stopped e (inl is) = subst (Refuses root recipes words config.one) (sym is) memory
-    stopped e (inr (name, is, unready)) = subst (Refuses root recipes words config.one) (sym is) (not_yet name invoked split few unready)
+    stopped : (e : Error) → IsHindered recipes (tops recipes invoked) e → Refuses counts root recipes words config.one e
+    stopped e (inl is) = subst (Refuses counts root recipes words config.one) (sym is) memory
+    stopped e (inr (name, is, unready)) = subst (Refuses counts root recipes words config.one) (sym is) (not_yet name invoked split few unready)
 
-    pub went : TasksComeTo p q recipes (tops recipes invoked) old new result → IsOutcome root recipes words config old new result
+    pub went : TasksComeTo p q recipes (tops recipes invoked) old new result → IsOutcome counts root recipes words config old new result
     went (inl (e, is, stops, same)) = refused e is (stopped e stops) same
     went (inr (ready, ended, is, run, expected)) = ran invoked ended (record { split = split; few = few; plain = plain; ready = ready }) is run
 
@@ -114,18 +112,18 @@ module _ (root : Justfile) (recipes : List (Recipe Dependency)) (words : List (L
     went-so ready (inl (e, is, stops, same)) = stopped-expected e stops ready is same
     went-so ready (inr (all, ended, is, run, expected)) = (ended, is, expected)
 
-    pub went-expected : TasksComeTo p q recipes (tops recipes invoked) old new result → (others : List Invoked) → MayRun root recipes words config.one others → IsSo p q recipes others old new result
+    pub went-expected : TasksComeTo p q recipes (tops recipes invoked) old new result → (others : List Invoked) → MayRun counts root recipes words config.one others → IsSo p q recipes others old new result
     went-expected goes others may =
-        let same : invoked ≡ others = split_once root recipes words invoked others split may.split in
+        let same : invoked ≡ others = split_once counts root recipes words invoked others split may.split in
         subst (λ is. IsSo p q recipes is old new result) same (went-so (subst (λ is. AreReady recipes (tops recipes is)) (sym same) may.ready) goes)
 
   -- several invocations where one alone is allowed
-  module _ (invoked : List Invoked) (split : IsSplit root recipes words invoked) (alone : config.one ≡ true) (n : ℕ) (count : n ≡ length invoked) (several : 1 < n) where
-    pub many : Refuses root recipes words config.one (Run (ExcessInvocations n))
-    many = subst (λ k. Refuses root recipes words config.one (Run (ExcessInvocations k))) (sym count) (excess invoked split alone (omega arith))
+  module _ (invoked : List Invoked) (split : IsSplit counts root recipes words invoked) (alone : config.one ≡ true) (n : ℕ) (count : n ≡ length invoked) (several : 1 < n) where
+    pub many : Refuses counts root recipes words config.one (Run (ExcessInvocations n))
+    many = subst (λ k. Refuses counts root recipes words config.one (Run (ExcessInvocations k))) (sym count) (excess invoked split alone (omega arith))
 
-    pub many-not : (others : List Invoked) → MayRun root recipes words config.one others → ⊥
+    pub many-not : (others : List Invoked) → MayRun counts root recipes words config.one others → ⊥
     many-not others may =
-        let same : length invoked ≡ length others = ap length (split_once root recipes words invoked others split may.split) in
+        let same : length invoked ≡ length others = ap length (split_once counts root recipes words invoked others split may.split) in
         let few : length others ≤ 1 = may.few alone in
         omega arith

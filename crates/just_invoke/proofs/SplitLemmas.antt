@@ -1,131 +1,117 @@
 -- Invocations, one after another.
-use Rattle.std.proofs.Common.{◌≡◌, inl, inr, ℕ, ◌+◌, ◌<◌, ◌≤◌, true, false, List, [], ◌∷◌, ◌++◌, Option, Some, None, length, get_or, take, drop, map, sym, ap, ◌∙◌, subst, IfSome, arith}
-use Rattle.std.specs.Prelude.{if◌then◌else◌}
-use Rattle.std.proofs.lemmas.List.{append_assoc, take-append-drop, drop-drop, append-nil, map-append, length-map, length-take-le, drop_all}
+use Rattle.std.proofs.Common.{◌≡◌, ◌≢◌, inl, inr, ℕ, zero, suc, ◌+◌, ◌<◌, ◌≤◌, List, [], ◌∷◌, ◌++◌, Option, Some, None, length, take, drop, map, refl, sym, ap, ◌∙◌, subst, arith, IfSome}
+use Rattle.std.specs.Prelude.{option_map}
+use Rattle.std.proofs.lemmas.List.{map-append, drop_all, take-append-drop}
 use Rattle.std.specs.Borrow.{Bor}
 use Rattle.just_names.specs.Texts.{Text, texts}
-use Rattle.just_ast_definitions.specs.declared.parameter.Parameter.{Parameter}
 use Rattle.just_recipe.specs.declared.dependency.Dependency.{Dependency}
 use Rattle.just_recipe.specs.declared.recipe.Recipe.{Recipe}
-use Rattle.just_invoke.specs.declared.justfile.Justfile.{Justfile}
-use Rattle.just_invoke.specs.Cause.{Cause, not_yet}
-use Rattle.just_invoke.specs.Words.{Words}
-use Rattle.just_invoke.specs.Head.{Held, name_of, IsHead}
-use Rattle.just_invoke.specs.Options.{has_options}
-use Rattle.just_invoke.specs.Tail.{IsTail, any_missing}
-use Rattle.std.specs.List.{All}
-use Rattle.std.proofs.lemmas.List.Elements.{All-push}
-use Rattle.just_invoke.specs.Closed.{IsHeld}
+use Rattle.just_tail.specs.Cause as tail_cause
+use Rattle.just_tail.specs.Words.{Words}
+use Rattle.just_justfile.specs.declared.justfile.Justfile.{Justfile}
+use Rattle.just_justfile.specs.Closed.{Held, name_of}
+use Rattle.just_invoke.specs.Cause.{Cause, with_recipe}
+use Rattle.just_invoke.specs.Head.{IsHead}
+use Rattle.just_invoke.specs.Split.{Counts, TakesArguments, NoArguments, Invoked, invoked_of, Invokes, Chain, IsSplit, Stops, IsFault}
 use Rattle.just_invoke.specs.declared.invocation.Invocation.{Invocation}
-use Rattle.just_invoke.specs.Split.{Invoked, invoked_of, Invokes, Chain, IsSplit, Stops, IsFault, fault_of, misfit}
-use Rattle.just_invoke.proofs.TailLemmas.{texts_back}
 
 texts_cut : (n : ℕ) (words : List (Bor Text)) → texts words ≡ texts (take n words) ++ texts (drop n words)
 texts_cut n words = ap texts (sym (take-append-drop n words)) ∙ map-append (λ w. w.now) (take n words) (drop n words)
 
-module _ (root : Justfile) (recipes : Held) (words : List (Bor Text)) (n t : ℕ) (r : Recipe Dependency) (groups : List Words)
-    (rest : List (Bor Text)) (ps : List Parameter) (rest_is : rest ≡ drop n words) (ps_is : ps ≡ r.parameters)
-    (names : IsHead root recipes (texts (take n words)) (texts (drop n words)) r)
-    (read : IsTail ps (texts (take t rest)) (texts (drop t rest)) groups) where
-  reads : IsTail r.parameters (texts (take t (drop n words))) (texts (drop t (drop n words))) groups
-  reads = subst (λ qs. IsTail qs (texts (take t (drop n words))) (texts (drop t (drop n words))) groups) ps_is
-      (subst (λ ws. IsTail ps (texts (take t ws)) (texts (drop t ws)) groups) rest_is read)
+pub drop_add : (t n : ℕ) (ws : List (Bor Text)) → drop (t + n) ws ≡ drop n (drop t ws)
+drop_add zero n ws = let e : 0 + n ≡ n = omega arith in ap (λ k. drop k ws) e
+drop_add (suc t) zero [] = let e : suc t + 0 ≡ suc t = omega arith in ap (λ k. drop k []) e
+drop_add (suc t) (suc n) [] = let e : suc t + suc n ≡ suc (t + suc n) = omega arith in ap (λ k. drop k []) e
+drop_add (suc t) n (x ∷ xs) = let e : suc t + n ≡ suc (t + n) = omega arith in ap (λ k. drop k (x ∷ xs)) e ∙ drop_add t n xs
 
-  rest_cut : texts (drop n words) ≡ texts (take t (drop n words)) ++ texts (drop t (drop n words))
-  rest_cut = texts_cut t (drop n words)
+pub some_left : (n : ℕ) (words : List (Bor Text)) → n < length words → texts (drop n words) ≢ []
+some_left n [] h e = omega arith
+some_left zero (w ∷ ws) h e = (cc)
+some_left (suc n) (w ∷ ws) h e = some_left n ws (omega arith) e
 
-  whole_cut : texts words ≡ texts (take n words) ++ (texts (take t (drop n words)) ++ texts (drop t (drop n words)))
-  whole_cut = texts_cut n words ∙ ap (λ ws. texts (take n words) ++ ws) rest_cut
-
-  taken_all : t ≤ length rest → t ≡ length (texts (take t (drop n words)))
-  taken_all small =
-      let within : t ≤ length (drop n words) = subst (λ ws. t ≤ length ws) rest_is small in
-      sym (length-map (take t (drop n words)) (λ w. w.now) ∙ length-take-le t (drop n words) within)
-
-  pub invokes_from : t ≤ length rest → fault_of r t groups ≡ None → Invokes root recipes (texts words) (texts (drop (n + t) words)) (record { recipe = r; groups = groups })
-  invokes_from small complete =
-      subst (λ ws. Invokes root recipes (texts words) (texts ws) (record { recipe = r; groups = groups })) (drop-drop t n words)
+-- a head of n words, and what stands after it
+module _ (counts : Counts) (root : Justfile) (recipes : Held) (words : List (Bor Text)) (n : ℕ) (r : Recipe Dependency) (rest : List (Bor Text))
+    (rest_is : rest ≡ drop n words)
+    (names : IsHead root recipes (texts (take n words)) (texts (drop n words)) r) where
+  -- arguments of t words
+  pub invokes_from : (t : ℕ) (groups : List Words) → TakesArguments counts r (texts (take t rest)) (texts (drop t rest)) groups →
+      Invokes counts root recipes (texts words) (texts (drop (n + t) words)) (record { recipe = r; groups = groups })
+  invokes_from t groups takes =
+      let cut : texts (drop n words) ≡ texts (take t (drop n words)) ++ texts (drop t (drop n words)) = texts_cut t (drop n words) in
+      subst (λ ws. Invokes counts root recipes (texts words) (texts ws) (record { recipe = r; groups = groups })) (sym (drop_add n t words))
       (record {
         head = texts (take n words);
         tail = texts (take t (drop n words));
-        whole = whole_cut;
-        names = subst (λ ws. IsHead root recipes (texts (take n words)) ws r) rest_cut names;
-        reads = reads;
-        complete = ap (λ k. fault_of r k groups) (sym (taken_all small)) ∙ complete;
+        whole = texts_cut n words ∙ ap (λ ws. texts (take n words) ++ ws) cut;
+        names = subst (λ ws. IsHead root recipes (texts (take n words)) ws r) cut names;
+        takes = subst (λ ws. TakesArguments counts r (texts (take t ws)) (texts (drop t ws)) groups) rest_is takes;
       })
 
-  pub lacks_from : (o : Option Cause) (cause : Cause) → t ≤ length rest → fault_of r t groups ≡ Some cause → o ≡ Some cause → IfSome o (Stops root recipes (texts words))
-  lacks_from None cause small says e = absurd (let f : ⊥ = (cc) in f)
-  lacks_from (Some told) cause small says e =
+  -- no arguments
+  pub rejects_from : (why : tail_cause.Cause) (cause : Cause) → NoArguments counts r (texts rest) why → cause ≡ with_recipe (name_of r) why → Stops counts root recipes (texts words) cause
+  rejects_from why cause stops says =
       inr (record {
         recipe = r;
         head = texts (take n words);
-        tail = texts (take t (drop n words));
-        after = texts (drop t (drop n words));
-        groups = groups;
-        whole = whole_cut;
-        names = subst (λ ws. IsHead root recipes (texts (take n words)) ws r) rest_cut names;
-        reads = reads;
-        says = ap (λ k. fault_of r k groups) (sym (taken_all small)) ∙ says ∙ sym e;
+        rest = texts (drop n words);
+        why = why;
+        whole = texts_cut n words;
+        names = names;
+        stops = subst (λ ws. NoArguments counts r (texts ws) why) rest_is stops;
+        says = says;
       })
 
--- what is wrong with a recipe's groups
-module _ (r : Recipe Dependency) (t : ℕ) (groups : List Words) where
-  pub fault_options : has_options r ≡ true → fault_of r t groups ≡ Some (not_yet (name_of r))
-  fault_options e = ap (λ b. if b then Some (not_yet (name_of r)) else (if any_missing r.parameters groups then Some (misfit r t) else None)) e
+-- what comes out of a map was made of what went in
+pub map_some : {A B : Type 0} (f : A → B) (o : Option A) (y : B) → option_map f o ≡ Some y → (x : A) × (o ≡ Some x) × (y ≡ f x)
+map_some f None y e = absurd (let g : ⊥ = (cc) in g)
+map_some f (Some x) y e = (x, refl, (let g : f x ≡ y = (cc) in sym g))
 
-  fault_placed : has_options r ≡ false → fault_of r t groups ≡ (if any_missing r.parameters groups then Some (misfit r t) else None)
-  fault_placed e = ap (λ b. if b then Some (not_yet (name_of r)) else (if any_missing r.parameters groups then Some (misfit r t) else None)) e
+pub if_some_at : {A : Type 0} (o : Option A) (x : A) (P : A → Type 0) → IfSome o P → o ≡ Some x → P x
+if_some_at None x P p e = absurd (let f : ⊥ = (cc) in f)
+if_some_at (Some y) x P p e = let f : y ≡ x = (cc) in subst P f p
 
-  pub fault_missing : has_options r ≡ false → any_missing r.parameters groups ≡ true → fault_of r t groups ≡ Some (misfit r t)
-  fault_missing e m = fault_placed e ∙ ap (λ b. if b then Some (misfit r t) else None) m
+-- invocations, and one more
+chain_push : (counts : Counts) (root : Justfile) (recipes : Held) (words mid rest : Words) (is : List Invoked) (i : Invoked) →
+    Chain counts root recipes words is mid → Chain counts root recipes mid (i ∷ []) rest → Chain counts root recipes words (is ++ i ∷ []) rest
+chain_push counts root recipes words mid rest [] i p q = subst (λ ws. Chain counts root recipes ws (i ∷ []) rest) (sym p) q
+chain_push counts root recipes words mid rest (j ∷ js) i p q = (p.0, p.1, p.2, chain_push counts root recipes p.1 mid rest js i p.3 q)
 
-  pub fault_none : has_options r ≡ false → any_missing r.parameters groups ≡ false → fault_of r t groups ≡ None
-  fault_none e m = fault_placed e ∙ ap (λ b. if b then Some (misfit r t) else None) m
+-- one more that is read
+pub chain_more : (counts : Counts) (root : Justfile) (recipes : Held) (words : List (Bor Text)) (n t : ℕ) (old new : List Invocation) (i : Invocation) (left : List (Bor Text)) → n < length words → left ≡ drop n words →
+    new ≡ old ++ i ∷ [] → Invokes counts root recipes (texts left) (texts (drop t left)) (invoked_of i) →
+    Chain counts root recipes (texts words) (map invoked_of old) (texts (drop n words)) → Chain counts root recipes (texts words) (map invoked_of new) (texts (drop (n + t) words))
+chain_more counts root recipes words n t old new i left h same pushed invokes chain =
+    let here : Invokes counts root recipes (texts (drop n words)) (texts (drop (n + t) words)) (invoked_of i) =
+    subst (λ ws. Invokes counts root recipes (texts (drop n words)) (texts ws) (invoked_of i)) (sym (drop_add n t words))
+    (subst (λ ws. Invokes counts root recipes (texts ws) (texts (drop t ws)) (invoked_of i)) same invokes) in
+    let more : map invoked_of new ≡ map invoked_of old ++ invoked_of i ∷ [] = ap (map invoked_of) pushed ∙ map-append invoked_of old (i ∷ []) in
+    subst (λ is. Chain counts root recipes (texts words) is (texts (drop (n + t) words))) (sym more)
+    (chain_push counts root recipes (texts words) (texts (drop n words)) (texts (drop (n + t) words)) (map invoked_of old) (invoked_of i) chain
+    (some_left n words h, texts (drop (n + t) words), here, refl))
 
 -- none begins after those that were read
-pub fault_after : (root : Justfile) (recipes : Held) (words : Words) (rest : List (Bor Text)) (n : ℕ) (is : List Invoked) (o : Option Cause) (left : List (Bor Text)) → n < length rest → left ≡ drop n rest →
-    Chain root recipes words (is ++ []) (texts (drop n rest)) → IfSome o (Stops root recipes (texts left)) → IfSome o (IsFault root recipes words)
-fault_after root recipes words rest n is None left h e chain stops = stops
-fault_after root recipes words rest n is (Some cause) left h same chain stops =
-    let more = texts_back rest n (get_or rest n (record { ref_ptr = (0, 0); now = [] })) h in (
-      is,
-      texts (drop n rest),
-      subst (λ xs. Chain root recipes words xs (texts (drop n rest))) (append-nil is) chain,
-      inl (λ e. let f : ⊥ = (cc) in f),
-      subst (λ ws. Stops root recipes (texts ws) cause) same stops,
-    )
+pub fault_after : (counts : Counts) (root : Justfile) (recipes : Held) (words : List (Bor Text)) (n : ℕ) (is : List Invoked) (left : List (Bor Text)) (cause : Cause) → n < length words → left ≡ drop n words →
+    Chain counts root recipes (texts words) is (texts (drop n words)) → Stops counts root recipes (texts left) cause → IsFault counts root recipes (texts words) cause
+fault_after counts root recipes words n is left cause h same chain stops =
+    (is, texts (drop n words), chain, inl (some_left n words h), subst (λ ws. Stops counts root recipes (texts ws) cause) same stops)
 
 -- all words are read
-pub chain_all : (root : Justfile) (recipes : Held) (words : Words) (rest : List (Bor Text)) (n : ℕ) (is : List Invoked) → length rest ≤ n →
-    ((more : List Invoked) (left : Words) → Chain root recipes (texts (drop n rest)) more left → Chain root recipes words (is ++ more) left) → Chain root recipes words is []
-chain_all root recipes words rest n is h chain =
-    subst (λ xs. Chain root recipes words xs []) (append-nil is) (chain [] [] (ap texts (drop_all n rest h)))
+pub chain_all : (counts : Counts) (root : Justfile) (recipes : Held) (words : List (Bor Text)) (n : ℕ) (is : List Invoked) → length words ≤ n →
+    Chain counts root recipes (texts words) is (texts (drop n words)) → Chain counts root recipes (texts words) is []
+chain_all counts root recipes words n is h chain = subst (λ ws. Chain counts root recipes (texts words) is ws) (ap texts (drop_all n words h)) chain
 
--- one more invocation
-pub chain_more : (root : Justfile) (recipes : Held) (words : Words) (rest : List (Bor Text)) (n t : ℕ) (old new : List Invocation) (i : Invocation) (left : List (Bor Text)) → n < length rest → left ≡ drop n rest →
-    new ≡ old ++ i ∷ [] → Invokes root recipes (texts left) (texts (drop t left)) (invoked_of i) →
-    ((is : List Invoked) (more : Words) → Chain root recipes (texts (drop n rest)) is more → Chain root recipes words (map invoked_of old ++ is) more) →
-    (is : List Invoked) (more : Words) → Chain root recipes (texts (drop (n + t) rest)) is more → Chain root recipes words (map invoked_of new ++ is) more
-chain_more root recipes words rest n t old new i left h same pushed invokes chain is more p =
-    let back = texts_back rest n (get_or rest n (record { ref_ptr = (0, 0); now = [] })) h in
-    let here : Invokes root recipes (texts (drop n rest)) (texts (drop t (drop n rest))) (invoked_of i) =
-    subst (λ ws. Invokes root recipes (texts ws) (texts (drop t ws)) (invoked_of i)) same invokes in
-    let next : Invokes root recipes (texts (drop n rest)) (texts (drop (n + t) rest)) (invoked_of i) =
-    subst (λ ws. Invokes root recipes (texts (drop n rest)) (texts ws) (invoked_of i)) (drop-drop t n rest) here in
-    let invoked : map invoked_of new ≡ map invoked_of old ++ invoked_of i ∷ [] = ap (map invoked_of) pushed ∙ map-append invoked_of old (i ∷ []) in
-    let all : map invoked_of old ++ invoked_of i ∷ is ≡ map invoked_of new ++ is = sym (append_assoc (map invoked_of old) (invoked_of i ∷ []) is) ∙ ap (λ xs. xs ++ is) (sym invoked) in
-    subst (λ xs. Chain root recipes words xs more) all
-    (chain (invoked_of i ∷ is) more ((λ e. let f : ⊥ = (cc) in f), texts (drop (n + t) rest), next, p))
+-- no words
+pub split_of_none : (counts : Counts) (root : Justfile) (recipes : Held) (words : List (Bor Text)) (k : ℕ) (is : List Invoked) (i : Invoked) → words ≡ [] → is ≡ i ∷ [] →
+    Invokes counts root recipes (texts words) (texts (drop k words)) i → IsSplit counts root recipes (texts words) is
+split_of_none counts root recipes [] zero is i e f p = (i, f, p)
+split_of_none counts root recipes [] (suc k) is i e f p = (i, f, p)
+split_of_none counts root recipes (w ∷ ws) k is i e f p = absurd (let g : ⊥ = (cc) in g)
 
--- one more recipe that is held
-pub held_more : (recipes : Held) (old new : List Invocation) (i : Invocation) → new ≡ old ++ i ∷ [] →
-    All (λ i. IsHeld recipes i.recipe.now) old → IsHeld recipes i.recipe.now → All (λ i. IsHeld recipes i.recipe.now) new
-held_more recipes old new i pushed all here =
-    subst (All (λ i. IsHeld recipes i.recipe.now)) (sym pushed) (All-push (λ i. IsHeld recipes i.recipe.now) old i all here)
+pub fault_of_none : (counts : Counts) (root : Justfile) (recipes : Held) (words : List (Bor Text)) (cause : Cause) → words ≡ [] → Stops counts root recipes (texts words) cause → IsFault counts root recipes (texts words) cause
+fault_of_none counts root recipes words cause e p = ([], texts words, refl, inr (ap texts e), p)
 
 -- words are at least one invocation
-pub split_some : (root : Justfile) (recipes : Held) (words : Words) (is : List Invoked) → IsSplit root recipes words is → 0 < length is
-split_some root recipes [] is split = omega (arith, ap length split.1)
-split_some root recipes (w ∷ ws) [] split = absurd (let e : w ∷ ws ≡ [] = split in let f : ⊥ = (cc) in f)
-split_some root recipes (w ∷ ws) (i ∷ is) split = omega arith
+pub split_some : (counts : Counts) (root : Justfile) (recipes : Held) (words : Words) (is : List Invoked) → IsSplit counts root recipes words is → 0 < length is
+split_some counts root recipes [] is split = omega (arith, ap length split.1)
+split_some counts root recipes (w ∷ ws) [] split = absurd (let e : w ∷ ws ≡ [] = split in let f : ⊥ = (cc) in f)
+split_some counts root recipes (w ∷ ws) (i ∷ is) split = omega arith

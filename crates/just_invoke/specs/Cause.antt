@@ -1,58 +1,82 @@
 -- What words are refused for.
-use Rattle.std.specs.Prelude.{ℕ, Option, Some, None}
+use Rattle.std.specs.Prelude.{ℕ, Option, Some, None, List}
 use Rattle.just_names.specs.Texts.{Text}
-use Rattle.just_errors.specs.declared.error.InvocationError.{InvocationError}
-use Rattle.just_errors.specs.declared.error.InvocationError.TheVariants as fault
-use Rattle.just_errors.specs.declared.error.RunError.{RunError}
-use Rattle.just_errors.specs.declared.error.RunError.TheVariants as run
 use Rattle.just_errors.specs.declared.error.Error.{Error}
 use Rattle.just_errors.specs.declared.error.Error.TheVariants as error
+use Rattle.just_errors.specs.declared.error.Fault.{Fault}
+use Rattle.just_errors.specs.declared.error.InvocationError.{InvocationError}
+use Rattle.just_errors.specs.declared.error.InvocationError.TheVariants as fault
+use Rattle.just_errors.specs.declared.switch.Switch.{Switch}
+use Rattle.just_tail.specs.Cause as tail
 
 -- why words are no invocations, with the fields of the error that says it
 pub data Cause : Type 0 where
   unknown_recipe : Text → Cause
   unknown_submodule : Text → Cause
   expected_submodule : Text → Cause
+  recipe_disabled : Text → List Text → Cause
+  alias_disabled : Text → List Text → Cause
+  module_absent : Text → Cause
   no_recipes : Cause
   no_default : Cause
   default_requires : Text → ℕ → Cause
+  invalid_option : Text → Cause
+  unknown_option : Text → Switch → Cause
+  flag_with_value : Text → Switch → Cause
+  option_missing_value : Text → Switch → Cause
+  duplicate_option : Text → Switch → Cause
+  missing_option : Text → Switch → Cause
   count_mismatch : Text → ℕ → ℕ → ℕ → Cause
-  not_yet : Text → Cause
+  value_count : Text → Text → Fault → Cause
+  pattern_mismatch : Text → Text → Text → Cause
+
+-- the cause for which a recipe of a name takes no arguments
+abbrev pub with_recipe : Text → tail.Cause → Cause
+with_recipe recipe (tail.invalid_option argument) = invalid_option argument
+with_recipe recipe (tail.unknown_option switch) = unknown_option recipe switch
+with_recipe recipe (tail.duplicate_option switch) = duplicate_option recipe switch
+with_recipe recipe (tail.flag_with_value switch) = flag_with_value recipe switch
+with_recipe recipe (tail.option_missing_value switch) = option_missing_value recipe switch
+with_recipe recipe (tail.missing_option switch) = missing_option recipe switch
+with_recipe recipe (tail.count_mismatch found min max) = count_mismatch recipe found min max
+with_recipe recipe (tail.value_count parameter told) = value_count recipe parameter told
+with_recipe recipe (tail.pattern_mismatch parameter argument) = pattern_mismatch recipe parameter argument
 
 -- what an error of the words says
 abbrev pub cause_of_fault : InvocationError → Cause
 cause_of_fault (fault.UnknownRecipe recipe) = unknown_recipe recipe
 cause_of_fault (fault.UnknownSubmodule path) = unknown_submodule path
 cause_of_fault (fault.ExpectedSubmoduleButFoundRecipe path) = expected_submodule path
+cause_of_fault (fault.RecipeDisabled recipe modules) = recipe_disabled recipe modules
+cause_of_fault (fault.AliasDisabled alias modules) = alias_disabled alias modules
+cause_of_fault (fault.ModuleAbsent path) = module_absent path
 cause_of_fault fault.NoRecipes = no_recipes
 cause_of_fault fault.NoDefaultRecipe = no_default
 cause_of_fault (fault.DefaultRecipeRequiresArguments recipe min) = default_requires recipe min
+cause_of_fault (fault.InvalidOption argument) = invalid_option argument
+cause_of_fault (fault.UnknownOption recipe switch) = unknown_option recipe switch
+cause_of_fault (fault.FlagWithValue recipe switch) = flag_with_value recipe switch
+cause_of_fault (fault.OptionMissingValue recipe switch) = option_missing_value recipe switch
+cause_of_fault (fault.DuplicateOption recipe switch) = duplicate_option recipe switch
+cause_of_fault (fault.MissingOption recipe switch) = missing_option recipe switch
 cause_of_fault (fault.PositionalArgumentCountMismatch recipe found min max) = count_mismatch recipe found min max
-
--- what an error of a run says: that a recipe has options, for which no words are read yet
-abbrev pub cause_of_run : RunError → Option Cause
-cause_of_run (run.NotYet recipe) = Some (not_yet recipe)
-cause_of_run (run.ExcessInvocations invocations) = None
+cause_of_fault (fault.ValueCount recipe parameter told) = value_count recipe parameter told
+cause_of_fault (fault.ArgumentPatternMismatch recipe parameter argument) = pattern_mismatch recipe parameter argument
 
 -- what an error says of the words; want of memory says nothing
 abbrev pub cause_of : Error → Option Cause
 cause_of (error.Load load) = None
 cause_of (error.Compile compile) = None
 cause_of (error.Invocation invocation) = Some (cause_of_fault invocation)
-cause_of (error.Run e) = cause_of_run e
+cause_of (error.Run e) = None
 cause_of error.Exhausted = None
 cause_of error.Memory = None
-
--- the error says that a recipe has options
-abbrev pub IsNotYet : RunError → Type 0
-IsNotYet (run.NotYet recipe) = Unit {0}
-IsNotYet (run.ExcessInvocations invocations) = ⊥
 
 -- the error is one of the words, or want of memory
 abbrev pub IsExpected : Error → Type 0
 IsExpected (error.Load load) = ⊥
 IsExpected (error.Compile compile) = ⊥
 IsExpected (error.Invocation invocation) = Unit {0}
-IsExpected (error.Run e) = IsNotYet e
+IsExpected (error.Run e) = ⊥
 IsExpected error.Exhausted = ⊥
 IsExpected error.Memory = Unit {0}

@@ -1,45 +1,50 @@
 -- The front of the words that names a recipe.
-use Rattle.std.specs.Prelude.{◌≡◌, ◌⊎◌, Bool, true, false, not, ◌&&◌, Option, Some, None, List, [], ◌∷◌}
+use Rattle.std.specs.Prelude.{◌≡◌, ◌⊎◌, Bool, true, false, not, ◌&&◌, Option, Some, None, List, [], ◌∷◌, ◌++◌}
 use Rattle.std.specs.Bool.{MatchBool}
-use Rattle.just_names.specs.Token.{lexeme}
 use Rattle.just_ast_definitions.specs.Parameter.{least_arguments}
 use Rattle.just_names.specs.Texts.{Text, text_of}
 use Rattle.just_recipe.specs.declared.dependency.Dependency.{Dependency}
 use Rattle.just_recipe.specs.declared.recipe.Recipe.{Recipe}
-use Rattle.just_invoke.specs.declared.justfile.Justfile.{Justfile, out-Justfile}
-use Rattle.just_invoke.specs.declared.justfile.RecipeKey.{RecipeKey}
-use Rattle.just_invoke.specs.Closed.{recipe_named, default_recipe}
-use Rattle.just_invoke.specs.Words.{IsPathWord, Words, has_colon, is_empty}
-use Rattle.just_invoke.specs.Cause.{Cause, unknown_recipe, unknown_submodule, expected_submodule, no_recipes, no_default, default_requires}
-
--- the recipes that are held
-abbrev pub Held : Type 0
-Held = List (Recipe Dependency)
-
--- the text of a recipe's name
-abbrev pub name_of : Recipe Dependency → Text
-name_of r = lexeme r.name.token
+use Rattle.just_tail.specs.Words.{Words}
+use Rattle.just_justfile.specs.declared.justfile.Justfile.{Justfile, out-Justfile}
+use Rattle.just_justfile.specs.declared.justfile.RecipeKey.{RecipeKey}
+use Rattle.just_justfile.specs.Closed.{Held, default_recipe, name_of, path_on}
+use Rattle.just_invoke.specs.Words.{IsPathWord, has_colon, is_empty}
+use Rattle.just_invoke.specs.Cause.{Cause, unknown_recipe, unknown_submodule, expected_submodule, recipe_disabled, alias_disabled, module_absent, no_recipes, no_default, default_requires}
+use Rattle.just_invoke.specs.Meaning.{Meaning, a_module, a_recipe, disabled_recipe, disabled_alias, absent_module, nothing, meaning, path_text}
+use Rattle.just_invoke.specs.declared.walking.Step.{Step}
+use Rattle.just_invoke.specs.declared.walking.Step.TheVariants as step
 
 -- the module's default, which needs no argument
-abbrev pub TakesDefault : Justfile → Held → Recipe Dependency → Type 0
-TakesDefault root recipes r = (default_recipe root recipes ≡ Some r) × (least_arguments r.parameters ≡ 0)
+abbrev pub TakesDefault : Held → Justfile → Recipe Dependency → Type 0
+TakesDefault recipes here r = (default_recipe here recipes ≡ Some r) × (least_arguments r.parameters ≡ 0)
 
--- the names lead to the recipe, before the rest of the words; they may end in the module only where nothing follows them
-abbrev pub WordsLead : Justfile → Held → Words → Words → Recipe Dependency → Type 0
-WordsLead root recipes [] rest r = (rest ≡ []) × TakesDefault root recipes r
-WordsLead root recipes (n ∷ ns) rest r = (ns ≡ []) × (recipe_named root recipes n ≡ Some r)
+-- a name of this meaning leads to the recipe: to a module, from which the names lead on, or to the recipe itself, if no name follows
+abbrev pub Leads : Meaning → (Justfile → Type 0) → Words → Recipe Dependency → Type 0
+Leads (a_module next) On names r = On next
+Leads (a_recipe found) On names r = (names ≡ []) × (found ≡ r)
+Leads (disabled_recipe modules) On names r = ⊥
+Leads (disabled_alias modules) On names r = ⊥
+Leads absent_module On names r = ⊥
+Leads nothing On names r = ⊥
+
+-- the names lead from a module to the recipe, before the rest of the words; they may end in a module only where nothing follows them
+abbrev pub WordsLead : Justfile → Held → Justfile → Words → Words → Recipe Dependency → Type 0
+WordsLead root recipes here [] rest r = (rest ≡ []) × TakesDefault recipes here r
+WordsLead root recipes here (n ∷ ns) rest r =
+    Leads (meaning root recipes here n) (λ next. WordsLead root recipes next ns rest r) ns r
 
 -- the word is a path that leads to the recipe
 abbrev pub PathLeads : Justfile → Held → Bool → Text → Recipe Dependency → Type 0
-PathLeads root recipes last word r = (names : Words) × IsPathWord last word names × WordsLead root recipes names [] r
+PathLeads root recipes last word r = (names : Words) × IsPathWord last word names × WordsLead root recipes root names [] r
 
 -- the front of the words that names the recipe, before the rest of them
 abbrev pub IsHead : Justfile → Held → Words → Words → Recipe Dependency → Type 0
-IsHead root recipes [] rest r = WordsLead root recipes [] rest r
+IsHead root recipes [] rest r = WordsLead root recipes root [] rest r
 IsHead root recipes (w ∷ ws) rest r =
     MatchBool (has_colon w)
     ((ws ≡ []) × PathLeads root recipes (is_empty rest) w r)
-    (WordsLead root recipes (w ∷ ws) rest r)
+    (WordsLead root recipes root (w ∷ ws) rest r)
 
 -- why no default is taken, by the module's table and its default
 abbrev pub NoDefault : List (Text × RecipeKey) → Option (Recipe Dependency) → Cause → Type 0
@@ -48,32 +53,60 @@ NoDefault table (Some r) cause =
 NoDefault [] None cause = cause ≡ no_recipes
 NoDefault (_ ∷ _) None cause = cause ≡ no_default
 
--- names of one path follow
+-- names of one word follow
 abbrev pub goes_on : Bool → Words → Bool
 goes_on one names = one && not (is_empty names)
 
--- why a name ends no head: whether it is in a path of one word, whether that goes on, the path up to it, and the recipe of the name
-abbrev pub BadName : Bool → Bool → Words → Option (Recipe Dependency) → Cause → Type 0
-BadName one true path (Some r) cause = cause ≡ expected_submodule (text_of path false)
-BadName one true path None cause = cause ≡ unknown_submodule (text_of path false)
-BadName one false path (Some r) cause = ⊥
-BadName one false path None cause = cause ≡ unknown_recipe (text_of path (not one))
+-- Why a name of this meaning leads to no recipe: a module from which the names do not lead on, or the cause. `one` says that the names are one word, `go` that others of it follow, `path` are the names so far, and `place` is the name's path from the root.
+abbrev pub Misleads : Meaning → (Justfile → Type 0) → Bool → Bool → Words → Text → Cause → Type 0
+Misleads (a_module next) On one go path place cause = On next
+Misleads (a_recipe found) On one true path place cause = cause ≡ expected_submodule (text_of path false)
+Misleads (a_recipe found) On one false path place cause = ⊥
+Misleads (disabled_recipe modules) On one go path place cause = cause ≡ recipe_disabled (text_of path (not one)) modules
+Misleads (disabled_alias modules) On one go path place cause = cause ≡ alias_disabled (text_of path (not one)) modules
+Misleads absent_module On one go path place cause = cause ≡ module_absent place
+Misleads nothing On one true path place cause = cause ≡ unknown_submodule (text_of path false)
+Misleads nothing On one false path place cause = cause ≡ unknown_recipe (text_of path (not one))
 
--- why the names lead to no recipe; `one` says that they are one word
-abbrev pub WordsMislead : Justfile → Held → Bool → Words → Cause → Type 0
-WordsMislead root recipes one [] cause = NoDefault (out-Justfile root).recipes (default_recipe root recipes) cause
-WordsMislead root recipes one (n ∷ ns) cause = BadName one (goes_on one ns) (n ∷ []) (recipe_named root recipes n) cause
+-- a name that is no module, and leads to no recipe
+abbrev pub BadName : Meaning → Bool → Bool → Words → Text → Cause → Type 0
+BadName m = Misleads m (λ next. ⊥)
+
+-- the path of a name in a module, from the root
+abbrev pub place_of : Justfile → Text → Text
+place_of here name = path_text (path_on (out-Justfile here).module_path name)
+
+-- why the names lead from a module to no recipe, after those of `path`; `one` says that they are one word
+abbrev pub WordsMislead : Justfile → Held → Justfile → Bool → Words → Words → Cause → Type 0
+WordsMislead root recipes here one path [] cause = NoDefault (out-Justfile here).recipes (default_recipe here recipes) cause
+WordsMislead root recipes here one path (n ∷ ns) cause =
+    Misleads (meaning root recipes here n) (λ next. WordsMislead root recipes next one (path ++ n ∷ []) ns cause)
+    one (goes_on one ns) (path ++ n ∷ []) (place_of here n) cause
 
 -- why the word is no path to a recipe
 abbrev pub NoPath : Justfile → Held → Bool → Text → Cause → Type 0
 NoPath root recipes last word cause =
     (((names : Words) → IsPathWord last word names → ⊥) × (cause ≡ unknown_recipe word))
-    ⊎ ((names : Words) × IsPathWord last word names × WordsMislead root recipes true names cause)
+    ⊎ ((names : Words) × IsPathWord last word names × WordsMislead root recipes root true [] names cause)
 
 -- why the words begin with no head
 abbrev pub NoHead : Justfile → Held → Words → Cause → Type 0
-NoHead root recipes [] cause = WordsMislead root recipes false [] cause
+NoHead root recipes [] cause = WordsMislead root recipes root false [] [] cause
 NoHead root recipes (w ∷ ws) cause =
     MatchBool (has_colon w)
     (NoPath root recipes (is_empty ws) w cause)
-    (WordsMislead root recipes false (w ∷ ws) cause)
+    (WordsMislead root recipes root false [] (w ∷ ws) cause)
+
+-- for the private functions: a step of the walk is what the name's meaning says, a module, or a recipe that ends the names
+abbrev pub IsStep : Meaning → Bool → Step → Type 0
+IsStep m go (step.On next) = m ≡ a_module next.now
+IsStep m go (step.End r) = (m ≡ a_recipe r.now) × (go ≡ false)
+
+-- where names end: in a module, whose default is taken or is none, or at a recipe
+abbrev pub IsEnd : Held → Step → Recipe Dependency → Type 0
+IsEnd recipes (step.On here) r = TakesDefault recipes here.now r
+IsEnd recipes (step.End found) r = r ≡ found.now
+
+abbrev pub IsNoEnd : Held → Step → Cause → Type 0
+IsNoEnd recipes (step.On here) cause = NoDefault (out-Justfile here.now).recipes (default_recipe here.now recipes) cause
+IsNoEnd recipes (step.End found) cause = ⊥

@@ -1,13 +1,9 @@
 pub mod Cause
-pub mod Closed
 pub mod Going
 pub mod Head
-pub mod Module
-pub mod Options
+pub mod Meaning
 pub mod Outcome
 pub mod Scopes
 pub mod Split
-pub mod Tail
 pub mod Variables
-pub mod Walks
 pub mod Words

@@ -18,10 +18,10 @@ use Rattle.just_execution.specs.Pairs.{task, place_of}
 use Rattle.just_execution.specs.Reports.{IsRun, IsAsExpected}
 use Rattle.just_execution.specs.Unready.{IsUnready, AreReady}
 use Rattle.just_invoke.specs.declared.invocation.Invocation as parsed
-use Rattle.just_invoke.specs.declared.justfile.Justfile.{Justfile}
+use Rattle.just_justfile.specs.declared.justfile.Justfile.{Justfile}
 use Rattle.just_invoke.specs.Cause.{Cause, cause_of}
-use Rattle.just_invoke.specs.Head.{name_of}
-use Rattle.just_invoke.specs.Split.{Invoked, invoked_of, IsSplit, IsFault}
+use Rattle.just_justfile.specs.Closed.{name_of}
+use Rattle.just_invoke.specs.Split.{Counts, Invoked, invoked_of, IsSplit, IsFault}
 use Rattle.just_invoke.specs.Variables.{SomeVariable}
 
 -- the task of what is invoked: it does not run as a dependency
@@ -37,32 +37,32 @@ tops_of recipes invocations = tops recipes (map invoked_of invocations)
 
 -- Why words are not run, where one invocation alone is allowed or not: they have a fault; they are several; the root or a module in it has a
 -- variable, of which the first recipe's name tells; they lead to a recipe that cannot be run yet; or memory is refused.
-pub data Refuses (root : Justfile) (recipes : List (Recipe Dependency)) (words : List (List ℕ)) (one : Bool) : Error → Type 0 where
-  fault : (e : Error) (c : Cause) → cause_of e ≡ Some c → IsFault root recipes words c → Refuses root recipes words one e
-  excess : (invoked : List Invoked) → IsSplit root recipes words invoked → one ≡ true → 1 < length invoked →
-      Refuses root recipes words one (Run (ExcessInvocations (length invoked)))
-  variables : (first : Invoked) (rest : List Invoked) → IsSplit root recipes words (first ∷ rest) → (one ≡ true → length (first ∷ rest) ≤ 1) →
-      SomeVariable root → Refuses root recipes words one (Run (NotYet (name_of first.recipe)))
-  not_yet : (name : List ℕ) (invoked : List Invoked) → IsSplit root recipes words invoked → (one ≡ true → length invoked ≤ 1) →
-      IsUnready recipes (tops recipes invoked) name → Refuses root recipes words one (Run (NotYet name))
-  memory : Refuses root recipes words one Memory
+pub data Refuses (counts : Counts) (root : Justfile) (recipes : List (Recipe Dependency)) (words : List (List ℕ)) (one : Bool) : Error → Type 0 where
+  fault : (e : Error) (c : Cause) → cause_of e ≡ Some c → IsFault counts root recipes words c → Refuses counts root recipes words one e
+  excess : (invoked : List Invoked) → IsSplit counts root recipes words invoked → one ≡ true → 1 < length invoked →
+      Refuses counts root recipes words one (Run (ExcessInvocations (length invoked)))
+  variables : (first : Invoked) (rest : List Invoked) → IsSplit counts root recipes words (first ∷ rest) → (one ≡ true → length (first ∷ rest) ≤ 1) →
+      SomeVariable root → Refuses counts root recipes words one (Run (NotYet (name_of first.recipe)))
+  not_yet : (name : List ℕ) (invoked : List Invoked) → IsSplit counts root recipes words invoked → (one ≡ true → length invoked ≤ 1) →
+      IsUnready recipes (tops recipes invoked) name → Refuses counts root recipes words one (Run (NotYet name))
+  memory : Refuses counts root recipes words one Memory
 
 -- words that may be run: they are these invocations, one where one alone is allowed, neither the root nor a module in it has a variable, and
 -- what they lead to can be run
-pub record MayRun (root : Justfile) (recipes : List (Recipe Dependency)) (words : List (List ℕ)) (one : Bool) (invoked : List Invoked) : Type 0 where
-  pub split : IsSplit root recipes words invoked
+pub record MayRun (counts : Counts) (root : Justfile) (recipes : List (Recipe Dependency)) (words : List (List ℕ)) (one : Bool) (invoked : List Invoked) : Type 0 where
+  pub split : IsSplit counts root recipes words invoked
   pub few : one ≡ true → length invoked ≤ 1
   pub plain : SomeVariable root → ⊥
   pub ready : AreReady recipes (tops recipes invoked)
 
 -- The words are refused, and what is kept is as it was; or they may be run, and are.
-pub data IsOutcome (root : Justfile) (recipes : List (Recipe Dependency)) (words : List (List ℕ)) (config : Config) (old new : Kept) (result : Result Report Error) : Type 0 where
-  refused : (e : Error) → result ≡ Err e → Refuses root recipes words config.one e → new ≡ old → IsOutcome root recipes words config old new result
-  ran : (invoked : List Invoked) (ended : Result Report Halt) → MayRun root recipes words config.one invoked → result ≡ come_to ended →
-      IsRun recipes (tops recipes invoked) old new ended → IsOutcome root recipes words config old new result
+pub data IsOutcome (counts : Counts) (root : Justfile) (recipes : List (Recipe Dependency)) (words : List (List ℕ)) (config : Config) (old new : Kept) (result : Result Report Error) : Type 0 where
+  refused : (e : Error) → result ≡ Err e → Refuses counts root recipes words config.one e → new ≡ old → IsOutcome counts root recipes words config old new result
+  ran : (invoked : List Invoked) (ended : Result Report Halt) → MayRun counts root recipes words config.one invoked → result ≡ come_to ended →
+      IsRun recipes (tops recipes invoked) old new ended → IsOutcome counts root recipes words config old new result
 
 -- for promised answers: words that may be run are, as is expected
-abbrev pub IsExpected : Justfile → List (Recipe Dependency) → List (List ℕ) → Config → (Inquiry → Option Answer) → (Entry → Option Answer) → Kept → Kept → Result Report Error → Type 0
-IsExpected root recipes words config evaluator host old new result =
-    (invoked : List Invoked) → MayRun root recipes words config.one invoked →
+abbrev pub IsExpected : Counts → Justfile → List (Recipe Dependency) → List (List ℕ) → Config → (Inquiry → Option Answer) → (Entry → Option Answer) → Kept → Kept → Result Report Error → Type 0
+IsExpected counts root recipes words config evaluator host old new result =
+    (invoked : List Invoked) → MayRun counts root recipes words config.one invoked →
     (ended : Result Report Halt) × (result ≡ come_to ended) × IsAsExpected evaluator host recipes (tops recipes invoked) old new ended

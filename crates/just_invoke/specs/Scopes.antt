@@ -2,8 +2,8 @@
 use Rattle.std.specs.Prelude.{◌≡◌, Some}
 use Rattle.just_execution.specs.Homes.{Modules, module_at}
 use Rattle.just_execution.specs.declared.scopes.ModuleScope.{ModuleScope}
-use Rattle.just_invoke.specs.Closed.{StandsIn}
-use Rattle.just_invoke.specs.declared.justfile.Justfile.{Justfile, out-Justfile}
+use Rattle.just_justfile.specs.Closed.{StandsIn}
+use Rattle.just_justfile.specs.declared.justfile.Justfile.{Justfile, out-Justfile}
 
 -- what a module hands to the layers is what it has
 pub record IsScopeOf (j : Justfile) (m : ModuleScope) : Type 0 where

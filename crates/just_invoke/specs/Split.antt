@@ -1,15 +1,29 @@
 -- Words as invocations, and why words are none.
-use Rattle.std.specs.Prelude.{◌≡◌, ◌≢◌, ◌⊎◌, ℕ, List, [], ◌∷◌, ◌++◌, length, Option, Some, None, if◌then◌else◌}
-use Rattle.just_ast_definitions.specs.Parameter.{least_arguments, most_words}
+use Rattle.std.specs.Prelude.{◌≡◌, ◌≢◌, ◌⊎◌, List, [], ◌∷◌, ◌++◌}
+use Rattle.just_names.specs.Texts.{Text}
 use Rattle.just_recipe.specs.declared.dependency.Dependency.{Dependency}
 use Rattle.just_recipe.specs.declared.recipe.Recipe.{Recipe}
+use Rattle.just_tail.specs.Cause as tail
+use Rattle.just_tail.specs.Checks.{CountFault}
+use Rattle.just_tail.specs.Checks as checks
+use Rattle.just_tail.specs.Words.{Words, shown}
+use Rattle.just_justfile.specs.Closed.{Held, name_of}
+use Rattle.just_justfile.specs.declared.justfile.Justfile.{Justfile}
 use Rattle.just_invoke.specs.declared.invocation.Invocation.{Invocation}
-use Rattle.just_invoke.specs.declared.justfile.Justfile.{Justfile}
-use Rattle.just_invoke.specs.Cause.{Cause, count_mismatch, not_yet}
-use Rattle.just_invoke.specs.Words.{Words}
-use Rattle.just_invoke.specs.Head.{Held, name_of, IsHead, NoHead}
-use Rattle.just_invoke.specs.Options.{has_options}
-use Rattle.just_invoke.specs.Tail.{IsTail, any_missing, shown}
+use Rattle.just_invoke.specs.Cause.{Cause, with_recipe}
+use Rattle.just_invoke.specs.Head.{IsHead, NoHead}
+
+-- why the parameters of the recipe of a name may not have so many texts, as the evaluation says it
+abbrev pub Counts : Type 0
+Counts = Text → CountFault
+
+-- the recipe takes the words of the tail, grouped so, before those after it
+abbrev pub TakesArguments : Counts → Recipe Dependency → Words → Words → List Words → Type 0
+TakesArguments counts r tail after groups = checks.TakesArguments (counts (name_of r)) r.parameters tail after groups
+
+-- why it takes none of the words
+abbrev pub NoArguments : Counts → Recipe Dependency → Words → tail.Cause → Type 0
+NoArguments counts r words cause = checks.Stops (counts (name_of r)) r.parameters words cause
 
 -- a recipe, with a group of words for each parameter
 pub record Invoked : Type 0 where
@@ -20,53 +34,41 @@ pub record Invoked : Type 0 where
 abbrev pub invoked_of : Invocation → Invoked
 invoked_of i = record { recipe = i.recipe.now; groups = shown i.arguments.items }
 
--- why a recipe is not run with so many words
-abbrev pub misfit : Recipe Dependency → ℕ → Cause
-misfit recipe found = count_mismatch (name_of recipe) found (least_arguments recipe.parameters) (most_words recipe.parameters)
-
--- what is wrong with the groups that a recipe got of so many words: it has options, or a group is empty that may not be
-abbrev pub fault_of : Recipe Dependency → ℕ → List Words → Option Cause
-fault_of recipe found groups =
-    if has_options recipe then Some (not_yet (name_of recipe))
-    else (if any_missing recipe.parameters groups then Some (misfit recipe found) else None)
-
--- the words begin with an invocation, its head and then its tail, and these words follow it
-pub record Invokes (root : Justfile) (recipes : Held) (words after : Words) (i : Invoked) : Type 0 where
+-- the words begin with an invocation, its head and then its arguments, and these words follow it
+pub record Invokes (counts : Counts) (root : Justfile) (recipes : Held) (words after : Words) (i : Invoked) : Type 0 where
   pub head : Words
   pub tail : Words
   pub whole : words ≡ head ++ (tail ++ after)
   pub names : IsHead root recipes head (tail ++ after) i.recipe
-  pub reads : IsTail i.recipe.parameters tail after i.groups
-  pub complete : fault_of i.recipe (length tail) i.groups ≡ None
+  pub takes : TakesArguments counts i.recipe tail after i.groups
 
 -- invocations, one after another, and the words that are left
-abbrev pub Chain : Justfile → Held → Words → List Invoked → Words → Type 0
-Chain root recipes words [] rest = words ≡ rest
-Chain root recipes words (i ∷ is) rest =
-    (words ≢ []) × (after : Words) × Invokes root recipes words after i × Chain root recipes after is rest
+abbrev pub Chain : Counts → Justfile → Held → Words → List Invoked → Words → Type 0
+Chain counts root recipes words [] rest = words ≡ rest
+Chain counts root recipes words (i ∷ is) rest =
+    (words ≢ []) × (after : Words) × Invokes counts root recipes words after i × Chain counts root recipes after is rest
 
 -- the words are these invocations; no words are one
-abbrev pub IsSplit : Justfile → Held → Words → List Invoked → Type 0
-IsSplit root recipes [] is = (i : Invoked) × (is ≡ i ∷ []) × Invokes root recipes [] [] i
-IsSplit root recipes (w ∷ ws) is = Chain root recipes (w ∷ ws) is []
+abbrev pub IsSplit : Counts → Justfile → Held → Words → List Invoked → Type 0
+IsSplit counts root recipes [] is = (i : Invoked) × (is ≡ i ∷ []) × Invokes counts root recipes [] [] i
+IsSplit counts root recipes (w ∷ ws) is = Chain counts root recipes (w ∷ ws) is []
 
--- the words begin with a head and a tail, with whose groups something is wrong
-pub record Lacks (root : Justfile) (recipes : Held) (words : Words) (cause : Cause) : Type 0 where
+-- the words begin with a head, after which its recipe takes no arguments
+pub record Rejects (counts : Counts) (root : Justfile) (recipes : Held) (words : Words) (cause : Cause) : Type 0 where
   pub recipe : Recipe Dependency
   pub head : Words
-  pub tail : Words
-  pub after : Words
-  pub groups : List Words
-  pub whole : words ≡ head ++ (tail ++ after)
-  pub names : IsHead root recipes head (tail ++ after) recipe
-  pub reads : IsTail recipe.parameters tail after groups
-  pub says : fault_of recipe (length tail) groups ≡ Some cause
+  pub rest : Words
+  pub why : tail.Cause
+  pub whole : words ≡ head ++ rest
+  pub names : IsHead root recipes head rest recipe
+  pub stops : NoArguments counts recipe rest why
+  pub says : cause ≡ with_recipe (name_of recipe) why
 
 -- why no invocation begins here
-abbrev pub Stops : Justfile → Held → Words → Cause → Type 0
-Stops root recipes words cause = NoHead root recipes words cause ⊎ Lacks root recipes words cause
+abbrev pub Stops : Counts → Justfile → Held → Words → Cause → Type 0
+Stops counts root recipes words cause = NoHead root recipes words cause ⊎ Rejects counts root recipes words cause
 
 -- why the words are no invocations: some of them are, and then none begins
-abbrev pub IsFault : Justfile → Held → Words → Cause → Type 0
-IsFault root recipes words cause =
-    (is : List Invoked) × (rest : Words) × Chain root recipes words is rest × ((rest ≢ []) ⊎ (words ≡ [])) × Stops root recipes rest cause
+abbrev pub IsFault : Counts → Justfile → Held → Words → Cause → Type 0
+IsFault counts root recipes words cause =
+    (is : List Invoked) × (rest : Words) × Chain counts root recipes words is rest × ((rest ≢ []) ⊎ (words ≡ [])) × Stops counts root recipes rest cause

@@ -1,12 +1,9 @@
--- Command words, and words that are paths.
+-- Words that are paths.
 use Rattle.std.specs.Prelude.{Bool, true, false, ◌==◌, List, [], ◌∷◌}
 use Rattle.std.specs.List.{list_any}
 use Rattle.just_names.specs.Texts.{Text}
 use Rattle.just_paths.specs.Modulepath.{IsWordPath, IsArgumentPath}
-
--- words, as texts
-abbrev pub Words : Type 0
-Words = List Text
+use Rattle.just_tail.specs.Words.{Words}
 
 -- a `:` is in the word
 abbrev pub has_colon : Text → Bool

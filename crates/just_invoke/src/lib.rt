@@ -1,27 +1,22 @@
-//! A module as it is compiled, what command words mean in it, and the run of what they mean.
+//! What command words mean in a module of modules, and the run of what they mean.
 #![tactic(auto)]
 
-mod aliases;
-mod disabled;
 mod groups;
+mod head;
 mod invocation;
 pub mod invocation_parser;
-pub mod justfile;
 pub mod laws;
-mod modules;
+mod lookup;
 mod naming;
-mod options;
 mod paths;
-pub mod resolution;
+pub mod run;
 mod running;
 mod scopes;
-mod tail;
+mod texts;
 mod variables;
+mod walking;
 
-pub use aliases::{Aliases, ModuleAlias, RecipeAlias};
-pub use disabled::Disabled;
 pub use invocation::Invocation;
 pub use invocation_parser::InvocationParser;
-pub use just_execution::{Recipes, Report};
-pub use justfile::{Justfile, RecipeKey};
-pub use resolution::Resolution;
+pub use just_execution::Report;
+pub use run::Run;

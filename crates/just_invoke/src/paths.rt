@@ -1,7 +1,8 @@
 //! Words that are paths.
 ghost use Rattle.std.specs.Prelude.{◌≡◌, IfOk, OnErr};
 ghost use Rattle.just_names.specs.Texts.{texts};
-ghost use Rattle.just_invoke.specs.Words.{IsPathWord, Words, has_colon};
+ghost use Rattle.just_invoke.specs.Words.{IsPathWord, has_colon};
+ghost use Rattle.just_tail.specs.Words.{Words};
 
 use just_data::Text;
 use just_paths::Modulepath;

@@ -4,7 +4,7 @@ ghost use Rattle.just_recipe.specs.Recipes.{IsResolved};
 ghost use Rattle.just_parts.specs.Steps.{kept_by};
 ghost use Rattle.just_invoke.specs.declared.invocation.Invocation.{Invocation};
 ghost use Rattle.just_execution.specs.Homes.{IsAmong};
-ghost use Rattle.just_invoke.specs.Closed.{IsHeld};
+ghost use Rattle.just_justfile.specs.Closed.{IsHeld};
 ghost use Rattle.just_invoke.specs.Going.{ComesTo};
 
 use crate::invocation::Invocation;

@@ -2,10 +2,9 @@
 ghost use Rattle.std.specs.Prelude.{◌≡◌, IfOk};
 ghost use Rattle.just_invoke.specs.Scopes.{HasScopes, IsScopeOf};
 
-use crate::justfile::Justfile;
-use crate::modules::modules_in;
 use just_data::{Sequence, Text};
 use just_execution::{ModuleScope, Scopes};
+use just_justfile::{Justfile, modules_in};
 use just_parts::layers::{Config, Context, Number, Scope, Syntax};
 use just_paths::Modulepath;
 use std::alloc::{AllocError, Global};

@@ -7,7 +7,7 @@ use Rattle.just_ast_definitions.specs.declared.alias.Alias.{Alias}
 use Rattle.just_errors.specs.Causes.{Broken, Cause, Keeps}
 use Rattle.just_errors.specs.declared.error.CompileErrorKind.TheVariants as kind
 use Rattle.just_graph.proofs.Members.{contained, is_in}
-use Rattle.just_invoke.specs.declared.aliases.Aliases.{Aliases}
+use Rattle.just_justfile.specs.declared.aliases.Aliases.{Aliases}
 use Rattle.just_module_contents.specs.Recipes.{lent}
 use Rattle.just_module_contents.specs.Rules.{unknown_target}
 use Rattle.just_module_contents.proofs.RecipePlaces.{length-lent}

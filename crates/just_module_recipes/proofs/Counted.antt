@@ -8,7 +8,7 @@ use Rattle.just_ast_definitions.specs.Parameter.{least_arguments, most_arguments
 use Rattle.just_ast_definitions.specs.declared.parameter.Parameter.{Parameter}
 use Rattle.just_errors.specs.Causes.{Broken, Cause, Keeps}
 use Rattle.just_errors.specs.declared.error.CompileErrorKind.TheVariants as kind
-use Rattle.just_invoke.specs.declared.resolution.Resolution.TheVariants as resolution
+use Rattle.just_justfile.specs.declared.resolution.Resolution.TheVariants as resolution
 use Rattle.just_module_contents.specs.Recipes.{name_of, names_of, recipe_at}
 use Rattle.just_module_contents.specs.Rules.{IsOutside, StandsWith, argument_count, starred}
 use Rattle.just_module_recipes.specs.Given.{Misgiven, of_count, of_star}

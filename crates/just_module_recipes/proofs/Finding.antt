@@ -9,9 +9,9 @@ use Rattle.just_errors.specs.Causes.{Broken}
 use Rattle.just_errors.specs.declared.error.CompileErrorKind.TheVariants as kind
 use Rattle.just_graph.proofs.Index.{got_in}
 use Rattle.just_graph.proofs.Members.{contained, is_in, in_map}
-use Rattle.just_invoke.specs.declared.resolution.Resolution.{Resolution}
-use Rattle.just_invoke.specs.declared.resolution.Resolution.TheVariants as resolution
-use Rattle.just_invoke.specs.Walks.{end_of, recipe_by}
+use Rattle.just_justfile.specs.declared.resolution.Resolution.{Resolution}
+use Rattle.just_justfile.specs.declared.resolution.Resolution.TheVariants as resolution
+use Rattle.just_justfile.specs.Walks.{end_of, recipe_by}
 use Rattle.just_module_contents.proofs.RecipePlaces.{name_at_place, one_place}
 use Rattle.just_module_contents.specs.Recipes.{name_of, named_paths, names_of, no_recipe, recipe_at}
 use Rattle.just_module_contents.specs.Rules.{DependsBy}

@@ -5,7 +5,7 @@ use Rattle.std.specs.List.{AllZip, Contains, slice_get}
 use Rattle.std.proofs.lemmas.Option.{get_or_from_slice_get, slice_get_within}
 use Rattle.std.proofs.Math.Seq.{drop-cons}
 use Rattle.just_graph.proofs.Members.{contained}
-use Rattle.just_invoke.specs.declared.disabled.Disabled.{Disabled}
+use Rattle.just_justfile.specs.declared.disabled.Disabled.{Disabled}
 use Rattle.just_module_contents.specs.Recipes.{name_of, no_recipe}
 use Rattle.just_module_contents.specs.Standing.{AreStanding, falls, none, stands}
 use Rattle.just_module_recipes.specs.Linked.{AreDisabled, HasDisabled}

@@ -3,13 +3,13 @@ use Rattle.std.specs.Prelude.{◌≡◌, ◌≢◌, List, [], ◌∷◌, flat_ma
 use Rattle.just_ast_definitions.specs.declared.alias.Alias.{Alias}
 use Rattle.just_errors.specs.Causes.{Cause, Broken}
 use Rattle.just_errors.specs.declared.error.CompileErrorKind.TheVariants as kind
-use Rattle.just_invoke.specs.Walks.{resolved_module, resolved_recipe}
-use Rattle.just_invoke.specs.declared.aliases.Aliases.{Aliases}
-use Rattle.just_invoke.specs.declared.disabled.Disabled.{Disabled}
-use Rattle.just_invoke.specs.declared.justfile.Justfile.{Justfile, out-Justfile}
-use Rattle.just_invoke.specs.declared.justfile.RecipeKey.{RecipeKey}
-use Rattle.just_invoke.specs.declared.resolution.Resolution.{Resolution}
-use Rattle.just_invoke.specs.declared.resolution.Resolution.TheVariants as resolution
+use Rattle.just_justfile.specs.Walks.{resolved_module, resolved_recipe}
+use Rattle.just_justfile.specs.declared.aliases.Aliases.{Aliases}
+use Rattle.just_justfile.specs.declared.disabled.Disabled.{Disabled}
+use Rattle.just_justfile.specs.declared.justfile.Justfile.{Justfile, out-Justfile}
+use Rattle.just_justfile.specs.declared.justfile.RecipeKey.{RecipeKey}
+use Rattle.just_justfile.specs.declared.resolution.Resolution.{Resolution}
+use Rattle.just_justfile.specs.declared.resolution.Resolution.TheVariants as resolution
 use Rattle.just_module_contents.specs.Rules.{Aliases as BreaksTargets}
 use Rattle.just_module_recipes.specs.Linked.{name_of_disabled}
 use Rattle.just_module_recipes.specs.declared.aliases.Meaning.{Meaning}

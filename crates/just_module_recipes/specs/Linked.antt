@@ -2,8 +2,8 @@
 use Rattle.std.specs.Prelude.{◌≡◌, ◌≢◌, ◌↔◌, ℕ, ◌<◌, ◌++◌, Bool, List, [], ◌∷◌, length, Some, IsSome}
 use Rattle.std.specs.BTreeSet.{BTreeSet}
 use Rattle.std.specs.List.{All, AllZip, Contains}
-use Rattle.just_invoke.specs.declared.disabled.Disabled.{Disabled}
-use Rattle.just_invoke.specs.declared.resolution.Resolution.TheVariants as resolution
+use Rattle.just_justfile.specs.declared.disabled.Disabled.{Disabled}
+use Rattle.just_justfile.specs.declared.resolution.Resolution.TheVariants as resolution
 use Rattle.just_module_contents.specs.Recipes.{name_of, recipe_at}
 use Rattle.just_module_contents.specs.Resolved.{IsResolvedAt, number_at}
 use Rattle.just_module_recipes.specs.Completing.{Completion}

@@ -3,7 +3,7 @@ use Rattle.std.specs.Prelude.{◌≡◌, ◌↔◌, ℕ, ◌<◌, Bool, true, fa
 use Rattle.std.specs.BTreeSet.{BTreeSet}
 use Rattle.std.specs.List.{All, Contains}
 use Rattle.just_ast_definitions.specs.declared.parameter.Parameter.{Parameter}
-use Rattle.just_invoke.specs.declared.disabled.Disabled.{Disabled}
+use Rattle.just_justfile.specs.declared.disabled.Disabled.{Disabled}
 use Rattle.just_module_contents.specs.Recipes.{name_of, recipe_at}
 use Rattle.just_module_contents.specs.Resolved.{path_to}
 use Rattle.just_module_contents.specs.Rules.{IsOutside}

@@ -4,10 +4,10 @@ ghost use Rattle.std.specs.Prelude.{◌≡◌, IfErr, IfOk, OnOk};
 ghost use Rattle.just_errors.specs.Causes.{Keeps, Reports};
 ghost use Rattle.just_module_contents.specs.Definitions.{aliases_in};
 ghost use Rattle.just_module_recipes.specs.Aliased.{IsAdded, UnknownTarget, UnknownTargets, aliases_of, as_recipe, meant, targets, with_meaning};
-ghost use Rattle.just_invoke.specs.Walks.{AreOrdered, resolved_recipe};
+ghost use Rattle.just_justfile.specs.Walks.{AreOrdered, resolved_recipe};
 
 use just_data::BorrowedText;
-use just_invoke::{Aliases, Disabled, Justfile, RecipeKey, Resolution};
+use just_justfile::{Aliases, Disabled, Justfile, RecipeKey, Resolution};
 use just_module_contents::definitions::Definitions;
 use just_parts::layers::{Alias, CompileError, CompileErrorKind, Error, Namepath, Number};
 use just_paths::Modulepath;

@@ -4,7 +4,7 @@ ghost use Rattle.std.specs.Prelude.{◌≡◌, ◌++◌, ◌<◌, IfErr, IfOk, O
 ghost use Rattle.std.specs.List.{All};
 ghost use Rattle.just_errors.specs.Causes.{Keeps, Reports};
 ghost use Rattle.just_graph.specs.Steps.{IsOnce};
-ghost use Rattle.just_invoke.specs.Walks.{AreOrdered};
+ghost use Rattle.just_justfile.specs.Walks.{AreOrdered};
 ghost use Rattle.just_module_contents.specs.Definitions.{recipes_in};
 ghost use Rattle.just_module_contents.specs.Recipes.{names_of};
 ghost use Rattle.just_module_contents.specs.Resolved.{AreNew, HasPriors, unresolved_numbers};
@@ -26,7 +26,7 @@ use crate::resolving::resolve;
 use crate::targets::{Surroundings, Target, rows};
 use just_data::{BorrowedText, Sequence};
 use just_execution::Recipes;
-use just_invoke::{Disabled, Justfile};
+use just_justfile::{Disabled, Justfile};
 use just_module_contents::definitions::Definitions;
 use just_parts::UnresolvedRecipe;
 use just_parts::layers::{Error, Evaluation, Settings, Syntax};

@@ -3,7 +3,7 @@ ghost use Rattle.std.specs.Prelude.{◌≡◌, ◌<◌, IfOk, IfErr, length};
 ghost use Rattle.std.specs.HashMap.{get};
 ghost use Rattle.std.specs.Str.{bytes_eq};
 ghost use Rattle.just_errors.specs.Causes.{Reports};
-ghost use Rattle.just_invoke.specs.Walks.{AreOrdered};
+ghost use Rattle.just_justfile.specs.Walks.{AreOrdered};
 ghost use Rattle.just_module_contents.specs.Definitions.{recipes_in};
 ghost use Rattle.just_module_contents.specs.Recipes.{names_of, recipe_at};
 ghost use Rattle.just_module_recipes.specs.Links.{found_by};
@@ -13,7 +13,7 @@ ghost use Rattle.just_names.specs.Name.{texts_of_path};
 
 use just_data::{BorrowedText, Sequence};
 use just_execution::Recipes;
-use just_invoke::{Justfile, Resolution};
+use just_justfile::{Justfile, Resolution};
 use just_module_contents::definitions::Definitions;
 use just_parts::layers::{CompileError, CompileErrorKind, Error, Namepath, Number};
 use just_paths::Modulepath;

@@ -4,14 +4,14 @@ use Rattle.std.specs.Option.{option_and_then, option_or}
 use Rattle.just_ast_definitions.specs.declared.alias.Alias.{Alias}
 use Rattle.just_graph.proofs.Index.{some_same}
 use Rattle.just_graph.proofs.Members.{In, contained, from_flat, in_flat, is_in}
-use Rattle.just_invoke.proofs.Leading.{named_there, stands_along, walk_along}
-use Rattle.just_invoke.proofs.Returning.{found_by_path}
-use Rattle.just_invoke.specs.Closed as standing
-use Rattle.just_invoke.specs.Closed.{AreClosed, StandsIn}
-use Rattle.just_invoke.specs.Walks as walks
-use Rattle.just_invoke.specs.Walks.{End, end_of, inner_along, module_named, recipe_from}
-use Rattle.just_invoke.specs.declared.aliases.Aliases.{Aliases}
-use Rattle.just_invoke.specs.declared.justfile.Justfile.{Justfile, out-Justfile}
+use Rattle.just_justfile.proofs.Leading.{named_there, stands_along, walk_along}
+use Rattle.just_justfile.proofs.Returning.{found_by_path}
+use Rattle.just_justfile.specs.Closed as standing
+use Rattle.just_justfile.specs.Closed.{AreClosed, StandsIn}
+use Rattle.just_justfile.specs.Walks as walks
+use Rattle.just_justfile.specs.Walks.{End, end_of, inner_along, module_named, recipe_from}
+use Rattle.just_justfile.specs.declared.aliases.Aliases.{Aliases}
+use Rattle.just_justfile.specs.declared.justfile.Justfile.{Justfile, out-Justfile}
 use Rattle.just_module_recipes.specs.Aliased.{aimed, as_module_alias, as_recipe, meant, modules_among, name_of_alias, targets_of}
 use Rattle.just_module_recipes.specs.declared.aliases.Meaning.{Meaning}
 use Rattle.just_module_recipes.specs.declared.aliases.Meaning.TheVariants as meaning

@@ -5,8 +5,8 @@ use Rattle.std.specs.Option.{option_and_then, option_map}
 use Rattle.just_ast_definitions.specs.declared.assignment.Assignment.{Assignment}
 use Rattle.just_errors.specs.Causes.{Cause, Keeps}
 use Rattle.just_graph.proofs.Members.{In}
-use Rattle.just_invoke.specs.Closed.{AreClosed, itself}
-use Rattle.just_invoke.specs.declared.justfile.Justfile.{Justfile, out-Justfile}
+use Rattle.just_justfile.specs.Closed.{AreClosed, itself}
+use Rattle.just_justfile.specs.declared.justfile.Justfile.{Justfile, out-Justfile}
 use Rattle.just_module_headers.specs.Reading.{Reading, reading_of}
 use Rattle.just_module_tree.specs.Groups.{KeepsModules}
 use Rattle.just_module_tree.specs.Modules.{AreModules, Empty, Forest, Heading, Module, Tree, a_module, first, in_it, no_module}

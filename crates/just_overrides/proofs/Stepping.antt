@@ -5,9 +5,9 @@ use Rattle.std.specs.Borrow.{Bor}
 use Rattle.std.specs.Option.{option_and_then, option_copied, option_or}
 use Rattle.just_ast_definitions.specs.declared.alias.Alias.{Alias}
 use Rattle.just_graph.proofs.Index.{some_same}
-use Rattle.just_invoke.proofs.Leading.{along_walk, end_ordered, named_ordered}
-use Rattle.just_invoke.specs.Walks.{IsOrdered, inner_along, module_named}
-use Rattle.just_invoke.specs.declared.justfile.Justfile.{Justfile, out-Justfile}
+use Rattle.just_justfile.proofs.Leading.{along_walk, end_ordered, named_ordered}
+use Rattle.just_justfile.specs.Walks.{IsOrdered, inner_along, module_named}
+use Rattle.just_justfile.specs.declared.justfile.Justfile.{Justfile, out-Justfile}
 use Rattle.just_names.specs.Texts.{Text}
 use Rattle.just_paths.specs.declared.modulepath.Modulepath.{Modulepath}
 use Rattle.just_table.specs.Entries.{find}

@@ -4,7 +4,7 @@ use Rattle.std.specs.List.{Contains}
 use Rattle.std.specs.Option.{option_map}
 use Rattle.just_ast_definitions.specs.declared.assignment.Assignment.{Assignment}
 use Rattle.just_graph.proofs.Members.{In, contained, from_map, in_map, is_in}
-use Rattle.just_invoke.specs.declared.justfile.Justfile.{Justfile, out-Justfile}
+use Rattle.just_justfile.specs.declared.justfile.Justfile.{Justfile, out-Justfile}
 use Rattle.just_module_contents.specs.Contents.{Contents, variable_names}
 use Rattle.just_module_contents.specs.Kept.{kept_variables}
 use Rattle.just_module_contents.specs.Known.{known_of, variables_under}

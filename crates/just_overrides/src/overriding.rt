@@ -1,7 +1,7 @@
 //! The values that a front gives, by the numbers of their variables.
 ghost use Rattle.std.specs.Prelude.{◌≡◌, IfErr, IfOk, OnErr, OnOk};
 ghost use Rattle.just_errors.specs.Causes.{Reports};
-ghost use Rattle.just_invoke.specs.Walks.{IsOrdered};
+ghost use Rattle.just_justfile.specs.Walks.{IsOrdered};
 ghost use Rattle.just_overrides.specs.Applied.{AreApplied, Tells};
 ghost use Rattle.just_overrides.specs.Inserted.{AreAsBefore};
 ghost use Rattle.just_module_tree.specs.Overrides.{shown};
@@ -11,7 +11,7 @@ use crate::insertion::insert_all;
 use crate::walking::variable_of;
 use just_data::{Sequence, Text};
 use just_errors::{Error, LoadError};
-use just_invoke::Justfile;
+use just_justfile::Justfile;
 use just_parts::layers::Number;
 use just_paths::Modulepath;
 use std::alloc::{AllocError, Global};

@@ -1,12 +1,11 @@
 //! Where the names of a path lead among compiled modules, through their aliases too.
 ghost use Rattle.std.specs.Prelude.{◌≡◌};
 ghost use Rattle.std.specs.Option.{option_copied};
-ghost use Rattle.just_invoke.specs.Walks.{IsOrdered};
+ghost use Rattle.just_justfile.specs.Walks.{IsOrdered};
 ghost use Rattle.just_overrides.specs.Reached.{aliased, reached, step, variable_of};
 
 use just_data::Text;
-use just_invoke::Justfile;
-use just_invoke::resolution::find_module;
+use just_justfile::{Justfile, find_module};
 use just_parts::layers::Number;
 use just_paths::Modulepath;
 

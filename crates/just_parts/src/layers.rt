@@ -28,7 +28,7 @@ pub use just_ast_expressions::{
 pub use just_ast_items::Edge;
 pub use just_errors::{
     ArgumentRange, CompileError, CompileErrorKind, Error, Fault, Halt, InvocationError, LoadError,
-    RunError, SourceError, error,
+    RunError, SourceError, Switch, error,
 };
 pub use just_names::{Exhausted, ListFeature, Name, Namepath, Number, Numerator, Token};
 pub use just_patterns::Pattern;

@@ -4,8 +4,8 @@ use Rattle.std.specs.Map.{values_of}
 use Rattle.just_ast_definitions.specs.Parameter.{least_arguments, most_arguments}
 use Rattle.just_compiled.specs.Analysis.{recipe_table}
 use Rattle.just_errors.specs.Causes.{Cause}
-use Rattle.just_invoke.specs.declared.disabled.Disabled.{Disabled}
-use Rattle.just_invoke.specs.declared.justfile.RecipeKey.{RecipeKey}
+use Rattle.just_justfile.specs.declared.disabled.Disabled.{Disabled}
+use Rattle.just_justfile.specs.declared.justfile.RecipeKey.{RecipeKey}
 use Rattle.just_module_contents.specs.Kept.{kept_recipes}
 use Rattle.just_module_contents.specs.Resolved.{IsResolvedAt}
 use Rattle.just_module_contents.specs.Standing.{AreStanding}

@@ -4,7 +4,7 @@ ghost use Rattle.std.specs.Prelude.{◌≡◌, IfOk};
 ghost use Rattle.just_compiled.specs.Analysis.{recipe_table};
 ghost use Rattle.just_module_contents.specs.Definitions.{recipes_in};
 
-use just_invoke::RecipeKey;
+use just_justfile::RecipeKey;
 use just_module_contents::definitions::Definitions;
 use just_table::Table;
 use std::alloc::{AllocError, Global};

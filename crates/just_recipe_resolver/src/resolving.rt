@@ -4,7 +4,7 @@ ghost use Rattle.std.specs.Prelude.{◌≡◌, IfErr, IfOk};
 ghost use Rattle.std.specs.List.{All};
 ghost use Rattle.just_errors.specs.Causes.{Keeps, Reports};
 ghost use Rattle.just_graph.specs.Steps.{IsOnce};
-ghost use Rattle.just_invoke.specs.Walks.{AreOrdered};
+ghost use Rattle.just_justfile.specs.Walks.{AreOrdered};
 ghost use Rattle.just_module_contents.specs.Definitions.{recipes_in};
 ghost use Rattle.just_module_contents.specs.Recipes.{names_of};
 ghost use Rattle.just_module_contents.specs.Resolved.{AreNew, HasPriors, unresolved_numbers};
@@ -17,7 +17,7 @@ ghost use Rattle.just_recipe_resolver.specs.Basis.{AreCovered, BreaksOn, TellsOn
 
 use just_data::{BorrowedText, Text};
 use just_execution::Recipes;
-use just_invoke::Justfile;
+use just_justfile::Justfile;
 use just_module_contents::definitions::Definitions;
 use just_module_recipes::{Completing, Linked, link};
 use just_name_resolution::Tables;

@@ -7,7 +7,7 @@ use Rattle.std.proofs.lemmas.List.{append-nil}
 use Rattle.std.proofs.lemmas.Str.{IsUtf8-take, IsUtf8-drop, IsCharBoundary-before_ascii, IsCharBoundary-after_ascii}
 use Rattle.just_names.specs.Texts.{Text}
 use Rattle.just_ast_definitions.specs.declared.parameter.Parameter.{Parameter}
-use Rattle.just_tail.specs.declared.switch.Switch.{Switch}
+use Rattle.just_errors.specs.declared.switch.Switch.{Switch}
 use Rattle.just_tail.specs.Words.{Words}
 use Rattle.just_tail.specs.Options.{place}
 use Rattle.just_tail.specs.Pieces.{OptionName, long, cluster, Given, nothing, equals, next, Piece, positional, dashes, option, with_value, option_word, value_of, next_of, words_of, switches_of, has_equals, IsOptionName, IsNamed, is_dashed, IsNameless}

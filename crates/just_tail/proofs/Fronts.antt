@@ -6,8 +6,8 @@ use Rattle.std.proofs.lemmas.List.{append-nil}
 use Rattle.std.specs.Str.{chars}
 use Rattle.just_names.specs.Texts.{Text}
 use Rattle.just_ast_definitions.specs.declared.parameter.Parameter.{Parameter}
-use Rattle.just_tail.specs.declared.switch.Switch.{Switch}
-use Rattle.just_tail.specs.declared.switch.Switch.TheVariants.{Short}
+use Rattle.just_errors.specs.declared.switch.Switch.{Switch}
+use Rattle.just_errors.specs.declared.switch.Switch.TheVariants.{Short}
 use Rattle.just_tail.specs.Words.{Words}
 use Rattle.just_tail.specs.Pieces.{OptionName, long, cluster, Given, nothing, equals, next, Piece, positional, dashes, option, option_word, value_of, next_of, words_of, switches_of, IsOptionName, IsNamed, is_dashed}
 use Rattle.just_tail.specs.Steps.{Step, use_switch, give, steps_of, is_open, Need, unknown, duplicate, no_text, some_text, need, Fits, StepsFollow, PiecesFollow, Ends}

@@ -8,7 +8,7 @@ use Rattle.std.specs.declared.vec.Vec.{Vec}
 use Rattle.std.specs.declared.alloc.Global.{Global}
 use Rattle.just_names.specs.Texts.{Text, texts}
 use Rattle.just_ast_definitions.specs.declared.parameter.Parameter.{Parameter}
-use Rattle.just_tail.specs.declared.switch.Switch.{Switch}
+use Rattle.just_errors.specs.declared.switch.Switch.{Switch}
 use Rattle.just_tail.specs.declared.progress.Progress.{Progress}
 use Rattle.just_tail.specs.Words.{Words, shown}
 use Rattle.just_tail.specs.Options.{option_of, has_options, place}

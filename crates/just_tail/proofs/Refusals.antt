@@ -3,7 +3,7 @@ use Rattle.std.proofs.Common.{◌≡◌, ◌≢◌, inl, inr, true, List, [], �
 use Rattle.std.proofs.lemmas.List.{append-nil}
 use Rattle.just_names.specs.Texts.{Text}
 use Rattle.just_ast_definitions.specs.declared.parameter.Parameter.{Parameter}
-use Rattle.just_tail.specs.declared.switch.Switch.{Switch}
+use Rattle.just_errors.specs.declared.switch.Switch.{Switch}
 use Rattle.just_tail.specs.Words.{Words}
 use Rattle.just_tail.specs.Pieces.{Given, nothing, equals, next, Piece, positional, dashes, option, option_word, value_of, next_of, words_of, switches_of, IsNamed, is_dashed, IsNameless}
 use Rattle.just_tail.specs.Steps.{Step, use_switch, give, steps_of, is_open, Need, unknown, duplicate, no_text, some_text, need, Fits, StepsFollow, Ends}

@@ -1,7 +1,8 @@
 -- Why words are no arguments.
 use Rattle.std.specs.Prelude.{ℕ, Option, Some, None}
 use Rattle.just_names.specs.Texts.{Text}
-use Rattle.just_tail.specs.declared.switch.Switch.{Switch}
+use Rattle.just_errors.specs.declared.error.Fault.{Fault}
+use Rattle.just_errors.specs.declared.switch.Switch.{Switch}
 use Rattle.just_tail.specs.declared.error.TailError.{TailError}
 use Rattle.just_tail.specs.declared.error.TailError.TheVariants as error
 
@@ -14,7 +15,7 @@ pub data Cause : Type 0 where
   option_missing_value : Switch → Cause
   missing_option : Switch → Cause
   count_mismatch : ℕ → ℕ → ℕ → Cause
-  value_count : Text → Text → Cause
+  value_count : Text → Fault → Cause
   pattern_mismatch : Text → Text → Cause
 
 -- what an error says of the words; want of memory says nothing

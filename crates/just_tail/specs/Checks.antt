@@ -3,6 +3,7 @@ use Rattle.std.specs.Prelude.{◌≡◌, ◌⊎◌, ℕ, Bool, true, false, not,
 use Rattle.std.specs.List.{list_any}
 use Rattle.just_names.specs.Texts.{Text}
 use Rattle.just_names.specs.Name.{text_of_name}
+use Rattle.just_errors.specs.declared.error.Fault.{Fault}
 use Rattle.just_patterns.specs.Pattern.{is_match}
 use Rattle.just_ast_definitions.specs.Parameter.{is_option, is_required, is_variadic}
 use Rattle.just_ast_definitions.specs.declared.parameter.Parameter.{Parameter}
@@ -10,8 +11,8 @@ use Rattle.just_tail.specs.Words.{Words}
 use Rattle.just_tail.specs.Options.{first_of, positionals}
 use Rattle.just_tail.specs.Cause.{Cause, missing_option, count_mismatch, value_count, pattern_mismatch}
 use Rattle.just_tail.specs.Tail.{IsTail, NoTail}
-use Rattle.just_tail.specs.declared.switch.Switch.{Switch}
-use Rattle.just_tail.specs.declared.switch.Switch.TheVariants.{Long, Short}
+use Rattle.just_errors.specs.declared.switch.Switch.{Switch}
+use Rattle.just_errors.specs.declared.switch.Switch.TheVariants.{Long, Short}
 
 -- the group is empty, and may not be
 abbrev pub is_missing : Parameter → Words → Bool
@@ -57,7 +58,7 @@ lacking ps groups found =
 
 -- why a parameter may not have so many texts, as the evaluation says it
 abbrev pub CountFault : Type 0
-CountFault = Parameter → Words → Option Text
+CountFault = Parameter → Words → Option Fault
 
 -- a group that isn't empty has a right count of texts
 abbrev pub wrong_count : CountFault → Parameter → Words → Option Cause

@@ -5,8 +5,8 @@ use Rattle.std.specs.Str.{bytes_eq}
 use Rattle.just_names.specs.Texts.{Text}
 use Rattle.just_ast_definitions.specs.Parameter.{is_option, is_variadic}
 use Rattle.just_ast_definitions.specs.declared.parameter.Parameter.{Parameter}
-use Rattle.just_tail.specs.declared.switch.Switch.{Switch}
-use Rattle.just_tail.specs.declared.switch.Switch.TheVariants.{Long, Short}
+use Rattle.just_errors.specs.declared.switch.Switch.{Switch}
+use Rattle.just_errors.specs.declared.switch.Switch.TheVariants.{Long, Short}
 
 -- the first of two that is there
 abbrev pub first_of : {A : Type 0} → Option A → Option A → Option A

@@ -3,8 +3,8 @@ use Rattle.std.specs.Prelude.{◌≡◌, ◌≢◌, ◌⊎◌, ℕ, Bool, false,
 use Rattle.std.specs.List.{list_any}
 use Rattle.just_names.specs.Texts.{Text}
 use Rattle.just_tail.specs.Words.{Words}
-use Rattle.just_tail.specs.declared.switch.Switch.{Switch}
-use Rattle.just_tail.specs.declared.switch.Switch.TheVariants.{Long, Short}
+use Rattle.just_errors.specs.declared.switch.Switch.{Switch}
+use Rattle.just_errors.specs.declared.switch.Switch.TheVariants.{Long, Short}
 
 -- what names an option in the words, less its dashes: the `NAME` of `--NAME`, or the characters after one `-`
 pub data OptionName : Type 0 where

@@ -7,8 +7,8 @@ use Rattle.just_ast_definitions.specs.declared.parameter.Parameter.{Parameter}
 use Rattle.just_tail.specs.Words.{shown}
 use Rattle.just_tail.specs.Options.{place_from, positions_from, first_variadic}
 use Rattle.just_tail.specs.Steps.{Step, is_open, placed, group_of}
-use Rattle.just_tail.specs.declared.switch.Switch.{Switch}
-use Rattle.just_tail.specs.declared.switch.Switch.TheVariants.{Long, Short}
+use Rattle.just_errors.specs.declared.switch.Switch.{Switch}
+use Rattle.just_errors.specs.declared.switch.Switch.TheVariants.{Long, Short}
 use Rattle.just_tail.specs.declared.switch.BorrowedSwitch.{BorrowedSwitch}
 use Rattle.just_tail.specs.declared.switch.BorrowedSwitch.TheVariants as borrowed
 use Rattle.just_tail.specs.declared.plan.Plan.{Plan}

@@ -6,7 +6,7 @@ use Rattle.just_ast_definitions.specs.declared.parameter.Parameter.{Parameter}
 use Rattle.just_tail.specs.Words.{Words}
 use Rattle.just_tail.specs.Options.{option_of, has_options, takes_nothing, place}
 use Rattle.just_tail.specs.Pieces.{Given, nothing, equals, next, Piece, positional, dashes, option, switches_of, IsNamed, is_dashed}
-use Rattle.just_tail.specs.declared.switch.Switch.{Switch}
+use Rattle.just_errors.specs.declared.switch.Switch.{Switch}
 
 -- a step of a tail: a positional word, the `--`, or one switch with what it is given
 pub data Step : Type 0 where

@@ -7,7 +7,7 @@ use Rattle.just_tail.specs.Words.{Words}
 use Rattle.just_tail.specs.Pieces.{OptionName, Piece, nothing, option_word, words_of, switches_of, IsOptionName, IsNameless}
 use Rattle.just_tail.specs.Steps.{Step, use_switch, steps_of, placed, is_open, group_of, Need, unknown, duplicate, no_text, some_text, need, StepsFollow, PiecesFollow, Ends}
 use Rattle.just_tail.specs.Cause.{Cause, invalid_option, unknown_option, duplicate_option, flag_with_value, option_missing_value}
-use Rattle.just_tail.specs.declared.switch.Switch.{Switch}
+use Rattle.just_errors.specs.declared.switch.Switch.{Switch}
 
 -- the words of a tail, what follows them, how many of them are positional, and the groups that they make
 pub record IsTail (ps : List Parameter) (tail after : Words) (found : ℕ) (groups : List Words) : Type 0 where

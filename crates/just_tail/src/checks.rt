@@ -1,6 +1,7 @@
 //! What the groups of a tail must be.
 ghost use Rattle.std.specs.Prelude.{◌≡◌, Some, None, IfOk, IfErr, IfSome, OnOk, length, option_map};
 ghost use Rattle.just_names.specs.Texts.{texts};
+ghost use Rattle.just_parts.specs.Evaluator.{count_fault_of};
 ghost use Rattle.just_tail.specs.Words.{shown};
 ghost use Rattle.just_tail.specs.Cause.{cause_of};
 ghost use Rattle.just_tail.specs.Reader.{switch_of};
@@ -10,26 +11,8 @@ use crate::error::TailError;
 use crate::switch::BorrowedSwitch;
 use just_ast_definitions::Parameter;
 use just_data::{BorrowedText, Text};
+use just_parts::layers::Evaluation;
 use std::alloc::{AllocError, Global};
-
-/// What says whether a parameter may have so many texts.
-pub trait Checks {
-    ghost use Rattle.std.specs.Prelude.{◌≡◌, IfOk};
-    ghost use Rattle.just_names.specs.Texts.{texts};
-    ghost use Rattle.just_tail.specs.Checks.{CountFault};
-
-    /// Why a parameter may not have so many texts, if it may not.
-    ghost count_fault: { Self → CountFault };
-
-    /// Why a parameter may not have these texts, of which there is at least one. Memory may be refused.
-    fn check_value_count(
-        &self,
-        alloc: Global,
-        parameter: &Parameter,
-        group: &[&str],
-    ) -> Result<Option<Text>, AllocError>
-        ensures { IfOk result (λ fault. fault ≡ count_fault self.now parameter.now (texts group.now)) };
-}
 
 // The switch that names a parameter: the long one if it has one.
 fn switch_of<'a>(parameter: &'a Parameter) -> Option<BorrowedSwitch<'a>>
@@ -144,20 +127,21 @@ pub fn check_present<'src>(
 }
 
 // Refuses a group that has more or fewer texts than it may.
-fn check_value_count<'src, C: Checks>(
+fn check_value_count<'src, E: Evaluation>(
     parameter: &Parameter<'src>,
     alloc: Global,
-    checks: &C,
+    evaluation: &E,
+    recipe: &str,
     group: &[&str],
 ) -> Result<(), TailError<'src>>
-    ensures ok { OnOk result (wrong_count (C.count_fault checks.now) parameter.now (texts group.now) ≡ None) }
-    ensures err { IfErr result (λ e. IfSome (cause_of e) (λ cause. wrong_count (C.count_fault checks.now) parameter.now (texts group.now) ≡ Some cause)) }
+    ensures ok { OnOk result (wrong_count (count_fault_of (E.answers evaluation.now) recipe.now) parameter.now (texts group.now) ≡ None) }
+    ensures err { IfErr result (λ e. IfSome (cause_of e) (λ cause. wrong_count (count_fault_of (E.answers evaluation.now) recipe.now) parameter.now (texts group.now) ≡ Some cause)) }
 {
     match group {
         [] => return Ok(()),
         _ => {}
     }
-    match checks.check_value_count(alloc, parameter, group)? {
+    match evaluation.check_value_count(alloc, recipe, parameter, group)? {
         Some(fault) => Err(TailError::ValueCount {
             parameter: BorrowedText::new(parameter.name.lexeme()),
             fault,
@@ -197,37 +181,39 @@ fn check_pattern_match<'src>(
 }
 
 // Refuses the texts of a parameter that are not right. Of one with a value none is refused.
-fn check_group<'src, C: Checks>(
+fn check_group<'src, E: Evaluation>(
     parameter: &Parameter<'src>,
     alloc: Global,
-    checks: &C,
+    evaluation: &E,
+    recipe: &str,
     group: &[&str],
 ) -> Result<(), TailError<'src>>
-    ensures ok { OnOk result (unfit (C.count_fault checks.now) parameter.now (texts group.now) ≡ None) }
-    ensures err { IfErr result (λ e. IfSome (cause_of e) (λ cause. unfit (C.count_fault checks.now) parameter.now (texts group.now) ≡ Some cause)) }
+    ensures ok { OnOk result (unfit (count_fault_of (E.answers evaluation.now) recipe.now) parameter.now (texts group.now) ≡ None) }
+    ensures err { IfErr result (λ e. IfSome (cause_of e) (λ cause. unfit (count_fault_of (E.answers evaluation.now) recipe.now) parameter.now (texts group.now) ≡ Some cause)) }
 {
     if parameter.value.is_some() {
         return Ok(());
     }
-    match check_value_count(parameter, alloc, checks, group) {
+    match check_value_count(parameter, alloc, evaluation, recipe, group) {
         Ok(()) => check_pattern_match(parameter, alloc, group),
         Err(e) => Err(e),
     }
 }
 
 /// Refuses the first group whose texts are not right.
-pub fn check_groups<'src, C: Checks>(
+pub fn check_groups<'src, E: Evaluation>(
     parameters: &[Parameter<'src>],
     alloc: Global,
-    checks: &C,
+    evaluation: &E,
+    recipe: &str,
     groups: &[Vec<&str>],
 ) -> Result<(), TailError<'src>>
     requires { length groups.now ≡ length parameters.now }
-    ensures ok { OnOk result (first_unfit (C.count_fault checks.now) parameters.now (shown groups.now) ≡ None) }
-    ensures err { IfErr result (λ e. IfSome (cause_of e) (λ cause. first_unfit (C.count_fault checks.now) parameters.now (shown groups.now) ≡ Some cause)) }
+    ensures ok { OnOk result (first_unfit (count_fault_of (E.answers evaluation.now) recipe.now) parameters.now (shown groups.now) ≡ None) }
+    ensures err { IfErr result (λ e. IfSome (cause_of e) (λ cause. first_unfit (count_fault_of (E.answers evaluation.now) recipe.now) parameters.now (shown groups.now) ≡ Some cause)) }
 {
     for (place, parameter) in parameters.iter().enumerate() {
-        match check_group(parameter, alloc, checks, &groups[place]) {
+        match check_group(parameter, alloc, evaluation, recipe, &groups[place]) {
             Ok(()) => {}
             Err(e) => return Err(e),
         }

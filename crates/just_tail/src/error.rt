@@ -1,6 +1,6 @@
 //! Why words are no arguments of a recipe.
-use crate::switch::Switch;
 use just_data::{BorrowedText, Text};
+use just_errors::{Fault, Switch};
 use std::alloc::AllocError;
 
 /// Why words are no arguments of a recipe.
@@ -50,7 +50,7 @@ pub enum TailError<'src> {
         /// The name of the parameter.
         parameter: BorrowedText<'src>,
         /// What is told of it.
-        fault: Text,
+        fault: Fault,
     },
     /// The pattern of a parameter does not match a text.
     ArgumentPatternMismatch {

@@ -13,7 +13,5 @@ mod switch;
 mod tail;
 
 pub use arguments::take_arguments;
-pub use checks::Checks;
 pub use error::TailError;
-pub use switch::Switch;
 pub use tail::{Tail, read_tail};

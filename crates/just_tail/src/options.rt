@@ -2,7 +2,7 @@
 ghost use Rattle.std.specs.Prelude.{◌≡◌, ◌≢◌, ◌<◌, ◌≤◌, true, false, Option, Some, IfOk, IfErr, IfSome, OnOk, List, [], ◌∷◌, ◌++◌, MatchOption, length, take, vec_len, chars};
 ghost use Rattle.just_names.specs.Texts.{Text as Name, texts};
 ghost use Rattle.just_ast_definitions.specs.declared.parameter.Parameter.{Parameter as Record};
-ghost use Rattle.just_tail.specs.declared.switch.Switch.{Switch as Named};
+ghost use Rattle.just_errors.specs.declared.switch.Switch.{Switch as Named};
 ghost use Rattle.just_tail.specs.Words.{Words, value_text};
 ghost use Rattle.just_tail.specs.Options.{option_of};
 ghost use Rattle.just_tail.specs.Pieces.{OptionName, cluster, letters, Given, value_of, next_of, with_value, option_word, has_equals, is_dashed, IsOptionName, switches_of};

@@ -3,7 +3,7 @@ ghost use Rattle.std.specs.Prelude.{◌≡◌, ◌<◌, ◌+◌, ℕ, IfOk, IfSo
 ghost use Rattle.std.specs.Str.{bytes_eq};
 ghost use Rattle.std.specs.HashMap.{get};
 ghost use Rattle.just_names.specs.Texts.{Text as Name};
-ghost use Rattle.just_tail.specs.declared.switch.Switch.TheVariants as named;
+ghost use Rattle.just_errors.specs.declared.switch.Switch.TheVariants as named;
 ghost use Rattle.just_tail.specs.Options.{option_of, place_from, has_options, positions_from, first_variadic, place};
 ghost use Rattle.just_tail.specs.Reader.{switch_of, IsPlan};
 

@@ -1,18 +1,10 @@
-//! What names an option.
+//! What names an option, borrowed.
 ghost use Rattle.std.specs.Prelude.{◌≡◌, IfOk};
 ghost use Rattle.just_tail.specs.Reader.{switch_of};
 
 use just_data::Text;
+use just_errors::Switch;
 use std::alloc::{AllocError, Global};
-
-/// What names an option.
-#[derive(Debug, PartialEq, Eq, Drop)]
-pub enum Switch {
-    /// A long name, as in `--NAME`.
-    Long(Text),
-    /// A letter, as in `-c`.
-    Short(char),
-}
 
 /// What names an option, in the words or in a parameter.
 #[derive(Clone, Copy)]

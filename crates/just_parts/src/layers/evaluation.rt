@@ -4,8 +4,9 @@ ghost use Rattle.std.specs.HashMap.{get};
 ghost use Rattle.std.specs.HashSet.{contains};
 ghost use Rattle.std.specs.List.{All};
 ghost use Rattle.just_names.specs.Index.{texts_of_names};
+ghost use Rattle.just_names.specs.Texts.{texts};
 ghost use Rattle.just_parts.specs.Evaluation.{Inquiry};
-ghost use Rattle.just_parts.specs.Evaluator.{Binds, Covers, Evaluator, FaultsAt, bare_set, functions_by_name, set_expressions, values_of, wanted_by};
+ghost use Rattle.just_parts.specs.Evaluator.{Binds, Covers, Evaluator, FaultsAt, bare_set, count_fault_of, functions_by_name, set_expressions, values_of, wanted_by};
 ghost use Rattle.just_parts.specs.Host.{Answer};
 ghost use Rattle.just_parts.specs.Known.{sources};
 ghost use Rattle.just_parts.specs.Needs.{IsClosed, has_number, same_number};
@@ -13,13 +14,13 @@ ghost use Rattle.just_parts.specs.Reading.{IsEvaluationOrder};
 ghost use Rattle.just_parts.specs.Told.{IsPlaceIn, IsPlaceInOne, IsToldIn, assigned_values};
 ghost use Rattle.just_ast_references.specs.Numbers.{bare};
 
-use just_ast_definitions::{Assignment, FunctionDefinition, Set};
+use just_ast_definitions::{Assignment, FunctionDefinition, Parameter, Set};
 use just_ast_expressions::{Expression, Scope, Settings};
 use just_data::{Sequence, Text};
-use just_errors::Error;
+use just_errors::{Error, Fault};
 use just_names::{Name, Number};
 use just_table::Table;
-use std::alloc::Global;
+use std::alloc::{AllocError, Global};
 use std::collections::{HashMap, HashSet};
 
 /// What evaluates expressions. While compiling what it answers is a function of what it is asked in names: numbers, and the
@@ -88,4 +89,15 @@ pub trait Evaluation {
         ensures refused { let among = (answers self.now).settings (functions_by_name functions.now) (values_of constants.now) in
             IfErr result (FaultsAt (among (map bare_set sets.now))) }
         ensures told { IfErr result (IsToldIn (IsPlaceInOne functions.now (flat_map set_expressions sets.now))) };
+
+    /// Why a parameter of a recipe, which is told by its name, may not have these texts, of which there is at least one, by
+    /// their count. None where it may. The error is want of memory.
+    fn check_value_count<'src>(
+        &self,
+        alloc: Global,
+        recipe: &str,
+        parameter: &Parameter<'src>,
+        group: &[&str],
+    ) -> Result<Option<Fault>, AllocError>
+        ensures { IfOk result (λ found. found ≡ count_fault_of (answers self.now) recipe.now parameter.now (texts group.now)) };
 }

@@ -1,5 +1,5 @@
 use Rattle.std.proofs.lemmas.Result.{IfOk-weaker}
-use Rattle.just_analyzer.specs.Compiled.{Compilation}
+use Rattle.just_compiler.specs.Compiled.{Compilation}
 use Rattle.just_analyzer.specs.Words.{AreClosed, IsOrdered, is_ordered}
 use Rattle.just_examples.proofs.answers.compile.Goals as goal
 

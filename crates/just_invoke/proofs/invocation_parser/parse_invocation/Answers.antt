@@ -1,28 +1,25 @@
-use Rattle.std.proofs.Common.{rules}
-use Rattle.just_invoke.specs.Cause.{cause_of, not_yet}
-use Rattle.just_invoke.specs.Head.{name_of}
-use Rattle.just_invoke.specs.Split.{misfit}
-use Rattle.just_invoke.specs.Tail.{shown}
-use Rattle.just_invoke.proofs.SplitLemmas.{fault_missing, fault_none, fault_options, invokes_from, lacks_from}
+use Rattle.std.proofs.lemmas.Option.{IfSome_then}
+use Rattle.just_names.specs.Texts.{texts}
+use Rattle.just_parts.specs.Evaluator.{count_fault_of}
+use Rattle.just_tail.specs.Cause as tail
+use Rattle.just_tail.specs.Words.{shown}
+use Rattle.just_justfile.specs.Closed.{name_of}
+use Rattle.just_invoke.specs.Cause.{cause_of, with_recipe}
+use Rattle.just_invoke.specs.Split.{NoArguments}
+use Rattle.just_invoke.proofs.SplitLemmas.{if_some_at, map_some, invokes_from, rejects_from}
 use Rattle.just_invoke.proofs.invocation_parser.parse_invocation.Goals as goal
 
-pub returns-then-has_options-clause-err : goal.returns-then-has_options-clause-err
-returns-then-has_options-clause-err c =
-    let r = c.in_ok-recipe.recipe.now in
-    lacks_from c.args.root.now c.args.recipes.now c.args.words.now c.in_ok-recipe.named c.in_ok-arguments.taken r (shown c.in_ok-arguments.arguments.items)
-    c.after.result.now c.as_slice.result.now c.after.ensures c.as_slice.ensures c.in_ok-recipe.ensures.ok c.in_ok-arguments.ensures.tail (cause_of c.not_yet.result) (not_yet (name_of r)) c.in_ok-arguments.ensures.within
-    (fault_options r c.in_ok-arguments.taken (shown c.in_ok-arguments.arguments.items) (search rules)) c.not_yet.ensures.cause
+pub returns-in-Ok-take_tail-clause-ok : goal.returns-in-Ok-take_tail-clause-ok
+returns-in-Ok-take_tail-clause-ok g c =
+    invokes_from (count_fault_of (g.E.Evaluation.answers c.args.evaluation.now)) c.args.root.now c.args.recipes.now c.args.words.now c.in-Ok.found.1 c.in-Ok.found.0.now c.after.result.now c.after.ensures c.in-Ok.ensures.ok
+    c.in-Ok-take_tail.tail.taken (shown c.in-Ok-take_tail.tail.groups.items) c.in-Ok-take_tail.ensures.ok
 
-pub returns-then-any_missing-clause-err : goal.returns-then-any_missing-clause-err
-returns-then-any_missing-clause-err c =
-    let r = c.in_ok-recipe.recipe.now in
-    lacks_from c.args.root.now c.args.recipes.now c.args.words.now c.in_ok-recipe.named c.in_ok-arguments.taken r (shown c.in_ok-arguments.arguments.items)
-    c.after.result.now c.as_slice.result.now c.after.ensures c.as_slice.ensures c.in_ok-recipe.ensures.ok c.in_ok-arguments.ensures.tail (cause_of c.count_mismatch.result) (misfit r c.in_ok-arguments.taken) c.in_ok-arguments.ensures.within
-    (fault_missing r c.in_ok-arguments.taken (shown c.in_ok-arguments.arguments.items) (search rules) (search rules)) c.count_mismatch.ensures.cause
-
-pub returns-clause-ok : goal.returns-clause-ok
-returns-clause-ok c =
-    let r = c.in_ok-recipe.recipe.now in
-    invokes_from c.args.root.now c.args.recipes.now c.args.words.now c.in_ok-recipe.named c.in_ok-arguments.taken r (shown c.in_ok-arguments.arguments.items)
-    c.after.result.now c.as_slice.result.now c.after.ensures c.as_slice.ensures c.in_ok-recipe.ensures.ok c.in_ok-arguments.ensures.tail c.in_ok-arguments.ensures.within
-    (fault_none r c.in_ok-arguments.taken (shown c.in_ok-arguments.arguments.items) (search rules) (search rules))
+pub returns-in-Err-take_tail-clause-err : goal.returns-in-Err-take_tail-clause-err
+returns-in-Err-take_tail-clause-err g c =
+    let r = c.in-Ok.found.0.now in
+    let why = tail.cause_of c.in-Err-take_tail.e in
+    IfSome_then (cause_of c.rejected.result) c.rejected.ensures.cause
+    (λ cause p.
+    let m = map_some (with_recipe (name_of r)) why cause p in
+    rejects_from (count_fault_of (g.E.Evaluation.answers c.args.evaluation.now)) c.args.root.now c.args.recipes.now c.args.words.now c.in-Ok.found.1 r c.after.result.now c.after.ensures c.in-Ok.ensures.ok
+    m.0 cause (if_some_at why m.0 (NoArguments (count_fault_of (g.E.Evaluation.answers c.args.evaluation.now)) r (texts c.after.result.now)) c.in-Err-take_tail.ensures.err m.1) m.2)

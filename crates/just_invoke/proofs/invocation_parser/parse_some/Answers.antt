@@ -1,29 +1,23 @@
-use Rattle.std.proofs.Common.{[], rules, IfSome, refl, ap, arith, length, length-drop, map, drop}
-use Rattle.std.proofs.lemmas.Result.{IfErr-weaker}
-use Rattle.just_names.specs.Texts.{texts}
+use Rattle.std.proofs.Common.{rules, ◌≡◌, ◌∷◌, [], ◌++◌, arith, ap, length, map}
+use Rattle.std.proofs.lemmas.List.{length-drop}
+use Rattle.std.proofs.lemmas.Option.{IfSome_then}
+use Rattle.just_parts.specs.Evaluator.{count_fault_of}
 use Rattle.just_invoke.specs.Cause.{cause_of}
-use Rattle.just_invoke.specs.Split.{invoked_of, Stops, IsFault}
-use Rattle.just_invoke.proofs.SplitLemmas.{fault_after, chain_all, chain_more, held_more}
+use Rattle.just_invoke.specs.Split.{invoked_of}
+use Rattle.just_invoke.proofs.SplitLemmas.{chain_more, fault_after}
 use Rattle.just_invoke.proofs.invocation_parser.parse_some.Goals as goal
 
 pub loop-next-preserved : goal.loop-next-preserved
-loop-next-preserved c = record {
-  within = omega (arith, c.in_ok-invocation.ensures.within, ap length c.after.ensures, length-drop c.loop-next.next c.args.words.now);
-  chain = chain_more c.args.root.now c.args.recipes.now (texts c.args.words.now) c.args.words.now c.loop-next.next c.in_ok-invocation.taken c.loop-next.invocations.items c.push.new.self.items c.in_ok-invocation.invocation
-      c.after.result.now (omega arith) c.after.ensures c.in_ok-push.ensures.items c.in_ok-invocation.ensures.ok c.loop-next.invariant.chain;
-  held = held_more c.args.recipes.now c.loop-next.invocations.items c.push.new.self.items c.in_ok-invocation.invocation c.in_ok-push.ensures.items c.loop-next.invariant.held c.in_ok-invocation.ensures.held;
-}
+loop-next-preserved g c =
+    let pushed : c.push.new.self.items ≡ c.loop-next.invocations.items ++ c.in-Ok.invocation ∷ [] = search rules in
+    record {
+      within = omega (arith, c.in-Ok.ensures.within, ap length c.after.ensures, length-drop c.loop-next.next c.args.words.now);
+      chain = chain_more (count_fault_of (g.E.Evaluation.answers c.args.evaluation.now)) c.args.root.now c.args.recipes.now c.args.words.now c.loop-next.next c.in-Ok.taken c.loop-next.invocations.items c.push.new.self.items c.in-Ok.invocation
+          c.after.result.now (omega arith) c.after.ensures pushed c.in-Ok.ensures.ok c.loop-next.invariant.chain;
+    }
 
-pub returns-in_err-invocation-clause-fault : goal.returns-in_err-invocation-clause-fault
-returns-in_err-invocation-clause-fault c =
-    IfErr-weaker c.from_residual.result
-    (λ e. IfSome (cause_of e) (Stops c.args.root.now c.args.recipes.now (texts c.after.result.now)))
-    (λ e. IfSome (cause_of e) (IsFault c.args.root.now c.args.recipes.now (texts c.args.words.now)))
-    (λ e. fault_after c.args.root.now c.args.recipes.now (texts c.args.words.now) c.args.words.now c.loop-next.next (map invoked_of c.loop-next.invocations.items)
-    (cause_of e) c.after.result.now (omega arith) c.after.ensures (c.loop-next.invariant.chain [] (texts (drop c.loop-next.next c.args.words.now)) refl))
-    (search rules)
-
-pub returns-clause-chain : goal.returns-clause-chain
-returns-clause-chain c =
-    chain_all c.args.root.now c.args.recipes.now (texts c.args.words.now) c.args.words.now c.loop-next.next (map invoked_of c.loop-next.invocations.items)
-    (omega arith) c.loop-next.invariant.chain
+pub returns-in-Err-clause-fault : goal.returns-in-Err-clause-fault
+returns-in-Err-clause-fault g c =
+    IfSome_then (cause_of c.in-Err.e) c.in-Err.ensures.err
+    (λ cause p. fault_after (count_fault_of (g.E.Evaluation.answers c.args.evaluation.now)) c.args.root.now c.args.recipes.now c.args.words.now c.loop-next.next (map invoked_of c.loop-next.invocations.items) c.after.result.now cause
+    (omega arith) c.after.ensures c.loop-next.invariant.chain p)

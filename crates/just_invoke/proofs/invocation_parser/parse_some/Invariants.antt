@@ -1,18 +1,14 @@
-use Rattle.std.proofs.Common.{◌≤◌, ◌-◌, ◌++◌, List, length, drop, map}
-use Rattle.std.specs.List.{All}
+use Rattle.std.proofs.Common.{◌≤◌, ◌-◌, length, drop, map}
 use Rattle.just_names.specs.Texts.{texts}
-use Rattle.just_invoke.specs.Closed.{IsHeld}
-use Rattle.just_invoke.specs.Words.{Words}
-use Rattle.just_invoke.specs.Split.{Invoked, Chain, invoked_of}
+use Rattle.just_parts.specs.Evaluator.{count_fault_of}
+use Rattle.just_invoke.specs.Split.{Chain, invoked_of}
 use Rattle.just_invoke.proofs.invocation_parser.parse_some.Given as goal
 
 abbrev pub invariant-loop-next : goal.invariant-loop-next
-invariant-loop-next l = record {
+invariant-loop-next g l = record {
   within : l.next ≤ length l.words;
-  chain : (is : List Invoked) (rest : Words) → Chain l.root l.recipes (texts (drop l.next l.words)) is rest
-      → Chain l.root l.recipes (texts l.words) (map invoked_of l.invocations.items ++ is) rest;
-  held : All (λ i. IsHeld l.recipes i.recipe.now) l.invocations.items;
+  chain : Chain (count_fault_of (g.E.Evaluation.answers l.evaluation)) l.root l.recipes (texts l.words) (map invoked_of l.invocations.items) (texts (drop l.next l.words));
 }
 
 abbrev pub decreases-loop-next : goal.decreases-loop-next
-decreases-loop-next l = length l.words - l.next
+decreases-loop-next g l = length l.words - l.next

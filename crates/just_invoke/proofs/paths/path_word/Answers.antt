@@ -1,5 +1,6 @@
 use Rattle.std.proofs.Common.{sym, subst, IfOk, OnErr}
-use Rattle.just_invoke.specs.Words.{Words, IsPathWord}
+use Rattle.just_invoke.specs.Words.{IsPathWord}
+use Rattle.just_tail.specs.Words.{Words}
 use Rattle.just_invoke.proofs.paths.path_word.Goals as goal
 
 pub returns-then-last-clause-refusal : goal.returns-then-last-clause-refusal

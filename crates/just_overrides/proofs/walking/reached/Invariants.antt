@@ -1,6 +1,6 @@
 use Rattle.std.proofs.Common.{◌≡◌, IfSome, drop}
 use Rattle.std.specs.Option.{option_copied}
-use Rattle.just_invoke.specs.Walks.{IsOrdered}
+use Rattle.just_justfile.specs.Walks.{IsOrdered}
 use Rattle.just_overrides.proofs.Stepping.{goes_from}
 use Rattle.just_overrides.specs.Reached.{reached}
 use Rattle.just_overrides.proofs.walking.reached.Given as goal

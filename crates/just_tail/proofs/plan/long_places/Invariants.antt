@@ -3,7 +3,7 @@ use Rattle.std.specs.Str.{bytes_eq}
 use Rattle.std.specs.HashMap.{get}
 use Rattle.just_names.specs.Texts.{Text}
 use Rattle.just_tail.specs.Options.{first_of, place_from}
-use Rattle.just_tail.specs.declared.switch.Switch.TheVariants.{Long}
+use Rattle.just_errors.specs.declared.switch.Switch.TheVariants.{Long}
 use Rattle.just_tail.proofs.plan.long_places.Given as goal
 
 abbrev pub invariant-loop-place : goal.invariant-loop-place

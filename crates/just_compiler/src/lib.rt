@@ -1,0 +1,16 @@
+//! Compiles source maps of justfiles: to a module of modules, or to the name of a rule that is broken.
+#![tactic(auto)]
+
+pub mod analyzer;
+pub mod compilation;
+pub mod compiler;
+mod compiling;
+mod groups;
+mod inner;
+mod making;
+mod notes;
+mod paths;
+
+pub use analyzer::Analyzer;
+pub use compilation::Compilation;
+pub use compiler::Compiler;

@@ -1,9 +1,0 @@
-use Rattle.std.proofs.Common.{◌≡◌, ℕ, [], length, get_or}
-use Rattle.just_invoke.specs.Tail.{shown}
-use Rattle.just_invoke.proofs.tail.empty_groups.Given as goal
-
-abbrev pub invariant-loop : goal.invariant-loop
-invariant-loop l = record {
-  count : length (shown l.groups.items) ≡ l.index;
-  each : (j : ℕ) → get_or (shown l.groups.items) j [] ≡ [];
-}

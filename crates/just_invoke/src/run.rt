@@ -1,0 +1,108 @@
+//! The run of what command words mean.
+ghost use Rattle.just_justfile.specs.declared.justfile.Justfile.{Justfile};
+
+use crate::invocation_parser::InvocationParser;
+use crate::running::run_invocations;
+use crate::scopes::bare_scopes;
+use crate::variables::check_variables;
+use just_data::Text;
+use just_execution::{Recipes, Report};
+use just_justfile::Justfile;
+use just_parts::layers::{Config, Error, Evaluation, Host, Number, Output, RunError, Syntax};
+use std::alloc::Global;
+use std::collections::HashMap;
+
+/// Modules that can be run, as a compiled one can: `Justfile::run`.
+pub trait Run<'src> {
+    ghost use Rattle.std.specs.Prelude.{◌≡◌};
+    ghost use Rattle.just_parts.specs.Evaluator.{count_fault_of};
+    ghost use Rattle.just_parts.specs.Host.{KeepsPromises};
+    ghost use Rattle.just_parts.specs.Steps.{kept_by};
+    ghost use Rattle.just_names.specs.Texts.{texts};
+    ghost use Rattle.just_justfile.specs.Closed.{IsRooted};
+    ghost use Rattle.just_invoke.specs.Outcome.{IsExpected, IsOutcome};
+
+    /// The module that is run.
+    ghost root: { Self → Justfile };
+
+    /// Runs what the words mean: each invocation in turn under one once table, where a recipe with equal arguments runs
+    /// once, its prior dependencies before it, and its subsequent ones after it under a table of their own. The run ends
+    /// at the first step that fails, with its error. Where the words are refused, or can't be run yet, the host is left as
+    /// it was.
+    ///
+    /// `NotYet` comes where the module or one in it has a variable, with the name of the first recipe that the words mean,
+    /// and where they lead to a recipe with a line, an attribute, a parameter that is more than a name or a dependency with
+    /// arguments, with that recipe's name. It comes after `ExcessInvocations`.
+    ///
+    /// The writer and the layers that evaluate are asked nothing yet.
+    fn run<S: Syntax, E: Evaluation, H: Host, W: Output>(
+        &self,
+        alloc: Global,
+        config: &Config,
+        recipes: &Recipes<'src>,
+        syntax: &S,
+        evaluation: &mut E,
+        host: &mut H,
+        writer: &mut W,
+        words: &[&str],
+        overrides: &HashMap<Number, Text>,
+    ) -> Result<Report, Error<'src>>
+        requires { IsRooted (root self.now) recipes.now }
+        // Promises are kept.
+        ensures keeps { KeepsPromises (E.promised evaluation.old) (E.promised evaluation.new) }
+        ensures keeps_host { KeepsPromises (H.promised host.old) (H.promised host.new) }
+        // For every host.
+        ensures outcome { let counts = count_fault_of (E.answers evaluation.old) in
+            let first = kept_by (H.entries host.old) (E.inquiries evaluation.old) in
+            let last = kept_by (H.entries host.new) (E.inquiries evaluation.new) in
+            IsOutcome counts (root self.now) recipes.now (texts words.now) config.now first last result }
+        // For promised answers.
+        ensures expected { let counts = count_fault_of (E.answers evaluation.old) in
+            let expected = IsExpected counts (root self.now) recipes.now (texts words.now) config.now (E.promised evaluation.old) (H.promised host.old) in
+            let first = kept_by (H.entries host.old) (E.inquiries evaluation.old) in
+            let last = kept_by (H.entries host.new) (E.inquiries evaluation.new) in
+            expected first last result }
+        // The writer is left as it was.
+        ensures unwritten { W.written writer.new ≡ W.written writer.old }
+        ensures unfailed { W.failed writer.new ≡ W.failed writer.old };
+}
+
+impl<'src> Run<'src> for Justfile<'src> {
+    ghost root = { λ j. j };
+
+    fn run<S: Syntax, E: Evaluation, H: Host, W: Output>(
+        &self,
+        alloc: Global,
+        config: &Config,
+        recipes: &Recipes<'src>,
+        syntax: &S,
+        evaluation: &mut E,
+        host: &mut H,
+        writer: &mut W,
+        words: &[&str],
+        overrides: &HashMap<Number, Text>,
+    ) -> Result<Report, Error<'src>> {
+        let invocations = InvocationParser::parse_invocations(
+            alloc,
+            self,
+            recipes,
+            &*evaluation,
+            words,
+        )?;
+        if config.one && invocations.len() > 1 {
+            return Err(Error::Run(RunError::ExcessInvocations {
+                invocations: invocations.len(),
+            }));
+        }
+        check_variables(alloc, self, invocations.as_slice())?;
+        let scopes = bare_scopes(alloc, config, syntax, self, overrides)?;
+        run_invocations(
+            alloc,
+            recipes,
+            &scopes,
+            evaluation,
+            host,
+            invocations.as_slice(),
+        )
+    }
+}

@@ -1,0 +1,16 @@
+//! A module as it is compiled, and what paths lead to from it.
+#![tactic(auto)]
+
+mod aliases;
+mod disabled;
+pub mod justfile;
+pub mod laws;
+mod modules;
+pub mod resolution;
+
+pub use aliases::{Aliases, ModuleAlias, RecipeAlias};
+pub use disabled::Disabled;
+pub use just_execution::Recipes;
+pub use justfile::{Justfile, RecipeKey};
+pub use modules::modules_in;
+pub use resolution::{Resolution, find_module};
