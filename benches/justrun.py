@@ -101,6 +101,35 @@ def words(count):
     return bundle("p x:"), [part for n in range(count) for part in ("p", str(n))]
 
 
+def words_of_one_parameter(count):
+    """One recipe with a variadic parameter, which takes all words. Of a recipe with such a parameter nothing is run yet."""
+    return bundle("p *x:"), ["p", *(str(n) for n in range(count))]
+
+
+def options(count):
+    """One recipe with many options, each of them given. Of a recipe with options nothing is run yet."""
+    names = [f"o{n}" for n in range(count)]
+    given = [part for name in names for part in (f"--{name}", "v")]
+    return bundle(*(f"[arg('{name}', long='{name}')]" for name in names), f"p {' '.join(names)}:"), ["p", *given]
+
+
+def cluster(count):
+    """One word of as many letters, which are flags of a variadic parameter."""
+    return bundle("[arg('x', short='x', flag)]", "p *x:"), ["p", "-" + "x" * count]
+
+
+def names_in_turn(count):
+    """Modules inside each other, whose names are given as words, and again as the path of one word."""
+    names = ["m"] * count + ["a"]
+    text, _ = module_chain(count)
+    return text, [*names, "::".join(names)]
+
+
+def invocations(count):
+    """One recipe, named many times."""
+    return bundle("a:"), ["a"] * count
+
+
 def functions(count):
     """Many functions of two parameters."""
     return bundle(*(f"f{n}(x, y) := x + y" for n in range(count)), "a:"), ["a"]
@@ -334,6 +363,11 @@ INPUTS = {
     "200 modules inside each other": module_chain(200),
     "2,000 modules inside each other": module_chain(2_000),
     "10,000 invocations": words(10_000),
+    "100,000 invocations of one recipe": invocations(100_000),
+    "10,000 words for one variadic parameter": words_of_one_parameter(10_000),
+    "recipe with 1,000 options, each given": options(1_000),
+    "cluster of 10,000 letters": cluster(10_000),
+    "2,000 names of modules inside each other, as words and as a path": names_in_turn(2_000),
     "100,000 functions of two parameters": functions(100_000),
     "function of 100,000 parameters": function_parameters(100_000),
     "2,000 modules that set seven settings each": settings(2_000),

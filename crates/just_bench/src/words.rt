@@ -6,7 +6,7 @@ use crate::stop_writer::StopWriter;
 use just_bench_evaluation::PlainEvaluation;
 use just_bench_syntax::PlainSyntax;
 use just_data::Text;
-use just_invoke::Report;
+use just_invoke::{Report, Run};
 use just_justfile::{Justfile, Recipes};
 use just_parts::layers::{Config, Error, Number};
 use std::alloc::Global;

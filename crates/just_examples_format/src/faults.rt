@@ -124,6 +124,21 @@ fn add_invocation(text: &mut String, error: &InvocationError) -> Result<(), Allo
         InvocationError::UnknownRecipe { recipe } => write!(text, ": {recipe}"),
         InvocationError::UnknownSubmodule { path } => write!(text, ": {path}"),
         InvocationError::ExpectedSubmoduleButFoundRecipe { path } => write!(text, ": {path}"),
+        InvocationError::RecipeDisabled {
+            recipe: name,
+            modules,
+        }
+        | InvocationError::AliasDisabled {
+            alias: name,
+            modules,
+        } => {
+            write!(text, ": {name}, modules")?;
+            for path in modules.as_slice() {
+                write!(text, " {path}")?;
+            }
+            Ok(())
+        }
+        InvocationError::ModuleAbsent { module } => write!(text, ": {module}"),
         InvocationError::NoRecipes | InvocationError::NoDefaultRecipe => Ok(()),
         InvocationError::DefaultRecipeRequiresArguments {
             recipe,
@@ -137,6 +152,27 @@ fn add_invocation(text: &mut String, error: &InvocationError) -> Result<(), Allo
         } => write!(
             text,
             ": recipe {recipe}, found {found}, min {min}, max {max}"
+        ),
+        InvocationError::InvalidOption { argument } => write!(text, ": {argument}"),
+        InvocationError::UnknownOption { recipe, switch }
+        | InvocationError::FlagWithValue { recipe, switch }
+        | InvocationError::OptionMissingValue { recipe, switch }
+        | InvocationError::DuplicateOption { recipe, switch }
+        | InvocationError::MissingOption { recipe, switch } => {
+            write!(text, ": recipe {recipe}, switch {switch}")
+        }
+        InvocationError::ValueCount {
+            recipe,
+            parameter,
+            fault,
+        } => write!(text, ": recipe {recipe}, parameter {parameter}, {fault}"),
+        InvocationError::ArgumentPatternMismatch {
+            recipe,
+            parameter,
+            argument,
+        } => write!(
+            text,
+            ": recipe {recipe}, parameter {parameter}, argument {argument}"
         ),
     }
 }

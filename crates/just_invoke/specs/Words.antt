@@ -1,5 +1,5 @@
 -- Words that are paths.
-use Rattle.std.specs.Prelude.{Bool, true, false, ◌==◌, List, [], ◌∷◌}
+use Rattle.std.specs.Prelude.{Bool, true, false, ◌==◌, [], ◌∷◌}
 use Rattle.std.specs.List.{list_any}
 use Rattle.just_names.specs.Texts.{Text}
 use Rattle.just_paths.specs.Modulepath.{IsWordPath, IsArgumentPath}

@@ -1,11 +1,11 @@
-use Rattle.std.proofs.Common.{rules, ◌≡◌, ◌≤◌, ◌<◌, ◌+◌, [], ap, arith, drop, get_or, length, refl, subst, ◌∙◌, take}
+use Rattle.std.proofs.Common.{◌≡◌, ◌≤◌, ◌+◌, [], ap, arith, drop, get_or, length, refl, subst, ◌∙◌, take}
 use Rattle.std.proofs.lemmas.Option.{IfSome_then}
 use Rattle.std.proofs.lemmas.Result.{IfErr-weaker, IfOk-weaker}
 use Rattle.std.specs.Borrow.{Bor}
 use Rattle.just_names.specs.Texts.{Text, texts}
 use Rattle.just_invoke.specs.Cause.{cause_of}
 use Rattle.just_invoke.specs.Meaning.{meaning}
-use Rattle.just_invoke.specs.Head.{BadName, IsEnd, IsNoEnd, IsStep, WordsLead, WordsMislead, goes_on, place_of}
+use Rattle.just_invoke.specs.Head.{BadName, IsEnd, IsStep, WordsLead, goes_on, place_of}
 use Rattle.just_invoke.proofs.Advancing.{Stands, leads_end, misleads_end, misleads_here, stands_next}
 use Rattle.just_invoke.proofs.walking.walk.Goals as goal
 
