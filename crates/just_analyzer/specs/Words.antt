@@ -10,6 +10,7 @@ pub use Rattle.just_parts.specs.Steps.{kept_by}
 pub use Rattle.just_loader.specs.ModuleFile.{module_files}
 pub use Rattle.just_loader.specs.Reached.{world_of}
 pub use Rattle.just_justfile.specs.Closed.{AreClosed, IsClosed, IsHeld, IsRooted, is_ordered}
+pub use Rattle.just_invoke.specs.Cause.{IsOfWords, cause_of}
 pub use Rattle.just_invoke.specs.Outcome.{IsExpected, IsOutcome}
 pub use Rattle.just_invoke.specs.Split.{IsFault, IsSplit, invoked_of}
 pub use Rattle.just_justfile.specs.Walks.{AreOrdered, IsOrdered}

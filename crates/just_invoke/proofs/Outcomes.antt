@@ -35,7 +35,7 @@ IsSo evaluator host recipes invoked old new result =
 
 module _ (counts : Counts) (root : Justfile) (recipes : List (Recipe Dependency)) (words : List (List ℕ)) (config : Config) where
   -- words that are not read
-  unread : (e : Error) → cause.IsExpected e → IfSome (cause.cause_of e) (IsFault counts root recipes words) → Refuses counts root recipes words config.one e
+  unread : (e : Error) → cause.IsOfWords e → IfSome (cause.cause_of e) (IsFault counts root recipes words) → Refuses counts root recipes words config.one e
   unread (Invocation e) x h = fault (Invocation e) (cause.cause_of_fault e) refl h
   unread Memory x h = memory
   unread (Load e) x h = absurd x
@@ -48,7 +48,7 @@ module _ (counts : Counts) (root : Justfile) (recipes : List (Recipe Dependency)
   out p q invoked old = (Err halt.Memory, refl, λ f steady even. inr (inl refl, ([], _, refl, sym (after-none old))))
 
   -- nor are words that have a fault
-  unread-expected : (e : Error) → cause.IsExpected e → IfSome (cause.cause_of e) (IsFault counts root recipes words) → (p : Inquiry → Option Answer) (q : Entry → Option Answer) (invoked : List Invoked) → IsSplit counts root recipes words invoked →
+  unread-expected : (e : Error) → cause.IsOfWords e → IfSome (cause.cause_of e) (IsFault counts root recipes words) → (p : Inquiry → Option Answer) (q : Entry → Option Answer) (invoked : List Invoked) → IsSplit counts root recipes words invoked →
       (old : Kept) → IsSo p q recipes invoked old old (Err e)
   unread-expected (Invocation e) x h p q invoked split old = absurd (split_no_fault counts root recipes words invoked (cause.cause_of_fault e) split h)
   unread-expected Memory x h p q invoked split old = out p q invoked old
@@ -62,11 +62,11 @@ module _ (counts : Counts) (root : Justfile) (recipes : List (Recipe Dependency)
   answered (Ok report) e h = absurd h
   answered (Err y) e h = ap (λ y. Err y) h
 
-  pub unread-outcome : (e : Error) → cause.IsExpected e → IfSome (cause.cause_of e) (IsFault counts root recipes words) → (r : Result Report Error) → IsErrAnd r (λ y. y ≡ e) → (old : Kept) →
+  pub unread-outcome : (e : Error) → cause.IsOfWords e → IfSome (cause.cause_of e) (IsFault counts root recipes words) → (r : Result Report Error) → IsErrAnd r (λ y. y ≡ e) → (old : Kept) →
       IsOutcome counts root recipes words config old old r
   unread-outcome e x h r is old = refused e (answered r e is) (unread e x h) refl
 
-  pub unread-so : (e : Error) → cause.IsExpected e → IfSome (cause.cause_of e) (IsFault counts root recipes words) → (r : Result Report Error) → IsErrAnd r (λ y. y ≡ e) → (p : Inquiry → Option Answer) (q : Entry → Option Answer) (old : Kept) →
+  pub unread-so : (e : Error) → cause.IsOfWords e → IfSome (cause.cause_of e) (IsFault counts root recipes words) → (r : Result Report Error) → IsErrAnd r (λ y. y ≡ e) → (p : Inquiry → Option Answer) (q : Entry → Option Answer) (old : Kept) →
       (invoked : List Invoked) → MayRun counts root recipes words config.one invoked → IsSo p q recipes invoked old old r
   unread-so e x h r is p q old invoked may = subst (λ r. IsSo p q recipes invoked old old r) (sym (answered r e is)) (unread-expected e x h p q invoked may.split old)
 

@@ -63,7 +63,7 @@ cause_of_fault (fault.PositionalArgumentCountMismatch recipe found min max) = co
 cause_of_fault (fault.ValueCount recipe parameter told) = value_count recipe parameter told
 cause_of_fault (fault.ArgumentPatternMismatch recipe parameter argument) = pattern_mismatch recipe parameter argument
 
--- what an error says of the words; want of memory says nothing
+-- what an error says of the words; one that is none of the words, as want of memory, says nothing
 abbrev pub cause_of : Error → Option Cause
 cause_of (error.Load load) = None
 cause_of (error.Compile compile) = None
@@ -73,10 +73,10 @@ cause_of error.Exhausted = None
 cause_of error.Memory = None
 
 -- the error is one of the words, or want of memory
-abbrev pub IsExpected : Error → Type 0
-IsExpected (error.Load load) = ⊥
-IsExpected (error.Compile compile) = ⊥
-IsExpected (error.Invocation invocation) = Unit {0}
-IsExpected (error.Run e) = ⊥
-IsExpected error.Exhausted = ⊥
-IsExpected error.Memory = Unit {0}
+abbrev pub IsOfWords : Error → Type 0
+IsOfWords (error.Load load) = ⊥
+IsOfWords (error.Compile compile) = ⊥
+IsOfWords (error.Invocation invocation) = Unit {0}
+IsOfWords (error.Run e) = ⊥
+IsOfWords error.Exhausted = ⊥
+IsOfWords error.Memory = Unit {0}

@@ -2,7 +2,7 @@
 ghost use Rattle.std.specs.Prelude.{◌≡◌, ◌≤◌, ◌<◌, [], true, IfOk, IfErr, IfSome, length, take, drop};
 ghost use Rattle.just_names.specs.Texts.{texts};
 ghost use Rattle.just_justfile.specs.Walks.{IsOrdered};
-ghost use Rattle.just_invoke.specs.Cause.{cause_of, IsExpected};
+ghost use Rattle.just_invoke.specs.Cause.{cause_of, IsOfWords};
 ghost use Rattle.just_invoke.specs.Head.{WordsLead, WordsMislead, PathLeads, NoPath, IsHead, NoHead};
 
 use crate::paths::{as_words, contains_colon, path_word};
@@ -24,7 +24,7 @@ fn walk_path<'run, 'src>(
     requires { IsOrdered root.now }
     ensures ok { IfOk result (λ r. WordsLead root.now recipes.now root.now (texts names.now) [] r.now) }
     ensures err { IfErr result (λ e. IfSome (cause_of e) (WordsMislead root.now recipes.now root.now true [] (texts names.now))) }
-    ensures expected { IfErr result (λ e. IsExpected e) }
+    ensures words { IfErr result (λ e. IsOfWords e) }
 {
     match walk(alloc, root, recipes, true, names) {
         Ok((recipe, _)) => Ok(recipe),
@@ -43,7 +43,7 @@ fn parse_path<'run, 'src>(
     requires { IsOrdered root.now }
     ensures ok { IfOk result (λ r. PathLeads root.now recipes.now last word.now r.now) }
     ensures err { IfErr result (λ e. IfSome (cause_of e) (NoPath root.now recipes.now last word.now)) }
-    ensures expected { IfErr result (λ e. IsExpected e) }
+    ensures words { IfErr result (λ e. IsOfWords e) }
 {
     match path_word(alloc, word, last)? {
         Ok(path) => {
@@ -71,7 +71,7 @@ pub(crate) fn parse_head<'run, 'src>(
     ensures moves { IfOk result (λ found. 0 < length words.now → 0 < found.1) }
     ensures ok { IfOk result (λ found. IsHead root.now recipes.now (texts (take found.1 words.now)) (texts (drop found.1 words.now)) found.0.now) }
     ensures err { IfErr result (λ e. IfSome (cause_of e) (NoHead root.now recipes.now (texts words.now))) }
-    ensures expected { IfErr result (λ e. IsExpected e) }
+    ensures words { IfErr result (λ e. IsOfWords e) }
 {
     let Some((word, rest)) = words.split_first() else {
         return walk(alloc, root, recipes, false, words);

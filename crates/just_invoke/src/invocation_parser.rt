@@ -7,7 +7,7 @@ ghost use Rattle.just_tail.specs.Cause as tail;
 ghost use Rattle.just_tail.specs.Words.{shown};
 ghost use Rattle.just_justfile.specs.Closed.{IsHeld, name_of};
 ghost use Rattle.just_justfile.specs.Walks.{IsOrdered};
-ghost use Rattle.just_invoke.specs.Cause.{cause_of, with_recipe, IsExpected};
+ghost use Rattle.just_invoke.specs.Cause.{cause_of, with_recipe, IsOfWords};
 ghost use Rattle.just_invoke.specs.Split.{TakesArguments, NoArguments, invoked_of, Invokes, Chain, IsSplit, Stops, IsFault};
 
 use crate::head::parse_head;
@@ -44,7 +44,7 @@ impl InvocationParser {
         ensures split { IfOk result (λ found. IsSplit (count_fault_of (E.answers evaluation.now)) root.now recipes.now (texts words.now) (map invoked_of found.items)) }
         ensures held { IfOk result (λ found. All (λ i. IsHeld recipes.now i.recipe.now) found.items) }
         ensures fault { IfErr result (λ e. IfSome (cause_of e) (IsFault (count_fault_of (E.answers evaluation.now)) root.now recipes.now (texts words.now))) }
-        ensures expected { IfErr result (λ e. IsExpected e) }
+        ensures words { IfErr result (λ e. IsOfWords e) }
     {
         if words.is_empty() {
             parse_none(alloc, root, recipes, evaluation, words)
@@ -57,7 +57,7 @@ impl InvocationParser {
 // The error of a recipe that takes no arguments.
 fn rejected<'src>(recipe: &Recipe<'src>, error: TailError<'src>) -> Error<'src>
     ensures cause { IfSome (cause_of result) (λ cause. option_map (with_recipe (name_of recipe.now)) (tail.cause_of error.entry) ≡ Some cause) }
-    ensures expected { IsExpected result }
+    ensures words { IsOfWords result }
 {
     let recipe = BorrowedText::new(recipe.name.lexeme());
     Error::Invocation(match error {
@@ -129,7 +129,7 @@ fn parse_invocation<'run, 'src, 'words, E: Evaluation>(
     ensures moves { IfOk result (λ found. 0 < length words.now → 0 < found.1) }
     ensures ok { IfOk result (λ found. Invokes (count_fault_of (E.answers evaluation.now)) root.now recipes.now (texts words.now) (texts (drop found.1 words.now)) (invoked_of found.0)) }
     ensures err { IfErr result (λ e. IfSome (cause_of e) (Stops (count_fault_of (E.answers evaluation.now)) root.now recipes.now (texts words.now))) }
-    ensures expected { IfErr result (λ e. IsExpected e) }
+    ensures words { IfErr result (λ e. IsOfWords e) }
 {
     let (recipe, named) = match parse_head(alloc, root, recipes, words) {
         Ok(found) => found,
@@ -161,7 +161,7 @@ fn parse_none<'run, 'src, 'words, E: Evaluation>(
     requires none { words.now ≡ [] }
     ensures split { IfOk result (λ found. IsSplit (count_fault_of (E.answers evaluation.now)) root.now recipes.now (texts words.now) (map invoked_of found.items)) }
     ensures fault { IfErr result (λ e. IfSome (cause_of e) (IsFault (count_fault_of (E.answers evaluation.now)) root.now recipes.now (texts words.now))) }
-    ensures expected { IfErr result (λ e. IsExpected e) }
+    ensures words { IfErr result (λ e. IsOfWords e) }
 {
     match parse_invocation(alloc, root, recipes, evaluation, words) {
         Ok((invocation, _)) => {
@@ -185,7 +185,7 @@ fn parse_some<'run, 'src, 'words, E: Evaluation>(
     requires some { 0 < length words.now }
     ensures chain { IfOk result (λ found. Chain (count_fault_of (E.answers evaluation.now)) root.now recipes.now (texts words.now) (map invoked_of found.items) []) }
     ensures fault { IfErr result (λ e. IfSome (cause_of e) (IsFault (count_fault_of (E.answers evaluation.now)) root.now recipes.now (texts words.now))) }
-    ensures expected { IfErr result (λ e. IsExpected e) }
+    ensures words { IfErr result (λ e. IsOfWords e) }
 {
     let mut invocations = Vec::new(alloc);
     let mut next = 0;

@@ -15,6 +15,11 @@ pub fn one_split()
         IsSplit counts root recipes words a → IsSplit counts root recipes words b → a ≡ b }
 {}
 
+/// No words are one invocation.
+pub fn no_words_are_one()
+    ensures { (counts : Counts) (root : Justfile) (recipes : Held) (is : List Invoked) → IsSplit counts root recipes [] is → length is ≡ 1 }
+{}
+
 /// Words that are invocations have no fault.
 pub fn no_fault()
     ensures { (counts : Counts) (root : Justfile) (recipes : Held) (words : Words) (a : List Invoked) (c : Cause) →

@@ -34,7 +34,7 @@ pub trait Run<'src> {
     /// and where they lead to a recipe with a line, an attribute, a parameter that is more than a name or a dependency with
     /// arguments, with that recipe's name. It comes after `ExcessInvocations`.
     ///
-    /// The writer and the layers that evaluate are asked nothing yet.
+    /// The evaluation is asked of the counts of arguments alone, and the writer nothing yet.
     fn run<S: Syntax, E: Evaluation, H: Host, W: Output>(
         &self,
         alloc: Global,

@@ -7,7 +7,7 @@ ghost use Rattle.just_errors.specs.declared.error.InvocationError.TheVariants as
 ghost use Rattle.just_justfile.specs.Closed.{default_recipe, name_of};
 ghost use Rattle.just_justfile.specs.Walks.{IsOrdered};
 ghost use Rattle.just_justfile.specs.declared.justfile.Justfile.{out-Justfile};
-ghost use Rattle.just_invoke.specs.Cause.{cause_of, IsExpected};
+ghost use Rattle.just_invoke.specs.Cause.{cause_of, IsOfWords};
 ghost use Rattle.just_invoke.specs.Meaning.{meaning, meaning_of};
 ghost use Rattle.just_invoke.specs.Head.{goes_on, place_of, TakesDefault, NoDefault, BadName, IsStep, IsEnd, IsNoEnd, WordsLead, WordsMislead};
 
@@ -50,7 +50,7 @@ fn take_default<'run, 'src>(
 ) -> Result<&'run Recipe<'src>, Error<'src>>
     ensures ok { IfOk result (λ r. TakesDefault recipes.now here.now r.now) }
     ensures err { IfErr result (λ e. IfSome (cause_of e) (NoDefault (out-Justfile here.now).recipes (default_recipe here.now recipes.now))) }
-    ensures expected { IfErr result (λ e. IsExpected e) }
+    ensures words { IfErr result (λ e. IsOfWords e) }
 {
     match default_recipe(recipes, here) {
         Some(recipe) => {
@@ -102,7 +102,7 @@ fn take_name<'run, 'src>(
 ) -> Result<Step<'run, 'src>, Error<'src>>
     ensures ok { IfOk result (λ s. IsStep (meaning_of found.entry) go s) }
     ensures err { IfErr result (λ e. IfSome (cause_of e) (BadName (meaning_of found.entry) one go (texts path.now) (place_of here.now name.now))) }
-    ensures expected { IfErr result (λ e. IsExpected e) }
+    ensures words { IfErr result (λ e. IsOfWords e) }
 {
     match found {
         Found::Module(next) => Ok(Step::On(next)),
@@ -138,7 +138,7 @@ fn take_name<'run, 'src>(
     }
 }
 
-// The first of the words.
+// So many words from the first on.
 fn before<'a, 'words>(words: &'a [&'words str], taken: usize) -> &'a [&'words str]
     requires { taken ≤ length words.now }
     ensures { result.now ≡ take taken words.now }
@@ -146,7 +146,7 @@ fn before<'a, 'words>(words: &'a [&'words str], taken: usize) -> &'a [&'words st
     &words[..taken]
 }
 
-/// The words after the first.
+/// The words after so many.
 pub(crate) fn after<'a, 'words>(words: &'a [&'words str], taken: usize) -> &'a [&'words str]
     requires { taken ≤ length words.now }
     ensures { result.now ≡ drop taken words.now }
@@ -170,7 +170,7 @@ fn next_step<'run, 'src>(
     requires here { IsOrdered here.now }
     ensures ok { IfOk result (λ s. IsStep (meaning root.now recipes.now here.now name.now) go s) }
     ensures err { IfErr result (λ e. IfSome (cause_of e) (BadName (meaning root.now recipes.now here.now name.now) one go (texts path.now) (place_of here.now name.now))) }
-    ensures expected { IfErr result (λ e. IsExpected e) }
+    ensures words { IfErr result (λ e. IsOfWords e) }
 {
     let found = look_up(root, recipes, here, name);
     take_name(alloc, found, here, one, go, path, name)
@@ -184,7 +184,7 @@ fn end<'run, 'src>(
 ) -> Result<(&'run Recipe<'src>, usize), Error<'src>>
     ensures ok { IfOk result (λ found. (found.1 ≡ count) × IsEnd recipes.now place.entry found.0.now) }
     ensures err { IfErr result (λ e. IfSome (cause_of e) (IsNoEnd recipes.now place.entry)) }
-    ensures expected { IfErr result (λ e. IsExpected e) }
+    ensures words { IfErr result (λ e. IsOfWords e) }
 {
     match place {
         Step::On(here) => match take_default(recipes, here) {
@@ -209,7 +209,7 @@ pub(crate) fn walk<'run, 'src>(
     ensures whole { IfOk result (λ found. one ≡ true → found.1 ≡ length names.now) }
     ensures ok { IfOk result (λ found. WordsLead root.now recipes.now root.now (texts (take found.1 names.now)) (texts (drop found.1 names.now)) found.0.now) }
     ensures err { IfErr result (λ e. IfSome (cause_of e) (WordsMislead root.now recipes.now root.now one [] (texts names.now))) }
-    ensures expected { IfErr result (λ e. IsExpected e) }
+    ensures words { IfErr result (λ e. IsOfWords e) }
 {
     let mut place = Step::On(root);
     for at in 0..names.len() {

@@ -23,13 +23,13 @@ run_invocations-requires-clause-resolved g c = (is_closed c.requires.closed).res
 
 pub returns-in_err-invocations-clause-outcome : goal.returns-in_err-invocations-clause-outcome
 returns-in_err-invocations-clause-outcome g c =
-    unread-outcome (count_fault_of (g.E.Evaluation.answers c.args.evaluation.now)) c.args.self.now c.args.recipes.now (texts c.args.words.now) c.args.config.now c.in_err-invocations.field-0.0 c.in_err-invocations.ensures.expected c.in_err-invocations.ensures.fault c.from_residual.result (search rules) _
+    unread-outcome (count_fault_of (g.E.Evaluation.answers c.args.evaluation.now)) c.args.self.now c.args.recipes.now (texts c.args.words.now) c.args.config.now c.in_err-invocations.field-0.0 c.in_err-invocations.ensures.words c.in_err-invocations.ensures.fault c.from_residual.result (search rules) _
 
 pub returns-in_err-invocations-clause-expected : goal.returns-in_err-invocations-clause-expected
 returns-in_err-invocations-clause-expected g c =
     let p = g.E.Evaluation.promised c.args.evaluation.now in
     let q = g.H.Host.promised c.args.host.now in
-    unread-so (count_fault_of (g.E.Evaluation.answers c.args.evaluation.now)) c.args.self.now c.args.recipes.now (texts c.args.words.now) c.args.config.now c.in_err-invocations.field-0.0 c.in_err-invocations.ensures.expected c.in_err-invocations.ensures.fault c.from_residual.result (search rules) p q _
+    unread-so (count_fault_of (g.E.Evaluation.answers c.args.evaluation.now)) c.args.self.now c.args.recipes.now (texts c.args.words.now) c.args.config.now c.in_err-invocations.field-0.0 c.in_err-invocations.ensures.words c.in_err-invocations.ensures.fault c.from_residual.result (search rules) p q _
 
 pub returns-then-len-gt1-clause-outcome : goal.returns-then-len-gt1-clause-outcome
 returns-then-len-gt1-clause-outcome g c =
