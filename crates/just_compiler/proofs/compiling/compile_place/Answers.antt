@@ -1,4 +1,5 @@
-use Rattle.std.proofs.Common.{rules, ◌≡◌, ◌<◌, ◌∙◌, ℕ, List, Some, None, length, sym, ap, subst, arith}
+use Rattle.std.proofs.Common.{rules, ◌≡◌, ◌<◌, ◌∙◌, ℕ, List, Some, None, Ok, Err, length, sym, ap, subst, arith}
+use Rattle.std.specs.Prelude.{IfErr, IsErrAnd, Result}
 use Rattle.std.specs.List.{All, Contains}
 use Rattle.std.proofs.lemmas.List.{get_or-set_other, get_or-set_same, length-set}
 use Rattle.std.proofs.lemmas.Result.{IfErr-weaker}
@@ -108,6 +109,11 @@ analyze_checked-requires-clause-settled g c =
     around_settled c.args.gathered.recipes c.in_ok-surroundings.surroundings.notes.absent_modules c.in_ok-surroundings.surroundings.modules
     (λ x h. named_settled c.args.gathered.recipes inner.0 c.as_slice.result.now (λ j i. c.requires.settled inner.0 inner.1 j (contained j inner.0 i)) x (subst (λ ms. Contains ms x) (there.modules_are inner.0 inner.1) h))
 
+-- what is told where an error is passed on is told of it
+from_error : {A E : Type 0} (P : E → Type 0) (r : Result A E) (e : E) → IsErrAnd r (λ y. y ≡ e) → P e → IfErr r P
+from_error P (Ok x) e h p = tt
+from_error P (Err y) e h p = subst P (sym h) p
+
 pub returns-in_err-justfile-clause-named : goal.returns-in_err-justfile-clause-named
 returns-in_err-justfile-clause-named g c =
     let row = row_lent c.args.joined.now.files.items c.args.place c.index.result.now c.as_slice-row.result.now (omega (arith, c.requires.fits.ready.there, c.requires.fits.files_room)) c.index.ensures c.as_slice-row.ensures.value in
@@ -129,7 +135,7 @@ returns-in_err-justfile-clause-named g c =
           subst (λ (x : Around). BreaksPlace (given_by g.S.Syntax.answers g.E.Evaluation.answers c.args.given.now) c.args.files.now c.args.joined.now c.args.place (links_by (contents_of_place (g.S.Syntax.answers c.args.given.now.syntax.now).enabled c.args.files.now c.args.joined.now c.args.place) x) (told_by (contents_of_place (g.S.Syntax.answers c.args.given.now.syntax.now).enabled c.args.files.now c.args.joined.now c.args.place) x) e) about
           (subst (λ (n : Contents). BreaksPlace (given_by g.S.Syntax.answers g.E.Evaluation.answers c.args.given.now) c.args.files.now c.args.joined.now c.args.place (links_by n (around_by around c.args.gathered.recipes)) (told_by n (around_by around c.args.gathered.recipes)) e) m
           (breaks_recipes (given_by g.S.Syntax.answers g.E.Evaluation.answers c.args.given.now) c.args.files.now c.args.joined.now c.args.place c.as_slice-row.result.now row c.ast_at-ast.result.now c.ast_at-ast.ensures c.in_ok-checked.checked c.in_ok-checked.ensures.checked c.in_ok-checked.ensures.kept links told e b));
-    }) error h) (search rules)
+    }) error h) (from_error (Reports breaks) c.from_residual-in_err-justfile.result c.in_err-justfile.field-0.0 (search rules) c.in_err-justfile.ensures.named)
 
 pub returns-clause-compiled : goal.returns-clause-compiled
 returns-clause-compiled g c =
