@@ -4,9 +4,9 @@ pub use Rattle.just_paths.specs.Clean.{IsClean}
 pub use Rattle.just_errors.specs.Causes.{Cause, Keeps, Reports}
 pub use Rattle.just_parts.specs.Asts.{root_ast_key, same_ast_key}
 pub use Rattle.just_parts.specs.Evaluator.{count_fault_of}
-pub use Rattle.just_parts.specs.Host.{Answer, KeepsPromises}
+pub use Rattle.just_run_layers.specs.Host.{Answer, KeepsPromises}
 pub use Rattle.just_parts.specs.Layers.{override_at}
-pub use Rattle.just_parts.specs.Steps.{kept_by}
+pub use Rattle.just_run_layers.specs.Steps.{kept_by}
 pub use Rattle.just_loader.specs.ModuleFile.{module_files}
 pub use Rattle.just_loader.specs.Reached.{world_of}
 pub use Rattle.just_justfile.specs.Closed.{AreClosed, IsClosed, IsHeld, IsRooted, is_ordered}

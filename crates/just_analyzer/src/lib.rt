@@ -28,7 +28,10 @@ pub mod modulepath {
 }
 
 /// The traits of the layers, the records that they hand over and are handed, and the errors.
-pub use just_parts::layers;
+pub mod layers {
+    pub use just_parts::layers::*;
+    pub use just_run_layers::*;
+}
 
 /// Files: how one came in, and all that there are, under their paths.
 pub mod source {

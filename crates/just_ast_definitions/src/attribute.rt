@@ -85,7 +85,7 @@ pub enum Attribute<'src, E> {
     Confirm(Option<E>),
     /// It goes on after these signals, or after an interrupt where none is named.
     Continue(Sequence<Signal>),
-    /// It is run without words.
+    /// It is run by default.
     Default,
     /// What a listing says of it, or that it says nothing.
     Doc(Option<E>),

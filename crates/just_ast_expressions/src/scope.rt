@@ -1,4 +1,4 @@
-use just_data::{Exact, Sequence, Text};
+use just_data::{Chain, Exact, Sequence, Text};
 use just_names::{Name, Number};
 
 /// A name and its value.
@@ -22,11 +22,11 @@ impl<'src> Exact for Binding<'src> {
     ghost exact = { Prim.search rules };
 }
 
-/// The values of names.
-#[derive(Clone, PartialEq, Eq, Drop)]
+/// The values of names: what a name is bound to last. A scope that extends another one shares what that one binds.
+#[derive(Clone, Drop)]
 pub struct Scope<'src> {
-    /// The names and their values.
-    pub bindings: Sequence<Binding<'src>>,
+    /// The names and their values, in the order in which they were bound.
+    pub bindings: Chain<Binding<'src>>,
 }
 
 impl<'src> Exact for Scope<'src> {

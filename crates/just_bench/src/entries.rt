@@ -1,5 +1,5 @@
 use just_data::Text;
-use just_parts::layers::{Entry, Groups};
+use just_run_layers::{Entry, Groups};
 use std::io;
 use std::io::Write;
 

@@ -3,7 +3,7 @@ ghost use Rattle.just_bench.specs.Promises.{EachIsPromised};
 
 use crate::recorder::Recorder;
 use just_bench_evaluation::PlainEvaluation;
-use just_parts::layers::{Evaluation, Host};
+use just_run_layers::{Evaluation, Host};
 
 /// The recorder and the plain evaluation promise that each question is done, whatever they were asked before. So each
 /// run of a bundle has promised answers. The call does nothing.

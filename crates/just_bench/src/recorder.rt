@@ -1,10 +1,10 @@
 //! A host that only records what it is asked.
 ghost use Rattle.std.specs.Prelude.{◌≡◌, [], Some};
-ghost use Rattle.just_parts.specs.declared.layers.host.Entry.{Entry};
-ghost use Rattle.just_parts.specs.Host.{Answer};
+ghost use Rattle.just_run_layers.specs.declared.host.Entry.{Entry};
+ghost use Rattle.just_run_layers.specs.Host.{Answer};
 
 use just_data::Sequence;
-use just_parts::layers::{Entry, Groups, Host};
+use just_run_layers::{Entry, Groups, Host};
 use just_paths::Modulepath;
 use std::alloc::{AllocError, Global};
 use std::marker::Model;
@@ -20,7 +20,7 @@ pub struct Recorder {
 
 impl Model for Recorder {
     ghost use Rattle.std.specs.Prelude.{List};
-    ghost use Rattle.just_parts.specs.declared.layers.host.Entry.{Entry};
+    ghost use Rattle.just_run_layers.specs.declared.host.Entry.{Entry};
 
     ghost Value = { List Entry };
 
@@ -73,7 +73,7 @@ impl Recorder {
 
 impl Host for Recorder {
     ghost use Rattle.std.specs.Prelude.{Some};
-    ghost use Rattle.just_parts.specs.Host.{Answer};
+    ghost use Rattle.just_run_layers.specs.Host.{Answer};
 
     ghost entries = { λ recorder. recorder };
 

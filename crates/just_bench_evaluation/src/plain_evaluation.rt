@@ -5,9 +5,10 @@ use crate::settings::settings_of;
 use crate::values::value_of;
 use just_data::{Sequence, Text};
 use just_parts::layers::{
-    Assignment, Error, Evaluation, Expression, Fault, FunctionDefinition, Name, Number, Parameter,
-    Scope, Set, Settings,
+    Assignment, ConstantEvaluation, Error, Expression, Fault, FunctionDefinition, Name, Number,
+    Parameter, Scope, Set, Settings,
 };
+use just_run_layers::Evaluation;
 use just_table::Table;
 use std::alloc::{AllocError, Global};
 use std::collections::{HashMap, HashSet};
@@ -19,12 +20,15 @@ pub struct PlainEvaluation;
 
 impl Evaluation for PlainEvaluation {
     ghost use Rattle.std.specs.Prelude.{Some, []};
-    ghost use Rattle.just_parts.specs.Host.{Answer};
-    ghost use Rattle.just_bench_evaluation.specs.Constants.{evaluator};
+    ghost use Rattle.just_run_layers.specs.Host.{Answer};
 
     ghost inquiries = { λ evaluation. [] };
 
     ghost promised = { λ evaluation inquiry. Some Answer.Done };
+}
+
+impl ConstantEvaluation for PlainEvaluation {
+    ghost use Rattle.just_bench_evaluation.specs.Constants.{evaluator};
 
     ghost answers = { λ evaluation. evaluator };
 

@@ -17,7 +17,7 @@ use just_module_headers::joined::arrange;
 use just_module_headers::module_names::check_module_names;
 use just_overrides::insert_all;
 use just_parts::layers::{
-    Ast, Config, Error, Evaluation, Given, Name, Number, StringLiteral, Syntax,
+    Ast, Config, ConstantEvaluation, Error, Given, Name, Number, StringLiteral, Syntax,
 };
 use just_paths::Modulepath;
 use std::alloc::{AllocError, Global};
@@ -38,7 +38,7 @@ fn literals<'src>(
 }
 
 // The justfile of the module of a key, under a label, and what it and the modules in it add.
-fn analyze_modules<'src, S: Syntax, E: Evaluation>(
+fn analyze_modules<'src, S: Syntax, E: ConstantEvaluation>(
     given: &Given<S, E>,
     asts: &HashMap<(Modulepath, Text), Ast<'src>>,
     loaded: &Shared<Sequence<Text>>,
@@ -89,7 +89,7 @@ impl Analyzer {
     /// `overrides`, each under the number of its variable; after an error `overrides` is as it was.
     ///
     /// `paths` leads from the clean path of each file to the one that is shown, and is not asked anything yet.
-    pub fn analyze<'src, S: Syntax, E: Evaluation>(
+    pub fn analyze<'src, S: Syntax, E: ConstantEvaluation>(
         alloc: Global,
         asts: &HashMap<(Modulepath, Text), Ast<'src>>,
         config: &Config,

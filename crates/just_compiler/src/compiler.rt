@@ -10,7 +10,7 @@ use crate::paths::relative_paths;
 use just_data::{Shared, Text};
 use just_loader::{Loaded, Sources, load};
 use just_overrides::apply_overrides;
-use just_parts::layers::{Config, Error, Evaluation, Name, Syntax};
+use just_parts::layers::{Config, ConstantEvaluation, Error, Name, Syntax};
 use just_paths::Modulepath;
 use std::alloc::Global;
 use std::collections::HashMap;
@@ -39,10 +39,11 @@ impl Compiler {
     /// The evaluation is asked for the constants of each module: the values of the variables that its settings need, and
     /// the docs, helps and patterns of its attributes, each with whatever it reads. A variable that the configuration
     /// overrides has that value, and its own is not evaluated. Then it is asked for the settings of each module, for the docs
-    /// of the modules that it declares, and for the docs, helps and patterns of its recipes that stand. At last each key by which the configuration overrides means a variable, also
-    /// through aliases of modules, or all that mean none are told. The compilation has the values that override variables,
-    /// by their numbers; of several keys that mean one variable the value of the last.
-    pub fn compile<'src, S: Syntax, E: Evaluation>(
+    /// of the modules that it declares, and for the docs, helps and patterns of its recipes that stand. At last each key by
+    /// which the configuration overrides means a variable, also through aliases of modules, or all that mean none are told.
+    /// The compilation has the values that override variables, by their numbers; of several keys that mean one variable the
+    /// value of the last.
+    pub fn compile<'src, S: Syntax, E: ConstantEvaluation>(
         alloc: Global,
         config: &Config,
         syntax: &S,

@@ -29,7 +29,7 @@ use just_justfile::{Justfile, Recipes};
 use just_module_contents::Label;
 use just_module_headers::files::Files;
 use just_module_headers::joined::Joined;
-use just_parts::layers::{Ast, Error, Evaluation, Given, Number, Syntax};
+use just_parts::layers::{Ast, ConstantEvaluation, Error, Given, Number, Syntax};
 use std::alloc::{AllocError, Global};
 
 /// What modules that are compiled add.
@@ -42,7 +42,7 @@ pub struct Gathered<'src> {
 }
 
 // What the module whose own file stands at a place has besides its recipes: it takes the modules in it, under these labels.
-fn surroundings_at<'a, 'src, S: Syntax, E: Evaluation>(
+fn surroundings_at<'a, 'src, S: Syntax, E: ConstantEvaluation>(
     given: &Given<S, E>,
     files: &Files<'src, 'a>,
     joined: &Joined,
@@ -78,7 +78,7 @@ fn surroundings_at<'a, 'src, S: Syntax, E: Evaluation>(
 
 // The justfile of a module that is checked, of which `ast` says its own file, and what is gathered: its recipes, and the
 // values that override its variables, are added.
-fn analyze_checked<'b, 'src, S: Syntax, E: Evaluation>(
+fn analyze_checked<'b, 'src, S: Syntax, E: ConstantEvaluation>(
     given: &Given<S, E>,
     ast: &Ast<'src>,
     mut checked: Checked<'src, 'b>,
@@ -131,7 +131,7 @@ fn analyze_checked<'b, 'src, S: Syntax, E: Evaluation>(
 }
 
 // Compiles the module whose own file stands at a place, from those in it, and adds what it adds to what is gathered.
-fn compile_place<'a, 'src, S: Syntax, E: Evaluation>(
+fn compile_place<'a, 'src, S: Syntax, E: ConstantEvaluation>(
     given: &Given<S, E>,
     files: &Files<'src, 'a>,
     joined: &Joined,
@@ -178,7 +178,7 @@ fn no_slots<'src>(alloc: Global, count: usize) -> Result<Vec<Option<Justfile<'sr
 
 /// Compiles the modules whose own files stand at the places of an order: the justfiles of those that stand in no other,
 /// without a name, and what all add, one module after another.
-pub fn compile_in_order<'a, 'src, S: Syntax, E: Evaluation>(
+pub fn compile_in_order<'a, 'src, S: Syntax, E: ConstantEvaluation>(
     given: &Given<S, E>,
     files: &Files<'src, 'a>,
     joined: &Joined,

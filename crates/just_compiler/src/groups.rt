@@ -46,7 +46,7 @@ use just_module_recipes::{Linked, default_of, resolve_aliases};
 use just_module_variables::{
     Constants, Variables, document, evaluate_constants, resolve_variables,
 };
-use just_parts::layers::{Ast, Error, Evaluation, Given, Syntax};
+use just_parts::layers::{Ast, ConstantEvaluation, Error, Given, Syntax};
 use just_paths::Modulepath;
 use just_recipe_names::Meanings;
 use just_recipe_resolver::{Resolving, recipe_keys, resolve_kept};
@@ -87,7 +87,7 @@ fn definitions_at<'b, 'a, 'src, S: Syntax>(
 
 // The variables and the functions, and the constants and the settings, of the module at a path. An error names a rule
 // that is broken in its headers, its names, its expressions or its constants.
-fn check_module<'src, 'a, S: Syntax, E: Evaluation>(
+fn check_module<'src, 'a, S: Syntax, E: ConstantEvaluation>(
     given: &Given<S, E>,
     definitions: &Definitions<'src, 'a>,
     path: &Modulepath,
@@ -116,7 +116,7 @@ fn check_module<'src, 'a, S: Syntax, E: Evaluation>(
 }
 
 // The labels of the modules that the files at places declare, with their docs evaluated.
-fn documented_at<'a, 'b, 'src, S: Syntax, E: Evaluation>(
+fn documented_at<'a, 'b, 'src, S: Syntax, E: ConstantEvaluation>(
     given: &Given<S, E>,
     files: &Files<'src, 'a>,
     places: &[usize],
@@ -148,7 +148,7 @@ fn documented_at<'a, 'b, 'src, S: Syntax, E: Evaluation>(
 
 /// Checks the module of these files at a path, up to the docs of the modules that it declares, and evaluates its
 /// constants and its settings, as the configuration overrides its variables. An error names a rule that is broken.
-pub fn check_files<'b, 'a, 'src, S: Syntax, E: Evaluation>(
+pub fn check_files<'b, 'a, 'src, S: Syntax, E: ConstantEvaluation>(
     given: &Given<S, E>,
     files: &'b Files<'src, 'a>,
     path: &Modulepath,
@@ -183,7 +183,7 @@ pub fn check_files<'b, 'a, 'src, S: Syntax, E: Evaluation>(
 // Links the recipes of a checked module at a path that are kept, under its settings, with what names mean in it and with what
 // is evaluated of it, over what is around them. An error tells a rule that is broken in its bodies, or where these are kept
 // of its dependencies or of one of its recipes that stands.
-fn link_recipes<'src, 'a, S: Syntax, E: Evaluation>(
+fn link_recipes<'src, 'a, S: Syntax, E: ConstantEvaluation>(
     given: &Given<S, E>,
     checked: &Checked<'src, 'a>,
     path: &Modulepath,
@@ -242,7 +242,7 @@ fn link_recipes<'src, 'a, S: Syntax, E: Evaluation>(
 /// that are kept over what is around them: those that stand are completed and put behind the recipes that are resolved so
 /// far. It answers what its justfile has of them, with its aliases, and all recipes. An error names a rule that is broken, or
 /// a pattern that is past the limits of regular expressions; the recipes are dropped then.
-pub fn add_recipes<'src, 'a, S: Syntax, E: Evaluation>(
+pub fn add_recipes<'src, 'a, S: Syntax, E: ConstantEvaluation>(
     given: &Given<S, E>,
     checked: &Checked<'src, 'a>,
     ast: &Ast<'src>,

@@ -50,7 +50,7 @@ pub struct Surroundings<'src> {
 pub struct OwnRecipes<'src, 'a> {
     /// Other names for them, and for the modules.
     pub aliases: Aliases<'src>,
-    /// The one that is run without words.
+    /// The one that is run by default.
     pub default: Option<Number>,
     /// Those that something disables, by their names.
     pub disabled: Table<'src, Disabled<'src>>,

@@ -3,7 +3,7 @@ use just_bench::{Recorder, parse, root_source};
 use just_bench_syntax::PlainSyntax;
 use just_data::{Sequence, Text};
 use just_examples_format::faults::add_fault;
-use just_parts::layers::{Groups, Host};
+use just_run_layers::{Groups, Host};
 use just_paths::Modulepath;
 use std::alloc::{AllocError, Global};
 

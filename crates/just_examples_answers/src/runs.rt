@@ -8,7 +8,8 @@ use just_examples_format::faults::add_fault;
 use just_examples_format::lists::{add_group, add_list, before};
 use just_invoke::{Invocation, InvocationParser};
 use just_justfile::{Justfile, Recipes};
-use just_parts::layers::{Config, Entry, Groups, Number};
+use just_parts::layers::{Config, Number};
+use just_run_layers::{Entry, Groups};
 use std::alloc::{AllocError, Global};
 use std::collections::HashMap;
 

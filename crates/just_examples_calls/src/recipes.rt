@@ -130,7 +130,7 @@ fn add_grouped(
     Ok(())
 }
 
-// Adds whether it can be run without words.
+// Adds whether it can be run by default.
 fn add_default(recipe: &UnresolvedRecipe, text: &mut String) -> Result<(), AllocError> {
     match recipe.check_can_be_default_recipe() {
         Ok(()) => text.push_str("can be the default\n"),

@@ -9,12 +9,12 @@ use Rattle.just_paths.specs.declared.modulepath.Modulepath.{Modulepath}
 use Rattle.just_recipe.specs.declared.dependency.Dependency.{Dependency}
 use Rattle.just_errors.specs.declared.halt.Halt.{Halt}
 use Rattle.just_errors.specs.declared.halt.Halt.TheVariants.{Memory, Exhausted, Failed}
-use Rattle.just_parts.specs.declared.layers.host.Entry.{Entry}
-use Rattle.just_parts.specs.declared.layers.host.Entry.TheVariants.{Begin}
+use Rattle.just_run_layers.specs.declared.host.Entry.{Entry}
+use Rattle.just_run_layers.specs.declared.host.Entry.TheVariants.{Begin}
 use Rattle.just_recipe.specs.declared.recipe.Recipe.{Recipe}
-use Rattle.just_parts.specs.Host.{Answer, Executed, executed}
-use Rattle.just_parts.specs.Steps.{Kept, executed_in, Question, Steps, Give, and_then, Took}
-use Rattle.just_parts.proofs.StepLemmas.{took-split}
+use Rattle.just_run_layers.specs.Host.{Answer, Executed, executed}
+use Rattle.just_run_layers.specs.Steps.{Kept, executed_in, Question, Steps, Give, and_then, Took}
+use Rattle.just_run_layers.proofs.StepLemmas.{took-split}
 use Rattle.just_execution.specs.declared.pair.Pair.{Pair}
 use Rattle.just_execution.specs.Account.{Asked, OnceTables, Empty, Asks, Runs, own, executions, AreIn, AreNamed, Complete, counts, HasAccount, Tells, of_recipe, at_path}
 use Rattle.just_execution.specs.Firsts.{has}

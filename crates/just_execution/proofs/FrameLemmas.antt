@@ -3,8 +3,8 @@ use Rattle.std.proofs.Common.{◌≡◌, ◌≢◌, ℕ, zero, suc, ◌<◌, tru
 use Rattle.std.proofs.lemmas.Bool.{cond-true, cond-false}
 use Rattle.std.proofs.lemmas.List.Elements.{All-head, All-tail}
 use Rattle.just_errors.specs.declared.halt.Halt.TheVariants.{Exhausted}
-use Rattle.just_parts.specs.Steps.{Steps, Give, Fail, and_then}
-use Rattle.just_parts.proofs.StepLemmas.{then-assoc, then-give, then-each, then-same}
+use Rattle.just_run_layers.specs.Steps.{Steps, Give, Fail, and_then}
+use Rattle.just_run_layers.proofs.StepLemmas.{then-assoc, then-give, then-each, then-same}
 use Rattle.just_execution.specs.declared.frame.Frame.{Frame}
 use Rattle.just_execution.specs.declared.frame.Frame.TheVariants.{Call, Block, Back}
 use Rattle.just_execution.specs.declared.frame.OpenTable.{OpenTable}

@@ -4,9 +4,9 @@ use Rattle.std.specs.Prelude.{Result, IsErrAnd}
 use Rattle.std.proofs.lemmas.Bool.{cond-true, cond-false, ne_eqb}
 use Rattle.just_errors.specs.declared.halt.Halt.{Halt}
 use Rattle.just_errors.specs.declared.halt.Halt.TheVariants.{Memory, Exhausted}
-use Rattle.just_parts.specs.Host.{Answer, KeepsPromises}
-use Rattle.just_parts.specs.Steps.{Kept, Question, Steps, Give, Fail, and_then, Took}
-use Rattle.just_parts.proofs.StepLemmas.{keeps-self, took-out, took-stop, took-then, took-kept}
+use Rattle.just_run_layers.specs.Host.{Answer, KeepsPromises}
+use Rattle.just_run_layers.specs.Steps.{Kept, Question, Steps, Give, Fail, and_then, Took}
+use Rattle.just_run_layers.proofs.StepLemmas.{keeps-self, took-out, took-stop, took-then, took-kept}
 use Rattle.just_execution.specs.declared.frame.Frame.{Frame}
 use Rattle.just_execution.specs.declared.frame.Frame.TheVariants.{Call, Block}
 use Rattle.just_execution.specs.Frames.{walk_at, with_calls, left, calls_of, Goes, with_value}

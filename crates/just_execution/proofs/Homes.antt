@@ -18,14 +18,14 @@ use Rattle.just_recipe.specs.declared.dependency.Dependency.{Dependency}
 use Rattle.just_recipe.specs.declared.dependency.DependencyArgument.{DependencyArgument}
 use Rattle.just_recipe.specs.declared.recipe.Recipe.{Recipe}
 use Rattle.just_recipe.specs.Recipes.{IsOrdered}
-use Rattle.just_parts.specs.Evaluation.{Inquiry}
+use Rattle.just_run_layers.specs.Evaluation.{Inquiry}
 use Rattle.just_parts.specs.Evaluator.{values_of}
 use Rattle.just_parts.specs.Scopes.{Scoped, attribute_expressions, compiled_expressions, environment_expressions, inner_expressions, is_parameter, line_expressions, of_attributes, parameter_scopes, read_lines, scoped, scopes_of}
 use Rattle.just_parts.specs.Syntax.{SyntaxAnswers}
 use Rattle.just_parts.specs.Known.{Known, none_hidden, sources}
-use Rattle.just_parts.specs.Host.{Answer}
-use Rattle.just_parts.specs.Steps.{both, kept_by}
-use Rattle.just_parts.proofs.StepLemmas.{took-gives}
+use Rattle.just_run_layers.specs.Host.{Answer}
+use Rattle.just_run_layers.specs.Steps.{both, kept_by}
+use Rattle.just_run_layers.proofs.StepLemmas.{took-gives}
 use Rattle.just_execution.specs.Homes.{AreHome, IsAmong, IsCallable, HasValues, IsHome, Modules, arguments_of}
 use Rattle.just_execution.specs.Leaves.{AsksAlone, ask_steps, follow_steps}
 use Rattle.just_execution.specs.Pairs.{AllBelow, at_place, needed, place_of, prior_dependencies, subsequent_dependencies, task_of}

@@ -2,11 +2,11 @@
 use Rattle.std.proofs.Common.{◌≡◌, ℕ, zero, suc, List, [], ◌∷◌, Option, None, Result, Ok, map, refl, subst}
 use Rattle.just_recipe.specs.declared.dependency.Dependency.{Dependency}
 use Rattle.just_recipe.specs.declared.recipe.Recipe.{Recipe}
-use Rattle.just_parts.specs.Evaluation.{Inquiry}
-use Rattle.just_parts.specs.Host.{Answer}
+use Rattle.just_run_layers.specs.Evaluation.{Inquiry}
+use Rattle.just_run_layers.specs.Host.{Answer}
 use Rattle.just_errors.specs.declared.halt.Halt.{Halt}
-use Rattle.just_parts.specs.Steps.{Give, Question, both, kept_by}
-use Rattle.just_parts.proofs.StepLemmas.{took-gives}
+use Rattle.just_run_layers.specs.Steps.{Give, Question, both, kept_by}
+use Rattle.just_run_layers.proofs.StepLemmas.{took-gives}
 use Rattle.just_execution.specs.Expansion.{Part, Ask, Block}
 use Rattle.just_execution.specs.Leaves.{AsksAlone, ask_steps, follow_steps, leaves_of}
 use Rattle.just_execution.specs.Lower.{IsLower}

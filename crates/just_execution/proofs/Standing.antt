@@ -9,8 +9,8 @@ use Rattle.just_recipe.specs.declared.dependency.Dependency.{Dependency}
 use Rattle.just_errors.specs.declared.halt.Halt.{Halt}
 use Rattle.just_errors.specs.declared.halt.Halt.TheVariants.{Memory, Exhausted}
 use Rattle.just_recipe.specs.declared.recipe.Recipe.{Recipe}
-use Rattle.just_parts.specs.Host.{Answer}
-use Rattle.just_parts.specs.Steps.{Kept, executed_in, Question, Steps, Give, Fail, and_then, Took}
+use Rattle.just_run_layers.specs.Host.{Answer}
+use Rattle.just_run_layers.specs.Steps.{Kept, executed_in, Question, Steps, Give, Fail, and_then, Took}
 use Rattle.just_execution.specs.declared.pair.Pair.{Pair}
 use Rattle.just_execution.specs.Account.{Asked, OnceTables, Empty, Asks, Runs, own, begun, executions, AreIn, known, AreNamed, AskFits, RunFits, Fits, Complete, prior_count, asked_count, counts_below, counts, IsFullBelow, IsFull}
 use Rattle.just_execution.specs.Firsts.{has}

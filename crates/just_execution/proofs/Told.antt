@@ -4,9 +4,9 @@ use Rattle.std.specs.Prelude.{Result}
 use Rattle.std.proofs.lemmas.List.{append-nil}
 use Rattle.just_errors.specs.declared.halt.Halt.{Halt}
 use Rattle.just_errors.specs.declared.halt.Halt.TheVariants.{Memory, Exhausted}
-use Rattle.just_parts.specs.Host.{Answer}
-use Rattle.just_parts.specs.Steps.{Kept, Question, Steps, Give, Fail, Asks, and_then, Gives, Took, path, outcome, IsSteady, after_all, Follows}
-use Rattle.just_parts.proofs.StepLemmas.{then-assoc, took-steady}
+use Rattle.just_run_layers.specs.Host.{Answer}
+use Rattle.just_run_layers.specs.Steps.{Kept, Question, Steps, Give, Fail, Asks, and_then, Gives, Took, path, outcome, IsSteady, after_all, Follows}
+use Rattle.just_run_layers.proofs.StepLemmas.{then-assoc, took-steady}
 use Rattle.just_errors.specs.Halts.{without}
 use Rattle.just_execution.specs.Run.{in_turn}
 

@@ -5,9 +5,9 @@ use Rattle.std.proofs.lemmas.Bool.{true≢false}
 use Rattle.std.proofs.lemmas.List.{append-nil, map-append}
 use Rattle.std.proofs.lemmas.List.Elements.{All-cons, All-head, All-nil, All-tail}
 use Rattle.just_errors.specs.declared.halt.Halt.TheVariants.{Exhausted}
-use Rattle.just_parts.specs.Host.{Answer}
-use Rattle.just_parts.specs.Steps.{Question, Steps, Give, Fail, and_then, Gives, path, outcome}
-use Rattle.just_parts.proofs.StepLemmas.{then-assoc, then-give}
+use Rattle.just_run_layers.specs.Host.{Answer}
+use Rattle.just_run_layers.specs.Steps.{Question, Steps, Give, Fail, and_then, Gives, path, outcome}
+use Rattle.just_run_layers.proofs.StepLemmas.{then-assoc, then-give}
 use Rattle.just_execution.specs.declared.pair.Pair.{Pair}
 use Rattle.just_execution.specs.Expansion.{Part, Ask, Block, part_key}
 use Rattle.just_execution.specs.Firsts.{has}

@@ -3,9 +3,9 @@ use Rattle.std.proofs.Common.{◌≡◌, ℕ, zero, suc, ◌<◌, ◌≤◌, Boo
 use Rattle.std.specs.Prelude.{flat_map, Result}
 use Rattle.std.proofs.lemmas.Bool.{cases_Bool, cond-true, cond-false}
 use Rattle.just_errors.specs.declared.halt.Halt.{Halt}
-use Rattle.just_parts.specs.Host.{Answer}
-use Rattle.just_parts.specs.Steps.{Question, Steps, and_then, Gives, outcome}
-use Rattle.just_parts.proofs.StepLemmas.{then-each}
+use Rattle.just_run_layers.specs.Host.{Answer}
+use Rattle.just_run_layers.specs.Steps.{Question, Steps, and_then, Gives, outcome}
+use Rattle.just_run_layers.proofs.StepLemmas.{then-each}
 use Rattle.just_execution.specs.declared.pair.Pair.{Pair}
 use Rattle.just_execution.specs.Expansion.{Part, Ask, Block, same_part, part_key, expansion}
 use Rattle.just_execution.specs.Firsts.{has, without_key, firsts_by}

@@ -3,12 +3,12 @@ use Rattle.std.specs.Prelude.{◌≡◌, ◌≤◌, ◌^◌, ℕ, ◌+◌, true,
 use Rattle.std.specs.List.{All, slice_get}
 use Rattle.just_graph.specs.Members.{In}
 use Rattle.just_paths.specs.declared.modulepath.Modulepath.{Modulepath}
-use Rattle.just_parts.specs.Steps.{Kept, executed_in}
+use Rattle.just_run_layers.specs.Steps.{Kept, executed_in}
 use Rattle.just_recipe.specs.declared.dependency.Dependency.{Dependency}
 use Rattle.just_errors.specs.declared.halt.Halt.{Halt}
 use Rattle.just_errors.specs.declared.halt.Halt.TheVariants.{Memory, Exhausted, Failed}
 use Rattle.just_recipe.specs.declared.recipe.Recipe.{Recipe}
-use Rattle.just_parts.specs.Host.{Executed}
+use Rattle.just_run_layers.specs.Host.{Executed}
 use Rattle.just_execution.specs.declared.pair.Pair.{Pair}
 use Rattle.just_execution.specs.Firsts.{has}
 use Rattle.just_execution.specs.declared.task.Task.{Task}

@@ -1,6 +1,6 @@
 -- The tasks that a task leads to stand at lower places.
 use Rattle.std.specs.Prelude.{List}
-use Rattle.just_parts.specs.Steps.{Gives}
+use Rattle.just_run_layers.specs.Steps.{Gives}
 use Rattle.just_execution.specs.declared.task.Task.{Task}
 use Rattle.just_execution.specs.Pairs.{AllBelow}
 use Rattle.just_execution.specs.Walking.{Leaves}

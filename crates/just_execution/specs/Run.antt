@@ -1,8 +1,8 @@
 -- The expected run: the first occurrences of the unshared expansion.
 use Rattle.std.specs.Prelude.{◌≡◌, ℕ, zero, suc, true, false, List, [], ◌∷◌, map, flat_map, Result, Ok, Err}
 use Rattle.just_errors.specs.declared.halt.Halt.{Halt}
-use Rattle.just_parts.specs.Host.{Answer}
-use Rattle.just_parts.specs.Steps.{Question, Steps, Give, and_then, outcome}
+use Rattle.just_run_layers.specs.Host.{Answer}
+use Rattle.just_run_layers.specs.Steps.{Question, Steps, Give, and_then, outcome}
 use Rattle.just_execution.specs.Expansion.{Part, Ask, Block, same_part, part_key, expansion}
 use Rattle.just_execution.specs.Firsts.{firsts_by}
 use Rattle.just_execution.specs.declared.task.Task.{Task}

@@ -1,7 +1,7 @@
 -- What a run asks, step by step, as it goes: it skips the pairs of a table, and counts its calls.
 use Rattle.std.specs.Prelude.{◌==◌, ◌^◌, ◌+◌, ℕ, zero, suc, cond, List, [], ◌∷◌, ◌++◌, length, get_or}
 use Rattle.just_errors.specs.declared.halt.Halt.TheVariants.{Exhausted}
-use Rattle.just_parts.specs.Steps.{Steps, Give, Fail, and_then}
+use Rattle.just_run_layers.specs.Steps.{Steps, Give, Fail, and_then}
 use Rattle.just_execution.specs.declared.task.Task.{Task}
 use Rattle.just_execution.specs.Pairs.{OnceTable, none, put}
 

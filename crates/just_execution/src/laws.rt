@@ -2,10 +2,10 @@
 ghost use Rattle.std.specs.Prelude.{◌≤◌, ℕ, List, Result, Err, length};
 ghost use Rattle.just_recipe.specs.declared.dependency.Dependency.{Dependency};
 ghost use Rattle.just_errors.specs.declared.halt.Halt.{Halt};
-ghost use Rattle.just_parts.specs.declared.layers.host.Entry.{Entry};
+ghost use Rattle.just_run_layers.specs.declared.host.Entry.{Entry};
 ghost use Rattle.just_recipe.specs.declared.recipe.Recipe.{Recipe};
-ghost use Rattle.just_parts.specs.Host.{Answer};
-ghost use Rattle.just_parts.specs.Steps.{Question, Follows};
+ghost use Rattle.just_run_layers.specs.Host.{Answer};
+ghost use Rattle.just_run_layers.specs.Steps.{Question, Follows};
 ghost use Rattle.just_execution.specs.declared.task.Task.{Task};
 ghost use Rattle.just_execution.specs.Leaves.{leaves_of};
 ghost use Rattle.just_recipe.specs.Recipes.{IsOrdered};

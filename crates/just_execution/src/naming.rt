@@ -10,7 +10,8 @@ use crate::recipes::Recipes;
 use crate::task::Task;
 use just_data::Sequence;
 use just_parts::Dependency;
-use just_parts::layers::{Groups, Parameter};
+use just_parts::layers::Parameter;
+use just_run_layers::Groups;
 use std::alloc::{AllocError, Global};
 
 // An empty group for each parameter.

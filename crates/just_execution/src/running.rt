@@ -1,8 +1,8 @@
 //! The run of tasks: each pair once under a table, after its priors.
 ghost use Rattle.std.specs.Prelude.{◌<◌, OnOk, length, map};
 ghost use Rattle.std.specs.List.{All, Contains};
-ghost use Rattle.just_parts.specs.Host.{KeepsPromises};
-ghost use Rattle.just_parts.specs.Steps.{Give, kept_by};
+ghost use Rattle.just_run_layers.specs.Host.{KeepsPromises};
+ghost use Rattle.just_run_layers.specs.Steps.{Give, kept_by};
 ghost use Rattle.just_execution.specs.Frames.{Blocks, Calls, Finishes, IsLighter, IsOpen, IsSound, Leads, items_of};
 ghost use Rattle.just_execution.specs.Homes.{AreHome, IsCallable, IsHomeAt};
 ghost use Rattle.just_execution.specs.Leaves.{AsksAlone, Executes};
@@ -18,7 +18,8 @@ use crate::recipes::Recipes;
 use crate::scopes::{ModuleScope, Scopes, module_of};
 use crate::task::Task;
 use just_parts::Dependency;
-use just_parts::layers::{Evaluation, Halt, Host, Syntax};
+use just_parts::layers::{Halt, Syntax};
+use just_run_layers::{Evaluation, Host};
 use std::alloc::Global;
 
 /// How often a recipe was called under each once table, in the order of opening.

@@ -2,7 +2,8 @@
 ghost use Rattle.just_execution.specs.Homes.{IsHome, IsHomeOf};
 
 use just_parts::Recipe;
-use just_parts::layers::{Context, Scope, Syntax};
+use just_parts::layers::{Scope, Syntax};
+use just_run_layers::Context;
 use just_paths::Modulepath;
 use std::collections::HashMap;
 

@@ -2,8 +2,8 @@
 use Rattle.std.proofs.Common.{◌≡◌, ◌≤◌, ◌<◌, ℕ, true, List, [], length, Option, Ok, Err, IfSome, refl, sym, ◌∙◌, ap, subst, inl, inr, arith}
 use Rattle.std.specs.Prelude.{IsErrAnd, Result}
 use Rattle.std.proofs.lemmas.Bool.{true≢false}
-use Rattle.just_parts.proofs.StepLemmas.{after-none}
-use Rattle.just_parts.specs.Steps.{Kept}
+use Rattle.just_run_layers.proofs.StepLemmas.{after-none}
+use Rattle.just_run_layers.specs.Steps.{Kept}
 use Rattle.just_recipe.specs.declared.dependency.Dependency.{Dependency}
 use Rattle.just_parts.specs.declared.layers.config.Config.{Config}
 use Rattle.just_errors.specs.declared.error.Error.{Error}
@@ -11,11 +11,11 @@ use Rattle.just_errors.specs.declared.error.Error.TheVariants.{Load, Compile, In
 use Rattle.just_errors.specs.declared.error.RunError.TheVariants.{ExcessInvocations}
 use Rattle.just_errors.specs.declared.halt.Halt.{Halt}
 use Rattle.just_errors.specs.declared.halt.Halt.TheVariants as halt
-use Rattle.just_parts.specs.declared.layers.host.Entry.{Entry}
+use Rattle.just_run_layers.specs.declared.host.Entry.{Entry}
 use Rattle.just_recipe.specs.declared.recipe.Recipe.{Recipe}
-use Rattle.just_parts.specs.Evaluation.{Inquiry}
+use Rattle.just_run_layers.specs.Evaluation.{Inquiry}
 use Rattle.just_errors.specs.Halts.{come_to}
-use Rattle.just_parts.specs.Host.{Answer}
+use Rattle.just_run_layers.specs.Host.{Answer}
 use Rattle.just_execution.specs.declared.running.Report.{Report}
 use Rattle.just_execution.specs.Reports.{IsAsExpected}
 use Rattle.just_execution.specs.Unready.{IsUnready, AreReady}

@@ -1,17 +1,17 @@
 -- What a run of command words comes to.
 use Rattle.std.specs.Prelude.{◌≡◌, ◌<◌, ◌≤◌, ℕ, Bool, true, false, List, ◌∷◌, map, length, Option, Some, Result, Err}
-use Rattle.just_parts.specs.Steps.{Kept}
+use Rattle.just_run_layers.specs.Steps.{Kept}
 use Rattle.just_recipe.specs.declared.dependency.Dependency.{Dependency}
 use Rattle.just_parts.specs.declared.layers.config.Config.{Config}
 use Rattle.just_errors.specs.declared.error.Error.{Error}
 use Rattle.just_errors.specs.declared.error.Error.TheVariants.{Run, Memory}
 use Rattle.just_errors.specs.declared.error.RunError.TheVariants.{ExcessInvocations, NotYet}
 use Rattle.just_errors.specs.declared.halt.Halt.{Halt}
-use Rattle.just_parts.specs.declared.layers.host.Entry.{Entry}
+use Rattle.just_run_layers.specs.declared.host.Entry.{Entry}
 use Rattle.just_recipe.specs.declared.recipe.Recipe.{Recipe}
 use Rattle.just_errors.specs.Halts.{come_to}
-use Rattle.just_parts.specs.Evaluation.{Inquiry}
-use Rattle.just_parts.specs.Host.{Answer}
+use Rattle.just_run_layers.specs.Evaluation.{Inquiry}
+use Rattle.just_run_layers.specs.Host.{Answer}
 use Rattle.just_execution.specs.declared.running.Report.{Report}
 use Rattle.just_execution.specs.declared.task.Task.{Task}
 use Rattle.just_execution.specs.Pairs.{task, place_of}

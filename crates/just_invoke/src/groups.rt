@@ -2,7 +2,7 @@
 ghost use Rattle.std.specs.Prelude.{◌≡◌, map, IfOk};
 
 use just_data::{Sequence, Text};
-use just_parts::layers::Groups;
+use just_run_layers::Groups;
 use std::alloc::{AllocError, Global};
 
 // The texts of words.

@@ -17,7 +17,7 @@ use just_data::BorrowedText;
 use just_execution::Recipes;
 use just_justfile::Justfile;
 use just_parts::Recipe;
-use just_parts::layers::{Error, Evaluation, InvocationError};
+use just_parts::layers::{ConstantEvaluation, Error, InvocationError};
 use just_tail::{Tail, TailError, take_arguments};
 use std::alloc::Global;
 
@@ -33,7 +33,7 @@ impl InvocationParser {
     /// An error is `Memory`, or says why the first invocation that cannot be read is none. Nothing is changed either way.
     ///
     /// The names of the modules in the root rise in byte order, in each module (those of a compilation do).
-    pub fn parse_invocations<'run, 'src, 'words, E: Evaluation>(
+    pub fn parse_invocations<'run, 'src, 'words, E: ConstantEvaluation>(
         alloc: Global,
         root: &'run Justfile<'src>,
         recipes: &'run Recipes<'src>,
@@ -97,7 +97,7 @@ fn rejected<'src>(recipe: &Recipe<'src>, error: TailError<'src>) -> Error<'src>
 }
 
 // The arguments of a recipe with which the words begin.
-fn take_tail<'src, 'words, E: Evaluation>(
+fn take_tail<'src, 'words, E: ConstantEvaluation>(
     alloc: Global,
     evaluation: &E,
     recipe: &Recipe<'src>,
@@ -117,7 +117,7 @@ fn take_tail<'src, 'words, E: Evaluation>(
 }
 
 // The invocation with which the words begin, and how many words it takes.
-fn parse_invocation<'run, 'src, 'words, E: Evaluation>(
+fn parse_invocation<'run, 'src, 'words, E: ConstantEvaluation>(
     alloc: Global,
     root: &'run Justfile<'src>,
     recipes: &'run Recipes<'src>,
@@ -150,7 +150,7 @@ fn parse_invocation<'run, 'src, 'words, E: Evaluation>(
 }
 
 // The one invocation that no words are.
-fn parse_none<'run, 'src, 'words, E: Evaluation>(
+fn parse_none<'run, 'src, 'words, E: ConstantEvaluation>(
     alloc: Global,
     root: &'run Justfile<'src>,
     recipes: &'run Recipes<'src>,
@@ -174,7 +174,7 @@ fn parse_none<'run, 'src, 'words, E: Evaluation>(
 }
 
 // The invocations that some words are.
-fn parse_some<'run, 'src, 'words, E: Evaluation>(
+fn parse_some<'run, 'src, 'words, E: ConstantEvaluation>(
     alloc: Global,
     root: &'run Justfile<'src>,
     recipes: &'run Recipes<'src>,

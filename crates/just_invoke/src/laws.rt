@@ -1,8 +1,8 @@
 //! Laws: calls that do nothing, whose contracts say what definitions keep.
 ghost use Rattle.std.specs.Prelude.{◌≡◌, ◌≢◌, ◌<◌, ◌⊎◌, List, [], length, IsUtf8};
 ghost use Rattle.std.specs.List.{All, AllByRecursion};
-ghost use Rattle.just_parts.specs.Host.{Answer, KeepsPromises};
-ghost use Rattle.just_parts.specs.Steps.{Question, IsSteady};
+ghost use Rattle.just_run_layers.specs.Host.{Answer, KeepsPromises};
+ghost use Rattle.just_run_layers.specs.Steps.{Question, IsSteady};
 ghost use Rattle.just_invoke.specs.Cause.{Cause};
 ghost use Rattle.just_tail.specs.Words.{Words};
 ghost use Rattle.just_justfile.specs.Closed.{Held, IsHeld};

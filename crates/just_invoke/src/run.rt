@@ -8,7 +8,8 @@ use crate::variables::check_variables;
 use just_data::Text;
 use just_execution::{Recipes, Report};
 use just_justfile::Justfile;
-use just_parts::layers::{Config, Error, Evaluation, Host, Number, Output, RunError, Syntax};
+use just_parts::layers::{Config, Error, Number, Output, RunError, Syntax};
+use just_run_layers::{Evaluation, Host};
 use std::alloc::Global;
 use std::collections::HashMap;
 
@@ -16,8 +17,8 @@ use std::collections::HashMap;
 pub trait Run<'src> {
     ghost use Rattle.std.specs.Prelude.{◌≡◌};
     ghost use Rattle.just_parts.specs.Evaluator.{count_fault_of};
-    ghost use Rattle.just_parts.specs.Host.{KeepsPromises};
-    ghost use Rattle.just_parts.specs.Steps.{kept_by};
+    ghost use Rattle.just_run_layers.specs.Host.{KeepsPromises};
+    ghost use Rattle.just_run_layers.specs.Steps.{kept_by};
     ghost use Rattle.just_names.specs.Texts.{texts};
     ghost use Rattle.just_justfile.specs.Closed.{IsRooted};
     ghost use Rattle.just_invoke.specs.Outcome.{IsExpected, IsOutcome};

@@ -1,7 +1,7 @@
 ghost use Rattle.std.specs.List.{All};
-ghost use Rattle.just_parts.specs.Host.{KeepsPromises};
+ghost use Rattle.just_run_layers.specs.Host.{KeepsPromises};
 ghost use Rattle.just_recipe.specs.Recipes.{IsResolved};
-ghost use Rattle.just_parts.specs.Steps.{kept_by};
+ghost use Rattle.just_run_layers.specs.Steps.{kept_by};
 ghost use Rattle.just_invoke.specs.declared.invocation.Invocation.{Invocation};
 ghost use Rattle.just_execution.specs.Homes.{IsAmong};
 ghost use Rattle.just_justfile.specs.Closed.{IsHeld};
@@ -10,7 +10,8 @@ ghost use Rattle.just_invoke.specs.Going.{ComesTo};
 use crate::invocation::Invocation;
 use crate::naming::name_tops;
 use just_execution::{Recipes, Report, Scopes, find_unready, run_tasks};
-use just_parts::layers::{Error, Evaluation, Host, RunError, Syntax};
+use just_parts::layers::{Error, RunError, Syntax};
+use just_run_layers::{Evaluation, Host};
 use std::alloc::Global;
 
 /// Runs the invocations under one once table, each recipe in its module. Where a recipe that they lead to cannot be run

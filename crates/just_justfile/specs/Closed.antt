@@ -55,7 +55,7 @@ abbrev pub recipe_of_number : List (Recipe Dependency) → Option Number → Opt
 recipe_of_number recipes None = None
 recipe_of_number recipes (Some number) = find_number recipes number.0
 
--- the recipe that is run without words
+-- the recipe that is run by default
 abbrev pub default_recipe : Justfile → List (Recipe Dependency) → Option (Recipe Dependency)
 default_recipe justfile recipes = recipe_of_number recipes (out-Justfile justfile).default
 
@@ -125,7 +125,7 @@ AreModulesIn root modules = (j : Justfile) → Contains modules j ↔ StandsIn r
 abbrev pub IsPlaced : Justfile → Recipe Dependency → Type 0
 IsPlaced root r = (j : Justfile) × StandsIn root j × (r.module_path ≡ Some (out-Justfile j).module_path)
 
--- The root with the held recipes: it and all modules below it are closed, and each of them is that of a module that stands in it.
+-- The root with the held recipes: it and all modules below it are closed, and each held recipe is one of a module that stands in it.
 pub record IsRooted (root : Justfile) (recipes : List (Recipe Dependency)) : Type 0 where
   pub closed : AreClosed recipes root
   pub placed : All (IsPlaced root) recipes

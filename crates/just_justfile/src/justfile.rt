@@ -49,7 +49,7 @@ pub struct Justfile<'src> {
     /// The variables of the module, by their names: of several of one name the one that is kept. Each variable in their
     /// values has the number of what it means.
     pub assignments: Table<'src, Assignment<'src>>,
-    /// The recipe that is run without words.
+    /// The recipe that is run by default.
     pub default: Option<Number>,
     /// The recipes that are not there, since what they depend on lies in optional modules without a file, by their names.
     pub disabled_recipes: Table<'src, Disabled<'src>>,

@@ -1,4 +1,4 @@
--- The recipes that are run without words, and their rule.
+-- The recipes that are run by default, and their rule.
 use Rattle.std.specs.Prelude.{◌≡◌, ◌≢◌, ◌⊎◌, ℕ, ◌<◌, ◌≤◌, Bool, true, false, List, length, Option, None, Some}
 use Rattle.std.specs.Cmp.Lexicographic.{slice_cmp}
 use Rattle.std.specs.List.{Contains, list_any}
@@ -16,7 +16,7 @@ use Rattle.just_module_contents.specs.Recipes.{line_of, name_of, recipe_at, toke
 use Rattle.just_module_contents.specs.Resolved.{number_at, unresolved_numbers}
 use Rattle.just_names.specs.declared.number.Number.{Number}
 
--- the attribute says that it is run without words
+-- the attribute says that it is run by default
 abbrev pub says_default : {E : Type 0} → Attribute E → Bool
 says_default attribute.Default = true
 says_default _ = false
@@ -77,7 +77,7 @@ IsDefaultOf resolved own (Some number) = (place : ℕ) × IsDefault resolved own
 abbrev pub IsMarked : List (Recipe UnresolvedDependency) → Option Number → Type 0
 IsMarked recipes default = (k : ℕ) → k < length recipes → is_marked (recipe_at recipes k) ≡ true → option_map (λ (n : Number). n.0) default ≡ Some (number_at recipes k)
 
--- Which of these recipes is run without words: the one with the attribute `default`, or where none has it one of the own file, of those with these numbers.
+-- Which of these recipes is run by default: the one with the attribute `default`, or where none has it one of the own file, of those with these numbers.
 pub record IsDefaultBy (recipes : List (Recipe UnresolvedDependency)) (resolved : List ℕ) (own : List (Recipe UnresolvedDependency)) (default : Option Number) : Type 0 where
   pub marked : IsMarked recipes default
   pub unmarked : NoneMarked recipes → IsDefaultOf resolved own default

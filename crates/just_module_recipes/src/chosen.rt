@@ -1,4 +1,4 @@
-//! Which recipe of a module is run without words.
+//! Which recipe of a module is run by default.
 
 ghost use Rattle.std.specs.Prelude.{◌≡◌, ◌<◌, false, IsTrue, IfErr, IfOk, IfSome, OnOk, Some, length};
 ghost use Rattle.just_errors.specs.Causes.{Keeps, Reports};
@@ -58,7 +58,7 @@ fn default_place<'a, 'src>(own: &Definitions<'src, 'a>, resolved: &Recipes<'src>
     best
 }
 
-// The number of the recipe that is run without words where none is marked: one that the module's own file has, of those
+// The number of the recipe that is run by default where none is marked: one that the module's own file has, of those
 // that are resolved.
 fn own_default<'src, S: Syntax>(
     alloc: Global,
@@ -76,7 +76,7 @@ fn own_default<'src, S: Syntax>(
     }
 }
 
-/// The number of the recipe that is run without words: of those that are kept the one with the attribute `default`, or
+/// The number of the recipe that is run by default: of those that are kept the one with the attribute `default`, or
 /// else one that the module's own file has, of those that are resolved. An error says that two have the attribute.
 pub fn default_of<'a, 'src, S: Syntax>(
     alloc: Global,

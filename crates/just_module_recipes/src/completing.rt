@@ -8,14 +8,14 @@ ghost use Rattle.just_recipe_values.specs.Among.{CoversRecipe};
 use just_data::{Sequence, Shared};
 use just_name_resolution::Known;
 use just_parts::UnresolvedRecipe;
-use just_parts::layers::{Error, Evaluation, Number, Syntax};
+use just_parts::layers::{ConstantEvaluation, Error, Number, Syntax};
 use just_recipe_names::{Meanings, check_recipe, numbered_recipe};
 use just_recipe_values::{Among, valued_recipe};
 use std::alloc::Global;
 
 /// What the recipes of a module are completed by.
 #[derive(Drop)]
-pub struct Completing<'m, 'src, S: Syntax, E: Evaluation> {
+pub struct Completing<'m, 'src, S: Syntax, E: ConstantEvaluation> {
     /// What the names in them mean.
     pub meanings: Meanings<'m, 'src, S>,
     /// What their docs, helps and patterns are evaluated among.
@@ -27,7 +27,7 @@ pub struct Completing<'m, 'src, S: Syntax, E: Evaluation> {
 /// The recipe that stands at a place of a module, completed: with the numbers of what the names in it mean and of what it
 /// needs, and with what its doc, helps and patterns come to. An error tells a name in it that is at fault, what of these has
 /// no value, or a pattern that is refused.
-pub fn complete<'m, 'src, S: Syntax, E: Evaluation>(
+pub fn complete<'m, 'src, S: Syntax, E: ConstantEvaluation>(
     alloc: Global,
     completing: &Completing<'m, 'src, S, E>,
     recipe: &UnresolvedRecipe<'src>,

@@ -29,7 +29,7 @@ use just_execution::Recipes;
 use just_justfile::{Disabled, Justfile};
 use just_module_contents::definitions::Definitions;
 use just_parts::UnresolvedRecipe;
-use just_parts::layers::{Error, Evaluation, Settings, Syntax};
+use just_parts::layers::{ConstantEvaluation, Error, Settings, Syntax};
 use just_paths::Modulepath;
 use just_table::Table;
 use std::alloc::{AllocError, Global};
@@ -135,7 +135,7 @@ pub struct Linked<'src, 'a> {
 ///
 /// The names of the modules rise in byte order, in each module (those of a compiled module do). For each kept recipe there
 /// are the numbers of the variables that it needs, and what its doc, helps and patterns read has a value.
-pub fn link<'a, 'm, 'src, S: Syntax, E: Evaluation>(
+pub fn link<'a, 'm, 'src, S: Syntax, E: ConstantEvaluation>(
     alloc: Global,
     kept: &Definitions<'src, 'a>,
     completing: &Completing<'m, 'src, S, E>,

@@ -1,4 +1,4 @@
-//! The rule of recipes that are run without words.
+//! The rule of recipes that are run by default.
 ghost use Rattle.std.specs.Prelude.{◌≡◌, ◌≢◌, ◌<◌, true, length, IsTrue, false, IfErr, IfOk, OnOk};
 ghost use Rattle.std.specs.List.{list_any};
 ghost use Rattle.just_errors.specs.Causes.{Broken, Keeps, Reports};
@@ -11,7 +11,7 @@ use just_module_contents::definitions::Definitions;
 use just_parts::UnresolvedRecipe;
 use just_parts::layers::{Attribute, CompileError, CompileErrorKind, Error, NamedAttribute};
 
-// Whether one of them says that a recipe is run without words.
+// Whether one of them says that a recipe is run by default.
 fn has_default(attributes: &[NamedAttribute]) -> bool
     ensures { result ≡ list_any is_default attributes.now }
 {

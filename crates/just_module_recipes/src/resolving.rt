@@ -19,7 +19,7 @@ use just_data::Sequence;
 use just_execution::Recipes;
 use just_module_contents::definitions::Definitions;
 use just_parts::layers::{
-    DependencyArgument, Error, Evaluation, Number, Settings, Syntax, UnresolvedDependency,
+    ConstantEvaluation, DependencyArgument, Error, Number, Settings, Syntax, UnresolvedDependency,
 };
 use just_parts::{Dependency, Recipe};
 use just_paths::Modulepath;
@@ -107,7 +107,7 @@ fn links<'a, 'src>(
 }
 
 // The resolved form of the recipe at a place, whose dependencies lead to the targets in a row.
-fn resolve_one<'a, 'm, 'src, S: Syntax, E: Evaluation>(
+fn resolve_one<'a, 'm, 'src, S: Syntax, E: ConstantEvaluation>(
     alloc: Global,
     kept: &Definitions<'src, 'a>,
     completing: &Completing<'m, 'src, S, E>,
@@ -142,7 +142,7 @@ fn resolve_one<'a, 'm, 'src, S: Syntax, E: Evaluation>(
 }
 
 // Adds the recipe at a place, resolved, where nothing disables it.
-fn resolve_at<'a, 'm, 'src, S: Syntax, E: Evaluation>(
+fn resolve_at<'a, 'm, 'src, S: Syntax, E: ConstantEvaluation>(
     alloc: Global,
     kept: &Definitions<'src, 'a>,
     completing: &Completing<'m, 'src, S, E>,
@@ -180,7 +180,7 @@ fn resolve_at<'a, 'm, 'src, S: Syntax, E: Evaluation>(
 
 /// Adds the recipes of an order that nothing disables, completed and resolved, to those that are resolved so far. An error
 /// tells what is wrong with one of them, and the recipes are dropped then.
-pub fn resolve<'a, 'm, 'src, S: Syntax, E: Evaluation>(
+pub fn resolve<'a, 'm, 'src, S: Syntax, E: ConstantEvaluation>(
     alloc: Global,
     kept: &Definitions<'src, 'a>,
     completing: &Completing<'m, 'src, S, E>,

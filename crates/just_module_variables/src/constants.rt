@@ -25,7 +25,7 @@ use just_data::{Text, copied};
 use just_module_contents::definitions::Definitions;
 use just_name_resolution::{Known, Tables, check_expression, needed_references};
 use just_parts::layers::{
-    Error, Evaluation, Expression, Given, Number, Scope, Set, Setting, Settings, Syntax,
+    ConstantEvaluation, Error, Expression, Given, Number, Scope, Set, Setting, Settings, Syntax,
 };
 use just_paths::Modulepath;
 use std::alloc::{AllocError, Global};
@@ -99,7 +99,7 @@ fn check_expressions<'e, 'a, 'src, S: Syntax>(
 }
 
 // The settings of a module whose constants have these values.
-fn settings_of<'a, 'src, E: Evaluation>(
+fn settings_of<'a, 'src, E: ConstantEvaluation>(
     alloc: Global,
     definitions: &Definitions<'src, 'a>,
     variables: &Variables<'src>,
@@ -124,7 +124,7 @@ fn settings_of<'a, 'src, E: Evaluation>(
 
 /// Evaluates what the settings, docs, helps and patterns of the module at a path need, and then its settings, with what the
 /// configuration overrides. An error names a fault of the evaluation, or what is at fault with a name in a setting.
-pub fn evaluate_constants<'k, 'a, 'src, S: Syntax, E: Evaluation>(
+pub fn evaluate_constants<'k, 'a, 'src, S: Syntax, E: ConstantEvaluation>(
     given: &Given<'k, S, E>,
     definitions: &Definitions<'src, 'a>,
     variables: &'k Variables<'src>,

@@ -14,11 +14,11 @@ use just_data::copied;
 use just_module_contents::definitions::Definitions;
 use just_module_contents::{Label, text_of_value};
 use just_name_resolution::{Known, check_expression};
-use just_parts::layers::{Error, Evaluation, Expression, Given, Scope, Syntax};
+use just_parts::layers::{ConstantEvaluation, Error, Expression, Given, Scope, Syntax};
 use std::collections::HashSet;
 
 // A label with the doc evaluated.
-fn documented<'k, 'src, S: Syntax, E: Evaluation>(
+fn documented<'k, 'src, S: Syntax, E: ConstantEvaluation>(
     given: &Given<'k, S, E>,
     label: &Label<'src>,
     variables: &'k Variables<'src>,
@@ -54,7 +54,7 @@ fn documented<'k, 'src, S: Syntax, E: Evaluation>(
 
 /// The labels of the modules that a module declares, with their docs evaluated among its constants. An error names a fault
 /// of the evaluation, or what is at fault with a name in a doc.
-pub fn document<'k, 'a, 'src, S: Syntax, E: Evaluation>(
+pub fn document<'k, 'a, 'src, S: Syntax, E: ConstantEvaluation>(
     given: &Given<'k, S, E>,
     definitions: &Definitions<'src, 'a>,
     labels: &[Label<'src>],

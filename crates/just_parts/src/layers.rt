@@ -2,20 +2,17 @@
 
 pub mod ast;
 pub mod config;
-pub mod context;
-pub mod evaluation;
+pub mod constant_evaluation;
 pub mod given;
-pub mod host;
 pub mod output;
+pub mod shebang;
 pub mod syntax;
 pub mod value;
 
 pub use ast::{Ast, Item};
-pub use config::Config;
-pub use context::Context;
-pub use evaluation::Evaluation;
+pub use config::{Config, EvaluateFormat, Subcommand, Verbosity};
+pub use constant_evaluation::ConstantEvaluation;
 pub use given::Given;
-pub use host::{Entry, Groups, Host};
 pub use just_ast_definitions::{
     Alias, ArgumentAttribute, ArgumentProperty, Assignment, Attribute, CacheAttribute,
     EnvironmentAttribute, Fragment, FunctionDefinition, FunctionParameter, Line, NamedAttribute,
@@ -34,5 +31,6 @@ pub use just_names::{Exhausted, ListFeature, Name, Namepath, Number, Numerator, 
 pub use just_patterns::Pattern;
 pub use just_recipe::{DependencyArgument, UnresolvedDependency};
 pub use output::{Output, WriteFailed};
+pub use shebang::Shebang;
 pub use syntax::Syntax;
 pub use value::joined;

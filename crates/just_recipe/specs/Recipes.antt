@@ -50,6 +50,6 @@ pub record IsResolved (recipe : Recipe Dependency) : Type 0 where
   pub priors : recipe.priors ≤ length recipe.dependencies
 
 module _ {D : Type 0} where
-  -- A recipe takes so many arguments at least, so that it cannot be run without words.
+  -- A recipe takes so many arguments at least, so that it cannot be run by default.
   pub data CannotBeDefault (recipe : Recipe D) : InvocationError → Type 0 where
     requires_arguments : {least : ℕ} → least_arguments recipe.parameters ≡ least → 0 < least → CannotBeDefault recipe (invocation.DefaultRecipeRequiresArguments (text_of_name recipe.name) least)

@@ -77,7 +77,7 @@ impl<'src, D> Recipe<'src, D> {
         }
     }
 
-    /// Refuses a recipe that takes arguments, and so cannot be run without words.
+    /// Refuses a recipe that takes arguments, and so cannot be run by default.
     pub fn check_can_be_default_recipe(&self) -> Result<(), InvocationError<'src>>
         ensures can { OnOk result (least_arguments self.now.parameters ≡ 0) }
         ensures cannot { IfErr result (λ e. CannotBeDefault self.now e) }

@@ -25,7 +25,7 @@ use just_module_contents::kept::keep_recipes;
 use just_module_recipes::Linked;
 use just_module_variables::VariableResolver;
 use just_parts::UnresolvedRecipe;
-use just_parts::layers::{Error, Evaluation, Scope, Settings, Syntax};
+use just_parts::layers::{ConstantEvaluation, Error, Scope, Settings, Syntax};
 use just_paths::Modulepath;
 use just_recipe_names::Meanings;
 use just_recipe_values::Among;
@@ -33,7 +33,7 @@ use just_table::Table;
 use std::alloc::{AllocError, Global};
 
 // What resolving reads, as a resolver of names and the constants of a module have it.
-pub(crate) fn resolving_by<'m, 'v, 'src, S: Syntax, E: Evaluation>(
+pub(crate) fn resolving_by<'m, 'v, 'src, S: Syntax, E: ConstantEvaluation>(
     syntax: &'m S,
     evaluation: &'m E,
     constants: &'m Scope<'src>,
@@ -90,7 +90,7 @@ impl RecipeResolver {
     /// more dependencies run before it than it has; the names of the modules rise in byte order, in each module; each recipe to
     /// which a path leads through them is among those that are resolved so far, under its number, or is disabled by a module;
     /// whatever docs, helps and patterns read has a value among the constants. Those of a compiled module keep all of that.
-    pub fn resolve_recipes<'v, 'src, S: Syntax, E: Evaluation>(
+    pub fn resolve_recipes<'v, 'src, S: Syntax, E: ConstantEvaluation>(
         alloc: Global,
         absent_modules: &Table<'src, BorrowedText<'src>>,
         syntax: &S,

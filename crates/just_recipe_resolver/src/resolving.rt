@@ -21,7 +21,7 @@ use just_justfile::Justfile;
 use just_module_contents::definitions::Definitions;
 use just_module_recipes::{Completing, Linked, link};
 use just_name_resolution::Tables;
-use just_parts::layers::{Error, Evaluation, Number, Syntax};
+use just_parts::layers::{ConstantEvaluation, Error, Number, Syntax};
 use just_paths::Modulepath;
 use just_recipe_names::Meanings;
 use just_recipe_needs::references_of_all;
@@ -32,7 +32,7 @@ use std::collections::HashMap;
 
 /// What recipes of a module are resolved on.
 #[derive(Drop)]
-pub struct Resolving<'m, 'src, S: Syntax, E: Evaluation> {
+pub struct Resolving<'m, 'src, S: Syntax, E: ConstantEvaluation> {
     /// What the names in them mean.
     pub meanings: Meanings<'m, 'src, S>,
     /// What their docs, helps and patterns are evaluated among.
@@ -45,7 +45,7 @@ pub struct Resolving<'m, 'src, S: Syntax, E: Evaluation> {
 /// it. Those that nothing disables are completed, linked to what they depend on, and put behind the recipes that are resolved
 /// so far. An error names a rule that is broken, of what they depend on or of one of those that nothing disables, or a pattern
 /// of such a one that is past the limits of regular expressions; the recipes are dropped then.
-pub fn resolve_kept<'a, 'm, 'src, S: Syntax, E: Evaluation>(
+pub fn resolve_kept<'a, 'm, 'src, S: Syntax, E: ConstantEvaluation>(
     alloc: Global,
     kept: &Definitions<'src, 'a>,
     resolving: Resolving<'m, 'src, S, E>,

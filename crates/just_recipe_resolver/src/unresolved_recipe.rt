@@ -14,7 +14,7 @@ use just_data::Sequence;
 use just_module_recipes::{Completing, check_arguments, complete};
 use just_module_variables::VariableResolver;
 use just_name_resolution::Tables;
-use just_parts::layers::{Error, Evaluation, Scope, Settings, Syntax, UnresolvedDependency};
+use just_parts::layers::{ConstantEvaluation, Error, Scope, Settings, Syntax, UnresolvedDependency};
 use just_parts::{Dependency, Recipe, UnresolvedRecipe};
 use just_paths::Modulepath;
 use just_recipe_needs::RecipeReferences;
@@ -87,7 +87,7 @@ fn links_to<'a, 'src>(
 
 // The recipe, completed: with the numbers of what the names in it mean and of what it needs, and with what its doc, helps and
 // patterns come to.
-fn completed<'m, 'src, S: Syntax, E: Evaluation>(
+fn completed<'m, 'src, S: Syntax, E: ConstantEvaluation>(
     alloc: Global,
     resolving: Resolving<'m, 'src, S, E>,
     recipe: &UnresolvedRecipe<'src>,
@@ -138,7 +138,7 @@ fn placed<'src>(
 }
 
 // The recipe, resolved over those that stand beside its dependencies.
-fn resolve_over<'a, 'm, 'src, S: Syntax, E: Evaluation>(
+fn resolve_over<'a, 'm, 'src, S: Syntax, E: ConstantEvaluation>(
     alloc: Global,
     recipe: &UnresolvedRecipe<'src>,
     resolving: Resolving<'m, 'src, S, E>,
@@ -175,7 +175,7 @@ fn resolve_over<'a, 'm, 'src, S: Syntax, E: Evaluation>(
 ///
 /// Conditions: there is one resolved recipe for each dependency, and whatever its doc, helps and patterns read has a value
 /// among the constants.
-pub fn resolve<'a, 'm, 'v, 'src, S: Syntax, E: Evaluation>(
+pub fn resolve<'a, 'm, 'v, 'src, S: Syntax, E: ConstantEvaluation>(
     recipe: UnresolvedRecipe<'src>,
     alloc: Global,
     syntax: &'m S,

@@ -13,12 +13,12 @@ use crate::among::Among;
 use crate::properties::{help_of, pattern_of, value_of};
 use just_data::{Sequence, Text};
 use just_parts::layers::{
-    ArgumentAttribute, Attribute, Error, Evaluation, Expression, NamedAttribute, joined,
+    ArgumentAttribute, Attribute, ConstantEvaluation, Error, Expression, NamedAttribute, joined,
 };
 use std::alloc::{AllocError, Global};
 
 // What an attribute says of a parameter, with its help and its pattern.
-fn valued_argument<'a, 'src, E: Evaluation>(
+fn valued_argument<'a, 'src, E: ConstantEvaluation>(
     alloc: Global,
     among: &Among<'a, 'src, E>,
     argument: ArgumentAttribute<'src, Expression<'src>>,
@@ -56,7 +56,7 @@ fn doc_of_value(alloc: Global, value: &[Text]) -> Result<Option<Text>, AllocErro
 }
 
 // The doc that an expression says.
-fn doc_of<'a, 'src, E: Evaluation>(
+fn doc_of<'a, 'src, E: ConstantEvaluation>(
     alloc: Global,
     among: &Among<'a, 'src, E>,
     expression: &Expression<'src>,
@@ -74,7 +74,7 @@ fn doc_of<'a, 'src, E: Evaluation>(
 }
 
 // An attribute, and the doc after it.
-fn valued_attribute<'a, 'src, E: Evaluation>(
+fn valued_attribute<'a, 'src, E: ConstantEvaluation>(
     alloc: Global,
     among: &Among<'a, 'src, E>,
     attribute: Attribute<'src>,
@@ -104,7 +104,7 @@ fn valued_attribute<'a, 'src, E: Evaluation>(
 }
 
 /// Attributes with what their helps and patterns come to, and the doc after them.
-pub fn valued_attributes<'a, 'src, E: Evaluation>(
+pub fn valued_attributes<'a, 'src, E: ConstantEvaluation>(
     alloc: Global,
     among: &Among<'a, 'src, E>,
     attributes: Sequence<NamedAttribute<'src>>,

@@ -12,12 +12,12 @@ use crate::among::Among;
 use just_data::{Sequence, Text};
 use just_module_contents::text_of_value;
 use just_parts::layers::{
-    ArgumentAttribute, ArgumentProperty, Error, Evaluation, Expression, Pattern,
+    ArgumentAttribute, ArgumentProperty, ConstantEvaluation, Error, Expression, Pattern,
 };
 use std::alloc::Global;
 
 /// The value of an expression.
-pub fn value_of<'a, 'src, E: Evaluation>(
+pub fn value_of<'a, 'src, E: ConstantEvaluation>(
     alloc: Global,
     among: &Among<'a, 'src, E>,
     expression: &Expression<'src>,
@@ -40,7 +40,7 @@ pub fn value_of<'a, 'src, E: Evaluation>(
 }
 
 // The text that a property says; an empty list says none.
-fn text_said<'a, 'src, E: Evaluation>(
+fn text_said<'a, 'src, E: ConstantEvaluation>(
     alloc: Global,
     among: &Among<'a, 'src, E>,
     property: &ArgumentProperty<'src, Expression<'src>>,
@@ -58,7 +58,7 @@ fn text_said<'a, 'src, E: Evaluation>(
 }
 
 /// The help of an argument attribute, once its property is evaluated.
-pub fn help_of<'a, 'src, E: Evaluation>(
+pub fn help_of<'a, 'src, E: ConstantEvaluation>(
     alloc: Global,
     among: &Among<'a, 'src, E>,
     argument: &ArgumentAttribute<'src, Expression<'src>>,
@@ -81,7 +81,7 @@ pub fn help_of<'a, 'src, E: Evaluation>(
 }
 
 /// The pattern of an argument attribute, once its property is evaluated. One that is refused is told at its key.
-pub fn pattern_of<'a, 'src, E: Evaluation>(
+pub fn pattern_of<'a, 'src, E: ConstantEvaluation>(
     alloc: Global,
     among: &Among<'a, 'src, E>,
     argument: &ArgumentAttribute<'src, Expression<'src>>,

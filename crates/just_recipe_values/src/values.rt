@@ -9,7 +9,7 @@ ghost use Rattle.just_recipe_values.specs.Valued.{with_values};
 use crate::among::Among;
 use crate::attributes::valued_attributes;
 use crate::parameters::informed_parameters;
-use just_parts::layers::{Error, Evaluation};
+use just_parts::layers::{ConstantEvaluation, Error};
 use just_parts::{Recipe, UnresolvedRecipe};
 use std::alloc::Global;
 
@@ -17,7 +17,7 @@ use std::alloc::Global;
 /// pattern, each parameter what the attributes say of it last, and the doc is trimmed. An empty list sets no help and no
 /// pattern, and an empty text is no doc. An error tells what has no value, or a pattern that is refused, at its key; want of
 /// memory is the only other.
-pub fn valued_recipe<'a, 'src, E: Evaluation>(
+pub fn valued_recipe<'a, 'src, E: ConstantEvaluation>(
     alloc: Global,
     among: &Among<'a, 'src, E>,
     recipe: UnresolvedRecipe<'src>,

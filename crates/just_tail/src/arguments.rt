@@ -11,14 +11,14 @@ use crate::checks::{check_groups, check_present};
 use crate::error::TailError;
 use crate::tail::{Tail, read_tail};
 use just_ast_definitions::Parameter;
-use just_parts::layers::Evaluation;
+use just_parts::layers::ConstantEvaluation;
 use std::alloc::Global;
 
 /// The arguments of a recipe, which is told by its name, with which the words begin: a tail, whose groups are right.
 ///
 /// An error is `Memory`, or says which option is none; or else what is missing; or else which parameter has a wrong count of
 /// texts, or a text that its pattern does not match.
-pub fn take_arguments<'src, 'words, E: Evaluation>(
+pub fn take_arguments<'src, 'words, E: ConstantEvaluation>(
     alloc: Global,
     evaluation: &E,
     recipe: &str,

@@ -11,7 +11,7 @@ use crate::error::TailError;
 use crate::switch::BorrowedSwitch;
 use just_ast_definitions::Parameter;
 use just_data::{BorrowedText, Text};
-use just_parts::layers::Evaluation;
+use just_parts::layers::ConstantEvaluation;
 use std::alloc::{AllocError, Global};
 
 // The switch that names a parameter: the long one if it has one.
@@ -127,7 +127,7 @@ pub fn check_present<'src>(
 }
 
 // Refuses a group that has more or fewer texts than it may.
-fn check_value_count<'src, E: Evaluation>(
+fn check_value_count<'src, E: ConstantEvaluation>(
     parameter: &Parameter<'src>,
     alloc: Global,
     evaluation: &E,
@@ -181,7 +181,7 @@ fn check_pattern_match<'src>(
 }
 
 // Refuses the texts of a parameter that are not right. Of one with a value none is refused.
-fn check_group<'src, E: Evaluation>(
+fn check_group<'src, E: ConstantEvaluation>(
     parameter: &Parameter<'src>,
     alloc: Global,
     evaluation: &E,
@@ -201,7 +201,7 @@ fn check_group<'src, E: Evaluation>(
 }
 
 /// Refuses the first group whose texts are not right.
-pub fn check_groups<'src, E: Evaluation>(
+pub fn check_groups<'src, E: ConstantEvaluation>(
     parameters: &[Parameter<'src>],
     alloc: Global,
     evaluation: &E,

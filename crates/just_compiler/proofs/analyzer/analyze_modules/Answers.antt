@@ -29,7 +29,7 @@ place_of-requires g c = place_known (g.S.Syntax.answers c.args.given.now.syntax.
 pub arrange-requires-clause-graphs : goal.arrange-requires-clause-graphs
 arrange-requires-clause-graphs g c =
     let key : AstKey = (c.args.module_path.now, c.args.root.now) in
-    let given = given_by g.S.Syntax.answers g.E.Evaluation.answers c.args.given.now in
+    let given = given_by g.S.Syntax.answers g.E.ConstantEvaluation.answers c.args.given.now in
     let entries = c.args.asts.now.entries in
     subst (AreGraphs c.in_ok-rows.rows) (sym (rows_many given entries key c.in_ok-files.files c.in_ok-files.ensures c.in_ok-rows.rows c.in_ok-rows.ensures c.requires.asts))
     (are_graphs given.syntax.enabled entries key c.in_ok-files.files c.in_ok-files.ensures c.in_ok-rows.rows c.in_ok-rows.ensures c.requires.asts.paths)
@@ -37,21 +37,21 @@ arrange-requires-clause-graphs g c =
 pub arrange-requires-clause-root : goal.arrange-requires-clause-root
 arrange-requires-clause-root g c =
     let key : AstKey = (c.args.module_path.now, c.args.root.now) in
-    let given = given_by g.S.Syntax.answers g.E.Evaluation.answers c.args.given.now in
+    let given = given_by g.S.Syntax.answers g.E.ConstantEvaluation.answers c.args.given.now in
     let entries = c.args.asts.now.entries in
     let at = place_back (keys_of entries) key (get same_ast_key c.in_ok-files.files.places) c.in_ok-files.ensures.places key c.in_ok-place.place c.in_ok-place.ensures in
     omega (arith, slice_get_within (keys_of entries) c.in_ok-place.place key at, rows_many given entries key c.in_ok-files.files c.in_ok-files.ensures c.in_ok-rows.rows c.in_ok-rows.ensures c.requires.asts)
 
 pub arrange-requires-clause-deeper : goal.arrange-requires-clause-deeper
 arrange-requires-clause-deeper g c =
-    go_deeper (given_by g.S.Syntax.answers g.E.Evaluation.answers c.args.given.now) c.args.asts.now.entries (c.args.module_path.now, c.args.root.now) c.in_ok-files.files c.in_ok-files.ensures c.in_ok-rows.rows c.in_ok-rows.ensures c.requires.asts
+    go_deeper (given_by g.S.Syntax.answers g.E.ConstantEvaluation.answers c.args.given.now) c.args.asts.now.entries (c.args.module_path.now, c.args.root.now) c.in_ok-files.files c.in_ok-files.ensures c.in_ok-rows.rows c.in_ok-rows.ensures c.requires.asts
 
 pub check_module_names-requires-clause-files : goal.check_module_names-requires-clause-files
 check_module_names-requires-clause-files g c =
     let key : AstKey = (c.args.module_path.now, c.args.root.now) in
     let entries = c.args.asts.now.entries in
     let at = place_back (keys_of entries) key (get same_ast_key c.in_ok-files.files.places) c.in_ok-files.ensures.places key c.in_ok-place.place c.in_ok-place.ensures in
-    files_there (given_by g.S.Syntax.answers g.E.Evaluation.answers c.args.given.now) entries key c.in_ok-files.files c.in_ok-files.ensures c.in_ok-rows.rows c.in_ok-rows.ensures c.requires.asts c.in_ok-place.place
+    files_there (given_by g.S.Syntax.answers g.E.ConstantEvaluation.answers c.args.given.now) entries key c.in_ok-files.files c.in_ok-files.ensures c.in_ok-rows.rows c.in_ok-rows.ensures c.requires.asts c.in_ok-place.place
     (slice_get_within (keys_of entries) c.in_ok-place.place key at) c.in_ok-joined.joined c.as_slice.result.now
     (subst (λ (o : List ℕ). AreArranged c.in_ok-rows.rows c.in_ok-place.place c.in_ok-joined.joined o) (sym c.as_slice.ensures.value) c.in_ok-joined.ensures)
     (heading key c.args.label) (sym (get_or_from_slice_get (keys_of entries) c.in_ok-place.place key key at))
@@ -59,7 +59,7 @@ check_module_names-requires-clause-files g c =
 pub returns-in_err-check_module_names-clause-named : goal.returns-in_err-check_module_names-clause-named
 returns-in_err-check_module_names-clause-named g c =
     let key : AstKey = (c.args.module_path.now, c.args.root.now) in
-    let given = given_by g.S.Syntax.answers g.E.Evaluation.answers c.args.given.now in
+    let given = given_by g.S.Syntax.answers g.E.ConstantEvaluation.answers c.args.given.now in
     let entries = c.args.asts.now.entries in
     let at = place_back (keys_of entries) key (get same_ast_key c.in_ok-files.files.places) c.in_ok-files.ensures.places key c.in_ok-place.place c.in_ok-place.ensures in
     let arranged = subst (λ (o : List ℕ). AreArranged c.in_ok-rows.rows c.in_ok-place.place c.in_ok-joined.joined o) (sym c.as_slice.ensures.value) c.in_ok-joined.ensures in
@@ -75,14 +75,14 @@ compile_in_order-requires g c =
     let at = place_back (keys_of entries) key (get same_ast_key c.in_ok-files.files.places) c.in_ok-files.ensures.places key c.in_ok-place.place c.in_ok-place.ensures in
     let arranged = subst (λ (o : List ℕ). AreArranged c.in_ok-rows.rows c.in_ok-place.place c.in_ok-joined.joined o) (sym c.as_slice.ensures.value) c.in_ok-joined.ensures in
     subst (CanCompileAll (g.S.Syntax.answers c.args.given.now.syntax.now).enabled c.in_ok-files.files c.in_ok-joined.joined) (c.as_slice.ensures.value ∙ sym c.as_slice-2.ensures.value)
-    (all_can (given_by g.S.Syntax.answers g.E.Evaluation.answers c.args.given.now) entries key c.in_ok-files.files c.in_ok-files.ensures c.in_ok-rows.rows c.in_ok-rows.ensures c.requires.asts c.in_ok-place.place
+    (all_can (given_by g.S.Syntax.answers g.E.ConstantEvaluation.answers c.args.given.now) entries key c.in_ok-files.files c.in_ok-files.ensures c.in_ok-rows.rows c.in_ok-rows.ensures c.requires.asts c.in_ok-place.place
     (slice_get_within (keys_of entries) c.in_ok-place.place key at) c.in_ok-joined.joined c.as_slice.result.now arranged (heading key c.args.label) (sym (get_or_from_slice_get (keys_of entries) c.in_ok-place.place key key at))
     c.in_ok-check_module_names.ensures.kept)
 
 pub returns-in_err-slots-clause-named : goal.returns-in_err-slots-clause-named
 returns-in_err-slots-clause-named g c =
     let key : AstKey = (c.args.module_path.now, c.args.root.now) in
-    let given = given_by g.S.Syntax.answers g.E.Evaluation.answers c.args.given.now in
+    let given = given_by g.S.Syntax.answers g.E.ConstantEvaluation.answers c.args.given.now in
     let entries = c.args.asts.now.entries in
     let at = place_back (keys_of entries) key (get same_ast_key c.in_ok-files.files.places) c.in_ok-files.ensures.places key c.in_ok-place.place c.in_ok-place.ensures in
     let arranged = subst (λ (o : List ℕ). AreArranged c.in_ok-rows.rows c.in_ok-place.place c.in_ok-joined.joined o) (sym c.as_slice.ensures.value) c.in_ok-joined.ensures in
@@ -95,7 +95,7 @@ returns-in_err-slots-clause-named g c =
 pub take_at-justfile-requires-clause-inside : goal.take_at-justfile-requires-clause-inside
 take_at-justfile-requires-clause-inside g c =
     let key : AstKey = (c.args.module_path.now, c.args.root.now) in
-    let given = given_by g.S.Syntax.answers g.E.Evaluation.answers c.args.given.now in
+    let given = given_by g.S.Syntax.answers g.E.ConstantEvaluation.answers c.args.given.now in
     let entries = c.args.asts.now.entries in
     let at = place_back (keys_of entries) key (get same_ast_key c.in_ok-files.files.places) c.in_ok-files.ensures.places key c.in_ok-place.place c.in_ok-place.ensures in
     omega (
@@ -109,7 +109,7 @@ take_at-justfile-requires-clause-inside g c =
 pub take_at-justfile-requires-clause-there : goal.take_at-justfile-requires-clause-there
 take_at-justfile-requires-clause-there g c =
     let key : AstKey = (c.args.module_path.now, c.args.root.now) in
-    let given = given_by g.S.Syntax.answers g.E.Evaluation.answers c.args.given.now in
+    let given = given_by g.S.Syntax.answers g.E.ConstantEvaluation.answers c.args.given.now in
     let entries = c.args.asts.now.entries in
     let at = place_back (keys_of entries) key (get same_ast_key c.in_ok-files.files.places) c.in_ok-files.ensures.places key c.in_ok-place.place c.in_ok-place.ensures in
     let arranged = subst (λ (o : List ℕ). AreArranged c.in_ok-rows.rows c.in_ok-place.place c.in_ok-joined.joined o) (sym c.as_slice.ensures.value) c.in_ok-joined.ensures in
@@ -123,7 +123,7 @@ take_at-justfile-requires-clause-there g c =
 pub returns-clause-analyzed : goal.returns-clause-analyzed
 returns-clause-analyzed g c =
     let key : AstKey = (c.args.module_path.now, c.args.root.now) in
-    let given = given_by g.S.Syntax.answers g.E.Evaluation.answers c.args.given.now in
+    let given = given_by g.S.Syntax.answers g.E.ConstantEvaluation.answers c.args.given.now in
     let entries = c.args.asts.now.entries in
     let at = place_back (keys_of entries) key (get same_ast_key c.in_ok-files.files.places) c.in_ok-files.ensures.places key c.in_ok-place.place c.in_ok-place.ensures in
     let arranged = subst (λ (o : List ℕ). AreArranged c.in_ok-rows.rows c.in_ok-place.place c.in_ok-joined.joined o) (sym c.as_slice.ensures.value) c.in_ok-joined.ensures in

@@ -14,7 +14,7 @@ pub returns-clause-analyzed : goal.returns-clause-analyzed
 returns-clause-analyzed g c =
     let checked = c.args.checked in
     let answers = g.S.Syntax.answers c.args.given.now.syntax.now in
-    let layers = layers_at (given_by g.S.Syntax.answers g.E.Evaluation.answers c.args.given.now) c.args.ast.now.module_path in
+    let layers = layers_at (given_by g.S.Syntax.answers g.E.ConstantEvaluation.answers c.args.given.now) c.args.ast.now.module_path in
     let is = c.in_ok-justfile.ensures in
     let made = c.in_ok-own.ensures in
     record {

@@ -53,44 +53,44 @@ pub returns-in_err-checked-clause-named : goal.returns-in_err-checked-clause-nam
 returns-in_err-checked-clause-named g c =
     let row = row_lent c.args.joined.now.files.items c.args.place c.index.result.now c.as_slice-row.result.now (omega (arith, c.requires.fits.ready.there, c.requires.fits.files_room)) c.index.ensures c.as_slice-row.ensures.value in
     let here = contents_from (g.S.Syntax.answers c.args.given.now.syntax.now).enabled (asts_in c.args.files.now) c.as_slice-row.result.now in
-    let layers = layers_at (given_by g.S.Syntax.answers g.E.Evaluation.answers c.args.given.now) c.ast_at-ast.result.now.module_path in
+    let layers = layers_at (given_by g.S.Syntax.answers g.E.ConstantEvaluation.answers c.args.given.now) c.ast_at-ast.result.now.module_path in
     IfErr-weaker c.from_residual.result (Reports (BreaksContents layers no_links no_links here)) _
-    (reports_by _ _ (breaks_place (given_by g.S.Syntax.answers g.E.Evaluation.answers c.args.given.now) c.args.files.now c.args.joined.now c.args.place c.as_slice-row.result.now row c.ast_at-ast.result.now c.ast_at-ast.ensures c.args.slots.now.items c.args.gathered.recipes)) (search rules)
+    (reports_by _ _ (breaks_place (given_by g.S.Syntax.answers g.E.ConstantEvaluation.answers c.args.given.now) c.args.files.now c.args.joined.now c.args.place c.as_slice-row.result.now row c.ast_at-ast.result.now c.ast_at-ast.ensures c.args.slots.now.items c.args.gathered.recipes)) (search rules)
 
 pub surroundings_at-requires-clause-labels : goal.surroundings_at-requires-clause-labels
 surroundings_at-requires-clause-labels g c =
     let row = row_lent c.args.joined.now.files.items c.args.place c.index.result.now c.as_slice-row.result.now (omega (arith, c.requires.fits.ready.there, c.requires.fits.files_room)) c.index.ensures c.as_slice-row.ensures.value in
-    ap length c.as_slice.ensures.value ∙ labels_many (given_by g.S.Syntax.answers g.E.Evaluation.answers c.args.given.now) c.args.files.now c.args.joined.now c.args.place c.as_slice-row.result.now row c.ast_at-ast.result.now c.ast_at-ast.ensures c.in_ok-checked.checked c.in_ok-checked.ensures.checked c.in_ok-checked.ensures.kept ∙ c.requires.fits.ready.labels
+    ap length c.as_slice.ensures.value ∙ labels_many (given_by g.S.Syntax.answers g.E.ConstantEvaluation.answers c.args.given.now) c.args.files.now c.args.joined.now c.args.place c.as_slice-row.result.now row c.ast_at-ast.result.now c.ast_at-ast.ensures c.in_ok-checked.checked c.in_ok-checked.ensures.checked c.in_ok-checked.ensures.kept ∙ c.requires.fits.ready.labels
 
 pub analyze_checked-requires-clause-once : goal.analyze_checked-requires-clause-once
 analyze_checked-requires-clause-once g c =
     let row = row_lent c.args.joined.now.files.items c.args.place c.index.result.now c.as_slice-row.result.now (omega (arith, c.requires.fits.ready.there, c.requires.fits.files_room)) c.index.ensures c.as_slice-row.ensures.value in
-    subst (λ (m : Contents). IsOnce (unresolved_numbers m.recipes)) (sym (contents_are (given_by g.S.Syntax.answers g.E.Evaluation.answers c.args.given.now) c.args.files.now c.args.joined.now c.args.place c.as_slice-row.result.now row c.ast_at-ast.result.now c.ast_at-ast.ensures c.in_ok-checked.checked c.in_ok-checked.ensures.checked c.in_ok-checked.ensures.kept)) c.requires.fits.ready.numbers
+    subst (λ (m : Contents). IsOnce (unresolved_numbers m.recipes)) (sym (contents_are (given_by g.S.Syntax.answers g.E.ConstantEvaluation.answers c.args.given.now) c.args.files.now c.args.joined.now c.args.place c.as_slice-row.result.now row c.ast_at-ast.result.now c.ast_at-ast.ensures c.in_ok-checked.checked c.in_ok-checked.ensures.checked c.in_ok-checked.ensures.kept)) c.requires.fits.ready.numbers
 
 pub analyze_checked-requires-clause-priors : goal.analyze_checked-requires-clause-priors
 analyze_checked-requires-clause-priors g c =
     let row = row_lent c.args.joined.now.files.items c.args.place c.index.result.now c.as_slice-row.result.now (omega (arith, c.requires.fits.ready.there, c.requires.fits.files_room)) c.index.ensures c.as_slice-row.ensures.value in
-    subst (λ (m : Contents). All HasPriors m.recipes) (sym (contents_are (given_by g.S.Syntax.answers g.E.Evaluation.answers c.args.given.now) c.args.files.now c.args.joined.now c.args.place c.as_slice-row.result.now row c.ast_at-ast.result.now c.ast_at-ast.ensures c.in_ok-checked.checked c.in_ok-checked.ensures.checked c.in_ok-checked.ensures.kept)) c.requires.fits.ready.priors
+    subst (λ (m : Contents). All HasPriors m.recipes) (sym (contents_are (given_by g.S.Syntax.answers g.E.ConstantEvaluation.answers c.args.given.now) c.args.files.now c.args.joined.now c.args.place c.as_slice-row.result.now row c.ast_at-ast.result.now c.ast_at-ast.ensures c.in_ok-checked.checked c.in_ok-checked.ensures.checked c.in_ok-checked.ensures.kept)) c.requires.fits.ready.priors
 
 pub analyze_checked-requires-clause-apart : goal.analyze_checked-requires-clause-apart
 analyze_checked-requires-clause-apart g c =
     let row = row_lent c.args.joined.now.files.items c.args.place c.index.result.now c.as_slice-row.result.now (omega (arith, c.requires.fits.ready.there, c.requires.fits.files_room)) c.index.ensures c.as_slice-row.ensures.value in
-    λ n a b. c.requires.apart n a (subst (λ (m : Contents). Contains (unresolved_numbers m.recipes) n) (contents_are (given_by g.S.Syntax.answers g.E.Evaluation.answers c.args.given.now) c.args.files.now c.args.joined.now c.args.place c.as_slice-row.result.now row c.ast_at-ast.result.now c.ast_at-ast.ensures c.in_ok-checked.checked c.in_ok-checked.ensures.checked c.in_ok-checked.ensures.kept) b)
+    λ n a b. c.requires.apart n a (subst (λ (m : Contents). Contains (unresolved_numbers m.recipes) n) (contents_are (given_by g.S.Syntax.answers g.E.ConstantEvaluation.answers c.args.given.now) c.args.files.now c.args.joined.now c.args.place c.as_slice-row.result.now row c.ast_at-ast.result.now c.ast_at-ast.ensures c.in_ok-checked.checked c.in_ok-checked.ensures.checked c.in_ok-checked.ensures.kept) b)
 
 pub analyze_checked-requires-clause-variables : goal.analyze_checked-requires-clause-variables
 analyze_checked-requires-clause-variables g c =
     let row = row_lent c.args.joined.now.files.items c.args.place c.index.result.now c.as_slice-row.result.now (omega (arith, c.requires.fits.ready.there, c.requires.fits.files_room)) c.index.ensures c.as_slice-row.ensures.value in
-    variables_resolved (given_by g.S.Syntax.answers g.E.Evaluation.answers c.args.given.now) c.args.files.now c.args.joined.now c.args.place c.as_slice-row.result.now row c.ast_at-ast.result.now c.ast_at-ast.ensures c.in_ok-checked.checked c.in_ok-checked.ensures.checked c.in_ok-checked.ensures.kept
+    variables_resolved (given_by g.S.Syntax.answers g.E.ConstantEvaluation.answers c.args.given.now) c.args.files.now c.args.joined.now c.args.place c.as_slice-row.result.now row c.ast_at-ast.result.now c.ast_at-ast.ensures c.in_ok-checked.checked c.in_ok-checked.ensures.checked c.in_ok-checked.ensures.kept
 
 pub analyze_checked-requires-clause-covered : goal.analyze_checked-requires-clause-covered
 analyze_checked-requires-clause-covered g c =
     let row = row_lent c.args.joined.now.files.items c.args.place c.index.result.now c.as_slice-row.result.now (omega (arith, c.requires.fits.ready.there, c.requires.fits.files_room)) c.index.ensures c.as_slice-row.ensures.value in
-    is_covered (given_by g.S.Syntax.answers g.E.Evaluation.answers c.args.given.now) c.args.files.now c.args.joined.now c.args.place c.as_slice-row.result.now row c.ast_at-ast.result.now c.ast_at-ast.ensures c.in_ok-checked.checked c.in_ok-checked.ensures.checked c.in_ok-checked.ensures.kept
+    is_covered (given_by g.S.Syntax.answers g.E.ConstantEvaluation.answers c.args.given.now) c.args.files.now c.args.joined.now c.args.place c.as_slice-row.result.now row c.ast_at-ast.result.now c.ast_at-ast.ensures c.in_ok-checked.checked c.in_ok-checked.ensures.checked c.in_ok-checked.ensures.kept
 
 pub analyze_checked-requires-clause-numbers : goal.analyze_checked-requires-clause-numbers
 analyze_checked-requires-clause-numbers g c =
     let row = row_lent c.args.joined.now.files.items c.args.place c.index.result.now c.as_slice-row.result.now (omega (arith, c.requires.fits.ready.there, c.requires.fits.files_room)) c.index.ensures c.as_slice-row.ensures.value in
-    numbers_told (given_by g.S.Syntax.answers g.E.Evaluation.answers c.args.given.now) c.args.files.now c.args.joined.now c.args.place c.as_slice-row.result.now row c.ast_at-ast.result.now c.ast_at-ast.ensures c.in_ok-checked.checked c.in_ok-checked.ensures.checked c.in_ok-checked.ensures.kept
+    numbers_told (given_by g.S.Syntax.answers g.E.ConstantEvaluation.answers c.args.given.now) c.args.files.now c.args.joined.now c.args.place c.as_slice-row.result.now row c.ast_at-ast.result.now c.ast_at-ast.ensures c.in_ok-checked.checked c.in_ok-checked.ensures.checked c.in_ok-checked.ensures.kept
 
 pub analyze_checked-requires-clause-own : goal.analyze_checked-requires-clause-own
 analyze_checked-requires-clause-own g c = λ n a b.
@@ -120,21 +120,21 @@ returns-in_err-justfile-clause-named g c =
     let checked = c.in_ok-checked.checked in
     let around = c.in_ok-surroundings.surroundings in
     let there = c.in_ok-surroundings.ensures.made in
-    let m = contents_are (given_by g.S.Syntax.answers g.E.Evaluation.answers c.args.given.now) c.args.files.now c.args.joined.now c.args.place c.as_slice-row.result.now row c.ast_at-ast.result.now c.ast_at-ast.ensures c.in_ok-checked.checked c.in_ok-checked.ensures.checked c.in_ok-checked.ensures.kept in
+    let m = contents_are (given_by g.S.Syntax.answers g.E.ConstantEvaluation.answers c.args.given.now) c.args.files.now c.args.joined.now c.args.place c.as_slice-row.result.now row c.ast_at-ast.result.now c.ast_at-ast.ensures c.in_ok-checked.checked c.in_ok-checked.ensures.checked c.in_ok-checked.ensures.kept in
     let links = links_by (contents_in checked.definitions) (around_by around c.args.gathered.recipes) in
     let told = told_by (contents_in checked.definitions) (around_by around c.args.gathered.recipes) in
-    let breaks = TellsChecked (layers_at (given_by g.S.Syntax.answers g.E.Evaluation.answers c.args.given.now) c.ast_at-ast.result.now.module_path) checked (around_by around c.args.gathered.recipes) in
-    let over = BreaksOver (given_by g.S.Syntax.answers g.E.Evaluation.answers c.args.given.now) c.args.files.now c.args.joined.now c.args.place c.args.slots.now.items c.args.gathered.recipes in
+    let breaks = TellsChecked (layers_at (given_by g.S.Syntax.answers g.E.ConstantEvaluation.answers c.args.given.now) c.ast_at-ast.result.now.module_path) checked (around_by around c.args.gathered.recipes) in
+    let over = BreaksOver (given_by g.S.Syntax.answers g.E.ConstantEvaluation.answers c.args.given.now) c.args.files.now c.args.joined.now c.args.place c.args.slots.now.items c.args.gathered.recipes in
     IfErr-weaker c.from_residual-in_err-justfile.result (Reports breaks) _
     (λ error h. reports_by breaks over (λ e b. record {
       labels = checked.labels.items;
-      named = labels_named (given_by g.S.Syntax.answers g.E.Evaluation.answers c.args.given.now) c.args.files.now c.args.joined.now c.args.place c.as_slice-row.result.now row c.ast_at-ast.result.now c.ast_at-ast.ensures c.in_ok-checked.checked c.in_ok-checked.ensures.checked c.in_ok-checked.ensures.kept;
+      named = labels_named (given_by g.S.Syntax.answers g.E.ConstantEvaluation.answers c.args.given.now) c.args.files.now c.args.joined.now c.args.place c.as_slice-row.result.now row c.ast_at-ast.result.now c.ast_at-ast.ensures c.in_ok-checked.checked c.in_ok-checked.ensures.checked c.in_ok-checked.ensures.kept;
       broken = λ inner same.
           let about : around_by around c.args.gathered.recipes ≡ around_made (notes_of_place (g.S.Syntax.answers c.args.given.now.syntax.now).enabled c.args.files.now c.args.joined.now c.args.place).absent_modules (by_name (with_labels inner checked.labels.items)) c.args.gathered.recipes =
           λ i. around_made (ap (λ (n : Notes). n.absent_modules) there.notes_are i) ((there.modules_are inner same ∙ ap (λ labels. by_name (with_labels inner labels)) c.as_slice.ensures.value) i) c.args.gathered.recipes in
-          subst (λ (x : Around). BreaksPlace (given_by g.S.Syntax.answers g.E.Evaluation.answers c.args.given.now) c.args.files.now c.args.joined.now c.args.place (links_by (contents_of_place (g.S.Syntax.answers c.args.given.now.syntax.now).enabled c.args.files.now c.args.joined.now c.args.place) x) (told_by (contents_of_place (g.S.Syntax.answers c.args.given.now.syntax.now).enabled c.args.files.now c.args.joined.now c.args.place) x) e) about
-          (subst (λ (n : Contents). BreaksPlace (given_by g.S.Syntax.answers g.E.Evaluation.answers c.args.given.now) c.args.files.now c.args.joined.now c.args.place (links_by n (around_by around c.args.gathered.recipes)) (told_by n (around_by around c.args.gathered.recipes)) e) m
-          (breaks_recipes (given_by g.S.Syntax.answers g.E.Evaluation.answers c.args.given.now) c.args.files.now c.args.joined.now c.args.place c.as_slice-row.result.now row c.ast_at-ast.result.now c.ast_at-ast.ensures c.in_ok-checked.checked c.in_ok-checked.ensures.checked c.in_ok-checked.ensures.kept links told e b));
+          subst (λ (x : Around). BreaksPlace (given_by g.S.Syntax.answers g.E.ConstantEvaluation.answers c.args.given.now) c.args.files.now c.args.joined.now c.args.place (links_by (contents_of_place (g.S.Syntax.answers c.args.given.now.syntax.now).enabled c.args.files.now c.args.joined.now c.args.place) x) (told_by (contents_of_place (g.S.Syntax.answers c.args.given.now.syntax.now).enabled c.args.files.now c.args.joined.now c.args.place) x) e) about
+          (subst (λ (n : Contents). BreaksPlace (given_by g.S.Syntax.answers g.E.ConstantEvaluation.answers c.args.given.now) c.args.files.now c.args.joined.now c.args.place (links_by n (around_by around c.args.gathered.recipes)) (told_by n (around_by around c.args.gathered.recipes)) e) m
+          (breaks_recipes (given_by g.S.Syntax.answers g.E.ConstantEvaluation.answers c.args.given.now) c.args.files.now c.args.joined.now c.args.place c.as_slice-row.result.now row c.ast_at-ast.result.now c.ast_at-ast.ensures c.in_ok-checked.checked c.in_ok-checked.ensures.checked c.in_ok-checked.ensures.kept links told e b));
     }) error h) (from_error (Reports breaks) c.from_residual-in_err-justfile.result c.in_err-justfile.field-0.0 (search rules) c.in_err-justfile.ensures.named)
 
 pub returns-clause-compiled : goal.returns-clause-compiled
@@ -148,7 +148,7 @@ returns-clause-compiled g c =
     let justfile = c.in_ok-justfile.justfile in
     let analyzed = c.in_ok-justfile.ensures.analyzed in
     let room : c.args.place < length c.surroundings_at.new.slots.items = omega (arith, c.in_ok-surroundings.ensures.room, c.requires.fits.room, c.requires.fits.ready.there) in
-    let m = contents_are (given_by g.S.Syntax.answers g.E.Evaluation.answers c.args.given.now) c.args.files.now c.args.joined.now c.args.place c.as_slice-row.result.now row c.ast_at-ast.result.now c.ast_at-ast.ensures c.in_ok-checked.checked c.in_ok-checked.ensures.checked c.in_ok-checked.ensures.kept in
+    let m = contents_are (given_by g.S.Syntax.answers g.E.ConstantEvaluation.answers c.args.given.now) c.args.files.now c.args.joined.now c.args.place c.as_slice-row.result.now row c.ast_at-ast.result.now c.ast_at-ast.ensures c.in_ok-checked.checked c.in_ok-checked.ensures.checked c.in_ok-checked.ensures.kept in
     let has = subst (λ n. HasVariables (g.S.Syntax.answers c.args.given.now.syntax.now) n justfile) m analyzed.variables in
     record {
       made = record { recipes = analyzed.linked.linked.added; overridden = checked.constants.overridden.items };
@@ -160,11 +160,11 @@ returns-clause-compiled g c =
         own_said = c.ast_at-ast.ensures;
         key = there.key;
         key_is = there.key_is;
-        kept = keeps_place (given_by g.S.Syntax.answers g.E.Evaluation.answers c.args.given.now) c.args.files.now c.args.joined.now c.args.place c.as_slice-row.result.now row c.ast_at-ast.result.now c.ast_at-ast.ensures c.in_ok-checked.checked c.in_ok-checked.ensures.checked c.in_ok-checked.ensures.kept _ (recipes_kept_over (layers_at (given_by g.S.Syntax.answers g.E.Evaluation.answers c.args.given.now) own.module_path) own checked around (made_in c.args.gathered) (made_in c.in_ok-justfile.gathered) justfile analyzed _ m);
+        kept = keeps_place (given_by g.S.Syntax.answers g.E.ConstantEvaluation.answers c.args.given.now) c.args.files.now c.args.joined.now c.args.place c.as_slice-row.result.now row c.ast_at-ast.result.now c.ast_at-ast.ensures c.in_ok-checked.checked c.in_ok-checked.ensures.checked c.in_ok-checked.ensures.kept _ (recipes_kept_over (layers_at (given_by g.S.Syntax.answers g.E.ConstantEvaluation.answers c.args.given.now) own.module_path) own checked around (made_in c.args.gathered) (made_in c.in_ok-justfile.gathered) justfile analyzed _ m);
         standing = analyzed.standing;
-        links = links_of (layers_at (given_by g.S.Syntax.answers g.E.Evaluation.answers c.args.given.now) own.module_path) own checked around (made_in c.args.gathered) (made_in c.in_ok-justfile.gathered) justfile analyzed _ m;
+        links = links_of (layers_at (given_by g.S.Syntax.answers g.E.ConstantEvaluation.answers c.args.given.now) own.module_path) own checked around (made_in c.args.gathered) (made_in c.in_ok-justfile.gathered) justfile analyzed _ m;
         labels = checked.labels.items;
-        evaluated = evaluated_to (given_by g.S.Syntax.answers g.E.Evaluation.answers c.args.given.now) c.args.files.now c.args.joined.now c.args.place c.as_slice-row.result.now row c.ast_at-ast.result.now c.ast_at-ast.ensures c.in_ok-checked.checked c.in_ok-checked.ensures.checked c.in_ok-checked.ensures.kept justfile analyzed.settings analyzed.own_overrides;
+        evaluated = evaluated_to (given_by g.S.Syntax.answers g.E.ConstantEvaluation.answers c.args.given.now) c.args.files.now c.args.joined.now c.args.place c.as_slice-row.result.now row c.ast_at-ast.result.now c.ast_at-ast.ensures c.in_ok-checked.checked c.in_ok-checked.ensures.checked c.in_ok-checked.ensures.kept justfile analyzed.settings analyzed.own_overrides;
         variables = has;
         tables = has_tables (g.S.Syntax.answers c.args.given.now.syntax.now) _ justfile c.requires.fits.ready.variables has;
         default = analyzed.default;

@@ -54,7 +54,7 @@ returns-clause-kept g c =
     let disabled = c.in_ok-linked.linked.disabled in
     let known = aliases_in c.args.checked.now.definitions in
     let same : targets it.absent disabled c.as_slice.result.now c.in_ok-keys.keys ≡ targets it.absent disabled it.modules (recipe_table standing) = (λ i. targets it.absent disabled (c.as_slice.ensures i) (c.in_ok-keys.ensures i)) in
-    let layers = layers_at (given_by g.S.Syntax.answers g.E.Evaluation.answers c.args.given.now) c.args.ast.now.module_path in
+    let layers = layers_at (given_by g.S.Syntax.answers g.E.ConstantEvaluation.answers c.args.given.now) c.args.ast.now.module_path in
     all_recipes_kept layers (evaluated_in c.args.checked.now.constants) (contents_in c.args.checked.now.definitions) standing it
     c.in_ok-linked.ensures.bodies c.in_ok-linked.ensures.kept c.in_ok-linked.ensures.linked.stand c.in_ok-linked.ensures.own c.in_ok-default.ensures.kept
     (targets_known kept standing it disabled c.in_ok-linked.ensures.linked.stand c.in_ok-linked.ensures.linked.disabled_are known
@@ -66,5 +66,5 @@ returns-clause-aliases g c =
 
 pub returns-clause-default : goal.returns-clause-default
 returns-clause-default g c =
-    default_standing (completion_here (g.S.Syntax.answers c.args.given.now.syntax.now) (g.E.Evaluation.answers c.args.given.now.evaluation.now) c.args.checked.now) (λ r. refl) c.args.checked.now.constants.settings.lists (kept_recipes (recipes_in c.args.checked.now.definitions)) (recipes_in c.in_ok-linked.linked.standing) (around_by c.args.around.now c.args.recipes) c.args.ast.now.module_path c.in_ok-linked.linked.all
+    default_standing (completion_here (g.S.Syntax.answers c.args.given.now.syntax.now) (g.E.ConstantEvaluation.answers c.args.given.now.evaluation.now) c.args.checked.now) (λ r. refl) c.args.checked.now.constants.settings.lists (kept_recipes (recipes_in c.args.checked.now.definitions)) (recipes_in c.in_ok-linked.linked.standing) (around_by c.args.around.now c.args.recipes) c.args.ast.now.module_path c.in_ok-linked.linked.all
     (recipes_by (g.S.Syntax.answers c.args.given.now.syntax.now).enabled (Some c.args.ast.now)) c.in_ok-default.default c.in_ok-linked.ensures.linked.stand c.in_ok-linked.ensures.linked.linked c.requires.own c.in_ok-default.ensures.default

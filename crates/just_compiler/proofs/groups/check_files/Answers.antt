@@ -28,13 +28,13 @@ check_module-requires-clause-numbers g c = subst (λ (m : Contents). IsOnce (ass
 
 pub returns-in_err-checked-clause-named : goal.returns-in_err-checked-clause-named
 returns-in_err-checked-clause-named g c =
-    let layers = layers_at (given_by g.S.Syntax.answers g.E.Evaluation.answers c.args.given.now) c.args.path.now in
+    let layers = layers_at (given_by g.S.Syntax.answers g.E.ConstantEvaluation.answers c.args.given.now) c.args.path.now in
     IfErr-weaker c.from_residual-in_err-checked.result (Reports (BreaksContents layers no_links no_links (contents_in c.in_ok-definitions.definitions))) _
     (λ e h. subst (λ m. Reports (BreaksContents layers no_links no_links m) e) c.in_ok-definitions.ensures h) (search rules)
 
 pub returns-in_err-labels-clause-named : goal.returns-in_err-labels-clause-named
 returns-in_err-labels-clause-named g c =
-    let layers = layers_at (given_by g.S.Syntax.answers g.E.Evaluation.answers c.args.given.now) c.args.path.now in
+    let layers = layers_at (given_by g.S.Syntax.answers g.E.ConstantEvaluation.answers c.args.given.now) c.args.path.now in
     let m = contents_in c.in_ok-definitions.definitions in
     let constants = c.in_ok-checked.checked.1 in
     let docs = Docs layers.syntax layers.evaluator m (values_of constants.scope) in
@@ -45,12 +45,12 @@ returns-in_err-labels-clause-named g c =
 
 pub returns-clause-kept : goal.returns-clause-kept
 returns-clause-kept g c =
-    let layers = layers_at (given_by g.S.Syntax.answers g.E.Evaluation.answers c.args.given.now) c.args.path.now in
+    let layers = layers_at (given_by g.S.Syntax.answers g.E.ConstantEvaluation.answers c.args.given.now) c.args.path.now in
     subst (KeepsBefore layers no_links OfBodies) c.in_ok-definitions.ensures c.in_ok-checked.ensures.kept
 
 pub returns-clause-checked : goal.returns-clause-checked
 returns-clause-checked g c =
-    let layers = layers_at (given_by g.S.Syntax.answers g.E.Evaluation.answers c.args.given.now) c.args.path.now in
+    let layers = layers_at (given_by g.S.Syntax.answers g.E.ConstantEvaluation.answers c.args.given.now) c.args.path.now in
     let variables = c.in_ok-checked.checked.0 in
     let constants = c.in_ok-checked.checked.1 in
     let said = said_from label_by layers.syntax.enabled (asts_in c.args.files.now) c.args.places.now in

@@ -24,14 +24,14 @@ returns-in_err-check_headers-clause-named g c =
 
 pub returns-in_err-check_names-clause-named : goal.returns-in_err-check_names-clause-named
 returns-in_err-check_names-clause-named g c =
-    let layers = layers_at (given_by g.S.Syntax.answers g.E.Evaluation.answers c.args.given.now) c.args.path.now in
+    let layers = layers_at (given_by g.S.Syntax.answers g.E.ConstantEvaluation.answers c.args.given.now) c.args.path.now in
     let m = contents_in c.args.definitions.now in
     IfErr-weaker c.from_residual-in_err-check_names.result (Reports (Names m)) _
     (λ e h. reports_by (Names m) (BreaksContents layers no_links no_links m) (λ x k. record { group = OfNames; earlier = before_names layers no_links m c.in_ok-check_headers.ensures.kept; broken = k }) e h) (search rules)
 
 pub returns-in_err-variables-clause-named : goal.returns-in_err-variables-clause-named
 returns-in_err-variables-clause-named g c =
-    let layers = layers_at (given_by g.S.Syntax.answers g.E.Evaluation.answers c.args.given.now) c.args.path.now in
+    let layers = layers_at (given_by g.S.Syntax.answers g.E.ConstantEvaluation.answers c.args.given.now) c.args.path.now in
     let m = contents_in c.args.definitions.now in
     IfErr-weaker c.from_residual-in_err-variables.result (Reports (Expressions (known_of layers.syntax m))) _
     (λ e h. reports_by (Expressions _) (BreaksContents layers no_links no_links m)
@@ -39,7 +39,7 @@ returns-in_err-variables-clause-named g c =
 
 pub returns-in_err-constants-clause-named : goal.returns-in_err-constants-clause-named
 returns-in_err-constants-clause-named g c =
-    let layers = layers_at (given_by g.S.Syntax.answers g.E.Evaluation.answers c.args.given.now) c.args.path.now in
+    let layers = layers_at (given_by g.S.Syntax.answers g.E.ConstantEvaluation.answers c.args.given.now) c.args.path.now in
     let m = contents_in c.args.definitions.now in
     IfErr-weaker c.from_residual-in_err-constants.result (Reports (Constants layers m)) _
     (λ e h. reports_by (Constants layers m) (BreaksContents layers no_links no_links m)
@@ -47,7 +47,7 @@ returns-in_err-constants-clause-named g c =
 
 pub returns-clause-kept : goal.returns-clause-kept
 returns-clause-kept g c =
-    let layers = layers_at (given_by g.S.Syntax.answers g.E.Evaluation.answers c.args.given.now) c.args.path.now in
+    let layers = layers_at (given_by g.S.Syntax.answers g.E.ConstantEvaluation.answers c.args.given.now) c.args.path.now in
     before_bodies layers no_links (contents_in c.args.definitions.now) c.in_ok-check_headers.ensures.kept c.in_ok-check_names.ensures.kept c.in_ok-variables.ensures.kept c.in_ok-constants.ensures.kept
 
 pub returns-clause-constants : goal.returns-clause-constants

@@ -68,7 +68,7 @@ pub returns-clause-own : goal.returns-clause-own
 returns-clause-own g c =
     let checked = c.args.checked.now in
     let answers = g.S.Syntax.answers c.args.given.now.syntax.now in
-    let evaluator = g.E.Evaluation.answers c.args.given.now.evaluation.now in
+    let evaluator = g.E.ConstantEvaluation.answers c.args.given.now.evaluation.now in
     let values = values_of checked.constants.scope in
     let m = contents_in checked.definitions in
     let settings = checked.constants.settings in
@@ -84,7 +84,7 @@ returns-clause-own g c =
 pub returns-clause-named : goal.returns-clause-named
 returns-clause-named g c =
     let checked = c.args.checked.now in
-    let layers = layers_at (given_by g.S.Syntax.answers g.E.Evaluation.answers c.args.given.now) c.args.path.now in
+    let layers = layers_at (given_by g.S.Syntax.answers g.E.ConstantEvaluation.answers c.args.given.now) c.args.path.now in
     let values = values_of checked.constants.scope in
     let m = contents_in checked.definitions in
     let settings = checked.constants.settings in
@@ -106,7 +106,7 @@ pub returns-clause-linked : goal.returns-clause-linked
 returns-clause-linked g c =
     let checked = c.args.checked.now in
     let answers = g.S.Syntax.answers c.args.given.now.syntax.now in
-    let evaluator = g.E.Evaluation.answers c.args.given.now.evaluation.now in
+    let evaluator = g.E.ConstantEvaluation.answers c.args.given.now.evaluation.now in
     let values = values_of checked.constants.scope in
     let m = contents_in checked.definitions in
     let settings = checked.constants.settings in

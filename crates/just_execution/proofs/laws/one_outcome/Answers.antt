@@ -1,7 +1,7 @@
 use Rattle.std.proofs.Common.{◌∙◌, List, sym, inl, inr}
 use Rattle.std.specs.Prelude.{Result}
 use Rattle.just_errors.specs.declared.halt.Halt.{Halt}
-use Rattle.just_parts.specs.Steps.{Kept, Question, Follows}
+use Rattle.just_run_layers.specs.Steps.{Kept, Question, Follows}
 use Rattle.just_execution.specs.Reports.{IsOne}
 use Rattle.just_execution.proofs.laws.one_outcome.Goals as goal
 

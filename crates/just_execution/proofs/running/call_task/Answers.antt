@@ -1,6 +1,6 @@
 use Rattle.std.proofs.Common.{◌≡◌, ◌++◌, ◌∷◌, [], List, length, Option, refl, sym, ◌∙◌, ◌<◌, ◌^◌, subst, arith, rules}
-use Rattle.just_parts.specs.Host.{Answer}
-use Rattle.just_parts.specs.Steps.{Kept, Question, both, kept_by}
+use Rattle.just_run_layers.specs.Host.{Answer}
+use Rattle.just_run_layers.specs.Steps.{Kept, Question, both, kept_by}
 use Rattle.just_execution.specs.declared.frame.Frame.{Frame}
 use Rattle.just_execution.specs.declared.frame.Frame.TheVariants.{Call, Block}
 use Rattle.just_execution.specs.Frames.{state_of, weight}

@@ -1,9 +1,9 @@
 use Rattle.std.proofs.Common.{◌≡◌, List, [], Option, Err, sym, subst, rules}
 use Rattle.std.specs.Prelude.{Result}
 use Rattle.just_errors.specs.declared.halt.Halt.{Halt}
-use Rattle.just_parts.specs.Host.{Answer}
-use Rattle.just_parts.specs.Steps.{Kept, Question, Took, both, kept_by}
-use Rattle.just_parts.proofs.StepLemmas.{keeps-both, keeps-then, took-kept}
+use Rattle.just_run_layers.specs.Host.{Answer}
+use Rattle.just_run_layers.specs.Steps.{Kept, Question, Took, both, kept_by}
+use Rattle.just_run_layers.proofs.StepLemmas.{keeps-both, keeps-then, took-kept}
 use Rattle.just_execution.specs.declared.frame.Frame.{Frame}
 use Rattle.just_execution.specs.Frames.{left, left_of, state_of}
 use Rattle.just_execution.specs.Leaves.{leaves_of}

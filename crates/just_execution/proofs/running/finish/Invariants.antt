@@ -1,8 +1,8 @@
 use Rattle.std.proofs.Common.{◌^◌}
 use Rattle.std.specs.Prelude.{Result}
 use Rattle.just_errors.specs.declared.halt.Halt.{Halt}
-use Rattle.just_parts.specs.Host.{KeepsPromises}
-use Rattle.just_parts.specs.Steps.{Kept, Took, both, kept_by}
+use Rattle.just_run_layers.specs.Host.{KeepsPromises}
+use Rattle.just_run_layers.specs.Steps.{Kept, Took, both, kept_by}
 use Rattle.just_execution.specs.Frames.{IsSound, left_of, weight}
 use Rattle.just_execution.specs.Homes.{IsCallable}
 use Rattle.just_execution.specs.Leaves.{leaves_of}

@@ -1,7 +1,7 @@
 use Rattle.std.proofs.Common.{List, Option, rules}
-use Rattle.just_parts.specs.Host.{Answer}
-use Rattle.just_parts.specs.Steps.{Kept, Question, both, kept_by}
-use Rattle.just_parts.proofs.StepLemmas.{keeps-both}
+use Rattle.just_run_layers.specs.Host.{Answer}
+use Rattle.just_run_layers.specs.Steps.{Kept, Question, both, kept_by}
+use Rattle.just_run_layers.proofs.StepLemmas.{keeps-both}
 use Rattle.just_execution.specs.Frames.{left_of, state_of}
 use Rattle.just_execution.specs.Leaves.{leaves_of}
 use Rattle.just_execution.specs.declared.task.Task.{Task}

@@ -1,7 +1,7 @@
 use Rattle.std.proofs.Common.{◌≢◌, [], Option, length, refl, rules}
-use Rattle.just_parts.specs.Host.{Answer}
-use Rattle.just_parts.specs.Steps.{Question, both}
-use Rattle.just_parts.proofs.StepLemmas.{took-out}
+use Rattle.just_run_layers.specs.Host.{Answer}
+use Rattle.just_run_layers.specs.Steps.{Question, both}
+use Rattle.just_run_layers.proofs.StepLemmas.{took-out}
 use Rattle.just_execution.specs.Frames.{state_of}
 use Rattle.just_execution.specs.Homes.{IsCallable}
 use Rattle.just_execution.specs.Leaves.{leaves_of}

@@ -1,6 +1,6 @@
 use Rattle.std.proofs.Common.{Option, sym, subst}
-use Rattle.just_parts.specs.Host.{Answer}
-use Rattle.just_parts.specs.Steps.{Kept, Question, Took, both, kept_by}
+use Rattle.just_run_layers.specs.Host.{Answer}
+use Rattle.just_run_layers.specs.Steps.{Kept, Question, Took, both, kept_by}
 use Rattle.just_execution.specs.declared.frame.Frame.{Frame}
 use Rattle.just_execution.specs.Frames.{Goes, left_of, left_with, state_of}
 use Rattle.just_execution.specs.Leaves.{leaves_of}

@@ -11,7 +11,7 @@ use Rattle.just_invoke.proofs.invocation_parser.parse_invocation.Goals as goal
 
 pub returns-in-Ok-take_tail-clause-ok : goal.returns-in-Ok-take_tail-clause-ok
 returns-in-Ok-take_tail-clause-ok g c =
-    invokes_from (count_fault_of (g.E.Evaluation.answers c.args.evaluation.now)) c.args.root.now c.args.recipes.now c.args.words.now c.in-Ok.found.1 c.in-Ok.found.0.now c.after.result.now c.after.ensures c.in-Ok.ensures.ok
+    invokes_from (count_fault_of (g.E.ConstantEvaluation.answers c.args.evaluation.now)) c.args.root.now c.args.recipes.now c.args.words.now c.in-Ok.found.1 c.in-Ok.found.0.now c.after.result.now c.after.ensures c.in-Ok.ensures.ok
     c.in-Ok-take_tail.tail.taken (shown c.in-Ok-take_tail.tail.groups.items) c.in-Ok-take_tail.ensures.ok
 
 pub returns-in-Err-take_tail-clause-err : goal.returns-in-Err-take_tail-clause-err
@@ -21,5 +21,5 @@ returns-in-Err-take_tail-clause-err g c =
     IfSome_then (cause_of c.rejected.result) c.rejected.ensures.cause
     (λ cause p.
     let m = map_some (with_recipe (name_of r)) why cause p in
-    rejects_from (count_fault_of (g.E.Evaluation.answers c.args.evaluation.now)) c.args.root.now c.args.recipes.now c.args.words.now c.in-Ok.found.1 r c.after.result.now c.after.ensures c.in-Ok.ensures.ok
-    m.0 cause (if_some_at why m.0 (NoArguments (count_fault_of (g.E.Evaluation.answers c.args.evaluation.now)) r (texts c.after.result.now)) c.in-Err-take_tail.ensures.err m.1) m.2)
+    rejects_from (count_fault_of (g.E.ConstantEvaluation.answers c.args.evaluation.now)) c.args.root.now c.args.recipes.now c.args.words.now c.in-Ok.found.1 r c.after.result.now c.after.ensures c.in-Ok.ensures.ok
+    m.0 cause (if_some_at why m.0 (NoArguments (count_fault_of (g.E.ConstantEvaluation.answers c.args.evaluation.now)) r (texts c.after.result.now)) c.in-Err-take_tail.ensures.err m.1) m.2)

@@ -12,12 +12,12 @@ loop-next-preserved g c =
     let pushed : c.push.new.self.items ≡ c.loop-next.invocations.items ++ c.in-Ok.invocation ∷ [] = search rules in
     record {
       within = omega (arith, c.in-Ok.ensures.within, ap length c.after.ensures, length-drop c.loop-next.next c.args.words.now);
-      chain = chain_more (count_fault_of (g.E.Evaluation.answers c.args.evaluation.now)) c.args.root.now c.args.recipes.now c.args.words.now c.loop-next.next c.in-Ok.taken c.loop-next.invocations.items c.push.new.self.items c.in-Ok.invocation
+      chain = chain_more (count_fault_of (g.E.ConstantEvaluation.answers c.args.evaluation.now)) c.args.root.now c.args.recipes.now c.args.words.now c.loop-next.next c.in-Ok.taken c.loop-next.invocations.items c.push.new.self.items c.in-Ok.invocation
           c.after.result.now (omega arith) c.after.ensures pushed c.in-Ok.ensures.ok c.loop-next.invariant.chain;
     }
 
 pub returns-in-Err-clause-fault : goal.returns-in-Err-clause-fault
 returns-in-Err-clause-fault g c =
     IfSome_then (cause_of c.in-Err.e) c.in-Err.ensures.err
-    (λ cause p. fault_after (count_fault_of (g.E.Evaluation.answers c.args.evaluation.now)) c.args.root.now c.args.recipes.now c.args.words.now c.loop-next.next (map invoked_of c.loop-next.invocations.items) c.after.result.now cause
+    (λ cause p. fault_after (count_fault_of (g.E.ConstantEvaluation.answers c.args.evaluation.now)) c.args.root.now c.args.recipes.now c.args.words.now c.loop-next.next (map invoked_of c.loop-next.invocations.items) c.after.result.now cause
     (omega arith) c.after.ensures c.loop-next.invariant.chain p)

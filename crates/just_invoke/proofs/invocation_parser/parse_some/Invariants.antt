@@ -7,7 +7,7 @@ use Rattle.just_invoke.proofs.invocation_parser.parse_some.Given as goal
 abbrev pub invariant-loop-next : goal.invariant-loop-next
 invariant-loop-next g l = record {
   within : l.next ≤ length l.words;
-  chain : Chain (count_fault_of (g.E.Evaluation.answers l.evaluation)) l.root l.recipes (texts l.words) (map invoked_of l.invocations.items) (texts (drop l.next l.words));
+  chain : Chain (count_fault_of (g.E.ConstantEvaluation.answers l.evaluation)) l.root l.recipes (texts l.words) (map invoked_of l.invocations.items) (texts (drop l.next l.words));
 }
 
 abbrev pub decreases-loop-next : goal.decreases-loop-next

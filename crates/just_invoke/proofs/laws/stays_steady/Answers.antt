@@ -1,6 +1,6 @@
 use Rattle.std.proofs.Common.{List, [], ◌∷◌, Option}
-use Rattle.just_parts.specs.Host.{Answer, KeepsPromises}
-use Rattle.just_parts.specs.Steps.{Question, IsSteady}
+use Rattle.just_run_layers.specs.Host.{Answer, KeepsPromises}
+use Rattle.just_run_layers.specs.Steps.{Question, IsSteady}
 use Rattle.just_invoke.proofs.laws.stays_steady.Goals as goal
 
 stays : (old new : Question → Option Answer) (f : Question → Answer) (questions : List Question) → KeepsPromises old new → IsSteady old f questions → IsSteady new f questions

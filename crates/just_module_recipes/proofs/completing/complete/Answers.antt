@@ -44,13 +44,13 @@ returns-in_err-check_recipe-clause-named g c =
     let answers = g.S.Syntax.answers it.meanings.syntax.now in
     let read = RecipeNames answers (known answers it.among.assignments.now it.among.functions.now) it.meanings.settings.now c.args.recipe.now in
     IfErr-weaker c.from_residual.result (Reports read) _
-    (λ e h. reports_by read (TellsOne answers (g.E.Evaluation.answers it.among.evaluation.now) it c.args.recipe.now) (λ x k. inl (of_names k)) e h) (search rules)
+    (λ e h. reports_by read (TellsOne answers (g.E.ConstantEvaluation.answers it.among.evaluation.now) it c.args.recipe.now) (λ x k. inl (of_names k)) e h) (search rules)
 
 pub valued_recipe-requires : goal.valued_recipe-requires
 valued_recipe-requires g c =
     let it = c.args.completing.now in
     let answers = g.S.Syntax.answers it.meanings.syntax.now in
-    let evaluator = g.E.Evaluation.answers it.among.evaluation.now in
+    let evaluator = g.E.ConstantEvaluation.answers it.among.evaluation.now in
     let number = number_under (get bytes_eq it.meanings.bindings.now) answers in
     let r = c.args.recipe.now in
     let made_is = ap (λ (x : Recipe UnresolvedDependency). x.attributes) c.in_ok-numbered.ensures in
@@ -61,7 +61,7 @@ pub returns-in_err-made-clause-named : goal.returns-in_err-made-clause-named
 returns-in_err-made-clause-named g c =
     let it = c.args.completing.now in
     let answers = g.S.Syntax.answers it.meanings.syntax.now in
-    let evaluator = g.E.Evaluation.answers it.among.evaluation.now in
+    let evaluator = g.E.ConstantEvaluation.answers it.among.evaluation.now in
     let number = number_under (get bytes_eq it.meanings.bindings.now) answers in
     let value = value_here answers evaluator it in
     let r = c.args.recipe.now in
@@ -75,7 +75,7 @@ pub returns-clause-kept : goal.returns-clause-kept
 returns-clause-kept g c =
     let it = c.args.completing.now in
     let answers = g.S.Syntax.answers it.meanings.syntax.now in
-    let evaluator = g.E.Evaluation.answers it.among.evaluation.now in
+    let evaluator = g.E.ConstantEvaluation.answers it.among.evaluation.now in
     let number = number_under (get bytes_eq it.meanings.bindings.now) answers in
     let value = value_here answers evaluator it in
     let r = c.args.recipe.now in

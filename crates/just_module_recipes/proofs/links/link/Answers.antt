@@ -62,7 +62,7 @@ returns-clause-linked g c =
     let told : c.as_slice-3.result.now ≡ sets = search rules in
     let done = c.args.completing.now in
     let answers = g.S.Syntax.answers done.meanings.syntax.now in
-    let evaluator = g.E.Evaluation.answers done.among.evaluation.now in
+    let evaluator = g.E.ConstantEvaluation.answers done.among.evaluation.now in
     let by = completed_by answers evaluator done in
     let needed = done.references.now in
     let lists = done.meanings.settings.now.lists in
@@ -79,7 +79,7 @@ returns-clause-own g c =
     let plan : IsPlan rs it c.in_ok-rows.field-0 = c.in_ok-rows.ensures.plan in
     let done = c.args.completing.now in
     let answers = g.S.Syntax.answers done.meanings.syntax.now in
-    let evaluator = g.E.Evaluation.answers done.among.evaluation.now in
+    let evaluator = g.E.ConstantEvaluation.answers done.among.evaluation.now in
     let told : c.as_slice-3.result.now ≡ c.in_ok-rows.field-0.sets.items = search rules in
     own_kept rs it c.in_ok-rows.field-0.sets.items plan.exact (BreaksOne answers evaluator done) (subst (KeepOwn answers evaluator done rs) told c.in_ok-all.ensures.kept)
 
@@ -89,7 +89,7 @@ returns-in_err-rows-clause-named g c =
     let it = around c.args.absent.now c.args.modules.now c.args.recipes in
     let done = c.args.completing.now in
     let lists = done.meanings.settings.now.lists in
-    let tells = TellsOne (g.S.Syntax.answers done.meanings.syntax.now) (g.E.Evaluation.answers done.among.evaluation.now) done in
+    let tells = TellsOne (g.S.Syntax.answers done.meanings.syntax.now) (g.E.ConstantEvaluation.answers done.among.evaluation.now) done in
     IfErr-weaker c.from_residual.result (Reports (BreaksLinks lists rs it)) _ (λ e h. reports_by (BreaksLinks lists rs it) (TellsLinks lists tells rs it) (λ x k. of_links k) e h) (search rules)
 
 pub returns-in_err-all-clause-named : goal.returns-in_err-all-clause-named
@@ -100,7 +100,7 @@ returns-in_err-all-clause-named g c =
     let sets = c.in_ok-rows.field-0.sets.items in
     let done = c.args.completing.now in
     let lists = done.meanings.settings.now.lists in
-    let tells = TellsOne (g.S.Syntax.answers done.meanings.syntax.now) (g.E.Evaluation.answers done.among.evaluation.now) done in
+    let tells = TellsOne (g.S.Syntax.answers done.meanings.syntax.now) (g.E.ConstantEvaluation.answers done.among.evaluation.now) done in
     let told : c.as_slice-3.result.now ≡ sets = search rules in
     IfErr-weaker c.from_residual-in_err-all.result (Reports (OfUndisabled tells rs c.as_slice-3.result.now)) _
     (λ e h. reports_by (OfUndisabled tells rs c.as_slice-3.result.now) (TellsLinks lists tells rs it)

@@ -23,8 +23,8 @@ use Rattle.just_module_recipes.proofs.resolving.resolve.Goals as goal
 pub resolve_at-requires-clause-there : goal.resolve_at-requires-clause-there
 resolve_at-requires-clause-there g c = λ e.
     let it = c.args.completing.now in
-    let by = completed_by (g.S.Syntax.answers it.meanings.syntax.now) (g.E.Evaluation.answers it.among.evaluation.now) it in
-    let completes = is_completing (g.S.Syntax.answers it.meanings.syntax.now) (g.E.Evaluation.answers it.among.evaluation.now) it in
+    let by = completed_by (g.S.Syntax.answers it.meanings.syntax.now) (g.E.ConstantEvaluation.answers it.among.evaluation.now) it in
+    let completes = is_completing (g.S.Syntax.answers it.meanings.syntax.now) (g.E.ConstantEvaluation.answers it.among.evaluation.now) it in
     let rs = recipes_in c.args.kept.now in
     let long : length rs ≡ length c.args.kept.now.recipes.items = length-lent c.args.kept.now.recipes.items in
     let place : ℕ = slice_index c.args.order.now c.loop-n.n in
@@ -40,8 +40,8 @@ resolve_at-requires-clause-there g c = λ e.
 pub resolve_at-requires-clause-is_new : goal.resolve_at-requires-clause-is_new
 resolve_at-requires-clause-is_new g c = λ e.
     let it = c.args.completing.now in
-    let by = completed_by (g.S.Syntax.answers it.meanings.syntax.now) (g.E.Evaluation.answers it.among.evaluation.now) it in
-    let completes = is_completing (g.S.Syntax.answers it.meanings.syntax.now) (g.E.Evaluation.answers it.among.evaluation.now) it in
+    let by = completed_by (g.S.Syntax.answers it.meanings.syntax.now) (g.E.ConstantEvaluation.answers it.among.evaluation.now) it in
+    let completes = is_completing (g.S.Syntax.answers it.meanings.syntax.now) (g.E.ConstantEvaluation.answers it.among.evaluation.now) it in
     let rs = recipes_in c.args.kept.now in
     let long : length rs ≡ length c.args.kept.now.recipes.items = length-lent c.args.kept.now.recipes.items in
     let many : length c.args.rows.now ≡ length rs = c.requires.rows ∙ sym long in
@@ -50,8 +50,8 @@ resolve_at-requires-clause-is_new g c = λ e.
 pub resolve_at-requires-clause-numbers : goal.resolve_at-requires-clause-numbers
 resolve_at-requires-clause-numbers g c = λ e.
     let it = c.args.completing.now in
-    let by = completed_by (g.S.Syntax.answers it.meanings.syntax.now) (g.E.Evaluation.answers it.among.evaluation.now) it in
-    let completes = is_completing (g.S.Syntax.answers it.meanings.syntax.now) (g.E.Evaluation.answers it.among.evaluation.now) it in
+    let by = completed_by (g.S.Syntax.answers it.meanings.syntax.now) (g.E.ConstantEvaluation.answers it.among.evaluation.now) it in
+    let completes = is_completing (g.S.Syntax.answers it.meanings.syntax.now) (g.E.ConstantEvaluation.answers it.among.evaluation.now) it in
     let rs = recipes_in c.args.kept.now in
     let long : length rs ≡ length c.args.kept.now.recipes.items = length-lent c.args.kept.now.recipes.items in
     let place : ℕ = slice_index c.args.order.now c.loop-n.n in
@@ -74,7 +74,7 @@ resolve_at-requires-clause-covered g c =
 pub returns-in_err-resolve_at-clause-named : goal.returns-in_err-resolve_at-clause-named
 returns-in_err-resolve_at-clause-named g c =
     let it = c.args.completing.now in
-    let tells = TellsOne (g.S.Syntax.answers it.meanings.syntax.now) (g.E.Evaluation.answers it.among.evaluation.now) it in
+    let tells = TellsOne (g.S.Syntax.answers it.meanings.syntax.now) (g.E.ConstantEvaluation.answers it.among.evaluation.now) it in
     let rs = recipes_in c.args.kept.now in
     let long : length rs ≡ length c.args.kept.now.recipes.items = length-lent c.args.kept.now.recipes.items in
     let place : ℕ = slice_index c.args.order.now c.loop-n.n in
@@ -88,7 +88,7 @@ returns-in_err-resolve_at-clause-named g c =
 pub returns-clause-kept : goal.returns-clause-kept
 returns-clause-kept g c = λ i h empty.
     let it = c.args.completing.now in
-    let breaks = BreaksOne (g.S.Syntax.answers it.meanings.syntax.now) (g.E.Evaluation.answers it.among.evaluation.now) it in
+    let breaks = BreaksOne (g.S.Syntax.answers it.meanings.syntax.now) (g.E.ConstantEvaluation.answers it.among.evaluation.now) it in
     let rs = recipes_in c.args.kept.now in
     let long : length rs ≡ length c.args.kept.now.recipes.items = length-lent c.args.kept.now.recipes.items in
     let k = c.requires.order.all i (omega (arith, h, long, c.requires.rows)) in
@@ -98,8 +98,8 @@ returns-clause-kept g c = λ i h empty.
 pub loop-n-preserved : goal.loop-n-preserved
 loop-n-preserved g c =
     let it = c.args.completing.now in
-    let by = completed_by (g.S.Syntax.answers it.meanings.syntax.now) (g.E.Evaluation.answers it.among.evaluation.now) it in
-    let completes = is_completing (g.S.Syntax.answers it.meanings.syntax.now) (g.E.Evaluation.answers it.among.evaluation.now) it in
+    let by = completed_by (g.S.Syntax.answers it.meanings.syntax.now) (g.E.ConstantEvaluation.answers it.among.evaluation.now) it in
+    let completes = is_completing (g.S.Syntax.answers it.meanings.syntax.now) (g.E.ConstantEvaluation.answers it.among.evaluation.now) it in
     let rs = recipes_in c.args.kept.now in
     let long : length rs ≡ length c.args.kept.now.recipes.items = length-lent c.args.kept.now.recipes.items in
     let place : ℕ = slice_index c.args.order.now c.loop-n.n in
@@ -110,7 +110,7 @@ loop-n-preserved g c =
     let keys : c.index-sets-place.result.keys ≡ keys_at c.args.sets.now place = ap (λ (s : BTreeSet Modulepath). s.keys) set in
     let many : length c.args.rows.now ≡ length rs = c.requires.rows ∙ sym long in
     let bars = told_at c.args.rows.now c.args.order.now c.args.sets.now c.requires.order c.requires.told in
-    let breaks = BreaksOne (g.S.Syntax.answers it.meanings.syntax.now) (g.E.Evaluation.answers it.among.evaluation.now) it in (
+    let breaks = BreaksOne (g.S.Syntax.answers it.meanings.syntax.now) (g.E.ConstantEvaluation.answers it.among.evaluation.now) it in (
       so_far by completes it.references.now it.meanings.settings.now.lists rs c.args.module_path.now c.args.rows.now c.args.sets.now c.args.recipes c.requires.once c.requires.apart c.args.order.now c.requires.order many bars c.requires.there c.loop-n.n c.loop-n-test.true c.loop-n.recipes c.loop-n.invariant.0 c.resolve_at.new.recipes
           (c.in_ok-resolve_at.ensures.made ∙ (ap (λ (ts : List Target). c.loop-n.recipes ++ settled_of by it.references.now it.meanings.settings.now.lists rs c.loop-n.recipes c.args.module_path.now ts c.index-sets-place.result.keys place) row
           ∙ ap (λ (ks : List Modulepath). c.loop-n.recipes ++ settled_of by it.references.now it.meanings.settings.now.lists rs c.loop-n.recipes c.args.module_path.now (get_or c.args.rows.now place []) ks place) keys)),

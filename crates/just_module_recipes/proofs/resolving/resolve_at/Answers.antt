@@ -25,7 +25,7 @@ push-requires-clause-there g c =
     let zero : length c.args.set.now.keys ≡ 0 = grind (arith, common_steps) in
     let it = c.args.completing.now in
     let answers = g.S.Syntax.answers it.meanings.syntax.now in
-    let evaluator = g.E.Evaluation.answers it.among.evaluation.now in
+    let evaluator = g.E.ConstantEvaluation.answers it.among.evaluation.now in
     let rs = recipes_in c.args.kept.now in
     let r = recipe_at rs c.args.place in
     needs_made (completed_by answers evaluator it) it.references.now it.meanings.settings.now.lists rs c.args.recipes.now c.args.module_path.now r (get_or it.references.now c.args.place []) c.args.row.now c.in_ok-resolved.resolved c.in_ok-resolved.ensures.made
@@ -36,5 +36,5 @@ returns-in_err-resolved-clause-named g c =
     let zero : length c.args.set.now.keys ≡ 0 = grind (arith, common_steps) in
     let empty : c.args.set.now.keys ≡ [] = nil_from_length c.args.set.now.keys zero in
     let it = c.args.completing.now in
-    let tells = TellsOne (g.S.Syntax.answers it.meanings.syntax.now) (g.E.Evaluation.answers it.among.evaluation.now) it (recipe_at (recipes_in c.args.kept.now) c.args.place) in
+    let tells = TellsOne (g.S.Syntax.answers it.meanings.syntax.now) (g.E.ConstantEvaluation.answers it.among.evaluation.now) it (recipe_at (recipes_in c.args.kept.now) c.args.place) in
     IfErr-weaker c.from_residual.result (Reports tells) _ (λ e h. reports_by tells (λ x. (c.args.set.now.keys ≡ []) × tells x) (λ x k. (empty, k)) e h) (search rules)

@@ -24,7 +24,7 @@ pub returns-in_err-recipe-clause-named : goal.returns-in_err-recipe-clause-named
 returns-in_err-recipe-clause-named g c =
     let it = c.args.completing.now in
     let rs = recipes_in c.args.kept.now in
-    let tells = TellsOne (g.S.Syntax.answers it.meanings.syntax.now) (g.E.Evaluation.answers it.among.evaluation.now) it in
+    let tells = TellsOne (g.S.Syntax.answers it.meanings.syntax.now) (g.E.ConstantEvaluation.answers it.among.evaluation.now) it in
     let lent : c.recipe_at.result.now ≡ recipe_at rs c.args.place = sym (get_or_from_slice_get rs c.args.place c.recipe_at.result.now no_recipe c.recipe_at.ensures.recipe) in
     IfErr-weaker c.from_residual.result (Reports (tells c.recipe_at.result.now)) _ (λ e h. subst (λ r. Reports (tells r) e) lent h) (search rules)
 
@@ -33,12 +33,12 @@ returns-clause-kept g c =
     let it = c.args.completing.now in
     let rs = recipes_in c.args.kept.now in
     let lent : c.recipe_at.result.now ≡ recipe_at rs c.args.place = sym (get_or_from_slice_get rs c.args.place c.recipe_at.result.now no_recipe c.recipe_at.ensures.recipe) in
-    subst (λ r. Keeps (BreaksOne (g.S.Syntax.answers it.meanings.syntax.now) (g.E.Evaluation.answers it.among.evaluation.now) it r)) lent c.in_ok-recipe.ensures.kept
+    subst (λ r. Keeps (BreaksOne (g.S.Syntax.answers it.meanings.syntax.now) (g.E.ConstantEvaluation.answers it.among.evaluation.now) it r)) lent c.in_ok-recipe.ensures.kept
 
 pub returns-clause-made : goal.returns-clause-made
 returns-clause-made g c =
     let it = c.args.completing.now in
-    let by = completed_by (g.S.Syntax.answers it.meanings.syntax.now) (g.E.Evaluation.answers it.among.evaluation.now) it in
+    let by = completed_by (g.S.Syntax.answers it.meanings.syntax.now) (g.E.ConstantEvaluation.answers it.among.evaluation.now) it in
     let numbers = get_or it.references.now c.args.place [] in
     let lists = it.meanings.settings.now.lists in
     let rs = recipes_in c.args.kept.now in

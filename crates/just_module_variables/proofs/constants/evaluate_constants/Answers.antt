@@ -19,7 +19,7 @@ use Rattle.just_module_variables.proofs.constants.evaluate_constants.Goals as go
 
 pub returns-in_err-check_expressions-clause-named : goal.returns-in_err-check_expressions-clause-named
 returns-in_err-check_expressions-clause-named g c =
-    let layers = layers_at (given_by g.S.Syntax.answers g.E.Evaluation.answers c.args.given.now) c.args.path.now in
+    let layers = layers_at (given_by g.S.Syntax.answers g.E.ConstantEvaluation.answers c.args.given.now) c.args.path.now in
     let m = contents_in c.args.definitions.now in
     let v = c.args.variables.now in
     let es = lent c.in_ok-settings.settings.items in
@@ -29,14 +29,14 @@ returns-in_err-check_expressions-clause-named g c =
 
 pub assignments_const-requires-clause-order : goal.assignments_const-requires-clause-order
 assignments_const-requires-clause-order g c =
-    let layers = layers_at (given_by g.S.Syntax.answers g.E.Evaluation.answers c.args.given.now) c.args.path.now in
+    let layers = layers_at (given_by g.S.Syntax.answers g.E.ConstantEvaluation.answers c.args.given.now) c.args.path.now in
     let m = contents_in c.args.definitions.now in
     let v = c.args.variables.now in
     subst (λ (ns : List Name). IsEvaluationOrder (sources v.assignments v.functions) (texts_of_names ns)) (sym c.as_slice-2.ensures) (tables_ordered layers.syntax m v.assignments v.functions v.evaluation_order c.requires.variables)
 
 pub assignments_const-requires-clause-closed : goal.assignments_const-requires-clause-closed
 assignments_const-requires-clause-closed g c =
-    let layers = layers_at (given_by g.S.Syntax.answers g.E.Evaluation.answers c.args.given.now) c.args.path.now in
+    let layers = layers_at (given_by g.S.Syntax.answers g.E.ConstantEvaluation.answers c.args.given.now) c.args.path.now in
     let m = contents_in c.args.definitions.now in
     let v = c.args.variables.now in
     closed layers m v.assignments v.functions v.evaluation_order c.requires.variables c.requires.apart c.in_ok-overridden.overridden.items c.in_ok-overrides.overrides (contains same_number c.in_ok-references.references)
@@ -44,7 +44,7 @@ assignments_const-requires-clause-closed g c =
 
 pub returns-in_err-scope-clause-named : goal.returns-in_err-scope-clause-named
 returns-in_err-scope-clause-named g c =
-    let layers = layers_at (given_by g.S.Syntax.answers g.E.Evaluation.answers c.args.given.now) c.args.path.now in
+    let layers = layers_at (given_by g.S.Syntax.answers g.E.ConstantEvaluation.answers c.args.given.now) c.args.path.now in
     let m = contents_in c.args.definitions.now in
     let v = c.args.variables.now in
     IfErr-weaker c.from_residual-in_err-scope.result (FaultsAt (layers.evaluator.constants (wanted_by v.assignments v.functions (get same_number c.in_ok-overrides.overrides) (contains same_number c.in_ok-references.references) c.sets_lists.result))) _
@@ -53,7 +53,7 @@ returns-in_err-scope-clause-named g c =
 
 pub settings_of-requires : goal.settings_of-requires
 settings_of-requires g c =
-    let layers = layers_at (given_by g.S.Syntax.answers g.E.Evaluation.answers c.args.given.now) c.args.path.now in
+    let layers = layers_at (given_by g.S.Syntax.answers g.E.ConstantEvaluation.answers c.args.given.now) c.args.path.now in
     let m = contents_in c.args.definitions.now in
     let v = c.args.variables.now in
     settings_covered layers m v.assignments v.functions v.evaluation_order c.requires.variables c.requires.apart c.in_ok-overridden.overridden.items c.in_ok-overrides.overrides (contains same_number c.in_ok-references.references)
@@ -62,7 +62,7 @@ settings_of-requires g c =
 
 pub returns-in_err-settings-2-clause-named : goal.returns-in_err-settings-2-clause-named
 returns-in_err-settings-2-clause-named g c =
-    let layers = layers_at (given_by g.S.Syntax.answers g.E.Evaluation.answers c.args.given.now) c.args.path.now in
+    let layers = layers_at (given_by g.S.Syntax.answers g.E.ConstantEvaluation.answers c.args.given.now) c.args.path.now in
     let m = contents_in c.args.definitions.now in
     let v = c.args.variables.now in
     IfErr-weaker c.from_residual-in_err-settings-2.result (FaultsAt (layers.evaluator.settings (functions_by_name v.functions) (values_of c.in_ok-scope.scope) (map bare_set m.sets))) _
@@ -72,7 +72,7 @@ returns-in_err-settings-2-clause-named g c =
 
 pub returns-clause-kept : goal.returns-clause-kept
 returns-clause-kept g c =
-    let layers = layers_at (given_by g.S.Syntax.answers g.E.Evaluation.answers c.args.given.now) c.args.path.now in
+    let layers = layers_at (given_by g.S.Syntax.answers g.E.ConstantEvaluation.answers c.args.given.now) c.args.path.now in
     let m = contents_in c.args.definitions.now in
     let v = c.args.variables.now in
     kept layers m v.assignments v.functions v.evaluation_order c.requires.variables c.requires.apart c.in_ok-overridden.overridden.items c.in_ok-overrides.overrides (contains same_number c.in_ok-references.references)
@@ -81,7 +81,7 @@ returns-clause-kept g c =
 
 pub returns-clause-evaluated : goal.returns-clause-evaluated
 returns-clause-evaluated g c =
-    let layers = layers_at (given_by g.S.Syntax.answers g.E.Evaluation.answers c.args.given.now) c.args.path.now in
+    let layers = layers_at (given_by g.S.Syntax.answers g.E.ConstantEvaluation.answers c.args.given.now) c.args.path.now in
     let m = contents_in c.args.definitions.now in
     let v = c.args.variables.now in
     evaluated layers m v.assignments v.functions v.evaluation_order c.requires.variables c.requires.apart c.in_ok-overridden.overridden.items c.in_ok-overrides.overrides (contains same_number c.in_ok-references.references)
@@ -90,7 +90,7 @@ returns-clause-evaluated g c =
 
 pub returns-clause-covered : goal.returns-clause-covered
 returns-clause-covered g c =
-    let layers = layers_at (given_by g.S.Syntax.answers g.E.Evaluation.answers c.args.given.now) c.args.path.now in
+    let layers = layers_at (given_by g.S.Syntax.answers g.E.ConstantEvaluation.answers c.args.given.now) c.args.path.now in
     let m = contents_in c.args.definitions.now in
     let v = c.args.variables.now in
     covered layers m v.assignments v.functions v.evaluation_order c.requires.variables c.requires.apart c.in_ok-overridden.overridden.items c.in_ok-overrides.overrides (contains same_number c.in_ok-references.references)
@@ -99,7 +99,7 @@ returns-clause-covered g c =
 
 pub returns-clause-overridden : goal.returns-clause-overridden
 returns-clause-overridden g c =
-    let layers = layers_at (given_by g.S.Syntax.answers g.E.Evaluation.answers c.args.given.now) c.args.path.now in
+    let layers = layers_at (given_by g.S.Syntax.answers g.E.ConstantEvaluation.answers c.args.given.now) c.args.path.now in
     let m = contents_in c.args.definitions.now in
     let v = c.args.variables.now in
     overrides_by_number layers m v.assignments v.functions v.evaluation_order c.requires.variables c.in_ok-overridden.overridden.items c.in_ok-overridden.ensures

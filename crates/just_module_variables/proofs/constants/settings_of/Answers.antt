@@ -16,10 +16,10 @@ sets-requires g c =
 
 pub returns-clause-settings : goal.returns-clause-settings
 returns-clause-settings g c =
-    let answer = (g.E.Evaluation.answers c.args.evaluation.now).settings (functions_by_name c.args.variables.now.functions) (values_of c.args.constants.now) in
+    let answer = (g.E.ConstantEvaluation.answers c.args.evaluation.now).settings (functions_by_name c.args.variables.now.functions) (values_of c.args.constants.now) in
     subst (λ (ss : List Set). IfOk c.sets.result (λ made. answer (map bare_set ss) ≡ Some made)) (c.as_slice.ensures.value ∙ c.in_ok-sets.ensures) c.sets.ensures.settings
 
 pub returns-clause-refused : goal.returns-clause-refused
 returns-clause-refused g c =
-    let answer = (g.E.Evaluation.answers c.args.evaluation.now).settings (functions_by_name c.args.variables.now.functions) (values_of c.args.constants.now) in
+    let answer = (g.E.ConstantEvaluation.answers c.args.evaluation.now).settings (functions_by_name c.args.variables.now.functions) (values_of c.args.constants.now) in
     subst (λ (ss : List Set). IfErr c.sets.result (FaultsAt (answer (map bare_set ss)))) (c.as_slice.ensures.value ∙ c.in_ok-sets.ensures) c.sets.ensures.refused

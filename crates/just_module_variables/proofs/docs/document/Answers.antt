@@ -16,7 +16,7 @@ use Rattle.just_module_variables.proofs.docs.document.Goals as goal
 pub documented-requires : goal.documented-requires
 documented-requires g c =
     let answers = g.S.Syntax.answers c.args.given.now.syntax.now in
-    let evaluator = g.E.Evaluation.answers c.args.given.now.evaluation.now in
+    let evaluator = g.E.ConstantEvaluation.answers c.args.given.now.evaluation.now in
     let m = contents_in c.args.definitions.now in
     let v = c.args.variables.now in
     let values = values_of c.args.constants.now in
@@ -29,7 +29,7 @@ documented-requires g c =
 pub returns-in_err-documented-clause-named : goal.returns-in_err-documented-clause-named
 returns-in_err-documented-clause-named g c =
     let answers = g.S.Syntax.answers c.args.given.now.syntax.now in
-    let evaluator = g.E.Evaluation.answers c.args.given.now.evaluation.now in
+    let evaluator = g.E.ConstantEvaluation.answers c.args.given.now.evaluation.now in
     let m = contents_in c.args.definitions.now in
     let v = c.args.variables.now in
     let values = values_of c.args.constants.now in
@@ -43,7 +43,7 @@ returns-in_err-documented-clause-named g c =
 pub loop-label-preserved : goal.loop-label-preserved
 loop-label-preserved g c =
     let answers = g.S.Syntax.answers c.args.given.now.syntax.now in
-    let evaluator = g.E.Evaluation.answers c.args.given.now.evaluation.now in
+    let evaluator = g.E.ConstantEvaluation.answers c.args.given.now.evaluation.now in
     let m = contents_in c.args.definitions.now in
     let v = c.args.variables.now in
     let values = values_of c.args.constants.now in
@@ -65,7 +65,7 @@ loop-label-preserved g c =
 pub returns-clause-kept : goal.returns-clause-kept
 returns-clause-kept g c =
     let answers = g.S.Syntax.answers c.args.given.now.syntax.now in
-    let evaluator = g.E.Evaluation.answers c.args.given.now.evaluation.now in
+    let evaluator = g.E.ConstantEvaluation.answers c.args.given.now.evaluation.now in
     let m = contents_in c.args.definitions.now in
     let v = c.args.variables.now in
     let values = values_of c.args.constants.now in
@@ -78,7 +78,7 @@ returns-clause-kept g c =
 pub returns-clause-labels : goal.returns-clause-labels
 returns-clause-labels g c =
     let answers = g.S.Syntax.answers c.args.given.now.syntax.now in
-    let evaluator = g.E.Evaluation.answers c.args.given.now.evaluation.now in
+    let evaluator = g.E.ConstantEvaluation.answers c.args.given.now.evaluation.now in
     let m = contents_in c.args.definitions.now in
     let v = c.args.variables.now in
     let values = values_of c.args.constants.now in

@@ -7,6 +7,6 @@ use Rattle.just_parts.specs.Evaluator.{values_of}
 
 abbrev pub invariant-loop-label : goal.invariant-loop-label
 invariant-loop-label g l = record {
-  made : AreDocumented (value_by (g.E.Evaluation.answers l.given.evaluation.now) l.variables (values_of l.constants)) (take l.label-index l.labels) l.made.items;
-  sound : All (IsSoundLabel (known_by (g.S.Syntax.answers l.given.syntax.now) l.variables) (value_by (g.E.Evaluation.answers l.given.evaluation.now) l.variables (values_of l.constants))) (take l.label-index l.labels);
+  made : AreDocumented (value_by (g.E.ConstantEvaluation.answers l.given.evaluation.now) l.variables (values_of l.constants)) (take l.label-index l.labels) l.made.items;
+  sound : All (IsSoundLabel (known_by (g.S.Syntax.answers l.given.syntax.now) l.variables) (value_by (g.E.ConstantEvaluation.answers l.given.evaluation.now) l.variables (values_of l.constants))) (take l.label-index l.labels);
 }

@@ -15,7 +15,7 @@ use Rattle.just_module_variables.proofs.docs.documented.Goals as goal
 pub returns-in_err-check_expression-clause-named : goal.returns-in_err-check_expression-clause-named
 returns-in_err-check_expression-clause-named g c =
     let m = known_by (g.S.Syntax.answers c.args.given.now.syntax.now) c.args.variables.now in
-    let value = value_by (g.E.Evaluation.answers c.args.given.now.evaluation.now) c.args.variables.now (values_of c.args.constants.now) in
+    let value = value_by (g.E.ConstantEvaluation.answers c.args.given.now.evaluation.now) c.args.variables.now (values_of c.args.constants.now) in
     let said = c.args.label.now.doc_expression in
     let e = c.in-Some.expression in
     let hidden = contains bytes_eq c.new-hidden.result in
@@ -25,7 +25,7 @@ returns-in_err-check_expression-clause-named g c =
 pub returns-in_err-value-clause-named : goal.returns-in_err-value-clause-named
 returns-in_err-value-clause-named g c =
     let m = known_by (g.S.Syntax.answers c.args.given.now.syntax.now) c.args.variables.now in
-    let value = value_by (g.E.Evaluation.answers c.args.given.now.evaluation.now) c.args.variables.now (values_of c.args.constants.now) in
+    let value = value_by (g.E.ConstantEvaluation.answers c.args.given.now.evaluation.now) c.args.variables.now (values_of c.args.constants.now) in
     let said = c.args.label.now.doc_expression in
     let e = c.in-Some.expression in
     let hidden = contains bytes_eq c.new-hidden.result in
@@ -35,7 +35,7 @@ returns-in_err-value-clause-named g c =
 pub returns-clause-kept : goal.returns-clause-kept
 returns-clause-kept g c =
     let m = known_by (g.S.Syntax.answers c.args.given.now.syntax.now) c.args.variables.now in
-    let value = value_by (g.E.Evaluation.answers c.args.given.now.evaluation.now) c.args.variables.now (values_of c.args.constants.now) in
+    let value = value_by (g.E.ConstantEvaluation.answers c.args.given.now.evaluation.now) c.args.variables.now (values_of c.args.constants.now) in
     let said = c.args.label.now.doc_expression in
     let e = c.in-Some.expression in
     let hidden = contains bytes_eq c.new-hidden.result in
@@ -45,7 +45,7 @@ returns-clause-kept g c =
 pub returns-clause-label : goal.returns-clause-label
 returns-clause-label g c =
     let m = known_by (g.S.Syntax.answers c.args.given.now.syntax.now) c.args.variables.now in
-    let value = value_by (g.E.Evaluation.answers c.args.given.now.evaluation.now) c.args.variables.now (values_of c.args.constants.now) in
+    let value = value_by (g.E.ConstantEvaluation.answers c.args.given.now.evaluation.now) c.args.variables.now (values_of c.args.constants.now) in
     let said = c.args.label.now.doc_expression in
     let e = c.in-Some.expression in
     let hidden = contains bytes_eq c.new-hidden.result in

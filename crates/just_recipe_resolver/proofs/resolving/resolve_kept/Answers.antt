@@ -17,7 +17,7 @@ pub returns-clause-linked : goal.returns-clause-linked
 returns-clause-linked g c =
     let by = c.args.resolving in
     let rs = recipes_in c.args.kept.now in
-    let completed = completion_on (g.S.Syntax.answers by.meanings.syntax.now) (g.E.Evaluation.answers by.among.evaluation.now) (basis_of by) in
+    let completed = completion_on (g.S.Syntax.answers by.meanings.syntax.now) (g.E.ConstantEvaluation.answers by.among.evaluation.now) (basis_of by) in
     let have : HaveReferences completed.Needs rs c.as_slice.result.now = subst (HaveReferences completed.Needs rs) (sym c.as_slice.ensures.value) c.in_ok-references.ensures in
     let it = around c.args.absent.now c.args.modules.now c.args.recipes in
     IfOk-weaker c.link.result _ _ (λ made adds. adds_so completed.Needs rs c.as_slice.result.now have completed.by by.meanings.settings.now.lists it c.args.module_path.now made.all adds) c.link.ensures.linked

@@ -12,22 +12,22 @@ pub returns-clause-given : goal.returns-clause-given
 returns-clause-given g c =
     let by = c.resolving_by-resolving in
     IfOk-weaker c.resolve_over.result _ _
-    (λ made h. along_basis (GivenRightly c.args.recipe.dependencies (lent c.args.resolved.items)) (ap g.S.Syntax.answers by.ensures.syntax) (ap g.E.Evaluation.answers by.ensures.evaluation) by.ensures.basis h) c.resolve_over.ensures.given
+    (λ made h. along_basis (GivenRightly c.args.recipe.dependencies (lent c.args.resolved.items)) (ap g.S.Syntax.answers by.ensures.syntax) (ap g.E.ConstantEvaluation.answers by.ensures.evaluation) by.ensures.basis h) c.resolve_over.ensures.given
 
 pub returns-clause-own : goal.returns-clause-own
 returns-clause-own g c =
     let by = c.resolving_by-resolving in
     IfOk-weaker c.resolve_over.result _ _
-    (λ made h. along_basis (OneKept c.args.recipe) (ap g.S.Syntax.answers by.ensures.syntax) (ap g.E.Evaluation.answers by.ensures.evaluation) by.ensures.basis h) c.resolve_over.ensures.own
+    (λ made h. along_basis (OneKept c.args.recipe) (ap g.S.Syntax.answers by.ensures.syntax) (ap g.E.ConstantEvaluation.answers by.ensures.evaluation) by.ensures.basis h) c.resolve_over.ensures.own
 
 pub returns-clause-made : goal.returns-clause-made
 returns-clause-made g c =
     let by = c.resolving_by-resolving in
     IfOk-weaker c.resolve_over.result _ _
-    (λ made h. along_basis (OneMade c.args.module_path.now c.args.recipe (lent c.args.resolved.items) made) (ap g.S.Syntax.answers by.ensures.syntax) (ap g.E.Evaluation.answers by.ensures.evaluation) by.ensures.basis h) c.resolve_over.ensures.made
+    (λ made h. along_basis (OneMade c.args.module_path.now c.args.recipe (lent c.args.resolved.items) made) (ap g.S.Syntax.answers by.ensures.syntax) (ap g.E.ConstantEvaluation.answers by.ensures.evaluation) by.ensures.basis h) c.resolve_over.ensures.made
 
 pub returns-clause-named : goal.returns-clause-named
 returns-clause-named g c =
     let by = c.resolving_by-resolving in
     IfErr-weaker c.resolve_over.result _ _
-    (λ e h. along_basis (OneTold c.args.recipe (lent c.args.resolved.items) e) (ap g.S.Syntax.answers by.ensures.syntax) (ap g.E.Evaluation.answers by.ensures.evaluation) by.ensures.basis h) c.resolve_over.ensures.named
+    (λ e h. along_basis (OneTold c.args.recipe (lent c.args.resolved.items) e) (ap g.S.Syntax.answers by.ensures.syntax) (ap g.E.ConstantEvaluation.answers by.ensures.evaluation) by.ensures.basis h) c.resolve_over.ensures.named

@@ -8,7 +8,7 @@ use Rattle.just_recipe_resolver.proofs.unresolved_recipe.resolve_over.Goals as g
 pub returns-clause-made : goal.returns-clause-made
 returns-clause-made g c =
     let by = c.args.resolving in
-    let completed = completion_on (g.S.Syntax.answers by.meanings.syntax.now) (g.E.Evaluation.answers by.among.evaluation.now) (basis_of by) in
+    let completed = completion_on (g.S.Syntax.answers by.meanings.syntax.now) (g.E.ConstantEvaluation.answers by.among.evaluation.now) (basis_of by) in
     let lists = by.meanings.settings.now.lists in
     let targets = lent c.args.beside.now.recipes.items in
     let links = c.in_ok-links.ensures ∙ ap (λ ds. links_to lists ds targets) c.as_slice-2.ensures in

@@ -6,7 +6,7 @@ use Rattle.just_recipe_values.proofs.attributes.valued_attributes.Given as goal
 
 abbrev pub invariant-loop-named : goal.invariant-loop-named
 invariant-loop-named g l =
-    let value = value_of (g.E.Evaluation.answers l.among.evaluation.now) l.among in
+    let value = value_of (g.E.ConstantEvaluation.answers l.among.evaluation.now) l.among in
     let rest = l.named-iterator.rest.items in
     record {
       left : IsLeft value l.fn.attributes rest;

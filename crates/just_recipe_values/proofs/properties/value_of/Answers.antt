@@ -9,6 +9,6 @@ use Rattle.just_recipe_values.proofs.properties.value_of.Goals as goal
 
 pub returns-clause-named : goal.returns-clause-named
 returns-clause-named g c =
-    let value = value_of (g.E.Evaluation.answers c.args.among.now.evaluation.now) c.args.among.now in
+    let value = value_of (g.E.ConstantEvaluation.answers c.args.among.now.evaluation.now) c.args.among.now in
     let e = c.args.expression.now in
     IfErr-weaker c.value_const.result (FaultsAt (value e)) (Reports (Faults value (e ∷ []) [])) (value_told value e) c.value_const.ensures.refused

@@ -6,5 +6,5 @@ use Rattle.just_tail.proofs.checks.check_groups.Given as goal
 
 abbrev pub invariant-loop-place : goal.invariant-loop-place
 invariant-loop-place g l =
-    first_unfit (count_fault_of (g.E.Evaluation.answers l.evaluation) l.recipe) l.parameters (shown l.groups)
-    ≡ first_unfit (count_fault_of (g.E.Evaluation.answers l.evaluation) l.recipe) (drop l.place l.parameters) (drop l.place (shown l.groups))
+    first_unfit (count_fault_of (g.E.ConstantEvaluation.answers l.evaluation) l.recipe) l.parameters (shown l.groups)
+    ≡ first_unfit (count_fault_of (g.E.ConstantEvaluation.answers l.evaluation) l.recipe) (drop l.place l.parameters) (drop l.place (shown l.groups))

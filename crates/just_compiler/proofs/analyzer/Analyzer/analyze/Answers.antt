@@ -15,7 +15,7 @@ returns-in_err-reserve-clause-named g c = search (rules, c.from_residual-in_err-
 
 pub returns-clause-made : goal.returns-clause-made
 returns-clause-made g c =
-    let given = given_of (g.S.Syntax.answers c.args.syntax.now) (g.E.Evaluation.answers c.args.evaluation.now) c.args.config.now.overrides in
+    let given = given_of (g.S.Syntax.answers c.args.syntax.now) (g.E.ConstantEvaluation.answers c.args.evaluation.now) c.args.config.now.overrides in
     let pairs : List (Number × Text) = c.in_ok-analyzed.analyzed.1.overridden.items in
     let top = λ (groups : List StringLiteral). heading (c.args.module_path.now, c.args.root.now) (label c.args.name c.args.doc groups c.args.private) in
     let added : AreInserted pairs c.args.overrides.now c.insert_all.new.overrides = search rules in

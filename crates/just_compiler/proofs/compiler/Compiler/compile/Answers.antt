@@ -24,20 +24,20 @@ use Rattle.just_compiler.proofs.compiler.Compiler.compile.Goals as goal
 
 pub returns-in_err-path : goal.returns-in_err-path
 returns-in_err-path g c =
-    refused (g.E.Evaluation.answers c.args.evaluation.now) c.args.config.now.overrides (world_of c.args.sources.now c.args.config.now (g.S.Syntax.answers c.args.syntax.now) c.args.root.now) c.from_residual.result (search rules) (search rules)
+    refused (g.E.ConstantEvaluation.answers c.args.evaluation.now) c.args.config.now.overrides (world_of c.args.sources.now c.args.config.now (g.S.Syntax.answers c.args.syntax.now) c.args.root.now) c.from_residual.result (search rules) (search rules)
 
 pub returns-in_err-asts : goal.returns-in_err-asts
 returns-in_err-asts g c =
     let w : World = world_of c.args.sources.now c.args.config.now (g.S.Syntax.answers c.args.syntax.now) c.args.root.now in
-    refused (g.E.Evaluation.answers c.args.evaluation.now) c.args.config.now.overrides w c.from_residual-in_err-asts.result (search rules) (lifted (NamesInFiles w) (MayTell (g.E.Evaluation.answers c.args.evaluation.now) c.args.config.now.overrides w) (λ _ n. in_files n) c.from_residual-in_err-asts.result (let here : Reports (NamesInFiles w) c.in_err-asts.field-0.0 = c.in_err-asts.ensures.named in search (rules, here)))
+    refused (g.E.ConstantEvaluation.answers c.args.evaluation.now) c.args.config.now.overrides w c.from_residual-in_err-asts.result (search rules) (lifted (NamesInFiles w) (MayTell (g.E.ConstantEvaluation.answers c.args.evaluation.now) c.args.config.now.overrides w) (λ _ n. in_files n) c.from_residual-in_err-asts.result (let here : Reports (NamesInFiles w) c.in_err-asts.field-0.0 = c.in_err-asts.ensures.named in search (rules, here)))
 
 pub returns-in_err-loaded : goal.returns-in_err-loaded
 returns-in_err-loaded g c =
-    refused (g.E.Evaluation.answers c.args.evaluation.now) c.args.config.now.overrides (world_of c.args.sources.now c.args.config.now (g.S.Syntax.answers c.args.syntax.now) c.args.root.now) c.from_residual-in_err-loaded.result (search rules) (search rules)
+    refused (g.E.ConstantEvaluation.answers c.args.evaluation.now) c.args.config.now.overrides (world_of c.args.sources.now c.args.config.now (g.S.Syntax.answers c.args.syntax.now) c.args.root.now) c.from_residual-in_err-loaded.result (search rules) (search rules)
 
 pub returns-in_err-paths : goal.returns-in_err-paths
 returns-in_err-paths g c =
-    refused (g.E.Evaluation.answers c.args.evaluation.now) c.args.config.now.overrides (world_of c.args.sources.now c.args.config.now (g.S.Syntax.answers c.args.syntax.now) c.args.root.now) c.from_residual-in_err-paths.result (search rules) (search rules)
+    refused (g.E.ConstantEvaluation.answers c.args.evaluation.now) c.args.config.now.overrides (world_of c.args.sources.now c.args.config.now (g.S.Syntax.answers c.args.syntax.now) c.args.root.now) c.from_residual-in_err-paths.result (search rules) (search rules)
 
 pub analyze-requires-clause-paths : goal.analyze-requires-clause-paths
 analyze-requires-clause-paths g c = λ k held. subst (λ o. IsSome o) (sym (c.in_ok-paths.ensures k held)) refl
@@ -60,8 +60,8 @@ returns-in_err-justfile g c =
     let asts = get same_ast_key c.in_ok-asts.field-0.asts in
     let reading = reading_of w.answers.enabled asts in
     let top : c.root-module_path.result ≡ record { components = []; spaced = false } = λ j. record { components = c.root-module_path.ensures.components j; spaced = c.root-module_path.ensures.spaced j } in
-    refused (g.E.Evaluation.answers c.args.evaluation.now) c.args.config.now.overrides w c.from_residual-in_err-justfile.result (search rules) (lifted (NamesModules told_in (given_in (g.E.Evaluation.answers c.args.evaluation.now) c.args.config.now.overrides w) reading (heading (c.root-module_path.result, c.args.root.now) (label None None [] false))) (MayTell (g.E.Evaluation.answers c.args.evaluation.now) c.args.config.now.overrides w)
-    (λ x n. in_modules reading c.in_ok-asts.ensures.kept (is_reading w asts c.in_ok-asts.field-0.loaded c.in_ok-asts.ensures.loaded) (subst (λ m. NamesModules told_in (given_in (g.E.Evaluation.answers c.args.evaluation.now) c.args.config.now.overrides w) reading (heading (m, w.root) (label None None [] false)) x) top n))
+    refused (g.E.ConstantEvaluation.answers c.args.evaluation.now) c.args.config.now.overrides w c.from_residual-in_err-justfile.result (search rules) (lifted (NamesModules told_in (given_in (g.E.ConstantEvaluation.answers c.args.evaluation.now) c.args.config.now.overrides w) reading (heading (c.root-module_path.result, c.args.root.now) (label None None [] false))) (MayTell (g.E.ConstantEvaluation.answers c.args.evaluation.now) c.args.config.now.overrides w)
+    (λ x n. in_modules reading c.in_ok-asts.ensures.kept (is_reading w asts c.in_ok-asts.field-0.loaded c.in_ok-asts.ensures.loaded) (subst (λ m. NamesModules told_in (given_in (g.E.ConstantEvaluation.answers c.args.evaluation.now) c.args.config.now.overrides w) reading (heading (m, w.root) (label None None [] false)) x) top n))
     c.from_residual-in_err-justfile.result (search rules))
 
 pub apply_overrides-requires : goal.apply_overrides-requires
@@ -75,15 +75,15 @@ returns-in_err-apply_overrides g c =
     let top : c.root-module_path.result ≡ record { components = []; spaced = false } = λ j. record { components = c.root-module_path.ensures.components j; spaced = c.root-module_path.ensures.spaced j } in
     let made = c.in_ok-justfile.ensures.made in
     let shared : c.in_ok-loaded.loaded ≡ loaded = c.in_ok-loaded.ensures in
-    let analyzed : IsAnalyzed (given_in (g.E.Evaluation.answers c.args.evaluation.now) c.args.config.now.overrides w) asts loaded (root_heading w) c.in_ok-justfile.justfile c.in_ok-justfile.recipes made.overridden =
-    subst (λ l. IsAnalyzed (given_in (g.E.Evaluation.answers c.args.evaluation.now) c.args.config.now.overrides w) asts l (root_heading w) c.in_ok-justfile.justfile c.in_ok-justfile.recipes made.overridden) shared
-    (subst (λ m. IsAnalyzed (given_in (g.E.Evaluation.answers c.args.evaluation.now) c.args.config.now.overrides w) asts c.in_ok-loaded.loaded (heading (m, w.root) (label None None [] false)) c.in_ok-justfile.justfile c.in_ok-justfile.recipes made.overridden) top made.analyzed) in
+    let analyzed : IsAnalyzed (given_in (g.E.ConstantEvaluation.answers c.args.evaluation.now) c.args.config.now.overrides w) asts loaded (root_heading w) c.in_ok-justfile.justfile c.in_ok-justfile.recipes made.overridden =
+    subst (λ l. IsAnalyzed (given_in (g.E.ConstantEvaluation.answers c.args.evaluation.now) c.args.config.now.overrides w) asts l (root_heading w) c.in_ok-justfile.justfile c.in_ok-justfile.recipes made.overridden) shared
+    (subst (λ m. IsAnalyzed (given_in (g.E.ConstantEvaluation.answers c.args.evaluation.now) c.args.config.now.overrides w) asts c.in_ok-loaded.loaded (heading (m, w.root) (label None None [] false)) c.in_ok-justfile.justfile c.in_ok-justfile.recipes made.overridden) top made.analyzed) in
     let tells = Tells (unknown c.in_ok-justfile.justfile c.args.config.now.overrides.entries) in
     let named : Reports tells c.in_err-apply_overrides.field-0.0 = c.in_err-apply_overrides.ensures.named in
-    refused (g.E.Evaluation.answers c.args.evaluation.now) c.args.config.now.overrides w c.from_residual-in_err-apply_overrides.result
+    refused (g.E.ConstantEvaluation.answers c.args.evaluation.now) c.args.config.now.overrides w c.from_residual-in_err-apply_overrides.result
     (search (rules, c.from_residual-in_err-apply_overrides.ensures.1, c.from_residual-in_err-apply_overrides.ensures.0))
-    (lifted tells (MayTell (g.E.Evaluation.answers c.args.evaluation.now) c.args.config.now.overrides w)
-    (told (g.E.Evaluation.answers c.args.evaluation.now) c.args.config.now.overrides w asts loaded c.in_ok-asts.ensures.loaded c.in_ok-asts.ensures.kept c.in_ok-justfile.justfile c.in_ok-justfile.recipes made.overridden analyzed)
+    (lifted tells (MayTell (g.E.ConstantEvaluation.answers c.args.evaluation.now) c.args.config.now.overrides w)
+    (told (g.E.ConstantEvaluation.answers c.args.evaluation.now) c.args.config.now.overrides w asts loaded c.in_ok-asts.ensures.loaded c.in_ok-asts.ensures.kept c.in_ok-justfile.justfile c.in_ok-justfile.recipes made.overridden analyzed)
     c.from_residual-in_err-apply_overrides.result (search (rules, named, c.from_residual-in_err-apply_overrides.ensures.1, c.from_residual-in_err-apply_overrides.ensures.0)))
 
 pub returns : goal.returns
@@ -94,16 +94,16 @@ returns g c =
     let top : c.root-module_path.result ≡ record { components = []; spaced = false } = λ j. record { components = c.root-module_path.ensures.components j; spaced = c.root-module_path.ensures.spaced j } in
     let made = c.in_ok-justfile.ensures.made in
     let shared : c.in_ok-loaded.loaded ≡ loaded = c.in_ok-loaded.ensures in
-    let analyzed : IsAnalyzed (given_in (g.E.Evaluation.answers c.args.evaluation.now) c.args.config.now.overrides w) asts loaded (root_heading w) c.in_ok-justfile.justfile c.in_ok-justfile.recipes made.overridden =
-    subst (λ l. IsAnalyzed (given_in (g.E.Evaluation.answers c.args.evaluation.now) c.args.config.now.overrides w) asts l (root_heading w) c.in_ok-justfile.justfile c.in_ok-justfile.recipes made.overridden) shared
-    (subst (λ m. IsAnalyzed (given_in (g.E.Evaluation.answers c.args.evaluation.now) c.args.config.now.overrides w) asts c.in_ok-loaded.loaded (heading (m, w.root) (label None None [] false)) c.in_ok-justfile.justfile c.in_ok-justfile.recipes made.overridden) top made.analyzed) in
+    let analyzed : IsAnalyzed (given_in (g.E.ConstantEvaluation.answers c.args.evaluation.now) c.args.config.now.overrides w) asts loaded (root_heading w) c.in_ok-justfile.justfile c.in_ok-justfile.recipes made.overridden =
+    subst (λ l. IsAnalyzed (given_in (g.E.ConstantEvaluation.answers c.args.evaluation.now) c.args.config.now.overrides w) asts l (root_heading w) c.in_ok-justfile.justfile c.in_ok-justfile.recipes made.overridden) shared
+    (subst (λ m. IsAnalyzed (given_in (g.E.ConstantEvaluation.answers c.args.evaluation.now) c.args.config.now.overrides w) asts c.in_ok-loaded.loaded (heading (m, w.root) (label None None [] false)) c.in_ok-justfile.justfile c.in_ok-justfile.recipes made.overridden) top made.analyzed) in
     let known : unknown c.in_ok-justfile.justfile c.args.config.now.overrides.entries ≡ [] = c.in_ok-apply_overrides.ensures.applied.0 in
     let paths = (are_analyzable w asts loaded c.in_ok-asts.ensures.loaded).paths in
-    let evaluator = g.E.Evaluation.answers c.args.evaluation.now in
+    let evaluator = g.E.ConstantEvaluation.answers c.args.evaluation.now in
     let values = c.args.config.now.overrides in
     record {
-      kept = all_kept (g.E.Evaluation.answers c.args.evaluation.now) c.args.config.now.overrides w asts loaded c.in_ok-asts.ensures.loaded c.in_ok-asts.ensures.kept c.in_ok-justfile.justfile c.in_ok-justfile.recipes made.overridden analyzed known;
-      unnamed = none_named (g.E.Evaluation.answers c.args.evaluation.now) c.args.config.now.overrides w asts loaded c.in_ok-asts.ensures.loaded c.in_ok-asts.ensures.kept c.in_ok-justfile.justfile c.in_ok-justfile.recipes made.overridden analyzed known;
+      kept = all_kept (g.E.ConstantEvaluation.answers c.args.evaluation.now) c.args.config.now.overrides w asts loaded c.in_ok-asts.ensures.loaded c.in_ok-asts.ensures.kept c.in_ok-justfile.justfile c.in_ok-justfile.recipes made.overridden analyzed known;
+      unnamed = none_named (g.E.ConstantEvaluation.answers c.args.evaluation.now) c.args.config.now.overrides w asts loaded c.in_ok-asts.ensures.loaded c.in_ok-asts.ensures.kept c.in_ok-justfile.justfile c.in_ok-justfile.recipes made.overridden analyzed known;
       compiled = record {
         loaded = loaded;
         is_loaded = c.in_ok-asts.ensures.loaded;

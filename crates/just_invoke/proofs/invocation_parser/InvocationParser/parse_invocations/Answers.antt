@@ -10,7 +10,7 @@ use Rattle.just_invoke.proofs.invocation_parser.InvocationParser.parse_invocatio
 
 pub returns-then-is_empty-clause-held : goal.returns-then-is_empty-clause-held
 returns-then-is_empty-clause-held g c =
-    let counts = count_fault_of (g.E.Evaluation.answers c.args.evaluation.now) in
+    let counts = count_fault_of (g.E.ConstantEvaluation.answers c.args.evaluation.now) in
     let root = c.args.root.now in
     let recipes = c.args.recipes.now in
     let words = texts c.args.words.now in
@@ -19,7 +19,7 @@ returns-then-is_empty-clause-held g c =
 
 pub returns-else-is_empty-clause-held : goal.returns-else-is_empty-clause-held
 returns-else-is_empty-clause-held g c =
-    let counts = count_fault_of (g.E.Evaluation.answers c.args.evaluation.now) in
+    let counts = count_fault_of (g.E.ConstantEvaluation.answers c.args.evaluation.now) in
     let root = c.args.root.now in
     let recipes = c.args.recipes.now in
     let words = texts c.args.words.now in

@@ -1,7 +1,7 @@
 use Rattle.std.proofs.Common.{◌≡◌, ◌∙◌, ◌≤◌, true, map, length, refl, sym, ap, subst, arith, inl, rules}
 use Rattle.std.proofs.lemmas.List.{length-map}
 use Rattle.just_parts.specs.Evaluator.{count_fault_of}
-use Rattle.just_parts.specs.Steps.{kept_by}
+use Rattle.just_run_layers.specs.Steps.{kept_by}
 use Rattle.just_errors.specs.declared.error.Error.TheVariants.{Memory}
 use Rattle.just_names.specs.Texts.{texts}
 use Rattle.just_justfile.specs.Closed.{is_closed, is_ordered}
@@ -23,27 +23,27 @@ run_invocations-requires-clause-resolved g c = (is_closed c.requires.closed).res
 
 pub returns-in_err-invocations-clause-outcome : goal.returns-in_err-invocations-clause-outcome
 returns-in_err-invocations-clause-outcome g c =
-    unread-outcome (count_fault_of (g.E.Evaluation.answers c.args.evaluation.now)) c.args.self.now c.args.recipes.now (texts c.args.words.now) c.args.config.now c.in_err-invocations.field-0.0 c.in_err-invocations.ensures.words c.in_err-invocations.ensures.fault c.from_residual.result (search rules) _
+    unread-outcome (count_fault_of (g.E.ConstantEvaluation.answers c.args.evaluation.now)) c.args.self.now c.args.recipes.now (texts c.args.words.now) c.args.config.now c.in_err-invocations.field-0.0 c.in_err-invocations.ensures.words c.in_err-invocations.ensures.fault c.from_residual.result (search rules) _
 
 pub returns-in_err-invocations-clause-expected : goal.returns-in_err-invocations-clause-expected
 returns-in_err-invocations-clause-expected g c =
     let p = g.E.Evaluation.promised c.args.evaluation.now in
     let q = g.H.Host.promised c.args.host.now in
-    unread-so (count_fault_of (g.E.Evaluation.answers c.args.evaluation.now)) c.args.self.now c.args.recipes.now (texts c.args.words.now) c.args.config.now c.in_err-invocations.field-0.0 c.in_err-invocations.ensures.words c.in_err-invocations.ensures.fault c.from_residual.result (search rules) p q _
+    unread-so (count_fault_of (g.E.ConstantEvaluation.answers c.args.evaluation.now)) c.args.self.now c.args.recipes.now (texts c.args.words.now) c.args.config.now c.in_err-invocations.field-0.0 c.in_err-invocations.ensures.words c.in_err-invocations.ensures.fault c.from_residual.result (search rules) p q _
 
 pub returns-then-len-gt1-clause-outcome : goal.returns-then-len-gt1-clause-outcome
 returns-then-len-gt1-clause-outcome g c =
     let count : c.len-then-len-gt1.result ≡ length c.in_ok-invocations.invocations.items = search rules in refused _ refl
-    (many (count_fault_of (g.E.Evaluation.answers c.args.evaluation.now)) c.args.self.now c.args.recipes.now (texts c.args.words.now) c.args.config.now (map invoked_of c.in_ok-invocations.invocations.items) c.in_ok-invocations.ensures.split (search rules) c.len-then-len-gt1.result (count ∙ sym (length-map c.in_ok-invocations.invocations.items invoked_of)) (search rules)) refl
+    (many (count_fault_of (g.E.ConstantEvaluation.answers c.args.evaluation.now)) c.args.self.now c.args.recipes.now (texts c.args.words.now) c.args.config.now (map invoked_of c.in_ok-invocations.invocations.items) c.in_ok-invocations.ensures.split (search rules) c.len-then-len-gt1.result (count ∙ sym (length-map c.in_ok-invocations.invocations.items invoked_of)) (search rules)) refl
 
 pub returns-then-len-gt1-clause-expected : goal.returns-then-len-gt1-clause-expected
 returns-then-len-gt1-clause-expected g c = λ is may.
     let count : c.len-then-len-gt1.result ≡ length c.in_ok-invocations.invocations.items = search rules in absurd (
-    many-not (count_fault_of (g.E.Evaluation.answers c.args.evaluation.now)) c.args.self.now c.args.recipes.now (texts c.args.words.now) c.args.config.now (map invoked_of c.in_ok-invocations.invocations.items) c.in_ok-invocations.ensures.split (search rules) c.len-then-len-gt1.result (count ∙ sym (length-map c.in_ok-invocations.invocations.items invoked_of)) (search rules) is may)
+    many-not (count_fault_of (g.E.ConstantEvaluation.answers c.args.evaluation.now)) c.args.self.now c.args.recipes.now (texts c.args.words.now) c.args.config.now (map invoked_of c.in_ok-invocations.invocations.items) c.in_ok-invocations.ensures.split (search rules) c.len-then-len-gt1.result (count ∙ sym (length-map c.in_ok-invocations.invocations.items invoked_of)) (search rules) is may)
 
 pub check_variables-requires : goal.check_variables-requires
 check_variables-requires g c =
-    let some = split_some (count_fault_of (g.E.Evaluation.answers c.args.evaluation.now)) c.args.self.now c.args.recipes.now (texts c.args.words.now) (map invoked_of c.in_ok-invocations.invocations.items) c.in_ok-invocations.ensures.split in
+    let some = split_some (count_fault_of (g.E.ConstantEvaluation.answers c.args.evaluation.now)) c.args.self.now c.args.recipes.now (texts c.args.words.now) (map invoked_of c.in_ok-invocations.invocations.items) c.in_ok-invocations.ensures.split in
     omega (arith, some, length-map c.in_ok-invocations.invocations.items invoked_of, ap length c.as_slice.ensures.value)
 
 pub returns-in_err-check_variables-clause-outcome : goal.returns-in_err-check_variables-clause-outcome
@@ -52,7 +52,7 @@ returns-in_err-check_variables-clause-outcome g c =
       | else-config-via-then-config+else-len-gt1 w ↦ λ yes. (search rules)
       | else-config-via-else-config w ↦ λ yes. (search rules)
     ] in
-    held-outcome (count_fault_of (g.E.Evaluation.answers c.args.evaluation.now)) c.args.self.now c.args.recipes.now (texts c.args.words.now) c.args.config.now (map invoked_of c.in_ok-invocations.invocations.items) c.in_ok-invocations.ensures.split
+    held-outcome (count_fault_of (g.E.ConstantEvaluation.answers c.args.evaluation.now)) c.args.self.now c.args.recipes.now (texts c.args.words.now) c.args.config.now (map invoked_of c.in_ok-invocations.invocations.items) c.in_ok-invocations.ensures.split
     (λ yes. subst (λ n. n ≤ 1) (sym (length-map c.in_ok-invocations.invocations.items invoked_of)) (few yes)) _ c.in_err-check_variables.field-0.0
     (subst (λ is. IsHeldBack c.args.self.now (map invoked_of is) c.in_err-check_variables.field-0.0) c.as_slice.ensures.value c.in_err-check_variables.ensures.err) c.from_residual-in_err-check_variables.result (search rules)
 
@@ -62,7 +62,7 @@ returns-in_err-check_variables-clause-expected g c =
       | else-config-via-then-config+else-len-gt1 w ↦ λ yes. (search rules)
       | else-config-via-else-config w ↦ λ yes. (search rules)
     ] in
-    held-so (count_fault_of (g.E.Evaluation.answers c.args.evaluation.now)) c.args.self.now c.args.recipes.now (texts c.args.words.now) c.args.config.now (map invoked_of c.in_ok-invocations.invocations.items) c.in_ok-invocations.ensures.split
+    held-so (count_fault_of (g.E.ConstantEvaluation.answers c.args.evaluation.now)) c.args.self.now c.args.recipes.now (texts c.args.words.now) c.args.config.now (map invoked_of c.in_ok-invocations.invocations.items) c.in_ok-invocations.ensures.split
     (λ yes. subst (λ n. n ≤ 1) (sym (length-map c.in_ok-invocations.invocations.items invoked_of)) (few yes)) _ c.in_err-check_variables.field-0.0
     (subst (λ is. IsHeldBack c.args.self.now (map invoked_of is) c.in_err-check_variables.field-0.0) c.as_slice.ensures.value c.in_err-check_variables.ensures.err) c.from_residual-in_err-check_variables.result (search rules)
     (g.E.Evaluation.promised c.args.evaluation.now) (g.H.Host.promised c.args.host.now)
@@ -76,7 +76,7 @@ returns-in_err-scopes-clause-outcome g c =
       | else-config-via-then-config+else-len-gt1 w ↦ λ yes. (search rules)
       | else-config-via-else-config w ↦ λ yes. (search rules)
     ] in
-    went (count_fault_of (g.E.Evaluation.answers c.args.evaluation.now)) c.args.self.now c.args.recipes.now (texts c.args.words.now) c.args.config.now p q (map invoked_of c.in_ok-invocations.invocations.items) c.in_ok-invocations.ensures.split
+    went (count_fault_of (g.E.ConstantEvaluation.answers c.args.evaluation.now)) c.args.self.now c.args.recipes.now (texts c.args.words.now) c.args.config.now p q (map invoked_of c.in_ok-invocations.invocations.items) c.in_ok-invocations.ensures.split
     (λ yes. subst (λ n. n ≤ 1) (sym (length-map c.in_ok-invocations.invocations.items invoked_of)) (few yes)) c.in_ok-check_variables.ensures.ok _ _ c.from_residual-in_err-scopes.result
     (inl (Memory, (search rules), inl refl, refl))
 
@@ -88,7 +88,7 @@ returns-in_err-scopes-clause-expected g c =
       | else-config-via-then-config+else-len-gt1 w ↦ λ yes. (search rules)
       | else-config-via-else-config w ↦ λ yes. (search rules)
     ] in
-    went-expected (count_fault_of (g.E.Evaluation.answers c.args.evaluation.now)) c.args.self.now c.args.recipes.now (texts c.args.words.now) c.args.config.now p q (map invoked_of c.in_ok-invocations.invocations.items) c.in_ok-invocations.ensures.split
+    went-expected (count_fault_of (g.E.ConstantEvaluation.answers c.args.evaluation.now)) c.args.self.now c.args.recipes.now (texts c.args.words.now) c.args.config.now p q (map invoked_of c.in_ok-invocations.invocations.items) c.in_ok-invocations.ensures.split
     (λ yes. subst (λ n. n ≤ 1) (sym (length-map c.in_ok-invocations.invocations.items invoked_of)) (few yes)) c.in_ok-check_variables.ensures.ok _ _ c.from_residual-in_err-scopes.result
     (inl (Memory, (search rules), inl refl, refl))
 
@@ -104,7 +104,7 @@ returns-clause-outcome g c =
       | else-config-via-then-config+else-len-gt1 w ↦ λ yes. (search rules)
       | else-config-via-else-config w ↦ λ yes. (search rules)
     ] in
-    went (count_fault_of (g.E.Evaluation.answers c.args.evaluation.now)) c.args.self.now c.args.recipes.now (texts c.args.words.now) c.args.config.now p q (map invoked_of c.in_ok-invocations.invocations.items) c.in_ok-invocations.ensures.split
+    went (count_fault_of (g.E.ConstantEvaluation.answers c.args.evaluation.now)) c.args.self.now c.args.recipes.now (texts c.args.words.now) c.args.config.now p q (map invoked_of c.in_ok-invocations.invocations.items) c.in_ok-invocations.ensures.split
     (λ yes. subst (λ n. n ≤ 1) (sym (length-map c.in_ok-invocations.invocations.items invoked_of)) (few yes)) c.in_ok-check_variables.ensures.ok _ _ c.run_invocations.result
     (subst (λ is. ComesTo p q c.args.recipes.now is (kept_by (g.H.Host.entries c.args.host.now) (g.E.Evaluation.inquiries c.args.evaluation.now)) (kept_by (g.H.Host.entries c.run_invocations.new.host) (g.E.Evaluation.inquiries c.run_invocations.new.evaluation)) c.run_invocations.result) c.as_slice-2.ensures.value c.run_invocations.ensures.comes)
 
@@ -116,6 +116,6 @@ returns-clause-expected g c =
       | else-config-via-then-config+else-len-gt1 w ↦ λ yes. (search rules)
       | else-config-via-else-config w ↦ λ yes. (search rules)
     ] in
-    went-expected (count_fault_of (g.E.Evaluation.answers c.args.evaluation.now)) c.args.self.now c.args.recipes.now (texts c.args.words.now) c.args.config.now p q (map invoked_of c.in_ok-invocations.invocations.items) c.in_ok-invocations.ensures.split
+    went-expected (count_fault_of (g.E.ConstantEvaluation.answers c.args.evaluation.now)) c.args.self.now c.args.recipes.now (texts c.args.words.now) c.args.config.now p q (map invoked_of c.in_ok-invocations.invocations.items) c.in_ok-invocations.ensures.split
     (λ yes. subst (λ n. n ≤ 1) (sym (length-map c.in_ok-invocations.invocations.items invoked_of)) (few yes)) c.in_ok-check_variables.ensures.ok _ _ c.run_invocations.result
     (subst (λ is. ComesTo p q c.args.recipes.now is (kept_by (g.H.Host.entries c.args.host.now) (g.E.Evaluation.inquiries c.args.evaluation.now)) (kept_by (g.H.Host.entries c.run_invocations.new.host) (g.E.Evaluation.inquiries c.run_invocations.new.evaluation)) c.run_invocations.result) c.as_slice-2.ensures.value c.run_invocations.ensures.comes)

@@ -63,8 +63,8 @@ returns-in_err-linked-clause-named g c =
     let same = c.in_ok-kept.ensures ∙ ap kept_recipes c.in_ok-definitions.ensures in
     let it = around c.args.absent_modules.now c.args.modules.now c.args.recipes in
     let by = c.resolving_by-resolving.result in
-    IfErr-weaker c.from_residual-in_err-linked.result (λ e. Told it e (g.S.Syntax.answers by.meanings.syntax.now) (g.E.Evaluation.answers by.among.evaluation.now) (basis_of by) (recipes_in c.in_ok-kept.kept)) _
-    (λ e h. along (Told it e) (ap g.S.Syntax.answers c.resolving_by-resolving.ensures.syntax) (ap g.E.Evaluation.answers c.resolving_by-resolving.ensures.evaluation) c.resolving_by-resolving.ensures.basis same h) (search rules)
+    IfErr-weaker c.from_residual-in_err-linked.result (λ e. Told it e (g.S.Syntax.answers by.meanings.syntax.now) (g.E.ConstantEvaluation.answers by.among.evaluation.now) (basis_of by) (recipes_in c.in_ok-kept.kept)) _
+    (λ e h. along (Told it e) (ap g.S.Syntax.answers c.resolving_by-resolving.ensures.syntax) (ap g.E.ConstantEvaluation.answers c.resolving_by-resolving.ensures.evaluation) c.resolving_by-resolving.ensures.basis same h) (search rules)
 
 pub returns-clause-kept : goal.returns-clause-kept
 returns-clause-kept g c =
@@ -76,7 +76,7 @@ pub returns-clause-own : goal.returns-clause-own
 returns-clause-own g c =
     let same = c.in_ok-kept.ensures ∙ ap kept_recipes c.in_ok-definitions.ensures in
     let it = around c.args.absent_modules.now c.args.modules.now c.args.recipes in
-    along (OwnKept it) (ap g.S.Syntax.answers c.resolving_by-resolving.ensures.syntax) (ap g.E.Evaluation.answers c.resolving_by-resolving.ensures.evaluation) c.resolving_by-resolving.ensures.basis same c.in_ok-linked.ensures.own
+    along (OwnKept it) (ap g.S.Syntax.answers c.resolving_by-resolving.ensures.syntax) (ap g.E.ConstantEvaluation.answers c.resolving_by-resolving.ensures.evaluation) c.resolving_by-resolving.ensures.basis same c.in_ok-linked.ensures.own
 
 pub returns-clause-resolved : goal.returns-clause-resolved
 returns-clause-resolved g c =
@@ -88,5 +88,5 @@ returns-clause-resolved g c =
       stand = subst (λ rs. AreStanding (Stands rs it) rs (recipes_in linked.standing)) same c.in_ok-linked.ensures.standing;
       keys_are = c.in_ok-keys.ensures;
       disabled_are = subst (λ rs. HasDisabled (Disables rs it) rs linked.disabled) same c.in_ok-linked.ensures.disabled;
-      linked = along (Added it c.args.module_path.now linked.all) (ap g.S.Syntax.answers c.resolving_by-resolving.ensures.syntax) (ap g.E.Evaluation.answers c.resolving_by-resolving.ensures.evaluation) c.resolving_by-resolving.ensures.basis same c.in_ok-linked.ensures.linked;
+      linked = along (Added it c.args.module_path.now linked.all) (ap g.S.Syntax.answers c.resolving_by-resolving.ensures.syntax) (ap g.E.ConstantEvaluation.answers c.resolving_by-resolving.ensures.evaluation) c.resolving_by-resolving.ensures.basis same c.in_ok-linked.ensures.linked;
     }

@@ -1,7 +1,7 @@
 //! The layer that is told what runs.
 ghost use Rattle.std.specs.Prelude.{◌≡◌, ◌++◌, List, Option};
-ghost use Rattle.just_parts.specs.declared.layers.host.Entry.{Entry};
-ghost use Rattle.just_parts.specs.Host.{Answer, Answers, KeepsPromises, done_answer, kept};
+ghost use Rattle.just_run_layers.specs.declared.host.Entry.{Entry};
+ghost use Rattle.just_run_layers.specs.Host.{Answer, Answers, KeepsPromises, done_answer, kept};
 
 use just_data::{Exact, Sequence, Text};
 use just_paths::Modulepath;

@@ -1,13 +1,11 @@
-//! The layer that evaluates expressions.
+//! The layer that evaluates expressions while compiling.
 ghost use Rattle.std.specs.Prelude.{◌≡◌, List, Option, Some, IfOk, IfErr, flat_map, map};
 ghost use Rattle.std.specs.HashMap.{get};
 ghost use Rattle.std.specs.HashSet.{contains};
 ghost use Rattle.std.specs.List.{All};
 ghost use Rattle.just_names.specs.Index.{texts_of_names};
 ghost use Rattle.just_names.specs.Texts.{texts};
-ghost use Rattle.just_parts.specs.Evaluation.{Inquiry};
 ghost use Rattle.just_parts.specs.Evaluator.{Binds, Covers, Evaluator, FaultsAt, bare_set, count_fault_of, functions_by_name, set_expressions, values_of, wanted_by};
-ghost use Rattle.just_parts.specs.Host.{Answer};
 ghost use Rattle.just_parts.specs.Known.{sources};
 ghost use Rattle.just_parts.specs.Needs.{IsClosed, has_number, same_number};
 ghost use Rattle.just_parts.specs.Reading.{IsEvaluationOrder};
@@ -23,16 +21,10 @@ use just_table::Table;
 use std::alloc::{AllocError, Global};
 use std::collections::{HashMap, HashSet};
 
-/// What evaluates expressions. While compiling what it answers is a function of what it is asked in names: numbers, and the
+/// What evaluates constants, and counts texts. What it answers is a function of what it is asked in names: numbers, and the
 /// order in which variables are evaluated, make no difference. Each question asks that what is read is bound.
-pub trait Evaluation {
-    /// For which variables it was asked in runs, in order.
-    ghost inquiries: { Self → List Inquiry };
-
-    /// The answer to a question of a run, where that is fixed for good.
-    ghost promised: { Self → Inquiry → Option Answer };
-
-    /// The answers while compiling.
+pub trait ConstantEvaluation {
+    /// The answers to all questions.
     ghost answers: { Self → Evaluator };
 
     /// The constants of a module: those of its variables whose numbers are in `references`, an overridden one as it is
@@ -90,8 +82,8 @@ pub trait Evaluation {
             IfErr result (FaultsAt (among (map bare_set sets.now))) }
         ensures told { IfErr result (IsToldIn (IsPlaceInOne functions.now (flat_map set_expressions sets.now))) };
 
-    /// Why a parameter of a recipe, which is told by its name, may not have these texts, of which there is at least one, by
-    /// their count. None where it may. The error is want of memory.
+    /// Why a parameter of a recipe, which is told by its name, may not have these texts, by their count. None where it may.
+    /// The error is want of memory.
     fn check_value_count<'src>(
         &self,
         alloc: Global,

@@ -4,10 +4,10 @@ use Rattle.std.specs.Prelude.{Result}
 use Rattle.std.proofs.lemmas.List.{append-nil}
 use Rattle.just_errors.specs.declared.halt.Halt.{Halt}
 use Rattle.just_errors.specs.declared.halt.Halt.TheVariants.{Memory}
-use Rattle.just_parts.specs.declared.layers.host.Entry.{Entry}
-use Rattle.just_parts.specs.Evaluation.{Inquiry}
-use Rattle.just_parts.specs.Host.{Answer, KeepsPromises}
-use Rattle.just_parts.specs.Steps.{Question, ToHost, ToEvaluator, both, Steps, Give, Fail, Asks, and_then, Gives, Kept, kept_by, after, after_all, Took, path, outcome, IsSteady, calls, inquiries_in, Follows}
+use Rattle.just_run_layers.specs.declared.host.Entry.{Entry}
+use Rattle.just_run_layers.specs.Evaluation.{Inquiry}
+use Rattle.just_run_layers.specs.Host.{Answer, KeepsPromises}
+use Rattle.just_run_layers.specs.Steps.{Question, ToHost, ToEvaluator, both, Steps, Give, Fail, Asks, and_then, Gives, Kept, kept_by, after, after_all, Took, path, outcome, IsSteady, calls, inquiries_in, Follows}
 
 -- promises
 pub keeps-then : {Q : Type 0} (a b c : Q → Option Answer) → KeepsPromises a b → KeepsPromises b c → KeepsPromises a c

@@ -1,8 +1,8 @@
 -- What a host is asked, and what it promises.
 use Rattle.std.specs.Prelude.{◌≡◌, ℕ, List, [], ◌∷◌, Option, Some, None, Result, Ok, Err}
 use Rattle.just_paths.specs.declared.modulepath.Modulepath.{Modulepath}
-use Rattle.just_parts.specs.declared.layers.host.Entry.{Entry}
-use Rattle.just_parts.specs.declared.layers.host.Entry.TheVariants.{Begin}
+use Rattle.just_run_layers.specs.declared.host.Entry.{Entry}
+use Rattle.just_run_layers.specs.declared.host.Entry.TheVariants.{Begin}
 
 -- what is answered, where there is the memory: that it is done
 pub data Answer : Type 0 where

@@ -2,9 +2,9 @@
 use Rattle.std.specs.Prelude.{◌≡◌, ◌⊎◌, List, [], ◌∷◌, ◌++◌, Option, Some, Result, Ok, Err}
 use Rattle.just_errors.specs.declared.halt.Halt.{Halt}
 use Rattle.just_errors.specs.declared.halt.Halt.TheVariants.{Memory, Exhausted}
-use Rattle.just_parts.specs.declared.layers.host.Entry.{Entry}
-use Rattle.just_parts.specs.Evaluation.{Inquiry}
-use Rattle.just_parts.specs.Host.{Answer, Executed, executed}
+use Rattle.just_run_layers.specs.declared.host.Entry.{Entry}
+use Rattle.just_run_layers.specs.Evaluation.{Inquiry}
+use Rattle.just_run_layers.specs.Host.{Answer, Executed, executed}
 
 -- what is asked of the host or of the evaluator
 pub data Question : Type 0 where

@@ -1,0 +1,3 @@
+pub mod Evaluation
+pub mod Host
+pub mod Steps
