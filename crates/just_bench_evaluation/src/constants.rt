@@ -1,5 +1,5 @@
 //! What the constants of a module come to.
-ghost use Rattle.std.specs.Prelude.{◌≡◌, Bool, false, true, IfOk, IfErr, OnOk, Some, map};
+ghost use Rattle.std.specs.Prelude.{◌≡◌, Bool, false, true, IfOk, IfErr, OnOk, Some, map, reverse};
 ghost use Rattle.std.specs.HashMap.{get};
 ghost use Rattle.std.specs.HashSet.{contains};
 ghost use Rattle.std.specs.Map as entries;
@@ -18,7 +18,7 @@ ghost use Rattle.just_bench_evaluation.specs.Values as value;
 
 use crate::lookup::{Constant, Constants};
 use crate::values::{evaluate_among, one};
-use just_data::{Sequence, Text};
+use just_data::{Chain, Sequence, Text};
 use just_parts::layers::{Assignment, Binding, Error, FunctionDefinition, Name, Number, Scope};
 use just_table::Table;
 use std::alloc::{AllocError, Global};
@@ -83,21 +83,19 @@ fn add_constant<'src>(
     Ok(())
 }
 
-// The scope of constants, in the byte order of their names.
+// The scope of constants, whose names are different.
 fn scope_of<'src>(
     alloc: Global,
     constants: Table<'src, Constant<'src>>,
 ) -> Result<Scope<'src>, AllocError>
-    ensures bindings { IfOk result (λ scope. scope.bindings ≡ map (λ constant. constant.binding) (entries.values_of constants.entry)) }
+    ensures bindings { IfOk result (λ scope. reverse scope.bindings ≡ map (λ constant. constant.binding) (entries.values_of constants.entry)) }
     ensures sorted { IsSorted constants.entry }
 {
-    let mut bindings = Vec::with_capacity(alloc, constants.len())?;
-    for constant in constants.into_values() {
-        bindings.push(constant.binding)?;
+    let mut bindings = Chain::new();
+    for constant in constants.into_values().rev() {
+        bindings = bindings.pushed(alloc, constant.binding)?;
     }
-    Ok(Scope {
-        bindings: Sequence::from_vec(bindings),
-    })
+    Ok(Scope { bindings })
 }
 
 /// The constants of a module: those of its variables whose numbers are in `references`, an overridden one as it is

@@ -59,7 +59,7 @@ impl<'a, 'src> Constants<'a, 'src> {
 fn bound_in<'a, 'src>(scope: &'a Scope<'src>, name: &str) -> Option<&'a Sequence<Text>>
     ensures { option_copied result ≡ values_of scope.now name.now }
 {
-    for binding in scope.bindings.as_slice() {
+    for binding in scope.bindings.iter() {
         if binding.name.lexeme() == name {
             return Some(&binding.value);
         }

@@ -12,6 +12,7 @@ use Rattle.just_bench_syntax.specs.declared.items.Items.{Items}
 use Rattle.just_bench_syntax.specs.Items.{items_of}
 use Rattle.just_bench_syntax.specs.Conflicts.{conflicts}
 use Rattle.just_bench_syntax.specs.Numbering.{counted}
+use Rattle.just_bench_syntax.specs.Shebangs.{shebang}
 use Rattle.just_bench_syntax.specs.Sigils as sigil
 
 -- items with where they need lists
@@ -42,6 +43,7 @@ answers pairs = record {
   is_comment = sigil.is_comment;
   is_continuation = sigil.is_continuation;
   is_shebang = sigil.is_shebang;
+  shebang = shebang;
   constant = λ _. None;
   builtin = builtin;
 }

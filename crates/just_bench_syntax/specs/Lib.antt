@@ -5,4 +5,5 @@ pub mod Answers
 pub mod Conflicts
 pub mod Numbering
 pub mod Refusal
+pub mod Shebangs
 pub mod Sigils

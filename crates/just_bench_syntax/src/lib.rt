@@ -6,6 +6,7 @@ pub mod items;
 mod numbering;
 pub mod plain_syntax;
 mod recipe;
+mod shebangs;
 mod sigils;
 
 pub use plain_syntax::PlainSyntax;

@@ -11,13 +11,14 @@ ghost use Rattle.just_bench_syntax.specs.Answers as spec;
 use crate::conflicts::conflicts;
 use crate::items::{Items, read_items};
 use crate::numbering::number_items;
+use crate::shebangs;
 use crate::sigils;
 use just_bench_expressions::lines::{TextLine, line_token, lines};
 use just_data::Sequence;
 use just_parts::Source;
 use just_parts::layers::{
     ArgumentRange, Ast, CompileError, CompileErrorKind, Error, Item, Keyword, Line, Namepath,
-    Number, Numerator, Setting, Settings, Sigil, Syntax,
+    Number, Numerator, Setting, Settings, Shebang, Sigil, Syntax,
 };
 use just_paths::Modulepath;
 use std::alloc::{AllocError, Global};
@@ -146,6 +147,10 @@ impl<'a> Syntax for PlainSyntax<'a> {
 
     fn is_shebang<'src>(&self, line: &Line<'src>) -> bool {
         sigils::is_shebang(line)
+    }
+
+    fn shebang<'text>(&self, text: &'text str) -> Option<Shebang<'text>> {
+        shebangs::shebang(text)
     }
 
     fn constant(&self, name: &str) -> Option<Number> {

@@ -2,12 +2,12 @@
 ghost use Rattle.std.specs.Prelude.{◌≡◌, IfOk};
 ghost use Rattle.just_invoke.specs.Scopes.{HasScopes, IsScopeOf};
 
-use just_data::{Sequence, Text};
+use just_data::{Chain, Text};
 use just_execution::{ModuleScope, Scopes};
 use just_justfile::{Justfile, modules_in};
 use just_parts::layers::{Config, Number, Scope, Syntax};
-use just_run_layers::Context;
 use just_paths::Modulepath;
+use just_run_layers::Context;
 use std::alloc::{AllocError, Global};
 use std::collections::HashMap;
 
@@ -32,7 +32,7 @@ fn bare_scope<'run, 'src>(
             unexports: &module.unexports,
         },
         scope: Scope {
-            bindings: Sequence::new(alloc),
+            bindings: Chain::new(),
         },
     }
 }

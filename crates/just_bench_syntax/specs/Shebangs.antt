@@ -1,0 +1,28 @@
+-- What runs a script, by its first line.
+use Rattle.std.specs.Prelude.{ℕ, ◌-◌, ◌==◌, Bool, if◌then◌else◌, nat_eq, List, [], ◌∷◌, drop, take, length, codes, Option, Some, None}
+use Rattle.std.specs.List.{after_first, before_first, list_any, prefix_len, starts_with, suffix_len}
+use Rattle.std.specs.Char.{is_ascii_whitespace}
+use Rattle.just_names.specs.Texts.{Text}
+use Rattle.just_parts.specs.declared.layers.shebang.Shebang.{Shebang}
+
+-- a text without the blanks before it and after it
+abbrev pub without_end : Text → Text
+without_end text = take (length text - suffix_len is_ascii_whitespace text) text
+
+abbrev pub trimmed : Text → Text
+trimmed text = without_end (drop (prefix_len is_ascii_whitespace text) text)
+
+abbrev is_blank : ℕ → Bool
+is_blank byte = byte == 32
+
+-- the program up to the first blank, and what stands behind it
+abbrev pub said : Text → Option Shebang
+said [] = None
+said (byte ∷ rest) =
+    let text : Text = byte ∷ rest in
+    if list_any is_blank text then Some (record { interpreter = before_first is_blank text; argument = Some (trimmed (after_first is_blank text)) })
+    else Some (record { interpreter = text; argument = None })
+
+-- what stands behind `#!`
+abbrev pub shebang : Text → Option Shebang
+shebang text = if starts_with nat_eq text (codes "#!") then said (trimmed (drop 2 text)) else None
