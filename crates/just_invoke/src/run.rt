@@ -6,9 +6,10 @@ use crate::running::run_invocations;
 use crate::scopes::bare_scopes;
 use crate::variables::check_variables;
 use just_data::Text;
-use just_execution::{Recipes, Report};
+use just_execution::Report;
 use just_justfile::Justfile;
 use just_parts::layers::{Config, Error, Evaluation, Host, Number, Output, RunError, Syntax};
+use just_recipes::Recipes;
 use std::alloc::Global;
 use std::collections::HashMap;
 

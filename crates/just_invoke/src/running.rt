@@ -9,8 +9,9 @@ ghost use Rattle.just_invoke.specs.Going.{ComesTo};
 
 use crate::invocation::Invocation;
 use crate::naming::name_tops;
-use just_execution::{Recipes, Report, Scopes, find_unready, run_tasks};
+use just_execution::{Report, Scopes, find_unready, run_tasks};
 use just_parts::layers::{Error, Evaluation, Host, RunError, Syntax};
+use just_recipes::Recipes;
 use std::alloc::Global;
 
 /// Runs the invocations under one once table, each recipe in its module. Where a recipe that they lead to cannot be run
