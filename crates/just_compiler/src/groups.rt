@@ -34,7 +34,6 @@ ghost use Rattle.just_parts.specs.Layers.{given_by, layers_at};
 
 use crate::making::{OwnRecipes, Surroundings};
 use crate::notes::labels_at;
-use just_execution::Recipes;
 use just_module_bodies::check_bodies;
 use just_module_contents::Label;
 use just_module_contents::definitions::Definitions;
@@ -51,6 +50,7 @@ use just_paths::Modulepath;
 use just_recipe_names::Meanings;
 use just_recipe_resolver::{Resolving, recipe_keys, resolve_kept};
 use just_recipe_values::Among;
+use just_recipes::Recipes;
 use std::alloc::{AllocError, Global};
 
 /// What is found of a module before its recipes are resolved.

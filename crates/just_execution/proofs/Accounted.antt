@@ -20,7 +20,8 @@ use Rattle.just_execution.specs.Account.{Asked, OnceTables, Empty, Asks, Runs, o
 use Rattle.just_execution.specs.Firsts.{has}
 use Rattle.just_execution.specs.Leaves.{begin_steps, recipe_steps, leaves_of}
 use Rattle.just_execution.specs.declared.task.Task.{Task}
-use Rattle.just_execution.specs.Pairs.{OnceTable, same_pair, place_of, task_of, prior_dependencies, subsequent_dependencies, AllBelow}
+use Rattle.just_execution.specs.Pairs.{OnceTable, same_pair, task_of, prior_dependencies, subsequent_dependencies, AllBelow}
+use Rattle.just_recipes.specs.Places.{place_of}
 use Rattle.just_recipe.specs.Recipes.{IsOrdered}
 use Rattle.just_execution.specs.Walking.{Leaves, State, counted, all_steps, opened, fresh_steps, block_steps, ran, ran_steps, visit_steps, walk_steps}
 use Rattle.just_execution.proofs.Joined.{with_priors, asks, join, still-new, add-zero, none-in, none-below}

@@ -28,7 +28,8 @@ use Rattle.just_run_layers.specs.Steps.{both, kept_by}
 use Rattle.just_run_layers.proofs.StepLemmas.{took-gives}
 use Rattle.just_execution.specs.Homes.{AreHome, IsAmong, IsCallable, HasValues, IsHome, Modules, arguments_of}
 use Rattle.just_execution.specs.Leaves.{AsksAlone, ask_steps, follow_steps}
-use Rattle.just_execution.specs.Pairs.{AllBelow, at_place, needed, place_of, prior_dependencies, subsequent_dependencies, task_of}
+use Rattle.just_execution.specs.Pairs.{AllBelow, at_place, needed, prior_dependencies, subsequent_dependencies, task_of}
+use Rattle.just_recipes.specs.Places.{place_of}
 use Rattle.just_execution.specs.Unready.{AreReady, DependsOn, gives_arguments, is_empty, is_unready, places}
 use Rattle.just_execution.specs.declared.task.Task.{Task}
 use Rattle.just_execution.proofs.CourseLemmas.{below-more}

@@ -11,7 +11,6 @@ pub mod Pairs
 pub mod Places
 pub mod Ranks
 pub mod Reaching
-pub mod RecipeLemmas
 pub mod Runs
 pub mod Standing
 pub mod Told

@@ -12,7 +12,8 @@ use Rattle.just_graph.specs.Steps.{Reached, from_start, from_member}
 use Rattle.just_recipe.specs.declared.dependency.Dependency.{Dependency}
 use Rattle.just_recipe.specs.declared.recipe.Recipe.{Recipe}
 use Rattle.just_execution.specs.declared.task.Task.{Task}
-use Rattle.just_execution.specs.Pairs.{AllBelow, at_place, place_of}
+use Rattle.just_execution.specs.Pairs.{AllBelow, at_place}
+use Rattle.just_recipes.specs.Places.{place_of}
 use Rattle.just_execution.specs.Unready.{needed_places, places, is_unready, DependsOn, LeadTo, AreReady}
 
 -- there is a row for each recipe, with the places of what it depends on

@@ -1,5 +1,5 @@
 -- The tasks that recipes name: those that run before a task, and those that run after it.
-use Rattle.std.specs.Prelude.{ℕ, zero, suc, ◌==◌, ◌&&◌, ◌||◌, ◌<◌, Bool, true, false, cond, List, [], ◌∷◌, map, take, drop, nat_eq}
+use Rattle.std.specs.Prelude.{ℕ, zero, suc, ◌==◌, ◌&&◌, ◌||◌, ◌<◌, Bool, true, false, List, [], ◌∷◌, map, take, drop, nat_eq}
 use Rattle.std.specs.List.{All}
 use Rattle.std.specs.Cmp.Lexicographic.{pointwise}
 use Rattle.just_recipe.specs.declared.dependency.Dependency.{Dependency}
@@ -7,6 +7,7 @@ use Rattle.just_recipe.specs.declared.recipe.Recipe.{Recipe}
 use Rattle.just_execution.specs.declared.pair.Pair.{Pair}
 use Rattle.just_execution.specs.declared.task.Task.{Task}
 use Rattle.just_execution.specs.Firsts.{has}
+use Rattle.just_recipes.specs.Places.{place_of}
 
 -- whether two pairs have one recipe and the same texts
 abbrev pub same_pair : Pair → Pair → Bool
@@ -35,11 +36,6 @@ key t = t.pair
 -- the task of a pair
 abbrev pub task : Bool → Pair → Task
 task dependency p = record { pair = p; dependency = dependency }
-
--- the place of the first recipe of a number, and the length of the list where there is none
-abbrev pub place_of : List (Recipe Dependency) → ℕ → ℕ
-place_of [] number = 0
-place_of (r ∷ rs) number = cond (r.number.0 == number) 0 (suc (place_of rs number))
 
 -- what f gives of the recipe at a place, and nothing past the last
 abbrev pub at_place : {A : Type 0} → (Recipe Dependency → List A) → List (Recipe Dependency) → ℕ → List A

@@ -8,7 +8,8 @@ use Rattle.just_recipe.specs.declared.dependency.Dependency.{Dependency}
 use Rattle.just_recipe.specs.declared.dependency.DependencyArgument.{DependencyArgument}
 use Rattle.just_recipe.specs.declared.recipe.Recipe.{Recipe}
 use Rattle.just_execution.specs.declared.task.Task.{Task}
-use Rattle.just_execution.specs.Pairs.{place_of, needed}
+use Rattle.just_execution.specs.Pairs.{needed}
+use Rattle.just_recipes.specs.Places.{place_of}
 
 -- the places of what the recipe at a place depends on
 abbrev pub needed_places : List (Recipe Dependency) → ℕ → List ℕ

@@ -6,11 +6,12 @@ ghost use Rattle.just_execution.specs.Pairs.{task_of};
 ghost use Rattle.just_recipe.specs.Recipes.{numbers};
 
 use crate::pair::Pair;
-use crate::recipes::Recipes;
+use crate::recipes::{place_in, recipe_at};
 use crate::task::Task;
 use just_data::Sequence;
 use just_parts::Dependency;
 use just_parts::layers::Parameter;
+use just_recipes::Recipes;
 use just_run_layers::Groups;
 use std::alloc::{AllocError, Global};
 
@@ -34,8 +35,8 @@ fn name_dependency(
     requires { Contains (numbers recipes.now) dependency.now.recipe.0 }
     ensures { IfOk result (λ task. task ≡ task_of recipes.now dependency.now) }
 {
-    let recipe = recipes.place(dependency.recipe);
-    let groups = empty_groups(alloc, recipes.at(recipe).parameters.as_slice())?;
+    let recipe = place_in(recipes, dependency.recipe);
+    let groups = empty_groups(alloc, recipe_at(recipes, recipe).parameters.as_slice())?;
     Ok(Task {
         pair: Pair { recipe, groups },
         dependency: true,

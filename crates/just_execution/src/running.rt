@@ -14,11 +14,12 @@ ghost use Rattle.just_execution.specs.Reports.{IsAsExpected, IsRun, Starts};
 use crate::course::{Course, count_call, push_calls};
 use crate::frame::Frame;
 use crate::naming::name_all;
-use crate::recipes::Recipes;
+use crate::recipes::{priors_at, recipe_at, subsequents_at};
 use crate::scopes::{ModuleScope, Scopes, module_of};
 use crate::task::Task;
 use just_parts::Dependency;
 use just_parts::layers::{Halt, Syntax};
+use just_recipes::Recipes;
 use just_run_layers::{Evaluation, Host};
 use std::alloc::Global;
 
@@ -66,7 +67,7 @@ fn execute<'src, S: Syntax, E: Evaluation, H: Host>(
         let last = kept_by (H.entries host.new) (E.inquiries _evaluation.new) in
         Executes (E.promised _evaluation.old) (H.promised host.old) recipes.now task.now first last result }
 {
-    let recipe = recipes.at(task.pair.recipe);
+    let recipe = recipe_at(recipes, task.pair.recipe);
     host.begin(recipe.recipe_path(), &task.pair.groups)?;
     Ok(())
 }
@@ -94,8 +95,8 @@ fn call_task<'src, S: Syntax, E: Evaluation>(
     if run.current.table.contains(&task.pair) {
         return Ok(());
     }
-    let module = module_of(scopes, recipes.at(task.pair.recipe));
-    let dependencies = recipes.priors(task.pair.recipe);
+    let module = module_of(scopes, recipe_at(recipes, task.pair.recipe));
+    let dependencies = priors_at(recipes, task.pair.recipe);
     let priors = ask(
         alloc,
         recipes,
@@ -132,9 +133,9 @@ fn run_block<'src, S: Syntax, E: Evaluation, H: Host>(
     ensures sound { OnOk result (IsSound (IsCallable (S.answers scopes.now.syntax.now) scopes.now.modules recipes.now) run.new) }
     ensures lighter { OnOk result (IsLighter run.new.frames.items run.old.frames.items (Frame.Block task)) }
 {
-    let module = module_of(scopes, recipes.at(task.pair.recipe));
+    let module = module_of(scopes, recipe_at(recipes, task.pair.recipe));
     execute(recipes, scopes.syntax, module, evaluation, host, &task)?;
-    let dependencies = recipes.subsequents(task.pair.recipe);
+    let dependencies = subsequents_at(recipes, task.pair.recipe);
     let subsequents = ask(
         alloc,
         recipes,

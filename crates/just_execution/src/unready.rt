@@ -5,12 +5,13 @@ ghost use Rattle.just_ast_definitions.specs.Parameter.{is_name};
 ghost use Rattle.just_execution.specs.Pairs.{AllBelow};
 ghost use Rattle.just_execution.specs.Unready.{IsRow, places, gives_arguments, is_unready, IsUnready, AreReady};
 
-use crate::recipes::Recipes;
+use crate::recipes::{dependencies_at, place_in, recipe_at};
 use crate::task::Task;
 use just_data::BorrowedText;
 use just_graph::reach;
 use just_parts::layers::Parameter;
 use just_parts::{Dependency, Recipe};
+use just_recipes::Recipes;
 use std::alloc::{AllocError, Global};
 
 // The places of the recipes that the recipe at a place depends on.
@@ -18,10 +19,10 @@ fn row(alloc: Global, recipes: &Recipes, place: usize) -> Result<Vec<usize>, All
     requires { place < length recipes.now }
     ensures { IfOk result (λ row. IsRow recipes.now place row.items) }
 {
-    let needed = recipes.dependencies(place);
+    let needed = dependencies_at(recipes, place);
     let mut row = Vec::new(alloc);
     for dependency in needed {
-        row.push(recipes.place(dependency.recipe))?;
+        row.push(place_in(recipes, dependency.recipe))?;
     }
     Ok(row)
 }
@@ -99,7 +100,7 @@ pub fn find_unready<'src>(
     stops.resize(rows.len(), false)?;
     let reached = reach(alloc, &rows, &places_of(alloc, tops)?, &stops)?;
     for place in &reached {
-        let recipe = recipes.at(*place);
+        let recipe = recipe_at(recipes, *place);
         if is_unready(recipe) {
             return Ok(Some(BorrowedText::new(recipe.name.lexeme())));
         }

@@ -4,7 +4,7 @@ use Rattle.std.specs.Prelude.{IsSome, IfSome, IfNone}
 use Rattle.std.specs.List.{Contains}
 use Rattle.just_recipe.specs.declared.dependency.Dependency.{Dependency}
 use Rattle.just_recipe.specs.declared.recipe.Recipe.{Recipe}
-use Rattle.just_execution.specs.Pairs.{place_of}
+use Rattle.just_recipes.specs.Places.{place_of}
 use Rattle.just_recipe.specs.Recipes.{numbers, IsNew, IsPlaceOf}
 
 pub placed-some : (rs : List (Recipe Dependency)) (n : ℕ) (o : Option ℕ) → Contains (numbers rs) n → IfNone o (IsNew rs n) → IsSome o

@@ -14,7 +14,8 @@ use Rattle.just_run_layers.specs.Evaluation.{Inquiry}
 use Rattle.just_run_layers.specs.Host.{Answer}
 use Rattle.just_execution.specs.declared.running.Report.{Report}
 use Rattle.just_execution.specs.declared.task.Task.{Task}
-use Rattle.just_execution.specs.Pairs.{task, place_of}
+use Rattle.just_execution.specs.Pairs.{task}
+use Rattle.just_recipes.specs.Places.{place_of}
 use Rattle.just_execution.specs.Reports.{IsRun, IsAsExpected}
 use Rattle.just_execution.specs.Unready.{IsUnready, AreReady}
 use Rattle.just_invoke.specs.declared.invocation.Invocation as parsed

@@ -8,10 +8,10 @@ ghost use Rattle.just_invoke.specs.Head.{WordsLead, WordsMislead, PathLeads, NoP
 use crate::paths::{as_words, contains_colon, path_word};
 use crate::walking::walk;
 use just_data::Text;
-use just_execution::Recipes;
 use just_justfile::Justfile;
 use just_parts::Recipe;
 use just_parts::layers::{Error, InvocationError};
+use just_recipes::Recipes;
 use std::alloc::Global;
 
 // Walks all the names, which are one word.

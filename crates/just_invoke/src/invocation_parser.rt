@@ -14,10 +14,10 @@ use crate::head::parse_head;
 use crate::invocation::Invocation;
 use crate::walking::after;
 use just_data::BorrowedText;
-use just_execution::Recipes;
 use just_justfile::Justfile;
 use just_parts::Recipe;
 use just_parts::layers::{ConstantEvaluation, Error, InvocationError};
+use just_recipes::Recipes;
 use just_tail::{Tail, TailError, take_arguments};
 use std::alloc::Global;
 

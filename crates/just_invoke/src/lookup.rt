@@ -5,10 +5,10 @@ ghost use Rattle.just_justfile.specs.Walks.{IsOrdered};
 ghost use Rattle.just_justfile.specs.declared.justfile.Justfile.{out-Justfile};
 ghost use Rattle.just_invoke.specs.Meaning.{aliased_module, disabling, meaning, meaning_of, path_texts};
 
-use just_execution::Recipes;
 use just_justfile::{Disabled, Justfile, find_module};
 use just_parts::Recipe;
 use just_paths::Modulepath;
+use just_recipes::Recipes;
 use just_table::Table;
 use std::collections::BTreeSet;
 

@@ -7,7 +7,8 @@ ghost use Rattle.just_invoke.specs.Outcome.{tops_of};
 
 use crate::groups::copy_groups;
 use crate::invocation::Invocation;
-use just_execution::{Pair, Recipes, Task};
+use just_execution::{Pair, Task};
+use just_recipes::Recipes;
 use std::alloc::{AllocError, Global};
 
 /// The tasks of invocations.

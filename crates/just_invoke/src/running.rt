@@ -9,8 +9,9 @@ ghost use Rattle.just_invoke.specs.Going.{ComesTo};
 
 use crate::invocation::Invocation;
 use crate::naming::name_tops;
-use just_execution::{Recipes, Report, Scopes, find_unready, run_tasks};
+use just_execution::{Report, Scopes, find_unready, run_tasks};
 use just_parts::layers::{Error, RunError, Syntax};
+use just_recipes::Recipes;
 use just_run_layers::{Evaluation, Host};
 use std::alloc::Global;
 

@@ -14,10 +14,10 @@ ghost use Rattle.just_invoke.specs.Head.{goes_on, place_of, TakesDefault, NoDefa
 use crate::lookup::{Found, look_up};
 use crate::texts::{names_text, path_texts, place_text};
 use just_data::BorrowedText;
-use just_execution::Recipes;
 use just_justfile::Justfile;
 use just_parts::Recipe;
 use just_parts::layers::{Error, InvocationError};
+use just_recipes::Recipes;
 use std::alloc::Global;
 
 // The recipe that is run where the names end in the module.

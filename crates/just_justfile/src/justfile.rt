@@ -3,13 +3,13 @@ use crate::aliases::{Aliases, RecipeAlias};
 use crate::disabled::Disabled;
 use crate::resolution::module_along;
 use just_data::{BorrowedText, Exact, Sequence, Shared, Text};
-use just_execution::Recipes;
 use just_name_resolution::{Tables, assignment_references};
 use just_parts::Recipe;
 use just_parts::layers::{
     Assignment, FunctionDefinition, Name, Number, Settings, StringLiteral, Warning,
 };
 use just_paths::Modulepath;
+use just_recipes::Recipes;
 use just_table::{Keyed, Table};
 use std::alloc::{AllocError, Global};
 use std::collections::{HashMap, HashSet};

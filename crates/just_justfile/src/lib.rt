@@ -10,7 +10,7 @@ pub mod resolution;
 
 pub use aliases::{Aliases, ModuleAlias, RecipeAlias};
 pub use disabled::Disabled;
-pub use just_execution::Recipes;
+pub use just_recipes::Recipes;
 pub use justfile::{Justfile, RecipeKey};
 pub use modules::modules_in;
 pub use resolution::{Resolution, find_module};

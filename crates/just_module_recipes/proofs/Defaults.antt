@@ -11,7 +11,7 @@ use Rattle.just_recipe.specs.declared.dependency.Dependency.{Dependency}
 use Rattle.just_recipe.specs.declared.dependency.UnresolvedDependency.{UnresolvedDependency}
 use Rattle.just_recipe.specs.declared.recipe.Recipe.{Recipe}
 use Rattle.just_recipe.specs.Recipes.{find_number, numbers}
-use Rattle.just_execution.proofs.Places.{found-number}
+use Rattle.just_recipes.proofs.Places.{found-number}
 use Rattle.just_names.specs.declared.number.Number.{Number}
 use Rattle.just_module_contents.specs.Defaults.{IsBefore, IsBetter, IsDefault, IsDefaultPlace, IsMarked, IsMarkedPlace}
 use Rattle.just_module_contents.specs.Recipes.{name_of, line_of, recipe_at}

@@ -8,10 +8,10 @@ ghost use Rattle.just_module_contents.specs.Definitions.{recipes_in};
 ghost use Rattle.just_module_contents.specs.Named.{recipes_by};
 
 use crate::marked::marked_place;
-use just_execution::Recipes;
 use just_module_contents::definitions::Definitions;
 use just_parts::UnresolvedRecipe;
 use just_parts::layers::{Ast, Error, Number, Syntax};
+use just_recipes::Recipes;
 use std::alloc::{AllocError, Global};
 
 // Whether a recipe is the default before another: by line, and on equal lines by the greater name.

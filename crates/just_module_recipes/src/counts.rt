@@ -15,10 +15,10 @@ ghost use Rattle.just_names.specs.Index.{AreDifferent};
 use crate::targets::{Surroundings, Target};
 use just_data::Sequence;
 use just_errors::ArgumentRange;
-use just_execution::Recipes;
 use just_module_contents::definitions::Definitions;
 use just_parts::layers::{CompileError, CompileErrorKind, Error, Settings, UnresolvedDependency};
 use just_paths::Modulepath;
+use just_recipes::Recipes;
 use std::collections::BTreeSet;
 
 // How many arguments the recipe that a target is takes.

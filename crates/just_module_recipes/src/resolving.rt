@@ -16,13 +16,13 @@ ghost use Rattle.just_recipe_values.specs.Among.{CoversRecipe};
 use crate::completing::{Completing, complete};
 use crate::targets::Target;
 use just_data::Sequence;
-use just_execution::Recipes;
 use just_module_contents::definitions::Definitions;
 use just_parts::layers::{
     ConstantEvaluation, DependencyArgument, Error, Number, Settings, Syntax, UnresolvedDependency,
 };
 use just_parts::{Dependency, Recipe};
 use just_paths::Modulepath;
+use just_recipes::Recipes;
 use std::alloc::{AllocError, Global};
 use std::collections::BTreeSet;
 

@@ -12,11 +12,11 @@ ghost use Rattle.just_names.specs.Index.{IsIndex, place_in};
 ghost use Rattle.just_names.specs.Name.{texts_of_path};
 
 use just_data::{BorrowedText, Sequence};
-use just_execution::Recipes;
 use just_justfile::{Justfile, Resolution};
 use just_module_contents::definitions::Definitions;
 use just_parts::layers::{CompileError, CompileErrorKind, Error, Namepath, Number};
 use just_paths::Modulepath;
+use just_recipes::Recipes;
 use just_table::Table;
 use std::alloc::{AllocError, Global};
 use std::collections::{BTreeSet, HashMap};

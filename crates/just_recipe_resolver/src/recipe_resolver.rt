@@ -18,7 +18,6 @@ ghost use Rattle.just_recipe_resolver.specs.Resolved.{AreResolved, kept_in};
 use crate::keys::recipe_keys;
 use crate::resolving::{Resolving, resolve_kept};
 use just_data::BorrowedText;
-use just_execution::Recipes;
 use just_justfile::{Disabled, Justfile, RecipeKey};
 use just_module_contents::definitions::Definitions;
 use just_module_contents::kept::keep_recipes;
@@ -29,6 +28,7 @@ use just_parts::layers::{ConstantEvaluation, Error, Scope, Settings, Syntax};
 use just_paths::Modulepath;
 use just_recipe_names::Meanings;
 use just_recipe_values::Among;
+use just_recipes::Recipes;
 use just_table::Table;
 use std::alloc::{AllocError, Global};
 

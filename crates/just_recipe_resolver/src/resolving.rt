@@ -16,7 +16,6 @@ ghost use Rattle.just_names.specs.Index.{AreDifferent};
 ghost use Rattle.just_recipe_resolver.specs.Basis.{AreCovered, BreaksOn, TellsOn, basis_of, completion_on};
 
 use just_data::{BorrowedText, Text};
-use just_execution::Recipes;
 use just_justfile::Justfile;
 use just_module_contents::definitions::Definitions;
 use just_module_recipes::{Completing, Linked, link};
@@ -26,6 +25,7 @@ use just_paths::Modulepath;
 use just_recipe_names::Meanings;
 use just_recipe_needs::references_of_all;
 use just_recipe_values::Among;
+use just_recipes::Recipes;
 use just_table::Table;
 use std::alloc::Global;
 use std::collections::HashMap;

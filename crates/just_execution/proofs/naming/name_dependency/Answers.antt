@@ -5,5 +5,5 @@ use Rattle.just_execution.proofs.Places.{pair-made}
 use Rattle.just_execution.proofs.naming.name_dependency.Goals as goal
 
 pub returns : goal.returns
-returns c = ap (task true) (pair-made c.args.recipes.now c.args.dependency.now c.place-recipe.result c.in_ok-groups.groups c.at.result.now c.place-recipe.ensures.is c.at.ensures
+returns c = ap (task true) (pair-made c.args.recipes.now c.args.dependency.now c.place_in-recipe.result c.in_ok-groups.groups c.recipe_at.result.now c.place_in-recipe.ensures.is c.recipe_at.ensures
     (c.in_ok-groups.ensures ∙ ap (map (λ (p : Parameter). [])) c.as_slice.ensures))

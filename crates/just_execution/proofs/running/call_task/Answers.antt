@@ -15,7 +15,7 @@ use Rattle.just_execution.proofs.WeightLemmas.{call-lighter, taken-lighter}
 use Rattle.just_execution.proofs.running.call_task.Goals as goal
 
 pub module_of-module-requires : goal.module_of-module-requires
-module_of-module-requires g c = home-of (g.S.Syntax.answers c.args.scopes.now.syntax.now) c.args.scopes.now.modules c.args.recipes.now c.args.task c.requires.callable c.at.result.now c.at.ensures
+module_of-module-requires g c = home-of (g.S.Syntax.answers c.args.scopes.now.syntax.now) c.args.scopes.now.modules c.args.recipes.now c.args.task c.requires.callable c.recipe_at.result.now c.recipe_at.ensures
 
 pub returns-in_err-count_call-clause-goes : goal.returns-in_err-count_call-clause-goes
 returns-in_err-count_call-clause-goes g c = λ h entries.
@@ -46,7 +46,7 @@ returns-in_err-priors-clause-goes g c = λ h entries.
     let lower = leaves-lower c.args.recipes.now c.requires.ordered in
     goes-err p _ _ old _ c.in_err-priors.field-0.0 c.from_residual-in_err-priors.result (search rules)
     (unasked-took (leaves_of c.args.recipes.now) lower p c.args.run.now.frames.items c.args.task (state_of c.args.run.now) c.count_call.new.calls.items
-    (search rules) (search rules) (sym c.contains.ensures ∙ c.if-contains.false) old _ c.in_err-priors.field-0.0 ((asked-priors (g.E.Evaluation.promised c.args.evaluation.now) c.args.recipes.now c.args.task _ _ _ _ c.priors-dependencies.ensures.is c.in_err-priors.ensures.took) h entries))
+    (search rules) (search rules) (sym c.contains.ensures ∙ c.if-contains.false) old _ c.in_err-priors.field-0.0 ((asked-priors (g.E.Evaluation.promised c.args.evaluation.now) c.args.recipes.now c.args.task _ _ _ _ c.priors_at-dependencies.ensures.is c.in_err-priors.ensures.took) h entries))
 
 pub returns-in_err-push-clause-goes : goal.returns-in_err-push-clause-goes
 returns-in_err-push-clause-goes g c = λ h entries.
@@ -55,7 +55,7 @@ returns-in_err-push-clause-goes g c = λ h entries.
     let lower = leaves-lower c.args.recipes.now c.requires.ordered in
     goes-err p _ _ old _ _ c.from_residual-in_err-push.result (search rules)
     (halted-took (leaves_of c.args.recipes.now) lower p c.args.run.now.frames.items c.args.task (state_of c.args.run.now) c.count_call.new.calls.items
-    (search rules) (search rules) (sym c.contains.ensures ∙ c.if-contains.false) c.in_ok-priors.priors.items old _ ((asked-priors (g.E.Evaluation.promised c.args.evaluation.now) c.args.recipes.now c.args.task _ _ _ _ c.priors-dependencies.ensures.is c.in_ok-priors.ensures.took) h entries))
+    (search rules) (search rules) (sym c.contains.ensures ∙ c.if-contains.false) c.in_ok-priors.priors.items old _ ((asked-priors (g.E.Evaluation.promised c.args.evaluation.now) c.args.recipes.now c.args.task _ _ _ _ c.priors_at-dependencies.ensures.is c.in_ok-priors.ensures.took) h entries))
 
 pub returns-in_err-push_calls-clause-goes : goal.returns-in_err-push_calls-clause-goes
 returns-in_err-push_calls-clause-goes g c = λ h entries.
@@ -64,7 +64,7 @@ returns-in_err-push_calls-clause-goes g c = λ h entries.
     let lower = leaves-lower c.args.recipes.now c.requires.ordered in
     goes-err p _ _ old _ _ c.from_residual-in_err-push_calls.result (search rules)
     (halted-took (leaves_of c.args.recipes.now) lower p c.args.run.now.frames.items c.args.task (state_of c.args.run.now) c.count_call.new.calls.items
-    (search rules) (search rules) (sym c.contains.ensures ∙ c.if-contains.false) c.in_ok-priors.priors.items old _ ((asked-priors (g.E.Evaluation.promised c.args.evaluation.now) c.args.recipes.now c.args.task _ _ _ _ c.priors-dependencies.ensures.is c.in_ok-priors.ensures.took) h entries))
+    (search rules) (search rules) (sym c.contains.ensures ∙ c.if-contains.false) c.in_ok-priors.priors.items old _ ((asked-priors (g.E.Evaluation.promised c.args.evaluation.now) c.args.recipes.now c.args.task _ _ _ _ c.priors_at-dependencies.ensures.is c.in_ok-priors.ensures.took) h entries))
 
 pub returns-clause-goes : goal.returns-clause-goes
 returns-clause-goes g c = λ h entries new r t.
@@ -74,13 +74,13 @@ returns-clause-goes g c = λ h entries new r t.
     let xs : List Frame = c.args.run.now.frames.items in
     let pushed : c.push.new.self.items ≡ xs ++ Block c.args.task ∷ [] = search rules in
     asked-took (leaves_of c.args.recipes.now) lower p xs c.args.task (state_of c.args.run.now) c.count_call.new.calls.items
-    (search rules) (search rules) (sym c.contains.ensures ∙ c.if-contains.false) c.in_ok-priors.priors.items c.push_calls.new.frames.items (pushed-calls _ xs (Block c.args.task) c.in_ok-priors.priors.items _ pushed c.in_ok-push_calls.ensures) old _ new r ((asked-priors (g.E.Evaluation.promised c.args.evaluation.now) c.args.recipes.now c.args.task _ _ _ _ c.priors-dependencies.ensures.is c.in_ok-priors.ensures.took) h entries) t
+    (search rules) (search rules) (sym c.contains.ensures ∙ c.if-contains.false) c.in_ok-priors.priors.items c.push_calls.new.frames.items (pushed-calls _ xs (Block c.args.task) c.in_ok-priors.priors.items _ pushed c.in_ok-push_calls.ensures) old _ new r ((asked-priors (g.E.Evaluation.promised c.args.evaluation.now) c.args.recipes.now c.args.task _ _ _ _ c.priors_at-dependencies.ensures.is c.in_ok-priors.ensures.took) h entries) t
 
 pub returns-clause-sound : goal.returns-clause-sound
 returns-clause-sound g c =
     let rs = c.args.recipes.now in
     let ps : List Task = c.in_ok-priors.priors.items in
-    let opens = asked-callable (g.S.Syntax.answers c.args.scopes.now.syntax.now) c.args.scopes.now.modules rs c.args.task c.requires.callable c.requires.ordered (g.E.Evaluation.promised c.args.evaluation.now) _ _ ps (asked-priors (g.E.Evaluation.promised c.args.evaluation.now) c.args.recipes.now c.args.task _ _ _ _ c.priors-dependencies.ensures.is c.in_ok-priors.ensures.took) in
+    let opens = asked-callable (g.S.Syntax.answers c.args.scopes.now.syntax.now) c.args.scopes.now.modules rs c.args.task c.requires.callable c.requires.ordered (g.E.Evaluation.promised c.args.evaluation.now) _ _ ps (asked-priors (g.E.Evaluation.promised c.args.evaluation.now) c.args.recipes.now c.args.task _ _ _ _ c.priors_at-dependencies.ensures.is c.in_ok-priors.ensures.took) in
     let pushed : c.push.new.self.items ≡ c.args.run.now.frames.items ++ Block c.args.task ∷ [] = search rules in
     called-sound (IsCallable (g.S.Syntax.answers c.args.scopes.now.syntax.now) c.args.scopes.now.modules rs) c.args.run.now _ c.args.task ps (search rules) (pushed-calls _ _ (Block c.args.task) ps c.push_calls.new.frames.items pushed c.in_ok-push_calls.ensures) c.requires.callable opens c.requires.sound
 
@@ -88,7 +88,7 @@ pub returns-clause-lighter : goal.returns-clause-lighter
 returns-clause-lighter g c =
     let rs = c.args.recipes.now in
     let ps : List Task = c.in_ok-priors.priors.items in
-    let below = asked-below rs c.requires.ordered (g.E.Evaluation.promised c.args.evaluation.now) c.args.task _ _ ps (asked-priors (g.E.Evaluation.promised c.args.evaluation.now) c.args.recipes.now c.args.task _ _ _ _ c.priors-dependencies.ensures.is c.in_ok-priors.ensures.took) in
+    let below = asked-below rs c.requires.ordered (g.E.Evaluation.promised c.args.evaluation.now) c.args.task _ _ ps (asked-priors (g.E.Evaluation.promised c.args.evaluation.now) c.args.recipes.now c.args.task _ _ _ _ c.priors_at-dependencies.ensures.is c.in_ok-priors.ensures.took) in
     let pushed : c.push.new.self.items ≡ c.args.run.now.frames.items ++ Block c.args.task ∷ [] = search rules in
     let few : length ps < 2 ^ 64 = omega (arith, c.in_ok-priors.priors.small) in
     subst (λ fs. weight (2 ^ 64) fs < weight (2 ^ 64) (c.args.run.now.frames.items ++ Call c.args.task ∷ [])) (sym (pushed-calls _ _ (Block c.args.task) ps c.push_calls.new.frames.items pushed c.in_ok-push_calls.ensures))

@@ -12,7 +12,7 @@ use Rattle.just_execution.proofs.Leaves.{asked-subsequents, followed-below, leav
 use Rattle.just_execution.proofs.running.run_block.Goals as goal
 
 pub module_of-module-requires : goal.module_of-module-requires
-module_of-module-requires g c = home-of (g.S.Syntax.answers c.args.scopes.now.syntax.now) c.args.scopes.now.modules c.args.recipes.now c.args.task c.requires.callable c.at.result.now c.at.ensures
+module_of-module-requires g c = home-of (g.S.Syntax.answers c.args.scopes.now.syntax.now) c.args.scopes.now.modules c.args.recipes.now c.args.task c.requires.callable c.recipe_at.result.now c.recipe_at.ensures
 
 pub returns-in_err-execute-clause-goes : goal.returns-in_err-execute-clause-goes
 returns-in_err-execute-clause-goes g c =
@@ -27,7 +27,7 @@ returns-in_err-subsequents-clause-goes g c =
     let keeps = keeps-both _ _ _ _ c.execute.ensures.keeps c.execute.ensures.keeps_host in
     goes-err p _ _ _ _ c.in_err-subsequents.field-0.0 c.from_residual-in_err-subsequents.result (search rules)
     (unfollowed-took (leaves_of c.args.recipes.now) (leaves-lower c.args.recipes.now c.requires.ordered) p q keeps c.args.run.now.frames.items c.args.task (state_of c.args.run.now) _ _ _ c.in_err-subsequents.field-0.0
-    c.in_ok-execute.ensures.took ((asked-subsequents (g.E.Evaluation.promised c.execute.new._evaluation) c.args.recipes.now c.args.task _ _ _ _ c.subsequents-dependencies.ensures.is c.in_err-subsequents.ensures.took) (g.H.Host.promised c.execute.new.host) (g.H.Host.entries c.execute.new.host)))
+    c.in_ok-execute.ensures.took ((asked-subsequents (g.E.Evaluation.promised c.execute.new._evaluation) c.args.recipes.now c.args.task _ _ _ _ c.subsequents_at-dependencies.ensures.is c.in_err-subsequents.ensures.took) (g.H.Host.promised c.execute.new.host) (g.H.Host.entries c.execute.new.host)))
 
 pub returns-in_err-insert-clause-goes : goal.returns-in_err-insert-clause-goes
 returns-in_err-insert-clause-goes g c =
@@ -37,7 +37,7 @@ returns-in_err-insert-clause-goes g c =
     let ts : List Task = c.in_ok-subsequents.subsequents.items in
     goes-err p _ _ _ _ _ c.from_residual-in_err-insert.result (search rules)
     (stopped-took (leaves_of c.args.recipes.now) (leaves-lower c.args.recipes.now c.requires.ordered) p q keeps c.args.run.now.frames.items c.args.task (state_of c.args.run.now) ts _ _ _
-    c.in_ok-execute.ensures.took ((asked-subsequents (g.E.Evaluation.promised c.execute.new._evaluation) c.args.recipes.now c.args.task _ _ _ _ c.subsequents-dependencies.ensures.is c.in_ok-subsequents.ensures.took) (g.H.Host.promised c.execute.new.host) (g.H.Host.entries c.execute.new.host)))
+    c.in_ok-execute.ensures.took ((asked-subsequents (g.E.Evaluation.promised c.execute.new._evaluation) c.args.recipes.now c.args.task _ _ _ _ c.subsequents_at-dependencies.ensures.is c.in_ok-subsequents.ensures.took) (g.H.Host.promised c.execute.new.host) (g.H.Host.entries c.execute.new.host)))
 
 pub returns-in_err-open-clause-goes : goal.returns-in_err-open-clause-goes
 returns-in_err-open-clause-goes g c =
@@ -47,7 +47,7 @@ returns-in_err-open-clause-goes g c =
     let ts : List Task = c.in_ok-subsequents.subsequents.items in
     goes-err p _ _ _ _ _ c.from_residual-in_err-open.result (search rules)
     (stopped-took (leaves_of c.args.recipes.now) (leaves-lower c.args.recipes.now c.requires.ordered) p q keeps c.args.run.now.frames.items c.args.task (state_of c.args.run.now) ts _ _ _
-    c.in_ok-execute.ensures.took ((asked-subsequents (g.E.Evaluation.promised c.execute.new._evaluation) c.args.recipes.now c.args.task _ _ _ _ c.subsequents-dependencies.ensures.is c.in_ok-subsequents.ensures.took) (g.H.Host.promised c.execute.new.host) (g.H.Host.entries c.execute.new.host)))
+    c.in_ok-execute.ensures.took ((asked-subsequents (g.E.Evaluation.promised c.execute.new._evaluation) c.args.recipes.now c.args.task _ _ _ _ c.subsequents_at-dependencies.ensures.is c.in_ok-subsequents.ensures.took) (g.H.Host.promised c.execute.new.host) (g.H.Host.entries c.execute.new.host)))
 
 pub returns-clause-goes : goal.returns-clause-goes
 returns-clause-goes g c = λ new r t.
@@ -60,18 +60,18 @@ returns-clause-goes g c = λ new r t.
     let ts : List Task = c.in_ok-subsequents.subsequents.items in
     followed-took L (leaves-lower c.args.recipes.now c.requires.ordered) p q keeps c.args.run.now.frames.items c.args.task (state_of c.args.run.now) ts (left_of L c.open.new.self)
     (block-last L c.args.run.now c.args.task c.insert.new.self ts (left_of L c.open.new.self) c.in_ok-insert.ensures.ok (c.in_ok-open.ensures.left L)) _ mid _ new r
-    c.in_ok-execute.ensures.took ((asked-subsequents (g.E.Evaluation.promised c.execute.new._evaluation) c.args.recipes.now c.args.task _ _ _ _ c.subsequents-dependencies.ensures.is c.in_ok-subsequents.ensures.took) (g.H.Host.promised c.execute.new.host) entries) t
+    c.in_ok-execute.ensures.took ((asked-subsequents (g.E.Evaluation.promised c.execute.new._evaluation) c.args.recipes.now c.args.task _ _ _ _ c.subsequents_at-dependencies.ensures.is c.in_ok-subsequents.ensures.took) (g.H.Host.promised c.execute.new.host) entries) t
 
 pub returns-clause-sound : goal.returns-clause-sound
 returns-clause-sound g c =
     let rs = c.args.recipes.now in
     let ts : List Task = c.in_ok-subsequents.subsequents.items in
-    let opens = followed-callable (g.S.Syntax.answers c.args.scopes.now.syntax.now) c.args.scopes.now.modules rs c.args.task c.requires.callable c.requires.ordered (g.E.Evaluation.promised c.execute.new._evaluation) _ _ ts (asked-subsequents (g.E.Evaluation.promised c.execute.new._evaluation) c.args.recipes.now c.args.task _ _ _ _ c.subsequents-dependencies.ensures.is c.in_ok-subsequents.ensures.took) in
+    let opens = followed-callable (g.S.Syntax.answers c.args.scopes.now.syntax.now) c.args.scopes.now.modules rs c.args.task c.requires.callable c.requires.ordered (g.E.Evaluation.promised c.execute.new._evaluation) _ _ ts (asked-subsequents (g.E.Evaluation.promised c.execute.new._evaluation) c.args.recipes.now c.args.task _ _ _ _ c.subsequents_at-dependencies.ensures.is c.in_ok-subsequents.ensures.took) in
     c.in_ok-open.ensures.sound (g.S.Syntax.answers c.args.scopes.now.syntax.now) c.args.scopes.now.modules rs opens (record { frames = c.requires.sound.frames; number = c.requires.sound.number })
 
 pub returns-clause-lighter : goal.returns-clause-lighter
 returns-clause-lighter g c =
     let rs = c.args.recipes.now in
     let ts : List Task = c.in_ok-subsequents.subsequents.items in
-    let below = followed-below rs c.requires.ordered (g.E.Evaluation.promised c.execute.new._evaluation) c.args.task _ _ ts (asked-subsequents (g.E.Evaluation.promised c.execute.new._evaluation) c.args.recipes.now c.args.task _ _ _ _ c.subsequents-dependencies.ensures.is c.in_ok-subsequents.ensures.took) in
+    let below = followed-below rs c.requires.ordered (g.E.Evaluation.promised c.execute.new._evaluation) c.args.task _ _ ts (asked-subsequents (g.E.Evaluation.promised c.execute.new._evaluation) c.args.recipes.now c.args.task _ _ _ _ c.subsequents_at-dependencies.ensures.is c.in_ok-subsequents.ensures.took) in
     c.in_ok-open.ensures.lighter c.args.task below

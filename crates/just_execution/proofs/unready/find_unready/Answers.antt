@@ -21,8 +21,8 @@ reach-requires-clause-start c =
     let start : c.deref-2.result.now ≡ places c.args.tops.now = c.deref-2.ensures.value ∙ c.in_ok-places_of.ensures in
     places-below rs c.deref.result.now rows c.args.tops.now c.deref-2.result.now c.requires start
 
-pub at-recipe-requires : goal.at-recipe-requires
-at-recipe-requires c =
+pub recipe_at-recipe-requires : goal.recipe_at-recipe-requires
+recipe_at-recipe-requires c =
     let rs : List (Recipe Dependency) = c.args.recipes.now in
     let rows : AreRows rs c.deref.result.now = subst (AreRows rs) (sym c.deref.ensures.value) c.in_ok-rows.ensures in
     let start : c.deref-2.result.now ≡ places c.args.tops.now = c.deref-2.ensures.value ∙ c.in_ok-places_of.ensures in
@@ -34,7 +34,7 @@ at-recipe-requires c =
     reached-below rs c.deref.result.now rows c.deref-2.result.now c.deref-3.result.now below place found
 
 pub loop-place-preserved : goal.loop-place-preserved
-loop-place-preserved c = ready-more c.args.recipes.now c.deref-place-items.result.now c.loop-place.place-index c.at-recipe.result.now c.at-recipe.ensures (sym c.is_unready.ensures ∙ c.if-is_unready.false) c.loop-place.invariant
+loop-place-preserved c = ready-more c.args.recipes.now c.deref-place-items.result.now c.loop-place.place-index c.recipe_at-recipe.result.now c.recipe_at-recipe.ensures (sym c.is_unready.ensures ∙ c.if-is_unready.false) c.loop-place.invariant
 
 pub returns-then-is_unready-clause-unready : goal.returns-then-is_unready-clause-unready
 returns-then-is_unready-clause-unready c =
@@ -46,7 +46,7 @@ returns-then-is_unready-clause-unready c =
     let here : Contains c.in_ok-reached.reached.items place = subst (λ xs. Contains xs place) c.deref-place-items.ensures.value
     (Contains-get_or c.deref-place-items.result.now c.loop-place.place-index 0 c.loop-place-test.true) in
     let found = (c.in_ok-reached.ensures.reached place).0 here in
-    (place, c.at-recipe.result.now, reached-led rs c.deref.result.now rows c.args.tops.now c.deref-2.result.now c.deref-3.result.now start place found, c.at-recipe.ensures, sym c.is_unready.ensures ∙ c.if-is_unready.true, c.new.ensures ∙ c.lexeme.ensures)
+    (place, c.recipe_at-recipe.result.now, reached-led rs c.deref.result.now rows c.args.tops.now c.deref-2.result.now c.deref-3.result.now start place found, c.recipe_at-recipe.ensures, sym c.is_unready.ensures ∙ c.if-is_unready.true, c.new.ensures ∙ c.lexeme.ensures)
 
 pub returns-clause-ready : goal.returns-clause-ready
 returns-clause-ready c =

@@ -1,7 +1,7 @@
 use Rattle.std.proofs.Common.{◌≡◌, ◌<◌, length, map, take}
 use Rattle.std.specs.List.{All}
 use Rattle.just_recipe.specs.declared.dependency.Dependency.{Dependency}
-use Rattle.just_execution.specs.Pairs.{place_of}
+use Rattle.just_recipes.specs.Places.{place_of}
 use Rattle.just_execution.proofs.unready.row.Given as goal
 
 abbrev pub invariant-loop-dependency : goal.invariant-loop-dependency

@@ -2,7 +2,7 @@ use Rattle.std.proofs.Common.{◌≡◌, ◌<◌, ◌++◌, ◌∷◌, [], ◌�
 use Rattle.std.proofs.lemmas.List.{take_all}
 use Rattle.std.proofs.lemmas.Simd.{map-map}
 use Rattle.just_execution.specs.declared.task.Task.{Task}
-use Rattle.just_execution.proofs.Places.{found-number, map-more, all-more}
+use Rattle.just_recipes.proofs.Places.{found-number, map-more, all-more}
 use Rattle.just_invoke.specs.declared.invocation.Invocation.{Invocation}
 use Rattle.just_justfile.specs.Closed.{IsHeld}
 use Rattle.just_invoke.specs.Outcome.{top}

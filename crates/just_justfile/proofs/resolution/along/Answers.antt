@@ -1,6 +1,6 @@
 use Rattle.std.proofs.Common.{◌∙◌}
 use Rattle.just_names.specs.Name.{text_of_name}
-use Rattle.just_execution.proofs.Places.{map-more}
+use Rattle.just_recipes.proofs.Places.{map-more}
 use Rattle.just_justfile.proofs.resolution.along.Goals as goal
 
 pub loop-name-preserved : goal.loop-name-preserved

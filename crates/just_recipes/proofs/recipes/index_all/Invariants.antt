@@ -1,7 +1,7 @@
 use Rattle.std.proofs.Common.{nat_eq, ◌≡◌, ℕ, ◌+◌, ◌<◌, slice_index, Some}
 use Rattle.std.specs.HashMap.{get}
 use Rattle.just_recipe.specs.Recipes.{numbers, IsNew}
-use Rattle.just_execution.proofs.recipes.index_all.Given as goal
+use Rattle.just_recipes.proofs.recipes.index_all.Given as goal
 
 abbrev pub invariant-loop-place : goal.invariant-loop-place
 invariant-loop-place l = record {

@@ -1,7 +1,7 @@
 use Rattle.std.proofs.Common.{nat_eq}
 use Rattle.std.specs.HashMap.{get}
-use Rattle.just_execution.proofs.RecipeLemmas.{numbers_apart, placed_more, others_kept}
-use Rattle.just_execution.proofs.recipes.index_all.Goals as goal
+use Rattle.just_recipes.proofs.RecipeLemmas.{numbers_apart, placed_more, others_kept}
+use Rattle.just_recipes.proofs.recipes.index_all.Goals as goal
 
 pub loop-place-preserved : goal.loop-place-preserved
 loop-place-preserved c = record {

@@ -1,7 +1,7 @@
 use Rattle.std.proofs.Common.{◌≡◌, ◌<◌, ◌∙◌, nat_eq, length, eqb-true, rules, sym}
 use Rattle.std.specs.HashMap.{get}
-use Rattle.just_execution.proofs.Places.{place-is, read-place}
-use Rattle.just_execution.proofs.recipes.Recipes.place_of.Goals as goal
+use Rattle.just_recipes.proofs.Places.{place-is, read-place}
+use Rattle.just_recipes.proofs.recipes.Recipes.place_of.Goals as goal
 
 pub returns-then-eq-clause-first : goal.returns-then-eq-clause-first
 returns-then-eq-clause-first c =

@@ -1,8 +1,8 @@
 use Rattle.std.proofs.Common.{nat_eq, ◌≡◌, ◌∙◌, ap, Some, is_ok, length, arith}
 use Rattle.std.proofs.lemmas.Grind.{common_steps}
 use Rattle.std.specs.HashMap.{get}
-use Rattle.just_execution.proofs.RecipeLemmas.{numbers_apart, pushed}
-use Rattle.just_execution.proofs.recipes.Recipes.push.Goals as goal
+use Rattle.just_recipes.proofs.RecipeLemmas.{numbers_apart, pushed}
+use Rattle.just_recipes.proofs.recipes.Recipes.push.Goals as goal
 
 pub invariant_of-self : goal.invariant_of-self
 invariant_of-self c =

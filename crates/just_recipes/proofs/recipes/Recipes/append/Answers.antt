@@ -4,8 +4,8 @@ use Rattle.std.specs.HashMap.{get}
 use Rattle.just_recipe.specs.declared.dependency.Dependency.{Dependency}
 use Rattle.just_recipe.specs.declared.recipe.Recipe.{Recipe}
 use Rattle.just_recipe.specs.Recipes.{numbers, IsNew, AreApart}
-use Rattle.just_execution.proofs.RecipeLemmas.{all_once, index-others, joined, left}
-use Rattle.just_execution.proofs.recipes.Recipes.append.Goals as goal
+use Rattle.just_recipes.proofs.RecipeLemmas.{all_once, index-others, joined, left}
+use Rattle.just_recipes.proofs.recipes.Recipes.append.Goals as goal
 
 pub index_all-requires-clause-once : goal.index_all-requires-clause-once
 index_all-requires-clause-once c = all_once c.other.inside.recipes.items c.as_slice.result.now (get nat_eq c.other.inside.places) (sym c.as_slice.ensures.value) c.other.invariant.1
