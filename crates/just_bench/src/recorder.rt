@@ -4,8 +4,8 @@ ghost use Rattle.just_run_layers.specs.declared.host.Entry.{Entry};
 ghost use Rattle.just_run_layers.specs.Host.{Answer};
 
 use just_data::Sequence;
-use just_run_layers::{Entry, Groups, Host};
 use just_paths::Modulepath;
+use just_run_layers::{Entry, Groups, Host};
 use std::alloc::{AllocError, Global};
 use std::marker::Model;
 

@@ -3,8 +3,8 @@ use just_bench::{Recorder, parse, root_source};
 use just_bench_syntax::PlainSyntax;
 use just_data::{Sequence, Text};
 use just_examples_format::faults::add_fault;
-use just_run_layers::{Groups, Host};
 use just_paths::Modulepath;
+use just_run_layers::{Groups, Host};
 use std::alloc::{AllocError, Global};
 
 // Adds whether a value could be copied.

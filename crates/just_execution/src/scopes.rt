@@ -3,8 +3,8 @@ ghost use Rattle.just_execution.specs.Homes.{IsHome, IsHomeOf};
 
 use just_parts::Recipe;
 use just_parts::layers::{Scope, Syntax};
-use just_run_layers::Context;
 use just_paths::Modulepath;
+use just_run_layers::Context;
 use std::collections::HashMap;
 
 /// A module of a run.

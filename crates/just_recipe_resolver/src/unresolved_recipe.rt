@@ -14,7 +14,9 @@ use just_data::Sequence;
 use just_module_recipes::{Completing, check_arguments, complete};
 use just_module_variables::VariableResolver;
 use just_name_resolution::Tables;
-use just_parts::layers::{ConstantEvaluation, Error, Scope, Settings, Syntax, UnresolvedDependency};
+use just_parts::layers::{
+    ConstantEvaluation, Error, Scope, Settings, Syntax, UnresolvedDependency,
+};
 use just_parts::{Dependency, Recipe, UnresolvedRecipe};
 use just_paths::Modulepath;
 use just_recipe_needs::RecipeReferences;
