@@ -3,6 +3,7 @@ pub mod Decides
 pub mod Faults
 pub mod HeadLemmas
 pub mod Holding
+pub mod ModuleLemmas
 pub mod Namings
 pub mod Outcomes
 pub mod Readings

@@ -13,10 +13,11 @@ use Rattle.just_recipe.specs.declared.dependency.Dependency.{Dependency}
 use Rattle.just_recipe.specs.declared.recipe.Recipe.{Recipe}
 use Rattle.just_execution.specs.Homes.{IsAmong, Modules, module_at}
 use Rattle.just_execution.specs.declared.scopes.ModuleScope.{ModuleScope}
-use Rattle.just_justfile.specs.Closed.{AreModulesIn, IsPlaced, StandsIn}
+use Rattle.just_justfile.specs.Closed.{IsPlaced, StandsIn}
+use Rattle.just_invoke.specs.Scopes.{AreModulesIn}
 use Rattle.just_invoke.specs.Scopes.{HasScope, HasScopes, IsScopeOf}
 use Rattle.just_justfile.specs.declared.justfile.Justfile.{Justfile, out-Justfile}
-use Rattle.just_justfile.proofs.ModuleLemmas.{shown, done_more, next_moved, next_stands}
+use Rattle.just_invoke.proofs.ModuleLemmas.{shown, done_more, next_moved, next_stands}
 
 -- paths that are the same are equal
 same-path : (p q : Modulepath) → path_eq.ghosts.eq p q ≡ true → p ≡ q

@@ -1,9 +1,14 @@
 -- The modules of a run.
-use Rattle.std.specs.Prelude.{◌≡◌, Some}
+use Rattle.std.specs.Prelude.{◌≡◌, ◌↔◌, List, Some}
+use Rattle.std.specs.List.{Contains}
 use Rattle.just_execution.specs.Homes.{Modules, module_at}
 use Rattle.just_execution.specs.declared.scopes.ModuleScope.{ModuleScope}
 use Rattle.just_justfile.specs.Closed.{StandsIn}
 use Rattle.just_justfile.specs.declared.justfile.Justfile.{Justfile, out-Justfile}
+
+-- these are the modules that stand in the root
+abbrev pub AreModulesIn : Justfile → List Justfile → Type 0
+AreModulesIn root modules = (j : Justfile) → Contains modules j ↔ StandsIn root j
 
 -- what a module hands to the layers is what it has
 pub record IsScopeOf (j : Justfile) (m : ModuleScope) : Type 0 where

@@ -7,6 +7,7 @@ mod invocation;
 pub mod invocation_parser;
 pub mod laws;
 mod lookup;
+mod modules;
 mod naming;
 mod paths;
 pub mod run;

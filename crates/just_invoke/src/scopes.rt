@@ -2,9 +2,10 @@
 ghost use Rattle.std.specs.Prelude.{◌≡◌, IfOk};
 ghost use Rattle.just_invoke.specs.Scopes.{HasScopes, IsScopeOf};
 
+use crate::modules::modules_in;
 use just_data::{Chain, Text};
 use just_execution::{ModuleScope, Scopes};
-use just_justfile::{Justfile, modules_in};
+use just_justfile::Justfile;
 use just_parts::layers::{Config, Number, Scope, Syntax};
 use just_paths::Modulepath;
 use just_run_layers::Context;

@@ -4,8 +4,9 @@ ghost use Rattle.just_invoke.specs.Split.{invoked_of};
 ghost use Rattle.just_invoke.specs.Variables.{IsHeldBack, SomeVariable};
 
 use crate::invocation::Invocation;
+use crate::modules::modules_in;
 use just_data::BorrowedText;
-use just_justfile::{Justfile, modules_in};
+use just_justfile::Justfile;
 use just_parts::layers::{Error, RunError};
 use std::alloc::Global;
 

@@ -1,5 +1,5 @@
 -- Modules whose recipes are among those that are held, each under its name.
-use Rattle.std.specs.Prelude.{◌≡◌, ◌↔◌, ℕ, List, [], ◌∷◌, ◌++◌, Option, Some, None, IsSome}
+use Rattle.std.specs.Prelude.{◌≡◌, ℕ, List, [], ◌∷◌, ◌++◌, Option, Some, None, IsSome}
 use Rattle.std.specs.List.{All, Contains}
 use Rattle.just_ast_definitions.specs.declared.alias.Alias.{Alias}
 use Rattle.just_table.specs.Entries.{find}
@@ -116,10 +116,6 @@ inner_closed (all_closed closed names below) = below
 -- so the names of those in it rise in byte order, in each module
 pub is_ordered : {recipes : List (Recipe Dependency)} {justfile : Justfile} → AreClosed recipes justfile → IsOrdered justfile
 is_ordered (all_closed closed names below) = in_order names.names (λ inner c. is_ordered (below inner c))
-
--- these are the modules that stand in the root
-abbrev pub AreModulesIn : Justfile → List Justfile → Type 0
-AreModulesIn root modules = (j : Justfile) → Contains modules j ↔ StandsIn root j
 
 -- the recipe is that of a module that stands in the root
 abbrev pub IsPlaced : Justfile → Recipe Dependency → Type 0

@@ -5,12 +5,10 @@ mod aliases;
 mod disabled;
 pub mod justfile;
 pub mod laws;
-mod modules;
 pub mod resolution;
 
 pub use aliases::{Aliases, ModuleAlias, RecipeAlias};
 pub use disabled::Disabled;
 pub use just_recipes::Recipes;
 pub use justfile::{Justfile, RecipeKey};
-pub use modules::modules_in;
 pub use resolution::{Resolution, find_module};

@@ -1,10 +1,10 @@
 use Rattle.std.proofs.Common.{◌≡◌, [], subst, arith, rules}
 use Rattle.std.proofs.lemmas.List.{nil_from_length}
 use Rattle.std.proofs.lemmas.List.Elements.{All-nil}
-use Rattle.just_justfile.specs.Closed.{AreModulesIn}
+use Rattle.just_invoke.specs.Scopes.{AreModulesIn}
 use Rattle.just_invoke.specs.Scopes.{HasScope}
 use Rattle.just_justfile.specs.declared.justfile.Justfile.{out-Justfile}
-use Rattle.just_justfile.proofs.ModuleLemmas.{shown, each_done}
+use Rattle.just_invoke.proofs.ModuleLemmas.{shown, each_done}
 use Rattle.just_invoke.proofs.Scoping.{next_scoped}
 use Rattle.just_invoke.proofs.scopes.bare_modules.Goals as goal
 

@@ -1,8 +1,8 @@
 use Rattle.std.proofs.Common.{◌++◌}
 use Rattle.std.specs.List.{All}
-use Rattle.just_justfile.specs.Closed.{AreModulesIn}
+use Rattle.just_invoke.specs.Scopes.{AreModulesIn}
 use Rattle.just_invoke.specs.Scopes.{HasScope}
-use Rattle.just_justfile.proofs.ModuleLemmas.{shown}
+use Rattle.just_invoke.proofs.ModuleLemmas.{shown}
 use Rattle.just_invoke.proofs.scopes.bare_modules.Given as goal
 
 abbrev pub invariant-loop-module : goal.invariant-loop-module

@@ -6,7 +6,7 @@ use Rattle.just_justfile.specs.declared.justfile.Justfile.{Justfile, out-Justfil
 use Rattle.just_justfile.specs.Closed.{name_of}
 use Rattle.just_invoke.specs.Split.{invoked_of}
 use Rattle.just_invoke.specs.Variables.{IsHeldBack, SomeVariable}
-use Rattle.just_justfile.proofs.ModuleLemmas.{IsBare, done_more, next_moved, next_stands}
+use Rattle.just_invoke.proofs.ModuleLemmas.{IsBare, done_more, next_moved, next_stands}
 use Rattle.just_invoke.proofs.variables.check_variables.Goals as goal
 
 held_back : (root : Justfile) (is : List Invocation) (d : Invocation) (name : List ℕ) → 0 < length is → name ≡ name_of (get_or is 0 d).recipe.now →

@@ -1,7 +1,7 @@
 use Rattle.std.proofs.Common.{◌++◌}
 use Rattle.std.specs.List.{All}
-use Rattle.just_justfile.specs.Closed.{AreModulesIn}
-use Rattle.just_justfile.proofs.ModuleLemmas.{IsBare, shown}
+use Rattle.just_invoke.specs.Scopes.{AreModulesIn}
+use Rattle.just_invoke.proofs.ModuleLemmas.{IsBare, shown}
 use Rattle.just_invoke.proofs.variables.check_variables.Given as goal
 
 abbrev pub invariant-loop-module : goal.invariant-loop-module

@@ -1,9 +1,9 @@
 //! The modules that stand in one.
 ghost use Rattle.std.specs.Prelude.{◌≡◌, ◌++◌, map, IfOk, OnOk};
 ghost use Rattle.just_justfile.specs.declared.justfile.Justfile.{out-Justfile};
-ghost use Rattle.just_justfile.specs.Closed.{AreModulesIn};
+ghost use Rattle.just_invoke.specs.Scopes.{AreModulesIn};
 
-use crate::justfile::Justfile;
+use just_justfile::Justfile;
 use std::alloc::{AllocError, Global};
 
 // Adds the modules of a module to those that are left to look at.
@@ -20,7 +20,7 @@ fn add_modules<'run, 'src>(
 }
 
 /// The modules that stand in the root, itself among them.
-pub fn modules_in<'run, 'src>(
+pub(crate) fn modules_in<'run, 'src>(
     alloc: Global,
     root: &'run Justfile<'src>,
 ) -> Result<Vec<&'run Justfile<'src>>, AllocError>

@@ -1,6 +1,6 @@
 use Rattle.std.proofs.Common.{◌≡◌, [], ◌∷◌, sym, subst, rules}
-use Rattle.just_justfile.proofs.ModuleLemmas.{AreFound, shown, none_found, all_found, taken_found, taken_less}
-use Rattle.just_justfile.proofs.modules.modules_in.Goals as goal
+use Rattle.just_invoke.proofs.ModuleLemmas.{AreFound, shown, none_found, all_found, taken_found, taken_less}
+use Rattle.just_invoke.proofs.modules.modules_in.Goals as goal
 
 pub loop-module-init : goal.loop-module-init
 loop-module-init c =

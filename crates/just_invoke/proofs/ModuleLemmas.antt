@@ -7,7 +7,8 @@ use Rattle.std.specs.List.{All, Contains}
 use Rattle.just_justfile.specs.declared.justfile.Justfile.{Justfile, out-Justfile}
 use Rattle.just_justfile.specs.declared.justfile.Justfile.TheOpen.{Justfile-F}
 use Rattle.just_justfile.specs.declared.justfile.Justfile.TheFolds.{fold-Justfile, fold_out-Justfile}
-use Rattle.just_justfile.specs.Closed.{AreModulesIn, StandsIn, itself, inside}
+use Rattle.just_justfile.specs.Closed.{StandsIn, itself, inside}
+use Rattle.just_invoke.specs.Scopes.{AreModulesIn}
 
 abbrev pub shown : List (Bor Justfile) → List Justfile
 shown ms = map (λ m. m.now) ms
