@@ -1,6 +1,7 @@
 //! Attributes of recipes and modules.
-use just_ast_expressions::{Interpreter, Signal, StringLiteral};
+use just_ast_expressions::{Interpreter, StringLiteral};
 use just_data::{Exact, Sequence, Text};
+use just_errors::Signal;
 use just_names::Name;
 use just_patterns::Pattern;
 

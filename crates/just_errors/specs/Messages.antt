@@ -3,7 +3,8 @@ use Rattle.std.specs.Prelude.{ℕ, ◌==◌, false, List, length, ◌++◌, code
 use Rattle.just_names.specs.ListFeature.{feature_text}
 use Rattle.just_names.specs.Texts.{joined, text_of}
 use Rattle.just_names.specs.Name.{texts_of_path}
-use Rattle.just_errors.specs.Wording.{arguments_text, takes_text, place_text, at_text}
+use Rattle.just_errors.specs.Wording.{arguments_text, takes_text, place_text, at_text, on_line_text, spaced_text}
+use Rattle.std.specs.Fmt.{signed_decimal}
 use Rattle.just_names.specs.declared.name.Namepath.{Namepath}
 use Rattle.just_errors.specs.declared.error.LoadError.{LoadError}
 use Rattle.just_errors.specs.declared.error.LoadError.TheVariants as load
@@ -16,6 +17,8 @@ use Rattle.just_errors.specs.declared.error.InvocationError.{InvocationError}
 use Rattle.just_errors.specs.declared.error.InvocationError.TheVariants as invocation
 use Rattle.just_errors.specs.declared.error.RunError.{RunError}
 use Rattle.just_errors.specs.declared.error.RunError.TheVariants as run
+use Rattle.just_errors.specs.declared.signal.Signal.{Signal}
+use Rattle.just_errors.specs.declared.signal.Signal.TheVariants as signal
 use Rattle.just_errors.specs.declared.error.Error.{Error}
 use Rattle.just_errors.specs.declared.error.Error.TheVariants as error
 
@@ -80,6 +83,25 @@ invocation_name (invocation.ArgumentPatternMismatch recipe parameter argument) =
 abbrev pub run_name : RunError → List ℕ
 run_name (run.ExcessInvocations invocations) = codes "ExcessInvocations"
 run_name (run.NotYet recipe) = codes "NotYet"
+run_name (run.NotConfirmed recipe) = codes "NotConfirmed"
+run_name (run.GetConfirmation fault) = codes "GetConfirmation"
+run_name (run.Code recipe line code print) = codes "Code"
+run_name (run.GuardCode recipe line code) = codes "GuardCode"
+run_name (run.Signal recipe line ended print) = codes "Signal"
+run_name (run.Unknown recipe line print) = codes "Unknown"
+run_name (run.ShellIo recipe message) = codes "ShellIo"
+run_name (run.ScriptStart recipe message) = codes "ScriptStart"
+run_name (run.InvalidShebang recipe shebang) = codes "InvalidShebang"
+run_name (run.Interrupted ended) = codes "Interrupted"
+run_name (run.CommandInvoke binary arguments message) = codes "CommandInvoke"
+run_name (run.CommandStatus binary arguments status) = codes "CommandStatus"
+run_name (run.EvalUnknownSubmodule component) = codes "EvalUnknownSubmodule"
+run_name (run.EvalUnknownSubmoduleOrVariable component) = codes "EvalUnknownSubmoduleOrVariable"
+run_name (run.UnstableFeature feature) = codes "UnstableFeature"
+run_name (run.Dotenv fault) = codes "Dotenv"
+run_name (run.DatetimeFormat fault) = codes "DatetimeFormat"
+run_name (run.Evaluate fault) = codes "Evaluate"
+run_name run.Write = codes "Write"
 
 -- the name of an error: that of a broken rule is that of its kind
 abbrev pub error_name : Error → List ℕ
@@ -156,7 +178,32 @@ kind_text (kind.DuplicateDefault recipe) = codes "Recipe `" ++ (recipe ++ codes 
 abbrev pub compile_text : CompileError → List ℕ
 compile_text e = at_text e.token ++ (codes ": " ++ kind_text e.kind)
 
+abbrev pub signal_text : Signal → List ℕ
+signal_text signal.Hangup = codes "SIGHUP"
+signal_text signal.Interrupt = codes "SIGINT"
+signal_text signal.Quit = codes "SIGQUIT"
+signal_text signal.Terminate = codes "SIGTERM"
+
 -- what a fault of a run says
 abbrev pub run_text : RunError → List ℕ
 run_text (run.ExcessInvocations invocations) = codes "Expected 1 command-line recipe invocation but found " ++ decimal invocations
 run_text (run.NotYet recipe) = codes "Recipe `" ++ (recipe ++ codes "` cannot be run yet")
+run_text (run.NotConfirmed recipe) = codes "Recipe `" ++ (recipe ++ codes "` was not confirmed")
+run_text (run.GetConfirmation fault) = fault.message
+run_text (run.Code recipe line code print) = codes "Recipe `" ++ (recipe ++ (codes "` failed" ++ (on_line_text line ++ (codes " with exit code " ++ signed_decimal code))))
+run_text (run.GuardCode recipe line code) = codes "Recipe `" ++ (recipe ++ (codes "` failed" ++ (on_line_text line ++ (codes " with exit code " ++ signed_decimal code))))
+run_text (run.Signal recipe line ended print) = codes "Recipe `" ++ (recipe ++ (codes "` was terminated" ++ (on_line_text line ++ (codes " by signal " ++ signed_decimal ended))))
+run_text (run.Unknown recipe line print) = codes "Recipe `" ++ (recipe ++ (codes "` failed" ++ (on_line_text line ++ codes " for an unknown reason")))
+run_text (run.ShellIo recipe message) = codes "Recipe `" ++ (recipe ++ (codes "` could not be run because of an IO error while launching the shell: " ++ message))
+run_text (run.ScriptStart recipe message) = codes "Recipe `" ++ (recipe ++ (codes "` failed to start its script: " ++ message))
+run_text (run.InvalidShebang recipe shebang) = codes "Recipe `" ++ (recipe ++ (codes "` has an invalid shebang `" ++ (shebang ++ codes "`")))
+run_text (run.Interrupted ended) = codes "Interrupted by " ++ signal_text ended
+run_text (run.CommandInvoke binary arguments message) = codes "Failed to invoke `" ++ (binary ++ (spaced_text arguments ++ (codes "`: " ++ message)))
+run_text (run.CommandStatus binary arguments status) = codes "Command `" ++ (binary ++ (spaced_text arguments ++ (codes "` failed with exit code " ++ signed_decimal status)))
+run_text (run.EvalUnknownSubmodule component) = codes "Justfile does not contain submodule `" ++ (component ++ codes "`")
+run_text (run.EvalUnknownSubmoduleOrVariable component) = codes "Justfile does not contain submodule or variable `" ++ (component ++ codes "`")
+run_text (run.UnstableFeature feature) = codes "The feature `" ++ (feature ++ codes "` is unstable, and not enabled")
+run_text (run.Dotenv fault) = fault.message
+run_text (run.DatetimeFormat fault) = fault.message
+run_text (run.Evaluate fault) = fault.message
+run_text run.Write = codes "Failed to write output"

@@ -1,5 +1,5 @@
--- Parts of messages: counts of arguments, and places in a file.
-use Rattle.std.specs.Prelude.{ℕ, Bool, ◌+◌, ◌==◌, ◌&&◌, nat_le, min, List, [], ◌∷◌, ◌++◌, codes, decimal, if◌then◌else◌}
+-- Parts of messages: counts of arguments, places in a file, lines, and the arguments of a command.
+use Rattle.std.specs.Prelude.{ℕ, Option, Some, None, Bool, ◌+◌, ◌==◌, ◌&&◌, nat_le, min, List, [], ◌∷◌, ◌++◌, codes, decimal, if◌then◌else◌}
 use Rattle.std.specs.List.{flat_map}
 use Rattle.std.specs.Char.{encode_utf8}
 use Rattle.just_names.specs.Token.{Place}
@@ -41,3 +41,12 @@ listed_text (path ∷ paths) = (codes "`" ++ (path ++ codes "`")) ++ flat_map (�
 abbrev pub switch_text : Switch → List ℕ
 switch_text (Long name) = codes "--" ++ name
 switch_text (Short letter) = codes "-" ++ encode_utf8 letter
+
+-- the line where a recipe failed, counted from 1
+abbrev pub on_line_text : Option ℕ → List ℕ
+on_line_text (Some line) = codes " on line " ++ decimal line
+on_line_text None = []
+
+-- the arguments of a command, each after a space
+abbrev pub spaced_text : List (List ℕ) → List ℕ
+spaced_text arguments = flat_map (λ a. codes " " ++ a) arguments

@@ -4,8 +4,9 @@ ghost use Rattle.std.specs.Fmt.{HasWritten, IsPlainFormatter, WritesOnOk};
 ghost use Rattle.just_names.specs.Texts.{joined};
 ghost use Rattle.just_errors.specs.Messages.{load_name, kind_name, invocation_name, run_name, error_name, chain_text, circle_text, reading_text, readings_text};
 
+use crate::signal::Signal;
 use crate::switch::Switch;
-use crate::wording::{ArgumentRange, Arguments, At, Listed, noun};
+use crate::wording::{ArgumentRange, Arguments, At, Listed, OnLine, Spaced, noun};
 use just_data::{BorrowedText, Sequence, Text};
 use just_names::{Exhausted, ListFeature, Name, Namepath, Token};
 use std::alloc::{AllocError, AllocFailed};
@@ -509,7 +510,7 @@ impl<'src> std::error::Error for CompileError<'src> {}
 /// Why words are no invocations. Paths are spaced where words were, and joined by `::` where a path was given.
 #[derive(Debug, Drop, Error)]
 pub enum InvocationError<'src> {
-    /// Words name a recipe that is not there.
+    /// Words name a recipe that is not there, or a word has a colon and is no path.
     #[error("Justfile does not contain recipe `{recipe}`")]
     UnknownRecipe {
         recipe: Text,
@@ -524,13 +525,15 @@ pub enum InvocationError<'src> {
     ExpectedSubmoduleButFoundRecipe {
         path: Text,
     },
-    /// Words name a recipe that these optional modules without a file disable. Each is told by its path, as paths are shown.
+    /// Words name a recipe that these optional modules without a file disable. Each is told by its path from the module whose
+    /// recipes name it, as paths are shown there.
     #[error("Recipe `{recipe}` is disabled, since it needs modules that have no file: {}", Listed(.modules.as_slice()))]
     RecipeDisabled {
         recipe: Text,
         modules: Sequence<Text>,
     },
-    /// Words name an alias whose target these optional modules without a file disable.
+    /// Words name an alias whose target these optional modules without a file disable. Each is told by its path from the module
+    /// whose recipes name it, as paths are shown there.
     #[error("Alias `{alias}` is disabled, since its target needs modules that have no file: {}", Listed(.modules.as_slice()))]
     AliasDisabled {
         alias: Text,
@@ -541,13 +544,13 @@ pub enum InvocationError<'src> {
     ModuleAbsent {
         module: Text,
     },
-    /// There are no words, and the module has no recipes.
-    #[error("Justfile contains no recipes")]
+    /// There are no words, or they end in a module, and that module has no recipes.
+    #[error("There is no recipe to run by default")]
     NoRecipes,
-    /// There are no words, and the module's own file has no recipe.
-    #[error("Justfile contains no default recipe; name the recipe that is to run")]
+    /// There are no words, or they end in a module, and that module has recipes, none of which is its default.
+    #[error("There is no default recipe; name the recipe that is to run")]
     NoDefaultRecipe,
-    /// There are no words, and the recipe that is run then takes arguments.
+    /// There are no words, or they end in a module, and the recipe that is run then takes arguments.
     #[error("Recipe `{recipe}` cannot be used as default recipe since it requires at least {}", Arguments(*.min_arguments))]
     DefaultRecipeRequiresArguments {
         recipe: BorrowedText<'src>,
@@ -583,7 +586,7 @@ pub enum InvocationError<'src> {
         switch: Switch,
     },
     /// A parameter that needs a value is given none by its switch, the long one if it has one.
-    #[error("Recipe `{recipe}` requires option `{switch}`; give it as `{switch}=VALUE`")]
+    #[error("Recipe `{recipe}` requires option `{switch}`")]
     MissingOption {
         recipe: BorrowedText<'src>,
         switch: Switch,
@@ -650,9 +653,96 @@ impl<'src> InvocationError<'src> {
 #[derive(Debug, Drop)]
 pub enum RunError<'src> {
     /// There are several invocations where one alone is allowed.
-    ExcessInvocations { invocations: usize },
+    ExcessInvocations {
+        invocations: usize,
+    },
     /// A reachable recipe has what can't be run yet.
-    NotYet { recipe: BorrowedText<'src> },
+    NotYet {
+        recipe: BorrowedText<'src>,
+    },
+    /// A recipe asks before it runs, and the answer is no.
+    NotConfirmed {
+        recipe: BorrowedText<'src>,
+    },
+    /// The host reads no line after a prompt.
+    GetConfirmation(Fault),
+    /// A command ended with a status other than 0. Lines count from 1; a script has none.
+    Code {
+        recipe: BorrowedText<'src>,
+        line_number: Option<usize>,
+        code: i32,
+        print_message: bool,
+    },
+    /// A command with the sigil `?` ended with a status that fails its recipe.
+    GuardCode {
+        recipe: BorrowedText<'src>,
+        line_number: Option<usize>,
+        code: i32,
+    },
+    /// A signal, told by its number, ended a command.
+    Signal {
+        recipe: BorrowedText<'src>,
+        line_number: Option<usize>,
+        signal: i32,
+        print_message: bool,
+    },
+    /// A command ended without a status and without a known signal.
+    Unknown {
+        recipe: BorrowedText<'src>,
+        line_number: Option<usize>,
+        print_message: bool,
+    },
+    /// The shell of a recipe could not be started.
+    ShellIo {
+        recipe: BorrowedText<'src>,
+        message: Text,
+    },
+    /// The script of a recipe could not be started.
+    ScriptStart {
+        recipe: BorrowedText<'src>,
+        message: Text,
+    },
+    /// The first line of a script is no shebang that can be run.
+    InvalidShebang {
+        recipe: BorrowedText<'src>,
+        shebang: Text,
+    },
+    /// A signal ended the run.
+    Interrupted {
+        signal: Signal,
+    },
+    /// A command beside the recipes could not be started.
+    CommandInvoke {
+        binary: Text,
+        arguments: Sequence<Text>,
+        message: Text,
+    },
+    /// A command beside the recipes ended with a status other than 0.
+    CommandStatus {
+        binary: Text,
+        arguments: Sequence<Text>,
+        status: i32,
+    },
+    /// A path to a variable walks through a module that is not there.
+    EvalUnknownSubmodule {
+        component: Text,
+    },
+    /// A path to a variable ends in what is neither a module nor a variable.
+    EvalUnknownSubmoduleOrVariable {
+        component: Text,
+    },
+    /// A feature is used that is unstable, and not enabled.
+    UnstableFeature {
+        feature: Text,
+    },
+    /// The host has no dotenv pairs.
+    Dotenv(Fault),
+    /// The host can't write the time in a format.
+    DatetimeFormat(Fault),
+    /// The evaluator has no answer to a question.
+    Evaluate(Fault),
+    /// The output takes no more text.
+    Write,
 }
 
 impl<'src> RunError<'src> {
@@ -663,6 +753,25 @@ impl<'src> RunError<'src> {
         match self {
             RunError::ExcessInvocations { .. } => "ExcessInvocations",
             RunError::NotYet { .. } => "NotYet",
+            RunError::NotConfirmed { .. } => "NotConfirmed",
+            RunError::GetConfirmation(_) => "GetConfirmation",
+            RunError::Code { .. } => "Code",
+            RunError::GuardCode { .. } => "GuardCode",
+            RunError::Signal { .. } => "Signal",
+            RunError::Unknown { .. } => "Unknown",
+            RunError::ShellIo { .. } => "ShellIo",
+            RunError::ScriptStart { .. } => "ScriptStart",
+            RunError::InvalidShebang { .. } => "InvalidShebang",
+            RunError::Interrupted { .. } => "Interrupted",
+            RunError::CommandInvoke { .. } => "CommandInvoke",
+            RunError::CommandStatus { .. } => "CommandStatus",
+            RunError::EvalUnknownSubmodule { .. } => "EvalUnknownSubmodule",
+            RunError::EvalUnknownSubmoduleOrVariable { .. } => { "EvalUnknownSubmoduleOrVariable" }
+            RunError::UnstableFeature { .. } => "UnstableFeature",
+            RunError::Dotenv(_) => "Dotenv",
+            RunError::DatetimeFormat(_) => "DatetimeFormat",
+            RunError::Evaluate(_) => "Evaluate",
+            RunError::Write => "Write",
         }
     }
 }
@@ -682,6 +791,90 @@ impl<'src> fmt::Display for RunError<'src> {
                 )
             }
             RunError::NotYet { recipe } => { write!(f, "Recipe `{recipe}` cannot be run yet") }
+            RunError::NotConfirmed { recipe } => write!(f, "Recipe `{recipe}` was not confirmed"),
+            RunError::GetConfirmation(fault) => write!(f, "{fault}"),
+            RunError::Code {
+                recipe,
+                line_number,
+                code,
+                ..
+            } => {
+                let line = OnLine(line_number);
+                write!(f, "Recipe `{recipe}` failed{line} with exit code {code}")
+            }
+            RunError::GuardCode {
+                recipe,
+                line_number,
+                code,
+            } => {
+                let line = OnLine(line_number);
+                write!(f, "Recipe `{recipe}` failed{line} with exit code {code}")
+            }
+            RunError::Signal {
+                recipe,
+                line_number,
+                signal,
+                ..
+            } => {
+                let line = OnLine(line_number);
+                write!(
+                    f,
+                    "Recipe `{recipe}` was terminated{line} by signal {signal}"
+                )
+            }
+            RunError::Unknown {
+                recipe,
+                line_number,
+                ..
+            } => {
+                let line = OnLine(line_number);
+                write!(f, "Recipe `{recipe}` failed{line} for an unknown reason")
+            }
+            RunError::ShellIo { recipe, message } => {
+                write!(
+                    f,
+                    "Recipe `{recipe}` could not be run because of an IO error while launching the shell: {message}"
+                )
+            }
+            RunError::ScriptStart { recipe, message } => {
+                write!(f, "Recipe `{recipe}` failed to start its script: {message}")
+            }
+            RunError::InvalidShebang { recipe, shebang } => {
+                write!(f, "Recipe `{recipe}` has an invalid shebang `{shebang}`")
+            }
+            RunError::Interrupted { signal } => write!(f, "Interrupted by {signal}"),
+            RunError::CommandInvoke {
+                binary,
+                arguments,
+                message,
+            } => {
+                let rest = Spaced(arguments.as_slice());
+                write!(f, "Failed to invoke `{binary}{rest}`: {message}")
+            }
+            RunError::CommandStatus {
+                binary,
+                arguments,
+                status,
+            } => {
+                let rest = Spaced(arguments.as_slice());
+                write!(f, "Command `{binary}{rest}` failed with exit code {status}")
+            }
+            RunError::EvalUnknownSubmodule { component } => {
+                write!(f, "Justfile does not contain submodule `{component}`")
+            }
+            RunError::EvalUnknownSubmoduleOrVariable { component } => {
+                write!(
+                    f,
+                    "Justfile does not contain submodule or variable `{component}`"
+                )
+            }
+            RunError::UnstableFeature { feature } => {
+                write!(f, "The feature `{feature}` is unstable, and not enabled")
+            }
+            RunError::Dotenv(fault) => write!(f, "{fault}"),
+            RunError::DatetimeFormat(fault) => write!(f, "{fault}"),
+            RunError::Evaluate(fault) => write!(f, "{fault}"),
+            RunError::Write => f.write_str("Failed to write output"),
         }
     }
 }

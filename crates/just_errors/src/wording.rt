@@ -1,4 +1,4 @@
-//! Parts of messages: a place in a file, a count of arguments, and a list of paths.
+//! Parts of messages: a place in a file, a count of arguments, a list of paths, a line, and the arguments of a command.
 ghost use Rattle.std.specs.Prelude.{◌≡◌};
 ghost use Rattle.just_errors.specs.Wording.{noun_text, takes};
 
@@ -111,6 +111,43 @@ impl<'a> fmt::Display for Listed<'a> {
         write!(f, "`{first}`")?;
         for path in rest {
             write!(f, ", `{path}`")?;
+        }
+        Ok(())
+    }
+}
+
+/// The line where a recipe failed, as ` on line 3`. It counts from 1; of none nothing is shown.
+#[derive(Drop)]
+pub(crate) struct OnLine<'a>(pub &'a Option<usize>);
+
+impl<'a> fmt::Display for OnLine<'a> {
+    ghost use Rattle.std.specs.Prelude.{Some};
+    ghost use Rattle.just_errors.specs.Wording.{on_line_text};
+
+    ghost output = { λ on. Some (on_line_text on.0.now) };
+
+    fn fmt<W: fmt::Write>(&self, f: &mut fmt::Formatter<W>) -> fmt::Result {
+        match self.0 {
+            Some(line) => write!(f, " on line {line}"),
+            None => Ok(()),
+        }
+    }
+}
+
+/// The arguments of a command, each after a space.
+#[derive(Drop)]
+pub(crate) struct Spaced<'a>(pub &'a [Text]);
+
+impl<'a> fmt::Display for Spaced<'a> {
+    ghost use Rattle.std.specs.Prelude.{Some};
+    ghost use Rattle.just_errors.specs.Wording.{spaced_text};
+
+    ghost output = { λ spaced. Some (spaced_text spaced.0.now) };
+
+    fn fmt<W: fmt::Write>(&self, f: &mut fmt::Formatter<W>) -> fmt::Result {
+        let rest = self.0;
+        for argument in rest {
+            write!(f, " {argument}")?;
         }
         Ok(())
     }

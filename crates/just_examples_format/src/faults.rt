@@ -177,11 +177,98 @@ fn add_invocation(text: &mut String, error: &InvocationError) -> Result<(), Allo
     }
 }
 
+// Adds the line where a recipe failed, if there is one.
+fn add_line(text: &mut String, line_number: &Option<usize>) -> Result<(), AllocError> {
+    match line_number {
+        Some(line) => write!(text, ", line {line}"),
+        None => Ok(()),
+    }
+}
+
 // Adds the fields of a fault of a run.
 fn add_run(text: &mut String, error: &RunError) -> Result<(), AllocError> {
     match error {
         RunError::ExcessInvocations { invocations } => write!(text, ": {invocations}"),
-        RunError::NotYet { recipe } => write!(text, ": recipe {recipe}"),
+        RunError::NotYet { recipe } | RunError::NotConfirmed { recipe } => {
+            write!(text, ": recipe {recipe}")
+        }
+        RunError::Code {
+            recipe,
+            line_number,
+            code,
+            print_message,
+        } => {
+            write!(text, ": recipe {recipe}")?;
+            add_line(text, line_number)?;
+            write!(text, ", code {code}, message {print_message}")
+        }
+        RunError::GuardCode {
+            recipe,
+            line_number,
+            code,
+        } => {
+            write!(text, ": recipe {recipe}")?;
+            add_line(text, line_number)?;
+            write!(text, ", code {code}")
+        }
+        RunError::Signal {
+            recipe,
+            line_number,
+            signal,
+            print_message,
+        } => {
+            write!(text, ": recipe {recipe}")?;
+            add_line(text, line_number)?;
+            write!(text, ", signal {signal}, message {print_message}")
+        }
+        RunError::Unknown {
+            recipe,
+            line_number,
+            print_message,
+        } => {
+            write!(text, ": recipe {recipe}")?;
+            add_line(text, line_number)?;
+            write!(text, ", message {print_message}")
+        }
+        RunError::ShellIo { recipe, message } | RunError::ScriptStart { recipe, message } => {
+            write!(text, ": recipe {recipe}, {message}")
+        }
+        RunError::InvalidShebang { recipe, shebang } => {
+            write!(text, ": recipe {recipe}, shebang {shebang}")
+        }
+        RunError::Interrupted { signal } => write!(text, ": {signal}"),
+        RunError::CommandInvoke {
+            binary,
+            arguments,
+            message,
+        } => {
+            write!(text, ": binary {binary}, arguments")?;
+            for argument in arguments.as_slice() {
+                write!(text, " {argument}")?;
+            }
+            write!(text, ", {message}")
+        }
+        RunError::CommandStatus {
+            binary,
+            arguments,
+            status,
+        } => {
+            write!(text, ": binary {binary}, arguments")?;
+            for argument in arguments.as_slice() {
+                write!(text, " {argument}")?;
+            }
+            write!(text, ", status {status}")
+        }
+        RunError::EvalUnknownSubmodule { component }
+        | RunError::EvalUnknownSubmoduleOrVariable { component } => {
+            write!(text, ": {component}")
+        }
+        RunError::UnstableFeature { feature } => write!(text, ": {feature}"),
+        RunError::GetConfirmation(fault)
+        | RunError::Dotenv(fault)
+        | RunError::DatetimeFormat(fault)
+        | RunError::Evaluate(fault) => write!(text, ": {fault}"),
+        RunError::Write => Ok(()),
     }
 }
 

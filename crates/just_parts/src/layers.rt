@@ -20,12 +20,12 @@ pub use just_ast_definitions::{
 };
 pub use just_ast_expressions::{
     Binding, ConditionalOperator, Expression, Interpreter, Keyword, ListUse, Scope, Settings,
-    Shape, Sigil, Signal, StringLiteral, UnstableFeature, Warning,
+    Shape, Sigil, StringLiteral, UnstableFeature, Warning,
 };
 pub use just_ast_items::Edge;
 pub use just_errors::{
     ArgumentRange, CompileError, CompileErrorKind, Error, Fault, Halt, InvocationError, LoadError,
-    RunError, SourceError, Switch, error,
+    Refusal, RunError, Signal, SourceError, Switch, error,
 };
 pub use just_names::{Exhausted, ListFeature, Name, Namepath, Number, Numerator, Token};
 pub use just_patterns::Pattern;
