@@ -1,6 +1,6 @@
 //! Why the program ends early.
 use crate::bundle::BundleError;
-use just_parts::layers::{CompileErrorKind, Error};
+use just_parts::layers::Error;
 use std::fmt;
 
 /// Why the program ends early, when it was used well.
@@ -32,17 +32,6 @@ impl<'src> ProgramError<'src> {
     }
 }
 
-// Writes an error of the analyzer. Of a line that does not follow the grammar it shows the line.
-fn write_error<W: fmt::Write>(f: &mut fmt::Formatter<W>, error: &Error) -> fmt::Result {
-    write!(f, "{error}")?;
-    match error {
-        Error::Compile(error) if error.kind == CompileErrorKind::Syntax => {
-            write!(f, ": `{}`", error.token.lexeme())
-        }
-        _ => Ok(()),
-    }
-}
-
 impl<'src> fmt::Display for ProgramError<'src> {
     fn fmt<W: fmt::Write>(&self, f: &mut fmt::Formatter<W>) -> fmt::Result {
         match self {
@@ -53,7 +42,7 @@ impl<'src> fmt::Display for ProgramError<'src> {
                 )
             }
             ProgramError::Bundle(error) => write!(f, "{error}"),
-            ProgramError::Analyzer(error) => write_error(f, error),
+            ProgramError::Analyzer(error) => write!(f, "{error}"),
             ProgramError::Write => f.write_str("The output could not be written"),
             ProgramError::Memory => f.write_str("Out of memory"),
         }

@@ -1,8 +1,9 @@
 -- The names of errors, and what they say.
-use Rattle.std.specs.Prelude.{ℕ, ◌==◌, false, List, length, ◌++◌, codes, decimal, if◌then◌else◌}
+use Rattle.std.specs.Prelude.{ℕ, ◌==◌, false, List, [], ◌∷◌, length, ◌++◌, codes, decimal, if◌then◌else◌}
 use Rattle.just_names.specs.ListFeature.{feature_text}
 use Rattle.just_names.specs.Texts.{joined, text_of}
 use Rattle.just_names.specs.Name.{texts_of_path}
+use Rattle.just_names.specs.Token.{Place, lexeme}
 use Rattle.just_errors.specs.Wording.{arguments_text, takes_text, place_text, at_text, on_line_text, spaced_text}
 use Rattle.std.specs.Fmt.{signed_decimal}
 use Rattle.just_names.specs.declared.name.Namepath.{Namepath}
@@ -174,9 +175,43 @@ kind_text kind.MappedDependencyWithoutListsSetting = codes "A dependency with a 
 kind_text (kind.UnknownAliasTarget alias target) = codes "Alias `" ++ (alias ++ (codes "` has unknown target `" ++ (path_text target ++ codes "`")))
 kind_text (kind.DuplicateDefault recipe) = codes "Recipe `" ++ (recipe ++ codes "` has attribute `default`, as another recipe of its module has")
 
--- the same, after the place where it is told
+-- what stood where reading stopped
+abbrev pub lexeme_text : List ℕ → List ℕ
+lexeme_text [] = []
+lexeme_text (byte ∷ bytes) = codes ", at `" ++ ((byte ∷ bytes) ++ codes "`")
+
+-- what is said after the rule: of a text that does not follow the grammar, what stands at the token
+abbrev pub stop_text : CompileErrorKind → Place → List ℕ
+stop_text kind.Syntax token = lexeme_text (lexeme token)
+stop_text (kind.Evaluate fault) token = []
+stop_text (kind.DuplicateParameter recipe parameter) token = []
+stop_text (kind.RequiredParameterFollowsDefaultParameter parameter) token = []
+stop_text (kind.DuplicateSet setting first) token = []
+stop_text (kind.IncompatibleSettings first first_line second) token = []
+stop_text (kind.DuplicateUnexport variable) token = []
+stop_text (kind.DuplicateVariable variable) token = []
+stop_text (kind.ExportUnexported variable) token = []
+stop_text (kind.DuplicateFunctionParameter function parameter) token = []
+stop_text (kind.UndefinedFunction function) token = []
+stop_text (kind.FunctionArgumentCountMismatch function arguments expected) token = []
+stop_text (kind.UndefinedVariable variable) token = []
+stop_text (kind.CircularVariableDependency variable circle) token = []
+stop_text (kind.ListFeature feature) token = []
+stop_text (kind.Redefinition first_type second_type name first) token = []
+stop_text kind.GuardAndInfallibleSigil token = []
+stop_text kind.ExtraLeadingWhitespace token = []
+stop_text (kind.InvalidShellRecipeAttribute recipe attribute) token = []
+stop_text (kind.UnknownDependency recipe unknown) token = []
+stop_text (kind.CircularRecipeDependency recipe circle) token = []
+stop_text kind.ArgumentPatternRegex token = []
+stop_text (kind.DependencyArgumentCountMismatch dependency found least most) token = []
+stop_text kind.MappedDependencyWithoutListsSetting token = []
+stop_text (kind.UnknownAliasTarget alias target) token = []
+stop_text (kind.DuplicateDefault recipe) token = []
+
+-- what a broken rule says, after the place where it is told
 abbrev pub compile_text : CompileError → List ℕ
-compile_text e = at_text e.token ++ (codes ": " ++ kind_text e.kind)
+compile_text e = at_text e.token ++ (codes ": " ++ (kind_text e.kind ++ stop_text e.kind e.token))
 
 abbrev pub signal_text : Signal → List ℕ
 signal_text signal.Hangup = codes "SIGHUP"

@@ -2,7 +2,7 @@
 ghost use Rattle.std.specs.Prelude.{◌≡◌, OnOk, codes};
 ghost use Rattle.std.specs.Fmt.{HasWritten, IsPlainFormatter, WritesOnOk};
 ghost use Rattle.just_names.specs.Texts.{joined};
-ghost use Rattle.just_errors.specs.Messages.{load_name, kind_name, invocation_name, run_name, error_name, chain_text, circle_text, reading_text, readings_text};
+ghost use Rattle.just_errors.specs.Messages.{load_name, kind_name, invocation_name, run_name, error_name, chain_text, circle_text, reading_text, readings_text, lexeme_text};
 
 use crate::signal::Signal;
 use crate::switch::Switch;
@@ -483,6 +483,17 @@ impl<'src> fmt::Display for CompileErrorKind<'src> {
     }
 }
 
+// Writes what stands where reading stopped, if anything does.
+fn write_stop<W: fmt::Write>(f: &mut fmt::Formatter<W>, lexeme: &str) -> fmt::Result
+    ensures { WritesOnOk W.write_str_gives f.old result (lexeme_text lexeme.now) f.new }
+{
+    if lexeme.is_empty() {
+        Ok(())
+    } else {
+        write!(f, ", at `{lexeme}`")
+    }
+}
+
 /// A broken rule of compilation, and the token at which it is told.
 #[derive(Debug, PartialEq, Eq, Drop)]
 pub struct CompileError<'src> {
@@ -490,6 +501,24 @@ pub struct CompileError<'src> {
     pub token: Token<'src>,
     /// Which rule is broken.
     pub kind: CompileErrorKind<'src>,
+}
+
+// What is said after the rule: of a text that does not follow the grammar, what stands where reading it stopped.
+#[derive(Drop)]
+struct Stop<'a, 'src>(&'a CompileError<'src>);
+
+impl<'a, 'src> fmt::Display for Stop<'a, 'src> {
+    ghost use Rattle.std.specs.Prelude.{Some};
+    ghost use Rattle.just_errors.specs.Messages.{stop_text};
+
+    ghost output = { λ stop. Some (stop_text stop.0.now.kind stop.0.now.token) };
+
+    fn fmt<W: fmt::Write>(&self, f: &mut fmt::Formatter<W>) -> fmt::Result {
+        match &self.0.kind {
+            CompileErrorKind::Syntax => write_stop(f, self.0.token.lexeme()),
+            _ => Ok(()),
+        }
+    }
 }
 
 impl<'src> fmt::Display for CompileError<'src> {
@@ -501,7 +530,8 @@ impl<'src> fmt::Display for CompileError<'src> {
     fn fmt<W: fmt::Write>(&self, f: &mut fmt::Formatter<W>) -> fmt::Result {
         let at = At(&self.token);
         let kind = &self.kind;
-        write!(f, "{at}: {kind}")
+        let stop = Stop(self);
+        write!(f, "{at}: {kind}{stop}")
     }
 }
 
@@ -525,15 +555,15 @@ pub enum InvocationError<'src> {
     ExpectedSubmoduleButFoundRecipe {
         path: Text,
     },
-    /// Words name a recipe that these optional modules without a file disable. Each is told by its path from the module whose
-    /// recipes name it, as paths are shown there.
+    /// Words name a recipe that these optional modules without a file disable. Each is told by its path from the module
+    /// whose recipes name it, as paths are shown there.
     #[error("Recipe `{recipe}` is disabled, since it needs modules that have no file: {}", Listed(.modules.as_slice()))]
     RecipeDisabled {
         recipe: Text,
         modules: Sequence<Text>,
     },
-    /// Words name an alias whose target these optional modules without a file disable. Each is told by its path from the module
-    /// whose recipes name it, as paths are shown there.
+    /// Words name an alias whose target these optional modules without a file disable. Each is told by its path from the
+    /// module whose recipes name it, as paths are shown there.
     #[error("Alias `{alias}` is disabled, since its target needs modules that have no file: {}", Listed(.modules.as_slice()))]
     AliasDisabled {
         alias: Text,
@@ -649,7 +679,7 @@ impl<'src> InvocationError<'src> {
     }
 }
 
-/// Why a run ended early.
+/// Why a run ended early. A line counts from 1, and a script has none; `print_message` holds where the fault is to be shown.
 #[derive(Debug, Drop)]
 pub enum RunError<'src> {
     /// There are several invocations where one alone is allowed.
@@ -666,7 +696,7 @@ pub enum RunError<'src> {
     },
     /// The host reads no line after a prompt.
     GetConfirmation(Fault),
-    /// A command ended with a status other than 0. Lines count from 1; a script has none.
+    /// A command ended with a status other than 0.
     Code {
         recipe: BorrowedText<'src>,
         line_number: Option<usize>,
@@ -702,7 +732,7 @@ pub enum RunError<'src> {
         recipe: BorrowedText<'src>,
         message: Text,
     },
-    /// The first line of a script is no shebang that can be run.
+    /// The shebang line of a script names nothing that can run it.
     InvalidShebang {
         recipe: BorrowedText<'src>,
         shebang: Text,
