@@ -42,7 +42,32 @@ fn add_missing(found: &mut String, answer: &str, line: &str) -> Result<(), Alloc
     writeln!(found, "  wanted: {line}\n  found:  {other}")
 }
 
-/// Adds which of the wanted lines an answer lacks, and its fault where none is wanted.
+// Whether a line is told under a number, as an item of a text is.
+fn is_numbered(line: &str) -> bool {
+    line.starts_with(|c: char| c.is_ascii_digit())
+}
+
+// Adds which numbered lines an answer has beyond those that are wanted, where some are: they are wanted all or none.
+fn add_surplus(
+    found: &mut String,
+    alloc: Global,
+    answer: &str,
+    wanted: &str,
+) -> Result<(), AllocError> {
+    if !wanted.split('\n').any(is_numbered) {
+        return Ok(());
+    }
+    let wanted = meant(alloc, wanted)?;
+    for line in answer.split('\n') {
+        if is_numbered(line) && !has_line(wanted.as_str(), line) {
+            writeln!(found, "  more:   {line}")?;
+        }
+    }
+    Ok(())
+}
+
+/// Adds which of the wanted lines an answer lacks, which numbered lines it has beyond those, where some are wanted, and its
+/// fault where none is wanted.
 pub fn add_differences(
     found: &mut String,
     alloc: Global,
@@ -63,6 +88,7 @@ pub fn add_differences(
     if asks == 0 {
         found.push_str("  nothing is wanted\n")?;
     }
+    add_surplus(found, alloc, answer, wanted)?;
     match line_of(answer, "error") {
         Some(error) if line_of(wanted, "error").is_none() => writeln!(found, "  found:  {error}"),
         _ => Ok(()),
