@@ -13,25 +13,28 @@ use Rattle.just_run_layers.specs.declared.host.Entry.{Entry}
 use Rattle.just_run_layers.specs.declared.host.Entry.TheVariants.{Begin}
 use Rattle.just_recipe.specs.declared.recipe.Recipe.{Recipe}
 use Rattle.just_run_layers.specs.Host.{Answer, Executed, executed}
+use Rattle.just_run_layers.specs.declared.held.Held.{Held}
 use Rattle.just_run_layers.specs.Steps.{Kept, executed_in, Question, Steps, Give, and_then, Took}
-use Rattle.just_run_layers.proofs.StepLemmas.{took-split}
+use Rattle.just_run_layers.proofs.StepLemmas.{took-gives, took-split}
 use Rattle.just_execution.specs.declared.pair.Pair.{Pair}
 use Rattle.just_execution.specs.Account.{Asked, OnceTables, Empty, Asks, Runs, own, executions, AreIn, AreNamed, Complete, counts, HasAccount, Tells, of_recipe, at_path}
 use Rattle.just_execution.specs.Firsts.{has}
-use Rattle.just_execution.specs.Leaves.{begin_steps, recipe_steps, leaves_of}
+use Rattle.just_execution.specs.Leaves.{ask_steps, begin_steps, hold_steps, prepare_steps, recipe_steps, leaves_of}
 use Rattle.just_execution.specs.declared.task.Task.{Task}
 use Rattle.just_execution.specs.Pairs.{OnceTable, same_pair, task_of, prior_dependencies, subsequent_dependencies, AllBelow}
 use Rattle.just_recipes.specs.Places.{place_of}
 use Rattle.just_recipe.specs.Recipes.{IsOrdered}
-use Rattle.just_execution.specs.Walking.{Leaves, State, counted, all_steps, opened, fresh_steps, block_steps, ran, ran_steps, visit_steps, walk_steps}
+use Rattle.just_execution.specs.Scene.{ModuleContents, Scene}
+use Rattle.just_execution.specs.Walking.{Leaves, Prepared, State, counted, all_steps, opened, fresh_steps, block_steps, ran, ran_steps, visit_steps, walk_steps}
 use Rattle.just_execution.proofs.Joined.{with_priors, asks, join, still-new, add-zero, none-in, none-below}
+use Rattle.just_execution.proofs.Leaves.{ask-priors}
 use Rattle.just_execution.proofs.Places.{priors-before, subsequents-before, All-unmap}
 use Rattle.just_execution.proofs.Standing.{Stands, Walked, Accounts, IsFresh, Blocks, ok-is, ok-not, err-is, memory-not, gained-none, gave, broke, stands-then, stands-low, accounts-then, accounts-broke, count-split, full-here, stands-asked, stands-opened, fresh-of, fresh-broke, block-broke, block-none, block-ran, ask-broke, priors-broke, visit-broke, visit-ran}
 
--- what steps for tasks keep: nothing is executed, and they come to what is named
-pub record GivesNamed (recipes : List (Recipe Dependency)) (dependencies : List Dependency) (old new : Kept) (r : Result (List Task) Halt) : Type 0 where
+-- what steps for tasks keep: nothing is executed, and the tasks that they come to are what is named
+pub record GivesNamed {A : Type 0} (tasks : A → List Task) (recipes : List (Recipe Dependency)) (dependencies : List Dependency) (old new : Kept) (r : Result A Halt) : Type 0 where
   pub still : executed_in new ≡ executed_in old
-  pub named : (ts : List Task) → r ≡ Ok ts → AreNamed recipes dependencies ts
+  pub named : (x : A) → r ≡ Ok x → AreNamed recipes dependencies (tasks x)
   pub unfull : r ≡ Err Exhausted → ⊥
 
 -- what the steps of a body keep: the task is executed, or they failed
@@ -40,11 +43,17 @@ pub record GivesExecuted (recipes : List (Recipe Dependency)) (t : Task) (old ne
   pub broken : (e : Halt) → r ≡ Err e → (executed_in new ≡ executed_in old ++ executions recipes (t ∷ [])) ⊎ (executed_in new ≡ executed_in old)
   pub unfull : r ≡ Err Exhausted → ⊥
 
+abbrev pub priors_of : Prepared → List Task
+priors_of a = a.priors
+
+abbrev pub themselves : List Task → List Task
+themselves ts = ts
+
 -- what is asked of one task keeps these, under the promises p
 pub record AreAccounted (recipes : List (Recipe Dependency)) (leaves : Leaves) (p : Question → Option Answer) : Type 0 where
-  pub ask : (t : Task) (old new : Kept) (r : Result (List Task) Halt) → Took p (leaves.ask t) old new r → GivesNamed recipes (prior_dependencies recipes t.pair.recipe) old new r
-  pub follow : (t : Task) (old new : Kept) (r : Result (List Task) Halt) → Took p (leaves.follow t) old new r → GivesNamed recipes (subsequent_dependencies recipes t.pair.recipe) old new r
-  pub execute : (t : Task) (old new : Kept) (r : Result (Unit {0}) Halt) → Took p (leaves.execute t) old new r → GivesExecuted recipes t old new r
+  pub ask : (t : Task) (old new : Kept) (r : Result Prepared Halt) → Took p (leaves.ask t) old new r → GivesNamed priors_of recipes (prior_dependencies recipes t.pair.recipe) old new r
+  pub follow : (t : Task) (h : Held) (old new : Kept) (r : Result (List Task) Halt) → Took p (leaves.follow t h) old new r → GivesNamed themselves recipes (subsequent_dependencies recipes t.pair.recipe) old new r
+  pub execute : (t : Task) (h : Held) (old new : Kept) (r : Result (Unit {0}) Halt) → Took p (leaves.execute t h) old new r → GivesExecuted recipes t old new r
 
 -- tasks that are named stand where what they are named by stands
 named-below : (recipes : List (Recipe Dependency)) (k : ℕ) (ds : List Dependency) (ts : List Task) → AllBelow k (map (task_of recipes) ds) → AreNamed recipes ds ts → AllBelow k ts
@@ -124,27 +133,27 @@ module _ (recipes : List (Recipe Dependency)) (leaves : Leaves) (p : Question �
 
   -- the body of a task, and its subsequents
   block-at : (n : ℕ) → WalkAt n →
-      (tops : List Task) (before : List Asked) (done : List Pair) (t : Task) (ps : List Task) (calls : List ℕ) (old new : Kept) (r : Result (List ℕ) Halt) → t.pair.recipe ≤ n →
+      (tops : List Task) (before : List Asked) (done : List Pair) (t : Task) (h : Held) (ps : List Task) (calls : List ℕ) (old new : Kept) (r : Result (List ℕ) Halt) → t.pair.recipe ≤ n →
       In (with_priors t ps) before → has same_pair done t.pair ≡ false → AreIn done ps →
-      Took p (block_steps leaves (walk_steps leaves n) t calls) old new r → (u : OnceTables) × Blocks recipes tops before done t ps calls old new r u
-  block-at n walk tops before done t ps calls old new r l i m d took =
-      elim (took-split p (leaves.execute t) (λ _. and_then (leaves.follow t) (λ ts. fresh_steps (walk_steps leaves n) ts calls)) old new r took) [
+      Took p (block_steps leaves (walk_steps leaves n) t h calls) old new r → (u : OnceTables) × Blocks recipes tops before done t ps calls old new r u
+  block-at n walk tops before done t held ps calls old new r l i m d took =
+      elim (took-split p (leaves.execute t held) (λ _. and_then (leaves.follow t held) (λ ts. fresh_steps (walk_steps leaves n) ts calls)) old new r took) [
         | inl (x, mid, gives, first, later) ↦
-            let g : executed_in mid ≡ executed_in old ++ executions recipes (t ∷ []) = (leaf.execute t old mid (Ok x) first).whole x refl in
-            elim (took-split p (leaves.follow t) (λ ts. fresh_steps (walk_steps leaves n) ts calls) mid new r later) [
+            let g : executed_in mid ≡ executed_in old ++ executions recipes (t ∷ []) = (leaf.execute t held old mid (Ok x) first).whole x refl in
+            elim (took-split p (leaves.follow t held) (λ ts. fresh_steps (walk_steps leaves n) ts calls) mid new r later) [
               | inl (ss, next, given, second, last) ↦
-                  let f : GivesNamed recipes (subsequent_dependencies recipes t.pair.recipe) mid next (Ok ss) = leaf.follow t mid next (Ok ss) second in
+                  let f : GivesNamed themselves recipes (subsequent_dependencies recipes t.pair.recipe) mid next (Ok ss) = leaf.follow t held mid next (Ok ss) second in
                   let named : AreNamed recipes (subsequent_dependencies recipes t.pair.recipe) ss = f.named ss refl in
                   let low : AllBelow t.pair.recipe ss = named-below recipes t.pair.recipe (subsequent_dependencies recipes t.pair.recipe) ss (subsequents-before recipes t.pair ordered) named in
                   let inside : AllBelow n ss = All-weaker (λ (q : Task). q.pair.recipe < t.pair.recipe) (λ (q : Task). q.pair.recipe < n) (λ q h. omega arith) ss low in
                   let (v, c) = fresh-at n walk ss calls next new r inside last in
                   (Runs t ps ss v Empty, block-ran recipes tops before done t ps ss calls old next new r v i m d named (f.still ∙ g) c)
               | inr (e, h, second) ↦
-                  let f : GivesNamed recipes (subsequent_dependencies recipes t.pair.recipe) mid new (Err e) = leaf.follow t mid new (Err e) second in
+                  let f : GivesNamed themselves recipes (subsequent_dependencies recipes t.pair.recipe) mid new (Err e) = leaf.follow t held mid new (Err e) second in
                   (Runs t ps [] Empty Empty, block-broke recipes tops before done t ps calls old new r e i m d h (λ k. f.unfull (ap (λ x. Err x) k)) (f.still ∙ g))
             ]
         | inr (e, h, first) ↦
-            let f : GivesExecuted recipes t old new (Err e) = leaf.execute t old new (Err e) first in
+            let f : GivesExecuted recipes t old new (Err e) = leaf.execute t held old new (Err e) first in
             elim (f.broken e refl) [
               | inl g ↦ (Runs t ps [] Empty Empty, block-broke recipes tops before done t ps calls old new r e i m d h (λ k. f.unfull (ap (λ x. Err x) k)) g)
               | inr g ↦ (Empty, block-none recipes tops before done t ps calls old new r e h (λ k. f.unfull (ap (λ x. Err x) k)) g)
@@ -153,35 +162,36 @@ module _ (recipes : List (Recipe Dependency)) (leaves : Leaves) (p : Question �
 
   -- the visit of a task whose pair did not run
   abbrev asking : ℕ → State → Task → Steps State
-  asking n s t = and_then (leaves.ask t) (λ ps. and_then (all_steps (walk_steps leaves n) (counted s) ps) (ran_steps leaves (walk_steps leaves n) t))
+  asking n s t = and_then (leaves.ask t) (λ a. and_then (all_steps (walk_steps leaves n) (counted s) a.priors) (ran_steps leaves (walk_steps leaves n) t a.held))
 
   visit-at : (n : ℕ) → WalkAt n → (tops : List Task) (before : List Asked) (done : List Pair) (s : State) (t : Task) (old new : Kept) (r : Result State Halt) → t.pair.recipe ≤ n →
       Stands tops before done (suc t.pair.recipe) s (t ∷ []) → has same_pair done t.pair ≡ false →
       Took p (asking n s t) old new r →
       (u : OnceTables) × Accounts recipes tops before done (suc t.pair.recipe) s (t ∷ []) old new r u
   visit-at n walk tops before done s t old new r l a m took =
-      elim (took-split p (leaves.ask t) (λ ps. and_then (all_steps (walk_steps leaves n) (counted s) ps) (ran_steps leaves (walk_steps leaves n) t)) old new r took) [
-        | inl (ps, mid, gives, first, later) ↦
-            let f : GivesNamed recipes (prior_dependencies recipes t.pair.recipe) old mid (Ok ps) = leaf.ask t old mid (Ok ps) first in
-            let named : AreNamed recipes (prior_dependencies recipes t.pair.recipe) ps = f.named ps refl in
+      elim (took-split p (leaves.ask t) (λ a. and_then (all_steps (walk_steps leaves n) (counted s) a.priors) (ran_steps leaves (walk_steps leaves n) t a.held)) old new r took) [
+        | inl (x, mid, gives, first, later) ↦
+            let ps : List Task = x.priors in
+            let f : GivesNamed priors_of recipes (prior_dependencies recipes t.pair.recipe) old mid (Ok x) = leaf.ask t old mid (Ok x) first in
+            let named : AreNamed recipes (prior_dependencies recipes t.pair.recipe) ps = f.named x refl in
             let low : AllBelow t.pair.recipe ps = named-below recipes t.pair.recipe (prior_dependencies recipes t.pair.recipe) ps (priors-before recipes t.pair ordered) named in
             let stands : Stands tops (before ++ with_priors t ps ∷ []) done t.pair.recipe (counted s) ps = stands-asked tops before done s t ps a in
-            elim (took-split p (all_steps (walk_steps leaves n) (counted s) ps) (ran_steps leaves (walk_steps leaves n) t) mid new r later) [
+            elim (took-split p (all_steps (walk_steps leaves n) (counted s) ps) (ran_steps leaves (walk_steps leaves n) t x.held) mid new r later) [
               | inl (now, next, given, second, last) ↦
                   let (u, c) = all-at n walk tops ps (before ++ with_priors t ps ∷ []) done t.pair.recipe (counted s) mid next (Ok now) l low stands second in
                   let w : Walked recipes done ps (counted s) now u = c.whole now refl in
                   let member : In (with_priors t ps) ((before ++ with_priors t ps ∷ []) ++ asks u) =
                   in_left (with_priors t ps) (before ++ with_priors t ps ∷ []) (asks u) (in_right (with_priors t ps) before (with_priors t ps ∷ []) (inl refl)) in
                   let unbegun : has same_pair (done ++ own u) t.pair ≡ false = still-new done (own u) t.pair m c.low in
-                  elim (took-split p (block_steps leaves (walk_steps leaves n) t now.calls) (λ calls. Give (ran now t calls)) next new r last) [
+                  elim (took-split p (block_steps leaves (walk_steps leaves n) t x.held now.calls) (λ calls. Give (ran now t calls)) next new r last) [
                     | inl (calls, end, gave_it, third, rest) ↦
-                        let (v, b) = block-at n walk tops ((before ++ with_priors t ps ∷ []) ++ asks u) (done ++ own u) t ps now.calls next end (Ok calls) l member unbegun w.all_done third in (
+                        let (v, b) = block-at n walk tops ((before ++ with_priors t ps ∷ []) ++ asks u) (done ++ own u) t x.held ps now.calls next end (Ok calls) l member unbegun w.all_done third in (
                           Asks (with_priors t ps) (join u v),
                           subst (λ es. Accounts recipes tops before done (suc t.pair.recipe) s (t ∷ []) old es r (Asks (with_priors t ps) (join u v))) (sym rest.0)
                               (visit-ran recipes tops before done s now t ps calls old mid next end r u v a m named f.still c b rest.1),
                         )
                     | inr (e, h, third) ↦
-                        let (v, b) = block-at n walk tops ((before ++ with_priors t ps ∷ []) ++ asks u) (done ++ own u) t ps now.calls next new (Err e) l member unbegun w.all_done third in
+                        let (v, b) = block-at n walk tops ((before ++ with_priors t ps ∷ []) ++ asks u) (done ++ own u) t x.held ps now.calls next new (Err e) l member unbegun w.all_done third in
                         (Asks (with_priors t ps) (join u v), visit-broke recipes tops before done s now t ps now.calls old mid next new r e u v a m named f.still h c b)
                   ]
               | inr (e, h, second) ↦
@@ -189,7 +199,7 @@ module _ (recipes : List (Recipe Dependency)) (leaves : Leaves) (p : Question �
                   (Asks (with_priors t ps) u, priors-broke recipes tops before done s t ps old mid new r e u a m named f.still h c)
             ]
         | inr (e, h, first) ↦
-            let f : GivesNamed recipes (prior_dependencies recipes t.pair.recipe) old new (Err e) = leaf.ask t old new (Err e) first in
+            let f : GivesNamed priors_of recipes (prior_dependencies recipes t.pair.recipe) old new (Err e) = leaf.ask t old new (Err e) first in
             (Asks (with_priors t []) Empty, ask-broke recipes tops before done s t old new r e a m h (λ k. f.unfull (ap (λ x. Err x) k)) f.still)
       ]
 
@@ -236,7 +246,7 @@ module _ (recipes : List (Recipe Dependency)) (leaves : Leaves) (p : Question �
       let (u, a) = fresh-at n (walk-at n) tops [] old new r b took in
       (u, record { gained = a.gained; fits = a.fits }, tells-of recipes tops old new r u a)
 
--- the leaves of recipes: nothing is asked before the priors and the subsequents
+-- the leaves of a scene: nothing is asked before the priors and the subsequents
 named-all : (recipes : List (Recipe Dependency)) (ds : List Dependency) → AreNamed recipes ds (map (task_of recipes) ds)
 named-all recipes ds = record {
   places = places ds;
@@ -246,18 +256,45 @@ named-all recipes ds = record {
   places [] = refl
   places (x ∷ xs) = ap (λ ns. place_of recipes x.recipe.0 ∷ ns) (places xs)
 
-gives-named : (recipes : List (Recipe Dependency)) (p : Question → Option Answer) (ds : List Dependency) (old new : Kept) (r : Result (List Task) Halt) →
-    Took p (Give (map (task_of recipes) ds)) old new r → GivesNamed recipes ds old new r
-gives-named recipes p ds old new r t = record {
+-- steps that end without a question keep what was kept, and no number is refused
+abbrev IsStill : {A : Type 0} → Kept → Kept → Result A Halt → Type 0
+IsStill old new r = (new ≡ old) × (r ≡ Err Exhausted → ⊥)
+
+given-still : {A : Type 0} (p : Question → Option Answer) (x : A) (old new : Kept) (r : Result A Halt) → Took p (Give x) old new r → IsStill old new r
+given-still p x old new r (n, inl h) = (n, λ k. ok-not r x Exhausted h k)
+given-still p x old new r (n, inr h) = (n, λ k. memory-not (err-is r Memory Exhausted h k))
+
+wanting-still : {A : Type 0} (old new : Kept) (r : Result A Halt) → (new ≡ old) × ((r ≡ Err Memory) ⊎ (r ≡ Err Memory)) → IsStill old new r
+wanting-still old new r (n, inl h) = (n, λ k. memory-not (err-is r Memory Exhausted h k))
+wanting-still old new r (n, inr h) = (n, λ k. memory-not (err-is r Memory Exhausted h k))
+
+hold-still : (p : Question → Option Answer) (ps : List Task) (o : Option ModuleContents) (old new : Kept) (r : Result Prepared Halt) → Took p (hold_steps ps o) old new r → IsStill old new r
+hold-still p ps None old new r t = wanting-still old new r t
+hold-still p ps (Some m) old new r t = given-still p _ old new r t
+
+prepare-still : (scene : Scene) (p : Question → Option Answer) (ps : List Task) (o : Option (Recipe Dependency)) (old new : Kept) (r : Result Prepared Halt) →
+    Took p (prepare_steps scene ps o) old new r → IsStill old new r
+prepare-still scene p ps None old new r t = wanting-still old new r t
+prepare-still scene p ps (Some recipe) old new r t = hold-still p ps (scene.modules recipe.module_path) old new r t
+
+ask-named : (scene : Scene) (p : Question → Option Answer) (t : Task) (old new : Kept) (r : Result Prepared Halt) →
+    Took p (ask_steps scene t) old new r → GivesNamed priors_of scene.recipes (prior_dependencies scene.recipes t.pair.recipe) old new r
+ask-named scene p t old new r took =
+    let still : IsStill old new r = prepare-still scene p _ (slice_get scene.recipes t.pair.recipe) old new r took in
+    let ds : List Dependency = prior_dependencies scene.recipes t.pair.recipe in
+    record {
+      still = ap executed_in still.0;
+      named = λ a h. subst (AreNamed scene.recipes ds) (ask-priors scene t a (took-gives p (ask_steps scene t) old new a (subst (Took p (ask_steps scene t) old new) h took)))
+          (named-all scene.recipes ds);
+      unfull = still.1;
+    }
+
+follow-named : (recipes : List (Recipe Dependency)) (p : Question → Option Answer) (ds : List Dependency) (old new : Kept) (r : Result (List Task) Halt) →
+    Took p (Give (map (task_of recipes) ds)) old new r → GivesNamed themselves recipes ds old new r
+follow-named recipes p ds old new r t = record {
   still = ap executed_in t.0;
-  named = λ ts h. elim (t.1) [
-    | inl k ↦ subst (λ ts. AreNamed recipes ds ts) (ok-is r (map (task_of recipes) ds) ts k h) (named-all recipes ds)
-    | inr k ↦ absurd (ok-not r ts Memory h k)
-  ];
-  unfull = λ h. elim (t.1) [
-    | inl k ↦ absurd (ok-not r (map (task_of recipes) ds) Exhausted k h)
-    | inr k ↦ absurd (memory-not (err-is r Memory Exhausted k h))
-  ];
+  named = λ ts h. subst (AreNamed recipes ds) (took-gives p (Give (map (task_of recipes) ds)) old new ts (subst (Took p (Give (map (task_of recipes) ds)) old new) h t)) (named-all recipes ds);
+  unfull = (given-still p (map (task_of recipes) ds) old new r t).1;
 }
 
 -- what was executed is what the entries say, one after another
@@ -301,15 +338,15 @@ gives-executed recipes t old new r (inr h) = record {
   unfull = λ k. absurd (memory-not (err-is r Memory Exhausted h.1 k));
 }
 
-pub leaves-accounted : (recipes : List (Recipe Dependency)) (p : Question → Option Answer) → AreAccounted recipes (leaves_of recipes) p
-leaves-accounted recipes p = record {
-  ask = λ t old new r h. gives-named recipes p (prior_dependencies recipes t.pair.recipe) old new r h;
-  follow = λ t old new r h. gives-named recipes p (subsequent_dependencies recipes t.pair.recipe) old new r h;
-  execute = λ t old new r h. gives-executed recipes t old new r (recipe-executes p t (slice_get recipes t.pair.recipe) old new r h);
+pub leaves-accounted : (scene : Scene) (p : Question → Option Answer) → AreAccounted scene.recipes (leaves_of scene) p
+leaves-accounted scene p = record {
+  ask = λ t old new r h. ask-named scene p t old new r h;
+  follow = λ t held old new r h. follow-named scene.recipes p (subsequent_dependencies scene.recipes t.pair.recipe) old new r h;
+  execute = λ t held old new r h. gives-executed scene.recipes t old new r (recipe-executes p t (slice_get scene.recipes t.pair.recipe) old new r h);
 }
 
--- The account of a run of recipes, for every host.
-pub fresh-account : (recipes : List (Recipe Dependency)) → IsOrdered recipes → (p : Question → Option Answer) (tops : List Task) →
-    AllBelow (length recipes) tops → (old new : Kept) (r : Result (List ℕ) Halt) →
-    Took p (fresh_steps (walk_steps (leaves_of recipes) (length recipes)) tops []) old new r → (t : OnceTables) × HasAccount recipes old new tops t × Tells recipes tops t r
-fresh-account recipes ordered p tops below old new r took = account-of recipes (leaves_of recipes) p ordered (leaves-accounted recipes p) (length recipes) tops below old new r took
+-- The account of a run of a scene, for every host.
+pub fresh-account : (scene : Scene) → IsOrdered scene.recipes → (p : Question → Option Answer) (tops : List Task) →
+    AllBelow (length scene.recipes) tops → (old new : Kept) (r : Result (List ℕ) Halt) →
+    Took p (fresh_steps (walk_steps (leaves_of scene) (length scene.recipes)) tops []) old new r → (t : OnceTables) × HasAccount scene.recipes old new tops t × Tells scene.recipes tops t r
+fresh-account scene ordered p tops below old new r took = account-of scene.recipes (leaves_of scene) p ordered (leaves-accounted scene p) (length scene.recipes) tops below old new r took

@@ -4,13 +4,14 @@ use Rattle.std.proofs.Common.{◌≡◌, ◌≢◌, ℕ, zero, suc, ◌+◌, ◌
 use Rattle.std.proofs.lemmas.List.{length_push}
 use Rattle.std.proofs.lemmas.List.Elements.{All-nil, All-cons, All-append, All-head, All-tail, All-weaker}
 use Rattle.just_run_layers.specs.Steps.{Steps, and_then}
+use Rattle.just_run_layers.specs.declared.held.Held.{Held}
 use Rattle.just_execution.specs.declared.course.Course.{Course}
 use Rattle.just_execution.specs.declared.frame.Frame.{Frame}
 use Rattle.just_execution.specs.declared.frame.Frame.TheVariants.{Call, Block, Back}
 use Rattle.just_execution.specs.declared.frame.OpenTable.{OpenTable}
 use Rattle.just_execution.specs.declared.pair.Pair.{Pair}
 use Rattle.just_execution.specs.Frames.{walk_at, with_calls, under, left, calls_of, IsOpen, AreOpen, state_of, IsSound, IsLighter, IsOpened, left_of}
-use Rattle.just_execution.specs.Homes.{IsCallable}
+use Rattle.just_execution.specs.Homes.{IsCallable, IsServed}
 use Rattle.just_execution.specs.declared.task.Task.{Task}
 use Rattle.just_execution.specs.Pairs.{AllBelow, put, table_of}
 use Rattle.just_execution.specs.Walking.{Leaves, State, add_at, counted, opened, fresh_steps, ran}
@@ -42,23 +43,23 @@ pub first-calls : (one all : List Frame) (ts : List Task) → one ≡ [] → all
 first-calls one all ts none h = h ∙ ap (λ xs. xs ++ calls_of ts) none
 
 -- the frames that are open stay so while counters are added
-open-more : (P : Task → Type 0) (n m : ℕ) → n ≤ m → (x : Frame) → IsOpen P n x → IsOpen P m x
-open-more P n m l (Call t) h = h
-open-more P n m l (Block t) h = h
-open-more P n m l (Back outer) h = omega arith
+open-more : (P : Task → Type 0) (Q : Task → Held → Type 0) (n m : ℕ) → n ≤ m → (x : Frame) → IsOpen P Q n x → IsOpen P Q m x
+open-more P Q n m l (Call t) h = h
+open-more P Q n m l (Block t x) h = h
+open-more P Q n m l (Back outer) h = omega arith
 
-pub opens-more : (P : Task → Type 0) (n m : ℕ) → n ≤ m → (xs : List Frame) → AreOpen P n xs → AreOpen P m xs
-opens-more P n m l xs h = All-weaker (IsOpen P n) (IsOpen P m) (open-more P n m l) xs h
+pub opens-more : (P : Task → Type 0) (Q : Task → Held → Type 0) (n m : ℕ) → n ≤ m → (xs : List Frame) → AreOpen P Q n xs → AreOpen P Q m xs
+opens-more P Q n m l xs h = All-weaker (IsOpen P Q n) (IsOpen P Q m) (open-more P Q n m l) xs h
 
 -- tasks below a place are open above other frames
-pub opens-calls : (P : Task → Type 0) (n : ℕ) (ts : List Task) → All P ts → AreOpen P n (calls_of ts)
-opens-calls P n [] b = All-nil (IsOpen P n)
-opens-calls P n (t ∷ ts) b = All-append (IsOpen P n) (calls_of ts) (Call t ∷ [])
-    (opens-calls P n ts (All-tail P t ts b))
-    (All-cons (IsOpen P n) (Call t) [] (All-head P t ts b) (All-nil (IsOpen P n)))
+pub opens-calls : (P : Task → Type 0) (Q : Task → Held → Type 0) (n : ℕ) (ts : List Task) → All P ts → AreOpen P Q n (calls_of ts)
+opens-calls P Q n [] b = All-nil (IsOpen P Q n)
+opens-calls P Q n (t ∷ ts) b = All-append (IsOpen P Q n) (calls_of ts) (Call t ∷ [])
+    (opens-calls P Q n ts (All-tail P t ts b))
+    (All-cons (IsOpen P Q n) (Call t) [] (All-head P t ts b) (All-nil (IsOpen P Q n)))
 
-pub opens-over : (P : Task → Type 0) (n : ℕ) (xs : List Frame) (x : Frame) (ts : List Task) → AreOpen P n xs → IsOpen P n x → All P ts → AreOpen P n (xs ++ x ∷ calls_of ts)
-opens-over P n xs x ts h k b = All-append (IsOpen P n) xs (x ∷ calls_of ts) h (All-cons (IsOpen P n) x (calls_of ts) k (opens-calls P n ts b))
+pub opens-over : (P : Task → Type 0) (Q : Task → Held → Type 0) (n : ℕ) (xs : List Frame) (x : Frame) (ts : List Task) → AreOpen P Q n xs → IsOpen P Q n x → All P ts → AreOpen P Q n (xs ++ x ∷ calls_of ts)
+opens-over P Q n xs x ts h k b = All-append (IsOpen P Q n) xs (x ∷ calls_of ts) h (All-cons (IsOpen P Q n) x (calls_of ts) k (opens-calls P Q n ts b))
 
 -- tasks are called under a table of their own
 left-opened : (leaves : Leaves) (xs : List Frame) (outer : OpenTable) (tasks : List Task) (calls : List ℕ) → tasks ≢ [] →
@@ -71,14 +72,14 @@ module _ (old new : Course) (tasks : List Task) (frames : new.frames.items ≡ o
   course-opened some leaves = ap (λ xs. left leaves xs (state_of new)) frames ∙ ap (left leaves (old.frames.items ++ Back old.current ∷ calls_of tasks)) state
       ∙ left-opened leaves old.frames.items old.current tasks old.calls.items some
 
-  sound-opened : (P : Task → Type 0) → IsSound P old → All P tasks → IsSound P new
-  sound-opened P sound below =
+  sound-opened : (P : Task → Type 0) (Q : Task → Held → Type 0) → IsSound P Q old → All P tasks → IsSound P Q new
+  sound-opened P Q sound below =
       let calls : new.calls.items ≡ old.calls.items ++ 0 ∷ [] = ap (λ s. s.calls) state in
       let more : length new.calls.items ≡ length old.calls.items + 1 = ap length calls ∙ length_push old.calls.items 0 in
       let number : new.current.number ≡ length old.calls.items = ap (λ s. s.number) state in
       record {
-        frames = subst (AreOpen P (length new.calls.items)) (sym frames)
-            (opens-over P (length new.calls.items) old.frames.items (Back old.current) tasks (opens-more P (length old.calls.items) (length new.calls.items) (omega arith) old.frames.items sound.frames) (omega (arith, sound.number)) below);
+        frames = subst (AreOpen P Q (length new.calls.items)) (sym frames)
+            (opens-over P Q (length new.calls.items) old.frames.items (Back old.current) tasks (opens-more P Q (length old.calls.items) (length new.calls.items) (omega arith) old.frames.items sound.frames) (omega (arith, sound.number)) below);
         number = omega arith;
       }
 
@@ -86,8 +87,8 @@ module _ (old new : Course) (tasks : List Task) (frames : new.frames.items ≡ o
 pub is-opened : (old new : Course) (tasks : List Task) → new.frames.items ≡ old.frames.items ++ Back old.current ∷ calls_of tasks → state_of new ≡ opened old.calls.items → tasks ≢ [] → length tasks < 2 ^ 64 → IsOpened old tasks new
 is-opened old new tasks frames state some few = record {
   left = course-opened old new tasks frames state some;
-  sound = λ answers modules recipes callables sound. sound-opened old new tasks frames state (IsCallable answers modules recipes) sound callables;
-  lighter = λ t below. subst (λ fs. IsLighter fs old.frames.items (Block t)) (sym frames) (block-lighter (2 ^ 64) old.frames.items t old.current tasks below few);
+  sound = λ answers modules recipes callables sound. sound-opened old new tasks frames state (IsCallable answers modules recipes) (IsServed answers modules recipes) sound callables;
+  lighter = λ t h below. subst (λ fs. IsLighter fs old.frames.items (Block t h)) (sym frames) (block-lighter (2 ^ 64) old.frames.items t h old.current tasks below few);
 }
 
 pub not-opened : (old : Course) (tasks : List Task) → length tasks ≡ 0 → IsOpened old tasks old
@@ -95,16 +96,16 @@ not-opened old (t ∷ ts) none = absurd (omega arith)
 not-opened old [] none = record {
   left = λ leaves. refl;
   sound = λ answers modules recipes callables sound. sound;
-  lighter = λ t below. taken-lighter (2 ^ 64) old.frames.items (Block t);
+  lighter = λ t h below. taken-lighter (2 ^ 64) old.frames.items (Block t h);
 }
 
 -- a call that is counted leaves the run sound
-pub counted-sound : (P : Task → Type 0) (old new : Course) → state_of new ≡ counted (state_of old) → new.frames.items ≡ old.frames.items → IsSound P old → IsSound P new
-counted-sound P old new state frames sound =
+pub counted-sound : (P : Task → Type 0) (Q : Task → Held → Type 0) (old new : Course) → state_of new ≡ counted (state_of old) → new.frames.items ≡ old.frames.items → IsSound P Q old → IsSound P Q new
+counted-sound P Q old new state frames sound =
     let long : length new.calls.items ≡ length old.calls.items = ap (λ s. length s.calls) state ∙ length-add old.calls.items old.current.number 1 in
     let number : new.current.number ≡ old.current.number = ap (λ s. s.number) state in
     record {
-      frames = subst (AreOpen P (length new.calls.items)) (sym frames) (opens-more P (length old.calls.items) (length new.calls.items) (omega arith) old.frames.items sound.frames);
+      frames = subst (AreOpen P Q (length new.calls.items)) (sym frames) (opens-more P Q (length old.calls.items) (length new.calls.items) (omega arith) old.frames.items sound.frames);
       number = omega (arith, sound.number);
     }
 
@@ -112,14 +113,14 @@ pub below-more : (n m : ℕ) (ts : List Task) → n ≤ m → AllBelow n ts → 
 below-more n m ts l h = All-weaker (λ (t : Task). t.pair.recipe < n) (λ (t : Task). t.pair.recipe < m) (λ t k. omega arith) ts h
 
 -- and so does a task whose priors are called
-pub called-sound : (P : Task → Type 0) (old new : Course) (t : Task) (ps : List Task) → state_of new ≡ counted (state_of old) → new.frames.items ≡ old.frames.items ++ Block t ∷ calls_of ps →
-    P t → All P ps → IsSound P old → IsSound P new
-called-sound P old new t ps state frames callable callables sound =
+pub called-sound : (P : Task → Type 0) (Q : Task → Held → Type 0) (old new : Course) (t : Task) (h : Held) (ps : List Task) → state_of new ≡ counted (state_of old) → new.frames.items ≡ old.frames.items ++ Block t h ∷ calls_of ps →
+    P t → Q t h → All P ps → IsSound P Q old → IsSound P Q new
+called-sound P Q old new t h ps state frames callable served callables sound =
     let long : length new.calls.items ≡ length old.calls.items = ap (λ s. length s.calls) state ∙ length-add old.calls.items old.current.number 1 in
     let number : new.current.number ≡ old.current.number = ap (λ s. s.number) state in
     record {
-      frames = subst (AreOpen P (length new.calls.items)) (sym frames) (opens-over P (length new.calls.items) old.frames.items (Block t) ps
-          (opens-more P (length old.calls.items) (length new.calls.items) (omega arith) old.frames.items sound.frames) callable callables);
+      frames = subst (AreOpen P Q (length new.calls.items)) (sym frames) (opens-over P Q (length new.calls.items) old.frames.items (Block t h) ps
+          (opens-more P Q (length old.calls.items) (length new.calls.items) (omega arith) old.frames.items sound.frames) (callable, served) callables);
       number = omega (arith, sound.number);
     }
 
@@ -131,8 +132,8 @@ block-last leaves old t table ts u is h =
     h ∙ ap (λ now. and_then (fresh_steps (walk_at leaves) ts old.calls.items) (λ calls. left leaves old.frames.items (record { number = old.current.number; table = now; calls = calls }))) is
 
 -- the first calls of a run
-pub begun-sound : (P : Task → Type 0) (course : Course) (tasks : List Task) → course.frames.items ≡ calls_of tasks → state_of course ≡ opened [] → All P tasks → IsSound P course
-begun-sound P course tasks frames state callables = record {
-  frames = subst (AreOpen P (length course.calls.items)) (sym frames) (opens-calls P (length course.calls.items) tasks callables);
+pub begun-sound : (P : Task → Type 0) (Q : Task → Held → Type 0) (course : Course) (tasks : List Task) → course.frames.items ≡ calls_of tasks → state_of course ≡ opened [] → All P tasks → IsSound P Q course
+begun-sound P Q course tasks frames state callables = record {
+  frames = subst (AreOpen P Q (length course.calls.items)) (sym frames) (opens-calls P Q (length course.calls.items) tasks callables);
   number = let n : course.current.number ≡ 0 = ap (λ s. s.number) state in let k : length course.calls.items ≡ 1 = ap (λ s. length s.calls) state in omega arith;
 }

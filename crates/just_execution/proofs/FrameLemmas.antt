@@ -3,6 +3,7 @@ use Rattle.std.proofs.Common.{◌≡◌, ◌≢◌, ℕ, zero, suc, ◌<◌, tru
 use Rattle.std.proofs.lemmas.Bool.{cond-true, cond-false}
 use Rattle.std.proofs.lemmas.List.Elements.{All-head, All-tail}
 use Rattle.just_errors.specs.declared.halt.Halt.TheVariants.{Exhausted}
+use Rattle.just_run_layers.specs.declared.held.Held.{Held}
 use Rattle.just_run_layers.specs.Steps.{Steps, Give, Fail, and_then}
 use Rattle.just_run_layers.proofs.StepLemmas.{then-assoc, then-give, then-each, then-same}
 use Rattle.just_execution.specs.declared.frame.Frame.{Frame}
@@ -28,18 +29,18 @@ module _ (v w : State → Task → Steps State) (k : ℕ) (same : (s : State) (t
 
 module _ (leaves : Leaves) (lower : IsLower leaves) where
   module _ (v w : State → Task → Steps State) (t : Task) (same : (s : State) (u : Task) → u.pair.recipe < t.pair.recipe → v s u ≡ w s u) where
-    pub block-same : (calls : List ℕ) → block_steps leaves v t calls ≡ block_steps leaves w t calls
-    block-same calls = then-same (leaves.execute t) (λ _. and_then (leaves.follow t) (λ ts. fresh_steps v ts calls)) (λ _. and_then (leaves.follow t) (λ ts. fresh_steps w ts calls))
-        (λ u. then-each (leaves.follow t) (λ ts. fresh_steps v ts calls) (λ ts. fresh_steps w ts calls) (λ ts g. fresh-same v w t.pair.recipe same ts (lower.subsequents t ts g) calls))
+    pub block-same : (h : Held) (calls : List ℕ) → block_steps leaves v t h calls ≡ block_steps leaves w t h calls
+    block-same h calls = then-same (leaves.execute t h) (λ _. and_then (leaves.follow t h) (λ ts. fresh_steps v ts calls)) (λ _. and_then (leaves.follow t h) (λ ts. fresh_steps w ts calls))
+        (λ u. then-each (leaves.follow t h) (λ ts. fresh_steps v ts calls) (λ ts. fresh_steps w ts calls) (λ ts g. fresh-same v w t.pair.recipe same ts (lower.subsequents t h ts g) calls))
 
-    pub ran-same : (s : State) → ran_steps leaves v t s ≡ ran_steps leaves w t s
-    ran-same s = ap (λ x. and_then x (λ calls. Give (ran s t calls))) (block-same s.calls)
+    pub ran-same : (h : Held) (s : State) → ran_steps leaves v t h s ≡ ran_steps leaves w t h s
+    ran-same h s = ap (λ x. and_then x (λ calls. Give (ran s t calls))) (block-same h s.calls)
 
     visit-same : (s : State) → visit_steps leaves v t s ≡ visit_steps leaves w t s
     visit-same s = ap (λ x. cond (s.table t.pair) (Give s) x)
-        (then-each (leaves.ask t) (λ ps. and_then (all_steps v s ps) (ran_steps leaves v t)) (λ ps. and_then (all_steps w s ps) (ran_steps leaves w t))
-        (λ ps g. ap (λ x. and_then x (ran_steps leaves v t)) (all-same v w t.pair.recipe same ps (lower.priors t ps g) s)
-        ∙ then-same (all_steps w s ps) (ran_steps leaves v t) (ran_steps leaves w t) ran-same))
+        (then-each (leaves.ask t) (λ a. and_then (all_steps v s a.priors) (ran_steps leaves v t a.held)) (λ a. and_then (all_steps w s a.priors) (ran_steps leaves w t a.held))
+        (λ a g. ap (λ x. and_then x (ran_steps leaves v t a.held)) (all-same v w t.pair.recipe same a.priors (lower.priors t a g) s)
+        ∙ then-same (all_steps w s a.priors) (ran_steps leaves v t a.held) (ran_steps leaves w t a.held) (ran-same a.held)))
 
   -- more fuel changes nothing
   pub agree : (n m : ℕ) (s : State) (t : Task) → t.pair.recipe < n → t.pair.recipe < m → walk_steps leaves n s t ≡ walk_steps leaves m s t
@@ -90,30 +91,30 @@ module _ (leaves : Leaves) (xs : List Frame) (t : Task) (s : State) where
 
   -- it is to run: its questions, and then its priors above its block
   pub call-new : IsLower leaves → (now : State) → count_steps s ≡ Give now → now.table t.pair ≡ false →
-      left leaves (xs ++ Call t ∷ []) s ≡ and_then (leaves.ask t) (λ ps. left leaves (xs ++ Block t ∷ calls_of ps) now)
+      left leaves (xs ++ Call t ∷ []) s ≡ and_then (leaves.ask t) (λ a. left leaves (xs ++ Block t a.held ∷ calls_of a.priors) now)
   call-new lower now e h =
       let walk : State → Task → Steps State = walk_steps leaves t.pair.recipe in
       call-left ∙ ap (λ u. and_then u (λ now. and_then (visit_steps leaves walk t now) (left leaves xs))) e
       ∙ ap (λ u. and_then u (left leaves xs)) (cond-false (now.table t.pair) _ _ h)
-      ∙ then-assoc (leaves.ask t) (λ ps. and_then (all_steps walk now ps) (ran_steps leaves walk t)) (left leaves xs)
-      ∙ then-each (leaves.ask t) (λ ps. and_then (and_then (all_steps walk now ps) (ran_steps leaves walk t)) (left leaves xs)) (λ ps. left leaves (xs ++ Block t ∷ calls_of ps) now)
-      (λ ps g. then-assoc (all_steps walk now ps) (ran_steps leaves walk t) (left leaves xs)
-      ∙ ap (λ u. and_then u (λ s. and_then (ran_steps leaves walk t s) (left leaves xs))) (all-at leaves lower t.pair.recipe ps (lower.priors t ps g) now)
-      ∙ sym (left-over leaves xs (Block t) ps now))
+      ∙ then-assoc (leaves.ask t) (λ a. and_then (all_steps walk now a.priors) (ran_steps leaves walk t a.held)) (left leaves xs)
+      ∙ then-each (leaves.ask t) (λ a. and_then (and_then (all_steps walk now a.priors) (ran_steps leaves walk t a.held)) (left leaves xs)) (λ a. left leaves (xs ++ Block t a.held ∷ calls_of a.priors) now)
+      (λ a g. then-assoc (all_steps walk now a.priors) (ran_steps leaves walk t a.held) (left leaves xs)
+      ∙ ap (λ u. and_then u (λ s. and_then (ran_steps leaves walk t a.held s) (left leaves xs))) (all-at leaves lower t.pair.recipe a.priors (lower.priors t a g) now)
+      ∙ sym (left-over leaves xs (Block t a.held) a.priors now))
 
 -- the block of a task
-pub block-left : (leaves : Leaves) → IsLower leaves → (xs : List Frame) (t : Task) (s : State) → left leaves (xs ++ Block t ∷ []) s ≡
-    and_then (leaves.execute t) (λ _. and_then (leaves.follow t) (λ ts. and_then (fresh_steps (walk_at leaves) ts s.calls) (λ calls. left leaves xs (ran s t calls))))
-block-left leaves lower xs t s =
+pub block-left : (leaves : Leaves) → IsLower leaves → (xs : List Frame) (t : Task) (h : Held) (s : State) → left leaves (xs ++ Block t h ∷ []) s ≡
+    and_then (leaves.execute t h) (λ _. and_then (leaves.follow t h) (λ ts. and_then (fresh_steps (walk_at leaves) ts s.calls) (λ calls. left leaves xs (ran s t calls))))
+block-left leaves lower xs t h s =
     let walk : State → Task → Steps State = walk_steps leaves t.pair.recipe in
     let last : List ℕ → Steps State = λ calls. left leaves xs (ran s t calls) in
-    left-append leaves xs (Block t ∷ []) s
-    ∙ then-assoc (block_steps leaves walk t s.calls) (λ calls. Give (ran s t calls)) (left leaves xs)
-    ∙ then-assoc (leaves.execute t) (λ _. and_then (leaves.follow t) (λ ts. fresh_steps walk ts s.calls)) last
-    ∙ then-same (leaves.execute t) (λ _. and_then (and_then (leaves.follow t) (λ ts. fresh_steps walk ts s.calls)) last) (λ _. and_then (leaves.follow t) (λ ts. and_then (fresh_steps (walk_at leaves) ts s.calls) last))
-    (λ u. then-assoc (leaves.follow t) (λ ts. fresh_steps walk ts s.calls) last
-    ∙ then-each (leaves.follow t) (λ ts. and_then (fresh_steps walk ts s.calls) last) (λ ts. and_then (fresh_steps (walk_at leaves) ts s.calls) last)
-    (λ ts g. ap (λ u. and_then u last) (fresh-at leaves lower t.pair.recipe ts (lower.subsequents t ts g) s.calls)))
+    left-append leaves xs (Block t h ∷ []) s
+    ∙ then-assoc (block_steps leaves walk t h s.calls) (λ calls. Give (ran s t calls)) (left leaves xs)
+    ∙ then-assoc (leaves.execute t h) (λ _. and_then (leaves.follow t h) (λ ts. fresh_steps walk ts s.calls)) last
+    ∙ then-same (leaves.execute t h) (λ _. and_then (and_then (leaves.follow t h) (λ ts. fresh_steps walk ts s.calls)) last) (λ _. and_then (leaves.follow t h) (λ ts. and_then (fresh_steps (walk_at leaves) ts s.calls) last))
+    (λ u. then-assoc (leaves.follow t h) (λ ts. fresh_steps walk ts s.calls) last
+    ∙ then-each (leaves.follow t h) (λ ts. and_then (fresh_steps walk ts s.calls) last) (λ ts. and_then (fresh_steps (walk_at leaves) ts s.calls) last)
+    (λ ts g. ap (λ u. and_then u last) (fresh-at leaves lower t.pair.recipe ts (lower.subsequents t h ts g) s.calls)))
 
 -- a table is opened above another
 pub opened-left : (leaves : Leaves) (xs : List Frame) (outer : OpenTable) (t : Task) (ts : List Task) (calls : List ℕ) →

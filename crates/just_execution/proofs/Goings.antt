@@ -5,6 +5,7 @@ use Rattle.std.proofs.lemmas.Bool.{cond-true, cond-false, ne_eqb}
 use Rattle.just_errors.specs.declared.halt.Halt.{Halt}
 use Rattle.just_errors.specs.declared.halt.Halt.TheVariants.{Memory, Exhausted}
 use Rattle.just_run_layers.specs.Host.{Answer, KeepsPromises}
+use Rattle.just_run_layers.specs.declared.held.Held.{Held}
 use Rattle.just_run_layers.specs.Steps.{Kept, Question, Steps, Give, Fail, and_then, Took}
 use Rattle.just_run_layers.proofs.StepLemmas.{keeps-self, took-out, took-stop, took-then, took-kept}
 use Rattle.just_execution.specs.declared.frame.Frame.{Frame}
@@ -15,7 +16,7 @@ use Rattle.just_execution.specs.declared.task.Task.{Task}
 use Rattle.just_execution.specs.Pairs.{AllBelow}
 use Rattle.just_execution.specs.declared.running.Report.{Report}
 use Rattle.just_execution.specs.Reports.{calls_in}
-use Rattle.just_execution.specs.Walking.{Leaves, State, add_at, count_steps, fresh_steps, opened, ran, walk_steps}
+use Rattle.just_execution.specs.Walking.{Leaves, Prepared, State, add_at, count_steps, fresh_steps, opened, ran, walk_steps}
 use Rattle.just_execution.proofs.FrameLemmas.{first-frames, call-over, call-known, call-new, block-left}
 
 -- an end on the way
@@ -45,45 +46,45 @@ module _ (leaves : Leaves) (lower : IsLower leaves) (p : Question → Option Ans
     -- whose questions fail
     pub unasked-took : s.table t.pair ≡ false → (old mid : Kept) (e : Halt) → Took p (leaves.ask t) old mid (Err e) → Took p (left leaves (xs ++ Call t ∷ []) s) old mid (Err e)
     unasked-took h old mid e k = subst (λ u. Took p u old mid (Err e)) (sym (call-new leaves xs t s lower (with_calls s calls) (count-fits s calls fits counted) h))
-        (took-stop p (leaves.ask t) (λ ps. left leaves (xs ++ Block t ∷ calls_of ps) (with_calls s calls)) old mid e k)
+        (took-stop p (leaves.ask t) (λ a. left leaves (xs ++ Block t a.held ∷ calls_of a.priors) (with_calls s calls)) old mid e k)
 
     -- whose priors are called
-    pub asked-took : s.table t.pair ≡ false → (ps : List Task) (ys : List Frame) → ys ≡ xs ++ Block t ∷ calls_of ps → (old mid new : Kept) (r : Result State Halt) →
-        Took p (leaves.ask t) old mid (Ok ps) → Took p (left leaves ys (with_calls s calls)) mid new r → Took p (left leaves (xs ++ Call t ∷ []) s) old new r
-    asked-took h ps ys frames old mid new r k l = subst (λ u. Took p u old new r) (sym (call-new leaves xs t s lower (with_calls s calls) (count-fits s calls fits counted) h))
-        (took-then p p (keeps-self p) (leaves.ask t) (λ ps. left leaves (xs ++ Block t ∷ calls_of ps) (with_calls s calls)) old mid new ps r k
+    pub asked-took : s.table t.pair ≡ false → (a : Prepared) (ys : List Frame) → ys ≡ xs ++ Block t a.held ∷ calls_of a.priors → (old mid new : Kept) (r : Result State Halt) →
+        Took p (leaves.ask t) old mid (Ok a) → Took p (left leaves ys (with_calls s calls)) mid new r → Took p (left leaves (xs ++ Call t ∷ []) s) old new r
+    asked-took h a ys frames old mid new r k l = subst (λ u. Took p u old new r) (sym (call-new leaves xs t s lower (with_calls s calls) (count-fits s calls fits counted) h))
+        (took-then p p (keeps-self p) (leaves.ask t) (λ a. left leaves (xs ++ Block t a.held ∷ calls_of a.priors) (with_calls s calls)) old mid new a r k
         (subst (λ fs. Took p (left leaves fs (with_calls s calls)) mid new r) frames l))
 
     -- memory is refused after they were asked for
-    pub halted-took : s.table t.pair ≡ false → (ps : List Task) (old mid : Kept) → Took p (leaves.ask t) old mid (Ok ps) → Took p (left leaves (xs ++ Call t ∷ []) s) old mid (Err Memory)
-    halted-took h ps old mid k = asked-took h ps (xs ++ Block t ∷ calls_of ps) refl old mid mid (Err Memory) k (took-out p (left leaves (xs ++ Block t ∷ calls_of ps) (with_calls s calls)) mid mid refl)
+    pub halted-took : s.table t.pair ≡ false → (a : Prepared) (old mid : Kept) → Took p (leaves.ask t) old mid (Ok a) → Took p (left leaves (xs ++ Call t ∷ []) s) old mid (Err Memory)
+    halted-took h a old mid k = asked-took h a (xs ++ Block t a.held ∷ calls_of a.priors) refl old mid mid (Err Memory) k (took-out p (left leaves (xs ++ Block t a.held ∷ calls_of a.priors) (with_calls s calls)) mid mid refl)
 
-module _ (leaves : Leaves) (lower : IsLower leaves) (p q : Question → Option Answer) (keeps : KeepsPromises p q) (xs : List Frame) (t : Task) (s : State) where
+module _ (leaves : Leaves) (lower : IsLower leaves) (p q : Question → Option Answer) (keeps : KeepsPromises p q) (xs : List Frame) (t : Task) (x : Held) (s : State) where
   abbrev last : List Task → Steps State
   last ts = and_then (fresh_steps (walk_at leaves) ts s.calls) (λ calls. left leaves xs (ran s t calls))
 
   -- a block whose body fails
-  pub failed-took : (old mid : Kept) (e : Halt) → Took p (leaves.execute t) old mid (Err e) → Took p (left leaves (xs ++ Block t ∷ []) s) old mid (Err e)
-  failed-took old mid e k = subst (λ u. Took p u old mid (Err e)) (sym (block-left leaves lower xs t s)) (took-stop p (leaves.execute t) (λ _. and_then (leaves.follow t) last) old mid e k)
+  pub failed-took : (old mid : Kept) (e : Halt) → Took p (leaves.execute t x) old mid (Err e) → Took p (left leaves (xs ++ Block t x ∷ []) s) old mid (Err e)
+  failed-took old mid e k = subst (λ u. Took p u old mid (Err e)) (sym (block-left leaves lower xs t x s)) (took-stop p (leaves.execute t x) (λ _. and_then (leaves.follow t x) last) old mid e k)
 
   -- that is executed, and what follows
-  executed-took : (old mid new : Kept) (r : Result State Halt) → Took p (leaves.execute t) old mid (Ok tt) → Took p (and_then (leaves.follow t) last) mid new r → Took p (left leaves (xs ++ Block t ∷ []) s) old new r
-  executed-took old mid new r k l = subst (λ u. Took p u old new r) (sym (block-left leaves lower xs t s)) (took-then p p (keeps-self p) (leaves.execute t) (λ _. and_then (leaves.follow t) last) old mid new tt r k l)
+  executed-took : (old mid new : Kept) (r : Result State Halt) → Took p (leaves.execute t x) old mid (Ok tt) → Took p (and_then (leaves.follow t x) last) mid new r → Took p (left leaves (xs ++ Block t x ∷ []) s) old new r
+  executed-took old mid new r k l = subst (λ u. Took p u old new r) (sym (block-left leaves lower xs t x s)) (took-then p p (keeps-self p) (leaves.execute t x) (λ _. and_then (leaves.follow t x) last) old mid new tt r k l)
 
   -- the questions for its subsequents fail
-  pub unfollowed-took : (old mid new : Kept) (e : Halt) → Took p (leaves.execute t) old mid (Ok tt) → Took q (leaves.follow t) mid new (Err e) → Took p (left leaves (xs ++ Block t ∷ []) s) old new (Err e)
-  unfollowed-took old mid new e k l = executed-took old mid new (Err e) k (took-stop p (leaves.follow t) last mid new e (took-kept p q keeps (leaves.follow t) mid new (Err e) l))
+  pub unfollowed-took : (old mid new : Kept) (e : Halt) → Took p (leaves.execute t x) old mid (Ok tt) → Took q (leaves.follow t x) mid new (Err e) → Took p (left leaves (xs ++ Block t x ∷ []) s) old new (Err e)
+  unfollowed-took old mid new e k l = executed-took old mid new (Err e) k (took-stop p (leaves.follow t x) last mid new e (took-kept p q keeps (leaves.follow t x) mid new (Err e) l))
 
   -- memory is refused after its subsequents were asked for
-  pub stopped-took : (ts : List Task) (old mid next : Kept) → Took p (leaves.execute t) old mid (Ok tt) → Took q (leaves.follow t) mid next (Ok ts) → Took p (left leaves (xs ++ Block t ∷ []) s) old next (Err Memory)
-  stopped-took ts old mid next k l = executed-took old mid next (Err Memory) k (took-then p p (keeps-self p) (leaves.follow t) last mid next next ts (Err Memory)
-      (took-kept p q keeps (leaves.follow t) mid next (Ok ts) l) (took-out p (last ts) next next refl))
+  pub stopped-took : (ts : List Task) (old mid next : Kept) → Took p (leaves.execute t x) old mid (Ok tt) → Took q (leaves.follow t x) mid next (Ok ts) → Took p (left leaves (xs ++ Block t x ∷ []) s) old next (Err Memory)
+  stopped-took ts old mid next k l = executed-took old mid next (Err Memory) k (took-then p p (keeps-self p) (leaves.follow t x) last mid next next ts (Err Memory)
+      (took-kept p q keeps (leaves.follow t x) mid next (Ok ts) l) (took-out p (last ts) next next refl))
 
   -- its subsequents are called under a table of their own
   pub followed-took : (ts : List Task) (u : Steps State) → u ≡ last ts → (old mid next new : Kept) (r : Result State Halt) →
-      Took p (leaves.execute t) old mid (Ok tt) → Took q (leaves.follow t) mid next (Ok ts) → Took p u next new r → Took p (left leaves (xs ++ Block t ∷ []) s) old new r
-  followed-took ts u is old mid next new r k l m = executed-took old mid new r k (took-then p p (keeps-self p) (leaves.follow t) last mid next new ts r
-      (took-kept p q keeps (leaves.follow t) mid next (Ok ts) l) (subst (λ w. Took p w next new r) is m))
+      Took p (leaves.execute t x) old mid (Ok tt) → Took q (leaves.follow t x) mid next (Ok ts) → Took p u next new r → Took p (left leaves (xs ++ Block t x ∷ []) s) old new r
+  followed-took ts u is old mid next new r k l m = executed-took old mid new r k (took-then p p (keeps-self p) (leaves.follow t x) last mid next new ts r
+      (took-kept p q keeps (leaves.follow t x) mid next (Ok ts) l) (subst (λ w. Took p w next new r) is m))
 
 -- an end of a frame ends the run
 pub ended-took : (p : Question → Option Answer) (s : Steps State) (old new : Kept) (e : Halt) (x : State) (r : Result (Unit {0}) Halt) → IsErrAnd r (λ y. y ≡ e) → Took p s old new (Err e) → Took p s old new (with_value x r)

@@ -19,20 +19,26 @@ use Rattle.just_recipe.specs.declared.dependency.DependencyArgument.{DependencyA
 use Rattle.just_recipe.specs.declared.recipe.Recipe.{Recipe}
 use Rattle.just_recipe.specs.Recipes.{IsOrdered}
 use Rattle.just_run_layers.specs.Evaluation.{Inquiry}
+use Rattle.just_run_layers.specs.declared.held.Held.{Held}
+use Rattle.just_run_layers.specs.declared.host.Entry.{Entry}
 use Rattle.just_parts.specs.Evaluator.{values_of}
-use Rattle.just_parts.specs.Scopes.{Scoped, attribute_expressions, compiled_expressions, environment_expressions, inner_expressions, is_parameter, line_expressions, of_attributes, parameter_scopes, read_lines, scoped, scopes_of}
+use Rattle.just_parts.specs.Scopes.{Scoped, attribute_expressions, compiled_expressions, environment_expressions, is_parameter, line_expressions, parameter_scopes, read_lines, scoped, scopes_of}
 use Rattle.just_parts.specs.Syntax.{SyntaxAnswers}
 use Rattle.just_parts.specs.Known.{Known, none_hidden, sources}
 use Rattle.just_run_layers.specs.Host.{Answer}
-use Rattle.just_run_layers.specs.Steps.{both, kept_by}
+use Rattle.just_run_layers.specs.Steps.{Kept, both, kept_by}
 use Rattle.just_run_layers.proofs.StepLemmas.{took-gives}
-use Rattle.just_execution.specs.Homes.{AreHome, IsAmong, IsCallable, HasValues, IsHome, Modules, arguments_of}
-use Rattle.just_execution.specs.Leaves.{AsksAlone, ask_steps, follow_steps}
+use Rattle.just_execution.specs.Homes.{AreHome, IsAmong, IsBound, IsCallable, HasValues, IsHome, IsServed, Modules, ServesAt, arguments_of, module_at}
+use Rattle.just_execution.specs.Leaves.{AsksAlone, Prepares, ask_steps, follow_steps}
 use Rattle.just_execution.specs.Pairs.{AllBelow, at_place, needed, prior_dependencies, subsequent_dependencies, task_of}
 use Rattle.just_recipes.specs.Places.{place_of}
 use Rattle.just_execution.specs.Unready.{AreReady, DependsOn, gives_arguments, is_empty, is_unready, places}
+use Rattle.just_execution.specs.Scene.{contents_found, contents_of, scene_of}
+use Rattle.just_execution.specs.Walking.{Prepared}
+use Rattle.just_execution.specs.declared.scopes.ModuleScope.{ModuleScope}
 use Rattle.just_execution.specs.declared.task.Task.{Task}
 use Rattle.just_execution.proofs.CourseLemmas.{below-more}
+use Rattle.just_execution.proofs.Leaves.{ask-priors}
 use Rattle.just_execution.proofs.Places.{priors-before, subsequents-before}
 
 -- what is reached from some places is reached from others that lead to these
@@ -79,16 +85,36 @@ module _ (answers : SyntaxAnswers) (modules : Modules) (rs : List (Recipe Depend
         (all-callable ds (All-tail (Contains (needed rs t.pair.recipe)) d ds some) (All-tail (λ (t : Task). t.pair.recipe < length rs) (task_of rs d) (map (task_of rs) ds) below))
 
     -- the tasks that it was asked for
-    module _ (ordered : IsOrdered rs) (e : Inquiry → Option Answer) (before later : List Inquiry) (ts : List Task) where
-      pub asked-callable : AsksAlone e (ask_steps rs t) before later (Ok ts) → All (IsCallable answers modules rs) ts
-      asked-callable took = subst (All (IsCallable answers modules rs)) (took-gives (both e (λ entry. None)) (ask_steps rs t) (kept_by [] before) (kept_by [] later) ts (took (λ entry. None) []))
+    module _ (ordered : IsOrdered rs) (e : Inquiry → Option Answer) where
+      pub asked-callable : (h : Entry → Option Answer) (old new : Kept) (a : Prepared) → Prepares e h (scene_of modules rs) t old new (Ok a) → All (IsCallable answers modules rs) a.priors
+      asked-callable h old new a took = subst (All (IsCallable answers modules rs)) (ask-priors (scene_of modules rs) t a (took-gives (both e h) (ask_steps (scene_of modules rs) t) old new a took))
           (all-callable (prior_dependencies rs t.pair.recipe) (part-needed (λ r. take r.priors r.dependencies) (λ r P h. All-take P r.priors r.dependencies h) rs t.pair.recipe)
           (below-more t.pair.recipe (length rs) _ (omega (arith, callable.place)) (priors-before rs t.pair ordered)))
 
-      pub followed-callable : AsksAlone e (follow_steps rs t) before later (Ok ts) → All (IsCallable answers modules rs) ts
-      followed-callable took = subst (All (IsCallable answers modules rs)) (took-gives (both e (λ entry. None)) (follow_steps rs t) (kept_by [] before) (kept_by [] later) ts (took (λ entry. None) []))
+      pub followed-callable : (held : Held) (before later : List Inquiry) (ts : List Task) → AsksAlone e (follow_steps rs t held) before later (Ok ts) → All (IsCallable answers modules rs) ts
+      followed-callable held before later ts took =
+          subst (All (IsCallable answers modules rs)) (took-gives (both e (λ entry. None)) (follow_steps rs t held) (kept_by [] before) (kept_by [] later) ts (took (λ entry. None) []))
           (all-callable (subsequent_dependencies rs t.pair.recipe) (part-needed (λ r. drop r.priors r.dependencies) (λ r P h. All-drop P r.priors r.dependencies h) rs t.pair.recipe)
           (below-more t.pair.recipe (length rs) _ (omega (arith, callable.place)) (subsequents-before rs t.pair ordered)))
+
+-- what serves a task in its module serves it wherever it runs, and the other way round
+one-value : {A : Type 0} (o : Option A) (x y : A) → o ≡ Some x → o ≡ Some y → x ≡ y
+one-value o x y h k = cc
+
+pub contents-there : (modules : Modules) (rs : List (Recipe Dependency)) (r : Recipe Dependency) (m : ModuleScope) → module_at modules r.module_path ≡ Some m → (scene_of modules rs).modules r.module_path ≡ Some (contents_of m)
+contents-there modules rs r m there = ap contents_found there
+
+module _ (answers : SyntaxAnswers) (modules : Modules) (rs : List (Recipe Dependency)) (t : Task) (h : Held) (m : ModuleScope) (r : Recipe Dependency) (at : slice_get rs t.pair.recipe ≡ Some r)
+    (there : module_at modules r.module_path ≡ Some m) where
+  pub is-served : IsBound answers m r h.scope → IsServed answers modules rs t h
+  is-served bound = λ n s here found.
+      let same : r ≡ s = one-value (slice_get rs t.pair.recipe) r s at here in
+      let own : m ≡ n = one-value (module_at modules s.module_path) m n (subst (λ (r : Recipe Dependency). module_at modules r.module_path ≡ Some m) same there) found in
+      subst (λ m. IsBound answers m s h.scope) own (subst (λ (r : Recipe Dependency). IsBound answers m r h.scope) same bound)
+
+  pub serves-at : IsServed answers modules rs t h → ServesAt answers m rs t.pair.recipe h
+  serves-at served = λ s here.
+      served m s here (subst (λ (r : Recipe Dependency). module_at modules r.module_path ≡ Some m) (one-value (slice_get rs t.pair.recipe) r s at here) there)
 
 -- a recipe that can be run reads nothing
 bare-name : (singular : Bool) (default value : Option Expression) (option : Bool) → ((singular && not (is_some default)) && (not (is_some value) && not option)) ≡ true →
@@ -148,7 +174,8 @@ none-among answers settings script (a ∷ attributes) lines ps ds e = absurd (cc
 reads-nothing : (answers : SyntaxAnswers) (settings : Settings) (r : Recipe Dependency) → is_unready r ≡ false → scopes_of arguments_of answers settings r ≡ []
 reads-nothing answers settings r ready = none-among answers settings (is_script r settings) r.attributes r.body r.parameters r.dependencies ready
 
-All-got : {A : Type 0} (P : A → Type 0) (xs : List A) (k : ℕ) (x : A) → All P xs → slice_get xs k ≡ Some x → P x
+-- what holds of all holds of each that is found at a place
+pub All-got : {A : Type 0} (P : A → Type 0) (xs : List A) (k : ℕ) (x : A) → All P xs → slice_get xs k ≡ Some x → P x
 All-got P [] k x h e = cc
 All-got P (y ∷ xs) zero x h e = let same : y ≡ x = cc in subst P same (All-head P y xs h)
 All-got P (y ∷ xs) (suc k) x h e = All-got P xs k x (All-tail P y xs h) e

@@ -1,5 +1,6 @@
 pub mod Accounted
 pub mod CourseLemmas
+pub mod FirstAskings
 pub mod FrameLemmas
 pub mod Goings
 pub mod Homes
@@ -12,6 +13,7 @@ pub mod Places
 pub mod Ranks
 pub mod Reaching
 pub mod Runs
+pub mod Scenes
 pub mod Standing
 pub mod Told
 pub mod Walked

@@ -1,10 +1,8 @@
 -- A run of tasks, from the steps that it takes.
 use Rattle.std.proofs.Common.{◌≡◌, List, [], length, Option, Ok, Err, refl, subst}
 use Rattle.std.specs.Prelude.{Result}
-use Rattle.just_recipe.specs.declared.dependency.Dependency.{Dependency}
 use Rattle.just_errors.specs.declared.halt.Halt.{Halt}
 use Rattle.just_run_layers.specs.declared.host.Entry.{Entry}
-use Rattle.just_recipe.specs.declared.recipe.Recipe.{Recipe}
 use Rattle.just_errors.specs.Halts.{without}
 use Rattle.just_run_layers.specs.Evaluation.{Inquiry}
 use Rattle.just_run_layers.specs.Host.{Answer}
@@ -15,6 +13,7 @@ use Rattle.just_execution.specs.Leaves.{leaves_of}
 use Rattle.just_execution.specs.Pairs.{AllBelow}
 use Rattle.just_recipe.specs.Recipes.{IsOrdered}
 use Rattle.just_execution.specs.Reports.{calls_in, IsRun, IsAsExpected, Starts, expected_steps}
+use Rattle.just_execution.specs.Scene.{Scene}
 use Rattle.just_execution.specs.Walking.{fresh_steps, walk_steps}
 use Rattle.just_execution.proofs.Accounted.{fresh-account}
 use Rattle.just_execution.proofs.Leaves.{leaves-lower}
@@ -25,14 +24,14 @@ without-calls : (r : Result Report Halt) → without (calls_in r) ≡ without r
 without-calls (Ok report) = refl
 without-calls (Err e) = refl
 
-module _ (recipes : List (Recipe Dependency)) (ordered : IsOrdered recipes) (e : Inquiry → Option Answer) (h : Entry → Option Answer) (tops : List Task) (below : AllBelow (length recipes) tops) (old new : Kept) (r : Result Report Halt)
-    (took : Starts e h recipes tops old new r) where
-  pub account-run : IsRun recipes tops old new r
-  account-run = let a = fresh-account recipes ordered (both e h) tops below old new (calls_in r) took in record { tables = a.0; account = a.1; tells = a.2 }
+module _ (scene : Scene) (ordered : IsOrdered scene.recipes) (e : Inquiry → Option Answer) (h : Entry → Option Answer) (tops : List Task) (below : AllBelow (length scene.recipes) tops) (old new : Kept) (r : Result Report Halt)
+    (took : Starts e h scene tops old new r) where
+  pub account-run : IsRun scene.recipes tops old new r
+  account-run = let a = fresh-account scene ordered (both e h) tops below old new (calls_in r) took in record { tables = a.0; account = a.1; tells = a.2 }
 
-  pub expected-run : IsAsExpected e h recipes tops old new r
+  pub expected-run : IsAsExpected e h scene tops old new r
   expected-run = λ f steady even.
-      let steps = expected_steps recipes f tops in
+      let steps = expected_steps scene f tops in
       subst (Follows (path f steps) (outcome f steps) old new) (without-calls r)
-      (took-run (both e h) f (fresh_steps (walk_steps (leaves_of recipes) (length recipes)) tops []) steps old new (calls_in r)
-      (fresh-run (leaves_of recipes) (leaves-lower recipes ordered) f (length recipes) tops [] below even) steady took)
+      (took-run (both e h) f (fresh_steps (walk_steps (leaves_of scene) (length scene.recipes)) tops []) steps old new (calls_in r)
+      (fresh-run (leaves_of scene) (leaves-lower scene ordered) f (length scene.recipes) tops [] below even) steady took)

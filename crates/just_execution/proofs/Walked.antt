@@ -6,6 +6,7 @@ use Rattle.std.proofs.lemmas.List.{append-nil, map-append}
 use Rattle.std.proofs.lemmas.List.Elements.{All-cons, All-head, All-nil, All-tail}
 use Rattle.just_errors.specs.declared.halt.Halt.TheVariants.{Exhausted}
 use Rattle.just_run_layers.specs.Host.{Answer}
+use Rattle.just_run_layers.specs.declared.held.Held.{Held}
 use Rattle.just_run_layers.specs.Steps.{Question, Steps, Give, Fail, and_then, Gives, path, outcome}
 use Rattle.just_run_layers.proofs.StepLemmas.{then-assoc, then-give}
 use Rattle.just_execution.specs.declared.pair.Pair.{Pair}
@@ -14,9 +15,9 @@ use Rattle.just_execution.specs.Firsts.{has}
 use Rattle.just_execution.specs.Lower.{IsLower}
 use Rattle.just_execution.specs.declared.task.Task.{Task}
 use Rattle.just_execution.specs.Pairs.{same_pair, put, key, AllBelow}
-use Rattle.just_execution.specs.Run.{tasks_in, priors_by, subsequents_by, part_steps, in_turn, Each}
+use Rattle.just_execution.specs.Run.{tasks_in, priors_in, priors_by, subsequents_after, subsequents_by, block_run, part_steps, in_turn, Each}
 use Rattle.just_execution.proofs.Walks.{blocks, walk, walks}
-use Rattle.just_execution.specs.Walking.{Leaves, State, counted, all_steps, opened, fresh_steps, block_steps, ran, ran_steps, visit_steps, walk_steps}
+use Rattle.just_execution.specs.Walking.{Leaves, Prepared, State, counted, all_steps, opened, fresh_steps, block_steps, ran, ran_steps, visit_steps, walk_steps}
 use Rattle.just_execution.proofs.FrameLemmas.{agree, fresh-same}
 use Rattle.just_execution.proofs.Keeps.{has-append, or_false}
 use Rattle.just_execution.proofs.Ranks.{Below, blocks-append}
@@ -50,11 +51,11 @@ low-all k [] h = All-nil (λ (t : Task). t.pair.recipe < k)
 low-all k (t ∷ ts) h = All-cons (λ (t : Task). t.pair.recipe < k) t ts h.0 (low-all k ts h.1)
 
 module _ (leaves : Leaves) (lower : IsLower leaves) where
-  pub priors-low : (t : Task) (ps : List Task) → Gives (leaves.ask t) ps → AreLow t.pair.recipe ps
-  priors-low t ps g = below-all t.pair.recipe ps (lower.priors t ps g)
+  pub priors-low : (t : Task) (a : Prepared) → Gives (leaves.ask t) a → AreLow t.pair.recipe a.priors
+  priors-low t a g = below-all t.pair.recipe a.priors (lower.priors t a g)
 
-  pub subsequents-low : (t : Task) (ss : List Task) → Gives (leaves.follow t) ss → AreLow t.pair.recipe ss
-  subsequents-low t ss g = below-all t.pair.recipe ss (lower.subsequents t ss g)
+  pub subsequents-low : (t : Task) (h : Held) (ss : List Task) → Gives (leaves.follow t h) ss → AreLow t.pair.recipe ss
+  subsequents-low t h ss g = below-all t.pair.recipe ss (lower.subsequents t h ss g)
 
   -- more room changes nothing
   pub fresh-more : (n m k : ℕ) (ts : List Task) (calls : List ℕ) → k ≤ n → k ≤ m → AreLow k ts → fresh_steps (walk_steps leaves n) ts calls ≡ fresh_steps (walk_steps leaves m) ts calls
@@ -69,7 +70,7 @@ module _ (leaves : Leaves) (lower : IsLower leaves) (f : Question → Answer) (n
   keys_of xs = blocks (map (part_key key) xs)
 
   abbrev turned : List (Part Task) → Steps (Unit {0})
-  turned xs = in_turn (map (part_steps leaves run) xs)
+  turned xs = in_turn (map (part_steps leaves f run) xs)
 
   -- the state has the table of these pairs
   abbrev At : List Pair → State → Unit {0} → Type 0
@@ -84,7 +85,7 @@ module _ (leaves : Leaves) (lower : IsLower leaves) (f : Question → Answer) (n
   keys-append xs ys = ap blocks (map-append (part_key key) xs ys) ∙ blocks-append (map (part_key key) xs) (map (part_key key) ys)
 
   turned-append : (xs ys : List (Part Task)) → and_then (turned xs) (λ _. turned ys) ≡ turned (xs ++ ys)
-  turned-append xs ys = sym (ap in_turn (map-append (part_steps leaves run) xs ys) ∙ in_turn-append (map (part_steps leaves run) xs) (map (part_steps leaves run) ys))
+  turned-append xs ys = sym (ap in_turn (map-append (part_steps leaves f run) xs ys) ∙ in_turn-append (map (part_steps leaves f run) xs) (map (part_steps leaves f run) ys))
 
   put-has : (xs : List Pair) (p : Pair) → put (has same_pair xs) p ≡ has same_pair (xs ++ p ∷ [])
   put-has xs p = λ i q. (ap (λ b. has same_pair xs q || b) (sym (or_false (same_pair p q))) ∙ sym (has-append same_pair xs (p ∷ []) q)) i
@@ -116,50 +117,53 @@ module _ (leaves : Leaves) (lower : IsLower leaves) (f : Question → Answer) (n
       joined (walk_steps leaves j s t) (λ now. all_steps (walk_steps leaves j) now ts) table a b (ih s table t l.0 h (Each-left IsFresh a b g))
       (λ z r. listed j ih z (table ++ keys_of a) ts l.1 r (Each-right IsFresh a b g))
 
-  -- a block
-  block-within : (j : ℕ) (t : Task) (calls : List ℕ) → j ≤ n → t.pair.recipe ≤ j → IsFresh (Block t) →
-      Within f (λ x y. Unit {0}) (block_steps leaves (walk_steps leaves j) t calls) (part_steps leaves run (Block t))
-  block-within j t calls b c g =
+  -- a block, with what asking for its task came to
+  block-within : (j : ℕ) (t : Task) (a : Prepared) (calls : List ℕ) → outcome f (leaves.ask t) ≡ Ok a → j ≤ n → t.pair.recipe ≤ j → IsFresh (Block t) →
+      Within f (λ x y. Unit {0}) (block_steps leaves (walk_steps leaves j) t a.held calls) (part_steps leaves f run (Block t))
+  block-within j t a calls came b c g =
+      let h : Held = a.held in
       let F : List Task → Steps (List ℕ) = λ ts. fresh_steps (walk_steps leaves j) ts calls in
       let subs : List Task = subsequents_by leaves f t in
-      let own : (ts us : List Task) → outcome f (leaves.follow t) ≡ Ok ts → ts ≡ us → Within f (λ x y. Unit {0}) (F ts) (run us) =
+      let own : (ts us : List Task) → outcome f (leaves.follow t h) ≡ Ok ts → ts ≡ us → Within f (λ x y. Unit {0}) (F ts) (run us) =
       λ ts us e same.
-      let is : subs ≡ ts = ap tasks_in e in
-      let low : AreLow t.pair.recipe subs = subst (AreLow t.pair.recipe) (sym is) (subsequents-low leaves lower t ts (outcome-gives f (leaves.follow t) ts e)) in
+      let is : subs ≡ ts = ap (subsequents_after leaves f t) came ∙ ap tasks_in e in
+      let low : AreLow t.pair.recipe subs = subst (AreLow t.pair.recipe) (sym is) (subsequents-low leaves lower t h ts (outcome-gives f (leaves.follow t h) ts e)) in
       let here : Within f (λ x y. Unit {0}) (F subs) (run subs) =
       subst (λ s. Within f (λ x y. Unit {0}) s (run subs)) (fresh-more leaves lower n j t.pair.recipe subs calls g.0 c low) (g.1 calls) in
       subst (λ us. Within f (λ x y. Unit {0}) (F ts) (run us)) same (subst (λ ts. Within f (λ x y. Unit {0}) (F ts) (run ts)) is here) in
-      within-then f (λ (x y : Unit {0}). x ≡ y) (λ x y. Unit {0}) (leaves.execute t) (leaves.execute t) (λ _. and_then (leaves.follow t) F) (λ _. and_then (leaves.follow t) run)
-      (within-itself f (leaves.execute t)) (λ x y d e r.
-      within-then f (λ (x y : List Task). x ≡ y) (λ x y. Unit {0}) (leaves.follow t) (leaves.follow t) F run (within-itself f (leaves.follow t)) (λ ts us d e r. own ts us d r))
+      subst (λ o. Within f (λ x y. Unit {0}) (block_steps leaves (walk_steps leaves j) t h calls) (block_run leaves run t o)) (sym came)
+      (within-then f (λ (x y : Unit {0}). x ≡ y) (λ x y. Unit {0}) (leaves.execute t h) (leaves.execute t h) (λ _. and_then (leaves.follow t h) F) (λ _. and_then (leaves.follow t h) run)
+      (within-itself f (leaves.execute t h)) (λ x y d e r.
+      within-then f (λ (x y : List Task). x ≡ y) (λ x y. Unit {0}) (leaves.follow t h) (leaves.follow t h) F run (within-itself f (leaves.follow t h)) (λ ts us d e r. own ts us d r)))
 
-  ran-within : (j : ℕ) (t : Task) (s : State) (table : List Pair) → j ≤ n → t.pair.recipe ≤ j → IsFresh (Block t) → s.table ≡ has same_pair table →
-      Within f (At (table ++ keys_of (Block t ∷ []))) (ran_steps leaves (walk_steps leaves j) t s) (turned (Block t ∷ []))
-  ran-within j t s table b c g h =
-      within-then f (λ x y. Unit {0}) (At (table ++ t.pair ∷ [])) (block_steps leaves (walk_steps leaves j) t s.calls) (part_steps leaves run (Block t)) (λ calls. Give (ran s t calls)) (λ _. Give tt)
-      (block-within j t s.calls b c g) (λ x y d e r. inl (refl, ap (λ a. put a t.pair) h ∙ put-has table t.pair))
+  ran-within : (j : ℕ) (t : Task) (a : Prepared) (s : State) (table : List Pair) → outcome f (leaves.ask t) ≡ Ok a → j ≤ n → t.pair.recipe ≤ j → IsFresh (Block t) → s.table ≡ has same_pair table →
+      Within f (At (table ++ keys_of (Block t ∷ []))) (ran_steps leaves (walk_steps leaves j) t a.held s) (turned (Block t ∷ []))
+  ran-within j t a s table came b c g h =
+      within-then f (λ x y. Unit {0}) (At (table ++ t.pair ∷ [])) (block_steps leaves (walk_steps leaves j) t a.held s.calls) (part_steps leaves f run (Block t)) (λ calls. Give (ran s t calls)) (λ _. Give tt)
+      (block-within j t a s.calls came b c g) (λ x y d e r. inl (refl, ap (λ a. put a t.pair) h ∙ put-has table t.pair))
 
   -- the questions of a task, and what follows them
   asked : (j : ℕ) → IsWalked j → (s : State) (table : List Pair) (t : Task) → j ≤ n → t.pair.recipe ≤ j → s.table ≡ has same_pair table → (ws : List (Part Task)) →
       ws ≡ walks key (W j) table (priors_by leaves f t) →
       Each IsFresh (Ask t ∷ (ws ++ Block t ∷ [])) →
-      Within f (At (table ++ keys_of (Ask t ∷ (ws ++ Block t ∷ [])))) (and_then (leaves.ask t) (λ ps. and_then (all_steps (walk_steps leaves j) s ps) (ran_steps leaves (walk_steps leaves j) t))) (turned (Ask t ∷ (ws ++ Block t ∷ [])))
+      Within f (At (table ++ keys_of (Ask t ∷ (ws ++ Block t ∷ [])))) (and_then (leaves.ask t) (λ a. and_then (all_steps (walk_steps leaves j) s a.priors) (ran_steps leaves (walk_steps leaves j) t a.held))) (turned (Ask t ∷ (ws ++ Block t ∷ [])))
   asked j ih s table t b c h ws same g =
       let V : State → Task → Steps State = walk_steps leaves j in
-      let next : List Task → Steps State = λ ps. and_then (all_steps V s ps) (ran_steps leaves V t) in
+      let next : Prepared → Steps State = λ a. and_then (all_steps V s a.priors) (ran_steps leaves V t a.held) in
       let R : State → Unit {0} → Type 0 = At (table ++ keys_of (ws ++ Block t ∷ [])) in
       let fresh : Each IsFresh ws = Each-left IsFresh ws (Block t ∷ []) g.1 in
       let block : Each IsFresh (Block t ∷ []) = Each-right IsFresh ws (Block t ∷ []) g.1 in
-      let one : (ps : List Task) → outcome f (leaves.ask t) ≡ Ok ps → Within f R (next ps) (turned (ws ++ Block t ∷ [])) =
-      λ ps e.
-      let is : priors_by leaves f t ≡ ps = ap tasks_in e in
-      let low : AreLow j ps = below-more t.pair.recipe j ps c (priors-low leaves lower t ps (outcome-gives f (leaves.ask t) ps e)) in
+      let one : (a : Prepared) → outcome f (leaves.ask t) ≡ Ok a → Within f R (next a) (turned (ws ++ Block t ∷ [])) =
+      λ a e.
+      let ps : List Task = a.priors in
+      let is : priors_by leaves f t ≡ ps = ap priors_in e in
+      let low : AreLow j ps = below-more t.pair.recipe j ps c (priors-low leaves lower t a (outcome-gives f (leaves.ask t) a e)) in
       let all : walks key (W j) table ps ≡ ws = sym (same ∙ ap (walks key (W j) table) is) in
       let first : Within f (At (table ++ keys_of ws)) (all_steps V s ps) (turned ws) =
       subst (λ xs. Within f (At (table ++ keys_of xs)) (all_steps V s ps) (turned xs)) all (listed j ih s table ps low h (subst (Each IsFresh) (sym all) fresh)) in
-      joined (all_steps V s ps) (ran_steps leaves V t) table ws (Block t ∷ []) first (λ z r. ran-within j t z (table ++ keys_of ws) b c block.0 r) in
+      joined (all_steps V s ps) (ran_steps leaves V t a.held) table ws (Block t ∷ []) first (λ z r. ran-within j t a z (table ++ keys_of ws) e b c block.0 r) in
       subst (λ u. Within f R (and_then (leaves.ask t) next) u) (sym (then-assoc (leaves.ask t) (λ _. Give tt) (λ _. turned (ws ++ Block t ∷ []))))
-      (within-then f (λ (x y : List Task). x ≡ y) R (leaves.ask t) (leaves.ask t) next (λ _. turned (ws ++ Block t ∷ [])) (within-itself f (leaves.ask t)) (λ ps qs d e r. one ps d))
+      (within-then f (λ (x y : Prepared). x ≡ y) R (leaves.ask t) (leaves.ask t) next (λ _. turned (ws ++ Block t ∷ [])) (within-itself f (leaves.ask t)) (λ a b d e r. one a d))
 
   either : (b c : Bool) → b ≡ c → (table : List Pair) (xs : List (Part Task)) (s u : Steps State) →
       Within f (At (table ++ keys_of [])) s (turned []) → (Each IsFresh xs → Within f (At (table ++ keys_of xs)) u (turned xs)) → Each IsFresh (cond c [] xs) →
@@ -182,7 +186,7 @@ module _ (leaves : Leaves) (lower : IsLower leaves) (f : Question → Answer) (n
       let ws : List (Part Task) = walks key (W j) table (priors_by leaves f t) in
       let xs : List (Part Task) = Ask t ∷ (ws ++ Block t ∷ []) in
       let z : State = counted s in
-      let rest : Steps State = and_then (leaves.ask t) (λ ps. and_then (all_steps V z ps) (ran_steps leaves V t)) in
+      let rest : Steps State = and_then (leaves.ask t) (λ a. and_then (all_steps V z a.priors) (ran_steps leaves V t a.held)) in
       let after : Within f (At (table ++ keys_of (W (suc j) table t))) (visit_steps leaves V t z) (turned (W (suc j) table t)) =
       either (z.table t.pair) (has same_pair table t.pair) (ap (λ a. a t.pair) h) table xs (Give z) rest (nothing z table h)
       (λ k. asked j (walked j (omega arith)) z table t (omega arith) (omega arith) h ws refl k) g in

@@ -3,6 +3,7 @@ use Rattle.std.proofs.Common.{◌≡◌, ℕ, zero, suc, ◌+◌, ◌*◌, ◌<�
 use Rattle.std.proofs.lemmas.Nat.{column_fits_turned}
 use Rattle.std.proofs.lemmas.List.Elements.{All-head, All-tail}
 use Rattle.std.proofs.Math.Nat.{mul-suc, mul-le-mul_left}
+use Rattle.just_run_layers.specs.declared.held.Held.{Held}
 use Rattle.just_execution.specs.declared.frame.Frame.{Frame}
 use Rattle.just_execution.specs.declared.frame.Frame.TheVariants.{Call, Block, Back}
 use Rattle.just_execution.specs.declared.frame.OpenTable.{OpenTable}
@@ -51,24 +52,24 @@ module _ (most : ℕ) where
   one-more xs x = let h = weight-append xs (x ∷ []) in omega arith
 
   -- a call leads to a block and the calls of its priors
-  pub call-lighter : (xs : List Frame) (t : Task) (ps : List Task) → AllBelow t.pair.recipe ps → length ps < most → weight most (xs ++ Block t ∷ calls_of ps) < weight most (xs ++ Call t ∷ [])
-  call-lighter xs t ps b l =
+  pub call-lighter : (xs : List Frame) (t : Task) (x : Held) (ps : List Task) → AllBelow t.pair.recipe ps → length ps < most → weight most (xs ++ Block t x ∷ calls_of ps) < weight most (xs ++ Call t ∷ [])
+  call-lighter xs t x ps b l =
       let h = calls-light t.pair.recipe ps b l in
-      let new : weight most (xs ++ Block t ∷ calls_of ps) ≡ weight most xs + (suc (most * cost most t.pair.recipe) + weight most (calls_of ps)) = weight-append xs (Block t ∷ calls_of ps) in
+      let new : weight most (xs ++ Block t x ∷ calls_of ps) ≡ weight most xs + (suc (most * cost most t.pair.recipe) + weight most (calls_of ps)) = weight-append xs (Block t x ∷ calls_of ps) in
       let old : weight most (xs ++ Call t ∷ []) ≡ weight most xs + suc (suc (most * cost most t.pair.recipe) + most * cost most t.pair.recipe) = one-more xs (Call t) in
       omega arith
 
   -- a block leads to the way back and the calls of its subsequents
-  pub block-lighter : (xs : List Frame) (t : Task) (outer : OpenTable) (ts : List Task) → AllBelow t.pair.recipe ts → length ts < most → weight most (xs ++ Back outer ∷ calls_of ts) < weight most (xs ++ Block t ∷ [])
-  block-lighter xs t outer ts b l =
+  pub block-lighter : (xs : List Frame) (t : Task) (x : Held) (outer : OpenTable) (ts : List Task) → AllBelow t.pair.recipe ts → length ts < most → weight most (xs ++ Back outer ∷ calls_of ts) < weight most (xs ++ Block t x ∷ [])
+  block-lighter xs t x outer ts b l =
       let h = calls-light t.pair.recipe ts b l in
       let new : weight most (xs ++ Back outer ∷ calls_of ts) ≡ weight most xs + (1 + weight most (calls_of ts)) = weight-append xs (Back outer ∷ calls_of ts) in
-      let old : weight most (xs ++ Block t ∷ []) ≡ weight most xs + suc (most * cost most t.pair.recipe) = one-more xs (Block t) in
+      let old : weight most (xs ++ Block t x ∷ []) ≡ weight most xs + suc (most * cost most t.pair.recipe) = one-more xs (Block t x) in
       omega arith
 
   frame-some : (x : Frame) → 1 ≤ frame_weight most x
   frame-some (Call t) = omega arith
-  frame-some (Block t) = omega arith
+  frame-some (Block t x) = omega arith
   frame-some (Back outer) = omega arith
 
   -- or to nothing

@@ -4,6 +4,7 @@ use Rattle.std.specs.Prelude.{flat_map, Result}
 use Rattle.std.proofs.lemmas.Bool.{cases_Bool, cond-true, cond-false}
 use Rattle.just_errors.specs.declared.halt.Halt.{Halt}
 use Rattle.just_run_layers.specs.Host.{Answer}
+use Rattle.just_run_layers.specs.declared.held.Held.{Held}
 use Rattle.just_run_layers.specs.Steps.{Question, Steps, and_then, Gives, outcome}
 use Rattle.just_run_layers.proofs.StepLemmas.{then-each}
 use Rattle.just_execution.specs.declared.pair.Pair.{Pair}
@@ -12,9 +13,9 @@ use Rattle.just_execution.specs.Firsts.{has, without_key, firsts_by}
 use Rattle.just_execution.specs.Lower.{IsLower}
 use Rattle.just_execution.specs.declared.task.Task.{Task}
 use Rattle.just_execution.specs.Pairs.{same_pair, key, task, AllBelow}
-use Rattle.just_execution.specs.Run.{tasks_in, priors_by, subsequents_by, part_steps, in_turn, parts, run_steps, Each, IsEvenPart, IsEven}
+use Rattle.just_execution.specs.Run.{tasks_in, priors_in, priors_by, subsequents_after, subsequents_by, block_run, part_steps, in_turn, parts, run_steps, Each, IsEvenPart, IsEven}
 use Rattle.just_execution.proofs.Walks.{blocks, walk, walks}
-use Rattle.just_execution.specs.Walking.{Leaves, fresh_steps, walk_steps}
+use Rattle.just_execution.specs.Walking.{Leaves, Prepared, fresh_steps, walk_steps}
 use Rattle.just_execution.proofs.Keeps.{Exact}
 use Rattle.just_execution.proofs.Keyed.{walks-firsts_by}
 use Rattle.just_execution.proofs.Pairs.{pair-exact}
@@ -102,11 +103,19 @@ module _ (leaves : Leaves) (lower : IsLower leaves) (f : Question → Answer) wh
   low-in k s h (Ok ts) e = h ts (outcome-gives f s ts e)
   low-in k s h (Err d) e = tt
 
+  low-asked : (t : Task) (r : Result Prepared Halt) → outcome f (leaves.ask t) ≡ r → AreLow t.pair.recipe (priors_in r)
+  low-asked t (Ok a) e = priors-low leaves lower t a (outcome-gives f (leaves.ask t) a e)
+  low-asked t (Err d) e = tt
+
   priors-lower : (t : Task) → AreLow t.pair.recipe (priors_by leaves f t)
-  priors-lower t = low-in t.pair.recipe (leaves.ask t) (priors-low leaves lower t) (outcome f (leaves.ask t)) refl
+  priors-lower t = low-asked t (outcome f (leaves.ask t)) refl
+
+  low-after : (t : Task) (r : Result Prepared Halt) → AreLow t.pair.recipe (subsequents_after leaves f t r)
+  low-after t (Ok a) = low-in t.pair.recipe (leaves.follow t a.held) (subsequents-low leaves lower t a.held) (outcome f (leaves.follow t a.held)) refl
+  low-after t (Err d) = tt
 
   subsequents-lower : (t : Task) → AreLow t.pair.recipe (subsequents_by leaves f t)
-  subsequents-lower t = low-in t.pair.recipe (leaves.follow t) (subsequents-low leaves lower t) (outcome f (leaves.follow t)) refl
+  subsequents-lower t = low-after t (outcome f (leaves.ask t))
 
   -- the parts of an expansion are of low tasks
   abbrev IsLow : ℕ → Part Task → Type 0
@@ -148,7 +157,7 @@ module _ (leaves : Leaves) (lower : IsLower leaves) (f : Question → Answer) wh
   parts-even run (Block t ∷ xs) s = (tt, parts-even run xs s.1)
 
   -- so the walk is the parts of the run
-  walk-parts : (run : List Task → Type 0) (n : ℕ) (ts : List Task) → AreLow n ts → Each (IsEvenPart leaves f run) (parts leaves f n ts) →
+  pub walk-parts : (run : List Task → Type 0) (n : ℕ) (ts : List Task) → AreLow n ts → Each (IsEvenPart leaves f run) (parts leaves f n ts) →
       walks key (walk same_pair key (priors_by leaves f) n) [] ts ≡ parts leaves f n ts
   walk-parts run n ts b s =
       let G : Task → List Task = λ t. plain (key t) in
@@ -179,7 +188,7 @@ module _ (leaves : Leaves) (lower : IsLower leaves) (f : Question → Answer) wh
       let ws : List (Part Task) = walks key (walk same_pair key (priors_by leaves f) (suc n)) [] ts in
       let same : ws ≡ S = walk-parts (IsEven leaves f n) (suc n) ts b s in
       let fresh : Each (IsFresh leaves lower f n run) S = parts-fresh n (runs n) S (low-parts (suc n) (suc n) ts b) s in
-      subst (λ xs. Within f (λ x y. Unit {0}) (fresh_steps (walk_steps leaves (suc n)) ts calls) (in_turn (map (part_steps leaves run) xs))) same
+      subst (λ xs. Within f (λ x y. Unit {0}) (fresh_steps (walk_steps leaves (suc n)) ts calls) (in_turn (map (part_steps leaves f run) xs))) same
       (fresh-walked leaves lower f n run ts calls b (subst (Each (IsFresh leaves lower f n run)) (sym same) fresh))
 
   -- more room changes nothing in an expansion
@@ -198,22 +207,28 @@ module _ (leaves : Leaves) (lower : IsLower leaves) (f : Question → Answer) wh
   both-more n m [] a b = refl
   both-more n m (t ∷ ts) a b = ap (λ x. x ++ flat_map (E n) ts) (expansion-more n m t a.0 b.0) ∙ ap (λ x. E m t ++ x) (both-more n m ts a.1 b.1)
 
+  -- blocks whose subsequents run alike
+  block-more : (N M : List Task → Steps (Unit {0})) (t : Task) → ((h : Held) (ts : List Task) → Gives (leaves.follow t h) ts → N ts ≡ M ts) → (r : Result Prepared Halt) →
+      block_run leaves N t r ≡ block_run leaves M t r
+  block-more N M t same (Ok a) = ap (λ x. and_then (leaves.execute t a.held) (λ _. x)) (then-each (leaves.follow t a.held) N M (same a.held))
+  block-more N M t same (Err d) = refl
+
   turn-more : (n m : ℕ) → ((ts : List Task) → AreLow n ts → AreLow m ts → run_steps leaves f n ts ≡ run_steps leaves f m ts) → (xs : List (Part Task)) → Each (IsLow (suc n)) xs →
       Each (IsLow (suc m)) xs →
-      in_turn (map (part_steps leaves (run_steps leaves f n)) xs) ≡ in_turn (map (part_steps leaves (run_steps leaves f m)) xs)
+      in_turn (map (part_steps leaves f (run_steps leaves f n)) xs) ≡ in_turn (map (part_steps leaves f (run_steps leaves f m)) xs)
   turn-more n m ih [] a b = refl
-  turn-more n m ih (Ask t ∷ xs) a b = ap (λ s. and_then (part_steps leaves (run_steps leaves f n) (Ask t)) (λ _. s)) (turn-more n m ih xs a.1 b.1)
+  turn-more n m ih (Ask t ∷ xs) a b = ap (λ s. and_then (part_steps leaves f (run_steps leaves f n) (Ask t)) (λ _. s)) (turn-more n m ih xs a.1 b.1)
   turn-more n m ih (Block t ∷ xs) a b =
       let in_n : t.pair.recipe < suc n = a.0 in
       let in_m : t.pair.recipe < suc m = b.0 in
       let N : List Task → Steps (Unit {0}) = run_steps leaves f n in
       let M : List Task → Steps (Unit {0}) = run_steps leaves f m in
-      let own : and_then (leaves.follow t) N ≡ and_then (leaves.follow t) M =
-      then-each (leaves.follow t) N M (λ ts g.
-      let low : AreLow t.pair.recipe ts = subsequents-low leaves lower t ts g in
-      ih ts (below-more t.pair.recipe n ts (omega arith) low) (below-more t.pair.recipe m ts (omega arith) low)) in
-      ap (λ x. and_then (and_then (leaves.execute t) (λ _. x)) (λ _. in_turn (map (part_steps leaves N) xs))) own
-      ∙ ap (λ s. and_then (part_steps leaves M (Block t)) (λ _. s)) (turn-more n m ih xs a.1 b.1)
+      let below : (h : Held) (ts : List Task) → Gives (leaves.follow t h) ts → N ts ≡ M ts =
+      λ h ts g.
+      let low : AreLow t.pair.recipe ts = subsequents-low leaves lower t h ts g in
+      ih ts (below-more t.pair.recipe n ts (omega arith) low) (below-more t.pair.recipe m ts (omega arith) low) in
+      ap (λ x. and_then x (λ _. in_turn (map (part_steps leaves f N) xs))) (block-more N M t below (outcome f (leaves.ask t)))
+      ∙ ap (λ s. and_then (part_steps leaves f M (Block t)) (λ _. s)) (turn-more n m ih xs a.1 b.1)
 
   runs-more : (n m : ℕ) (ts : List Task) → AreLow n ts → AreLow m ts → run_steps leaves f n ts ≡ run_steps leaves f m ts
   runs-more zero zero ts a b = refl
@@ -223,7 +238,7 @@ module _ (leaves : Leaves) (lower : IsLower leaves) (f : Question → Answer) wh
   runs-more (suc n) zero (t ∷ ts) a b = let h = b.0 in absurd (omega arith)
   runs-more (suc n) (suc m) ts a b =
       turn-more n m (runs-more n m) (parts leaves f (suc n) ts) (low-parts (suc n) (suc n) ts a) (low-parts (suc n) (suc m) ts b)
-      ∙ ap (λ xs. in_turn (map (part_steps leaves (run_steps leaves f m)) (firsts_by (same_part same_pair) (part_key key) xs))) (both-more (suc n) (suc m) ts a b)
+      ∙ ap (λ xs. in_turn (map (part_steps leaves f (run_steps leaves f m)) (firsts_by (same_part same_pair) (part_key key) xs))) (both-more (suc n) (suc m) ts a b)
 
 -- the walk of a fresh table is within the expected run
 pub fresh-run : (leaves : Leaves) → IsLower leaves → (f : Question → Answer) (n : ℕ) (ts : List Task) (calls : List ℕ) → AllBelow n ts → IsEven leaves f n ts →

@@ -8,25 +8,27 @@ use Rattle.just_run_layers.specs.declared.host.Entry.{Entry}
 use Rattle.just_recipe.specs.declared.dependency.Dependency.{Dependency}
 use Rattle.just_recipe.specs.declared.recipe.Recipe.{Recipe}
 use Rattle.just_run_layers.specs.Evaluation.{Inquiry}
+use Rattle.just_run_layers.specs.declared.held.Held.{Held}
 use Rattle.just_run_layers.specs.Host.{Answer}
-use Rattle.just_run_layers.specs.Steps.{Kept, kept_by, Question, Steps, Give, and_then, Took, both}
+use Rattle.just_run_layers.specs.Steps.{Kept, Question, Steps, Give, and_then, Took, both}
 use Rattle.just_execution.specs.declared.course.Course.{Course}
 use Rattle.just_execution.specs.declared.frame.Frame.{Frame}
 use Rattle.just_execution.specs.declared.frame.Frame.TheVariants.{Call, Block, Back}
 use Rattle.just_execution.specs.declared.frame.OpenTable.{OpenTable}
 use Rattle.just_execution.specs.declared.task.Task.{Task}
 use Rattle.just_parts.specs.Syntax.{SyntaxAnswers}
-use Rattle.just_execution.specs.Homes.{IsCallable, Modules}
+use Rattle.just_execution.specs.Homes.{IsCallable, IsServed, Modules}
 use Rattle.just_execution.specs.Pairs.{AllBelow, table_of}
 use Rattle.just_execution.specs.Leaves.{leaves_of}
+use Rattle.just_execution.specs.Scene.{Scene}
 use Rattle.just_execution.specs.Walking.{Leaves, State, fresh_steps, ran_steps, walk_steps}
 
 -- the walk of a task, with as much fuel as its place needs
 abbrev pub walk_at : Leaves → State → Task → Steps State
 walk_at leaves s t = walk_steps leaves (suc t.pair.recipe) s t
 
-abbrev pub block_at : Leaves → Task → State → Steps State
-block_at leaves t s = ran_steps leaves (walk_steps leaves t.pair.recipe) t s
+abbrev pub block_at : Leaves → Task → Held → State → Steps State
+block_at leaves t h s = ran_steps leaves (walk_steps leaves t.pair.recipe) t h s
 
 -- the state with other counters
 abbrev pub with_calls : State → List ℕ → State
@@ -39,7 +41,7 @@ under outer calls = record { number = outer.number; table = table_of outer.table
 -- what a frame stands for
 abbrev pub frame_steps : Leaves → Frame → State → Steps State
 frame_steps leaves (Call t) s = walk_at leaves s t
-frame_steps leaves (Block t) s = block_at leaves t s
+frame_steps leaves (Block t h) s = block_at leaves t h s
 frame_steps leaves (Back outer) s = Give (under outer s.calls)
 
 -- what is left
@@ -52,14 +54,14 @@ abbrev pub calls_of : List Task → List Frame
 calls_of [] = []
 calls_of (t ∷ ts) = calls_of ts ++ Call t ∷ []
 
--- its task can be called (by what P says), or its counter is there
-abbrev pub IsOpen : (Task → Type 0) → ℕ → Frame → Type 0
-IsOpen P counters (Call t) = P t
-IsOpen P counters (Block t) = P t
-IsOpen P counters (Back outer) = outer.number < counters
+-- its task can be called (by what P says) and what it holds serves it (by what Q says), or its counter is there
+abbrev pub IsOpen : (Task → Type 0) → (Task → Held → Type 0) → ℕ → Frame → Type 0
+IsOpen P Q counters (Call t) = P t
+IsOpen P Q counters (Block t h) = P t × Q t h
+IsOpen P Q counters (Back outer) = outer.number < counters
 
-abbrev pub AreOpen : (Task → Type 0) → ℕ → List Frame → Type 0
-AreOpen P counters frames = All (IsOpen P counters) frames
+abbrev pub AreOpen : (Task → Type 0) → (Task → Held → Type 0) → ℕ → List Frame → Type 0
+AreOpen P Q counters frames = All (IsOpen P Q counters) frames
 
 -- How much is left at most, where a task leads to fewer than `most` others: it falls with each frame that is taken.
 abbrev pub cost : ℕ → ℕ → ℕ
@@ -68,7 +70,7 @@ cost most (suc n) = suc (suc (most * cost most n) + most * cost most n)
 
 abbrev pub frame_weight : ℕ → Frame → ℕ
 frame_weight most (Call t) = cost most (suc t.pair.recipe)
-frame_weight most (Block t) = suc (most * cost most t.pair.recipe)
+frame_weight most (Block t h) = suc (most * cost most t.pair.recipe)
 frame_weight most (Back outer) = 1
 
 abbrev pub weight : ℕ → List Frame → ℕ
@@ -79,10 +81,17 @@ weight most (x ∷ xs) = frame_weight most x + weight most xs
 abbrev pub state_of : Course → State
 state_of course = under course.current course.calls.items
 
--- each task that is left can be called, and each table has its counter
-pub record IsSound (P : Task → Type 0) (course : Course) : Type 0 where
-  pub frames : AreOpen P (length course.calls.items) course.frames.items
+-- each task that is left can be called, what it holds serves it, and each table has its counter
+pub record IsSound (P : Task → Type 0) (Q : Task → Held → Type 0) (course : Course) : Type 0 where
+  pub frames : AreOpen P Q (length course.calls.items) course.frames.items
   pub number : course.current.number < length course.calls.items
+
+-- so of a run in modules
+abbrev pub IsSoundIn : SyntaxAnswers → Modules → List (Recipe Dependency) → Course → Type 0
+IsSoundIn answers modules recipes course = IsSound (IsCallable answers modules recipes) (IsServed answers modules recipes) course
+
+abbrev pub IsOpenIn : SyntaxAnswers → Modules → List (Recipe Dependency) → ℕ → Frame → Type 0
+IsOpenIn answers modules recipes counters frame = IsOpen (IsCallable answers modules recipes) (IsServed answers modules recipes) counters frame
 
 -- what is left of it; and with one more frame
 abbrev pub left_of : Leaves → Course → Steps State
@@ -101,23 +110,22 @@ abbrev pub with_value : {A U E : Type 0} → A → Result U E → Result A E
 with_value x (Ok u) = Ok x
 with_value x (Err e) = Err e
 
--- a frame leads from what was left to what is left
-abbrev pub Leads : (Inquiry → Option Answer) → (Entry → Option Answer) → List (Recipe Dependency) → Frame → Course → Kept → Course → Kept → Result (Unit {0}) Halt → Type 0
-Leads evaluator host recipes frame old kept new keeps result =
-    Goes (both evaluator host) (left_with (leaves_of recipes) frame old) kept (left_of (leaves_of recipes) new) keeps result
+-- a frame of a run in a scene leads from what was left to what is left
+abbrev pub Leads : (Inquiry → Option Answer) → (Entry → Option Answer) → Scene → Frame → Course → Kept → Course → Kept → Result (Unit {0}) Halt → Type 0
+Leads evaluator host scene frame old kept new keeps result =
+    Goes (both evaluator host) (left_with (leaves_of scene) frame old) kept (left_of (leaves_of scene) new) keeps result
 
--- the call of a task, which asks the host nothing; and its block
-abbrev pub Calls : (Inquiry → Option Answer) → List (Recipe Dependency) → Task → Course → List Inquiry → Course → List Inquiry → Result (Unit {0}) Halt → Type 0
-Calls evaluator recipes task old before new later result =
-    (host : Entry → Option Answer) (entries : List Entry) → Leads evaluator host recipes (Call task) old (kept_by entries before) new (kept_by entries later) result
+-- the call of a task; and its block, with what it holds
+abbrev pub Calls : (Inquiry → Option Answer) → (Entry → Option Answer) → Scene → Task → Course → Kept → Course → Kept → Result (Unit {0}) Halt → Type 0
+Calls evaluator host scene task old kept new keeps result = Leads evaluator host scene (Call task) old kept new keeps result
 
-abbrev pub Blocks : (Inquiry → Option Answer) → (Entry → Option Answer) → List (Recipe Dependency) → Task → Course → Kept → Course → Kept → Result (Unit {0}) Halt → Type 0
-Blocks evaluator host recipes task old kept new keeps result = Leads evaluator host recipes (Block task) old kept new keeps result
+abbrev pub Blocks : (Inquiry → Option Answer) → (Entry → Option Answer) → Scene → Task → Held → Course → Kept → Course → Kept → Result (Unit {0}) Halt → Type 0
+Blocks evaluator host scene task held old kept new keeps result = Leads evaluator host scene (Block task held) old kept new keeps result
 
 -- all that was left was taken
-abbrev pub Finishes : (Inquiry → Option Answer) → (Entry → Option Answer) → List (Recipe Dependency) → Course → Kept → Course → Kept → Result (Unit {0}) Halt → Type 0
-Finishes evaluator host recipes old kept new keeps result =
-    Took (both evaluator host) (left_of (leaves_of recipes) old) kept keeps (with_value (state_of new) result)
+abbrev pub Finishes : (Inquiry → Option Answer) → (Entry → Option Answer) → Scene → Course → Kept → Course → Kept → Result (Unit {0}) Halt → Type 0
+Finishes evaluator host scene old kept new keeps result =
+    Took (both evaluator host) (left_of (leaves_of scene) old) kept keeps (with_value (state_of new) result)
 
 -- fewer is left than a frame more
 abbrev pub IsLighter : List Frame → List Frame → Frame → Type 0
@@ -128,8 +136,8 @@ pub record IsOpened (old : Course) (tasks : List Task) (new : Course) : Type 0 w
   pub left : (leaves : Leaves) → left_of leaves new ≡
       and_then (fresh_steps (walk_at leaves) tasks old.calls.items) (λ calls. left leaves old.frames.items (with_calls (state_of old) calls))
   pub sound : (answers : SyntaxAnswers) (modules : Modules) (recipes : List (Recipe Dependency)) → All (IsCallable answers modules recipes) tasks →
-      IsSound (IsCallable answers modules recipes) old → IsSound (IsCallable answers modules recipes) new
-  pub lighter : (task : Task) → AllBelow task.pair.recipe tasks → IsLighter new.frames.items old.frames.items (Block task)
+      IsSoundIn answers modules recipes old → IsSoundIn answers modules recipes new
+  pub lighter : (task : Task) (held : Held) → AllBelow task.pair.recipe tasks → IsLighter new.frames.items old.frames.items (Block task held)
 
 -- the elements of a vector that came out
 abbrev pub items_of : {A E : Type 0} → Result (Vec A Global) E → Result (List A) E

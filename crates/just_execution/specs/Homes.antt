@@ -3,6 +3,7 @@ use Rattle.std.proofs.Common.{BuildHasherDefault, FoldHasher}
 use Rattle.std.specs.Prelude.{◌≡◌, ◌<◌, ℕ, List, [], ◌∷◌, length, Option, None, Some, IsSome}
 use Rattle.std.specs.HashMap.{HashMap, get}
 use Rattle.std.specs.List.{All, slice_get}
+use Rattle.just_ast_expressions.specs.declared.scope.Scope.{Scope}
 use Rattle.just_names.specs.Texts.{Text}
 use Rattle.just_parts.specs.Evaluator.{Values, values_of}
 use Rattle.just_parts.specs.Known.{Known, sources}
@@ -15,6 +16,7 @@ use Rattle.just_recipe.specs.Grouping.{joined}
 use Rattle.just_recipe.specs.declared.dependency.Dependency.{Dependency}
 use Rattle.just_recipe.specs.declared.dependency.DependencyArgument.{DependencyArgument}
 use Rattle.just_recipe.specs.declared.recipe.Recipe.{Recipe}
+use Rattle.just_run_layers.specs.declared.held.Held.{Held}
 use Rattle.just_execution.specs.declared.scopes.ModuleScope.{ModuleScope}
 use Rattle.just_execution.specs.declared.task.Task.{Task}
 use Rattle.just_execution.specs.Unready.{LeadTo}
@@ -35,15 +37,15 @@ arguments_of d = joined d.arguments
 abbrev pub HasValues : Known → Values → Scoped → Type 0
 HasValues known values s = (name : Text) → Reads known s.hidden s.expression name → IsSome (values name)
 
--- whatever it reads is bound in a module
-abbrev pub IsBound : SyntaxAnswers → ModuleScope → Recipe Dependency → Type 0
-IsBound answers m r =
-    All (HasValues (sources m.context.assignments.now m.context.functions.now) (values_of m.scope)) (scopes_of arguments_of answers m.context.settings.now r)
+-- whatever a recipe of a module reads is bound in a scope
+abbrev pub IsBound : SyntaxAnswers → ModuleScope → Recipe Dependency → Scope → Type 0
+IsBound answers m r scope =
+    All (HasValues (sources m.context.assignments.now m.context.functions.now) (values_of scope)) (scopes_of arguments_of answers m.context.settings.now r)
 
--- a module is that of a recipe: it has the recipe's path, and what the recipe reads is bound in it
+-- a module is that of a recipe: it has the recipe's path, and what the recipe reads is bound among its values
 pub record IsHomeOf (answers : SyntaxAnswers) (m : ModuleScope) (r : Recipe Dependency) : Type 0 where
   pub path : r.module_path ≡ Some m.context.module_path.now
-  pub bound : IsBound answers m r
+  pub bound : IsBound answers m r m.scope
 
 -- a recipe is at home: its module is among those of the run
 pub record IsHome (answers : SyntaxAnswers) (modules : Modules) (r : Recipe Dependency) : Type 0 where
@@ -63,6 +65,15 @@ pub record IsCallable (answers : SyntaxAnswers) (modules : Modules) (recipes : L
 -- a module is that of the recipe at a place
 abbrev pub IsHomeAt : SyntaxAnswers → ModuleScope → List (Recipe Dependency) → ℕ → Type 0
 IsHomeAt answers m recipes place = (recipe : Recipe Dependency) → slice_get recipes place ≡ Some recipe → IsHomeOf answers m recipe
+
+-- what is held serves the recipe at a place in a module: what the recipe reads is bound in it
+abbrev pub ServesAt : SyntaxAnswers → ModuleScope → List (Recipe Dependency) → ℕ → Held → Type 0
+ServesAt answers m recipes place h = (recipe : Recipe Dependency) → slice_get recipes place ≡ Some recipe → IsBound answers m recipe h.scope
+
+-- it serves a task: in the module of the task's recipe
+abbrev pub IsServed : SyntaxAnswers → Modules → List (Recipe Dependency) → Task → Held → Type 0
+IsServed answers modules recipes t h =
+    (m : ModuleScope) (recipe : Recipe Dependency) → slice_get recipes t.pair.recipe ≡ Some recipe → module_at modules recipe.module_path ≡ Some m → IsBound answers m recipe h.scope
 
 -- the module of a recipe is under its path among those of a run
 abbrev pub IsAmong : Modules → Recipe Dependency → Type 0

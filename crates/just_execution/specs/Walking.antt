@@ -2,14 +2,21 @@
 use Rattle.std.specs.Prelude.{◌==◌, ◌^◌, ◌+◌, ℕ, zero, suc, cond, List, [], ◌∷◌, ◌++◌, length, get_or}
 use Rattle.just_errors.specs.declared.halt.Halt.TheVariants.{Exhausted}
 use Rattle.just_run_layers.specs.Steps.{Steps, Give, Fail, and_then}
+use Rattle.just_run_layers.specs.declared.held.Held.{Held}
 use Rattle.just_execution.specs.declared.task.Task.{Task}
 use Rattle.just_execution.specs.Pairs.{OnceTable, none, put}
 
--- what is asked of one task: before its priors, which that gives; for its body; and for its subsequents, which that gives
+-- what asking for a task comes to: what is held for its block, and its priors
+pub record Prepared : Type 0 where
+  pub held : Held
+  pub priors : List Task
+
+-- What is asked of one task: before its priors, which gives these and what is held for the block; and in the block, by what is held, for its
+-- body, and for its subsequents, which that gives.
 pub record Leaves : Type 0 where
-  pub ask : Task → Steps (List Task)
-  pub execute : Task → Steps (Unit {0})
-  pub follow : Task → Steps (List Task)
+  pub ask : Task → Steps Prepared
+  pub execute : Task → Held → Steps (Unit {0})
+  pub follow : Task → Held → Steps (List Task)
 
 -- where a run stands: the number of its table, the pairs that ran under it, and the counters of all tables
 pub record State : Type 0 where
@@ -44,21 +51,21 @@ abbrev pub fresh_steps : (State → Task → Steps State) → List Task → List
 fresh_steps walk [] calls = Give calls
 fresh_steps walk (t ∷ ts) calls = and_then (all_steps walk (opened calls) (t ∷ ts)) (λ s. Give s.calls)
 
--- the body of a task, and its subsequents under a table of their own
-abbrev pub block_steps : Leaves → (State → Task → Steps State) → Task → List ℕ → Steps (List ℕ)
-block_steps leaves walk t calls = and_then (leaves.execute t) (λ _. and_then (leaves.follow t) (λ ts. fresh_steps walk ts calls))
+-- the body of a task that holds a value, and its subsequents under a table of their own
+abbrev pub block_steps : Leaves → (State → Task → Steps State) → Task → Held → List ℕ → Steps (List ℕ)
+block_steps leaves walk t h calls = and_then (leaves.execute t h) (λ _. and_then (leaves.follow t h) (λ ts. fresh_steps walk ts calls))
 
 -- the pair ran
 abbrev pub ran : State → Task → List ℕ → State
 ran s t calls = record { number = s.number; table = put s.table t.pair; calls = calls }
 
-abbrev pub ran_steps : Leaves → (State → Task → Steps State) → Task → State → Steps State
-ran_steps leaves walk t s = and_then (block_steps leaves walk t s.calls) (λ calls. Give (ran s t calls))
+abbrev pub ran_steps : Leaves → (State → Task → Steps State) → Task → Held → State → Steps State
+ran_steps leaves walk t h s = and_then (block_steps leaves walk t h s.calls) (λ calls. Give (ran s t calls))
 
--- unless its pair ran: its questions, its priors, its block
+-- unless its pair ran: its questions, its priors, its block with what was held
 abbrev pub visit_steps : Leaves → (State → Task → Steps State) → Task → State → Steps State
 visit_steps leaves walk t s =
-    cond (s.table t.pair) (Give s) (and_then (leaves.ask t) (λ ps. and_then (all_steps walk s ps) (ran_steps leaves walk t)))
+    cond (s.table t.pair) (Give s) (and_then (leaves.ask t) (λ a. and_then (all_steps walk s a.priors) (ran_steps leaves walk t a.held)))
 
 -- a task of a place below n
 abbrev pub walk_steps : Leaves → ℕ → State → Task → Steps State

@@ -11,9 +11,9 @@ use std::mem::replace;
 
 /// A run under way.
 #[derive(Drop)]
-pub struct Course {
+pub struct Course<'src> {
     /// What is still to do: the last is taken next.
-    pub frames: Vec<Frame>,
+    pub frames: Vec<Frame<'src>>,
     /// The table under which it is called.
     pub current: OpenTable,
     /// How often each table was called under, in the order of opening.
@@ -38,7 +38,7 @@ pub fn count_call<'src>(calls: &mut Vec<u64>, number: usize) -> Result<(), Halt<
 }
 
 /// Calls tasks next, the first before the others.
-pub fn push_calls(frames: &mut Vec<Frame>, tasks: Vec<Task>) -> Result<(), AllocError>
+pub fn push_calls<'src>(frames: &mut Vec<Frame<'src>>, tasks: Vec<Task>) -> Result<(), AllocError>
     ensures { OnOk result (frames.new.items ≡ frames.old.items ++ calls_of tasks.items) }
 {
     let mut rest = tasks;
@@ -48,13 +48,13 @@ pub fn push_calls(frames: &mut Vec<Frame>, tasks: Vec<Task>) -> Result<(), Alloc
     Ok(())
 }
 
-impl Course {
+impl<'src> Course<'src> {
     ghost use Rattle.std.specs.Prelude.{◌≡◌, [], IfOk, OnOk};
     ghost use Rattle.just_execution.specs.Frames.{IsOpened, state_of};
     ghost use Rattle.just_execution.specs.Walking.{opened};
 
     /// A run with nothing to do, under its first table.
-    pub fn new(alloc: Global) -> Result<Course, AllocError>
+    pub fn new(alloc: Global) -> Result<Course<'src>, AllocError>
         ensures frames { IfOk result (λ course. course.frames.items ≡ []) }
         ensures state { IfOk result (λ course. state_of course ≡ opened []) }
     {

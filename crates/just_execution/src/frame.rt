@@ -1,5 +1,6 @@
 use crate::once::Once;
 use crate::task::Task;
+use just_run_layers::Held;
 
 /// A once table that is open, and the number of its counter.
 #[derive(Drop)]
@@ -12,11 +13,11 @@ pub struct OpenTable {
 
 /// What is still to do in a run.
 #[derive(Drop)]
-pub enum Frame {
+pub enum Frame<'src> {
     /// A task is called.
     Call(Task),
-    /// A task whose priors ran is executed, and then its subsequents.
-    Block(Task),
+    /// A task whose priors ran is executed, and then its subsequents, with what was held since it was asked for.
+    Block(Task, Held<'src>),
     /// An outer table is open again.
     Back(OpenTable),
 }

@@ -1,28 +1,42 @@
 //! Laws: calls that do nothing, whose contracts say what definitions keep.
-ghost use Rattle.std.specs.Prelude.{◌≤◌, ℕ, List, Result, Err, length};
-ghost use Rattle.just_recipe.specs.declared.dependency.Dependency.{Dependency};
+ghost use Rattle.std.specs.Prelude.{◌≡◌, ◌≤◌, ℕ, List, Result, Err, length};
+ghost use Rattle.just_graph.specs.Members.{In};
 ghost use Rattle.just_errors.specs.declared.halt.Halt.{Halt};
 ghost use Rattle.just_run_layers.specs.declared.host.Entry.{Entry};
-ghost use Rattle.just_recipe.specs.declared.recipe.Recipe.{Recipe};
 ghost use Rattle.just_run_layers.specs.Host.{Answer};
 ghost use Rattle.just_run_layers.specs.Steps.{Question, Follows};
 ghost use Rattle.just_execution.specs.declared.task.Task.{Task};
+ghost use Rattle.just_execution.specs.Expansion.{Block};
 ghost use Rattle.just_execution.specs.Leaves.{leaves_of};
+ghost use Rattle.just_execution.specs.Pairs.{AllBelow};
 ghost use Rattle.just_recipe.specs.Recipes.{IsOrdered};
-ghost use Rattle.just_execution.specs.Reports.{IsEnough, IsOne};
-ghost use Rattle.just_execution.specs.Run.{IsEven};
+ghost use Rattle.just_execution.specs.Reports.{IsEnough, IsFirstAsked, IsOne};
+ghost use Rattle.just_execution.specs.Run.{IsEven, parts};
+ghost use Rattle.just_execution.specs.Scene.{AreAlike, Scene};
 
 /// An expected run with as much fuel as there are recipes is whole: more fuel changes nothing.
 pub fn enough_fuel()
-    ensures { (recipes : _) (n : ℕ) → IsOrdered recipes → length recipes ≤ n → IsEnough recipes n }
+    ensures { (scene : Scene) (n : ℕ) → IsOrdered scene.recipes → length scene.recipes ≤ n → IsEnough scene n }
 {}
 
-/// The priors of these recipes do not hang on how a task is called.
+/// The priors of the recipes of a scene do not hang on how a task is called.
 pub fn priors_are_even()
-    ensures { (recipes : List (Recipe Dependency)) (f : Question → Answer) (n : ℕ) (tops : List Task) → IsEven (leaves_of recipes) f n tops }
+    ensures { (scene : Scene) (f : Question → Answer) (n : ℕ) (tops : List Task) → IsEven (leaves_of scene) f n tops }
 {}
 
 /// Two runs that follow the same expected run, neither of which was refused memory or a number, are one.
 pub fn one_outcome()
     ensures { (qs : _) (end a b : Result (Unit {0}) Halt) (old new last : _) → Follows qs end old new a → Follows qs end old last b → IsOne a b new last }
+{}
+
+/// In an expected run each block is of the very task that asks for its pair, and so has what is held for that task.
+pub fn blocks_are_first_asked()
+    ensures { (scene : Scene) (f : Question → Answer) (n : ℕ) (tops : List Task) →
+        IsOrdered scene.recipes → AllBelow n tops → IsEven (leaves_of scene) f n tops →
+        (t : Task) → In (Block t) (parts (leaves_of scene) f n tops) → IsFirstAsked (leaves_of scene) f n tops t }
+{}
+
+/// In scenes with the same recipes, and the same in the module of each recipe, the same is asked of each task.
+pub fn scenes_that_agree()
+    ensures { (first second : Scene) → AreAlike first second → leaves_of first ≡ leaves_of second }
 {}

@@ -1,15 +1,15 @@
 //! The run of tasks: each pair once under a table, after its priors.
-ghost use Rattle.std.specs.Prelude.{◌<◌, OnOk, length, map};
-ghost use Rattle.std.specs.List.{All, Contains};
+ghost use Rattle.std.specs.Prelude.{◌≡◌, ◌<◌, IfOk, OnOk, length};
+ghost use Rattle.std.specs.List.{All};
 ghost use Rattle.just_run_layers.specs.Host.{KeepsPromises};
-ghost use Rattle.just_run_layers.specs.Steps.{Give, kept_by};
-ghost use Rattle.just_execution.specs.Frames.{Blocks, Calls, Finishes, IsLighter, IsOpen, IsSound, Leads, items_of};
-ghost use Rattle.just_execution.specs.Homes.{AreHome, IsCallable, IsHomeAt};
-ghost use Rattle.just_execution.specs.Leaves.{AsksAlone, Executes};
-ghost use Rattle.just_execution.specs.Pairs.{AllBelow, task_of};
-ghost use Rattle.just_recipe.specs.Recipes.{IsOrdered, IsResolved, numbers};
-ghost use Rattle.just_recipe.specs.declared.dependency.Dependency.{Dependency};
+ghost use Rattle.just_run_layers.specs.Steps.{kept_by};
+ghost use Rattle.just_execution.specs.Frames.{Blocks, Calls, Finishes, IsLighter, IsOpenIn, IsSoundIn, Leads, items_of};
+ghost use Rattle.just_execution.specs.Homes.{AreHome, IsCallable, IsHomeAt, IsServed, ServesAt};
+ghost use Rattle.just_execution.specs.Leaves.{AsksAlone, Executes, Prepares, follow_steps, held_of, prepared_of};
+ghost use Rattle.just_execution.specs.Pairs.{AllBelow};
+ghost use Rattle.just_recipe.specs.Recipes.{IsOrdered, IsResolved};
 ghost use Rattle.just_execution.specs.Reports.{IsAsExpected, IsRun, Starts};
+ghost use Rattle.just_execution.specs.Scene.{contents_of, scene_of};
 
 use crate::course::{Course, count_call, push_calls};
 use crate::frame::Frame;
@@ -17,11 +17,11 @@ use crate::naming::name_all;
 use crate::recipes::{priors_at, recipe_at, subsequents_at};
 use crate::scopes::{ModuleScope, Scopes, module_of};
 use crate::task::Task;
-use just_parts::Dependency;
+use just_data::Sequence;
 use just_parts::layers::{Halt, Syntax};
 use just_recipes::Recipes;
-use just_run_layers::{Evaluation, Host};
-use std::alloc::Global;
+use just_run_layers::{Evaluation, Held, Host};
+use std::alloc::{AllocError, Global};
 
 /// How often a recipe was called under each once table, in the order of opening.
 #[derive(Drop)]
@@ -30,26 +30,77 @@ pub struct Report {
     pub calls: Vec<u64>,
 }
 
-// The tasks of some of the dependencies of a task; nothing is asked for them yet.
-fn ask<'src, S: Syntax, E: Evaluation>(
+/// What asking for a task comes to.
+#[derive(Drop)]
+struct Preparation<'src> {
+    /// What is held for its block.
+    held: Held<'src>,
+    /// Its priors.
+    priors: Vec<Task>,
+}
+
+// What a task of a module holds: the module's values, no texts for a shell, and no environment.
+fn hold<'src>(alloc: Global, home: &ModuleScope<'_, 'src>) -> Result<Held<'src>, AllocError>
+    ensures { IfOk result (λ held. held ≡ held_of (contents_of home.now)) }
+{
+    Ok(Held {
+        scope: home.scope.clone()?,
+        positional: Sequence::new(alloc),
+        environment: Sequence::new(alloc),
+    })
+}
+
+// The priors of a task, and what is held for its block; nothing is asked for them yet.
+fn ask<'src, S: Syntax, E: Evaluation, H: Host>(
+    alloc: Global,
+    recipes: &Recipes<'src>,
+    scopes: &Scopes<'_, 'src, S>,
+    _evaluation: &mut E,
+    _host: &mut H,
+    task: &Task,
+) -> Result<Preparation<'src>, Halt<'src>>
+    requires resolved { All IsResolved recipes.now }
+    requires callable { IsCallable (S.answers scopes.now.syntax.now) scopes.now.modules recipes.now task.now }
+    ensures keeps { KeepsPromises (E.promised _evaluation.old) (E.promised _evaluation.new) }
+    ensures keeps_host { KeepsPromises (H.promised _host.old) (H.promised _host.new) }
+    ensures took { let first = kept_by (H.entries _host.old) (E.inquiries _evaluation.old) in
+        let last = kept_by (H.entries _host.new) (E.inquiries _evaluation.new) in
+        let scene = scene_of scopes.now.modules recipes.now in
+        Prepares (E.promised _evaluation.old) (H.promised _host.old) scene task.now first last (prepared_of result) }
+    ensures serves { let serves = IsServed (S.answers scopes.now.syntax.now) scopes.now.modules recipes.now task.now in
+        IfOk result (λ preparation. serves preparation.held) }
+{
+    let recipe = recipe_at(recipes, task.pair.recipe);
+    let home = module_of(scopes, recipe);
+    let held = hold(alloc, home)?;
+    let dependencies = priors_at(recipes, task.pair.recipe);
+    let priors = name_all(alloc, recipes, dependencies)?;
+    Ok(Preparation { held, priors })
+}
+
+// The subsequents of a task, by what it holds; nothing is asked for them yet.
+fn follow<'src, S: Syntax, E: Evaluation>(
     alloc: Global,
     recipes: &Recipes<'src>,
     _syntax: &S,
     _module: &ModuleScope<'_, 'src>,
     _evaluation: &mut E,
-    _task: &Task,
-    dependencies: &[Dependency<'src>],
+    task: &Task,
+    _held: &Held<'src>,
 ) -> Result<Vec<Task>, Halt<'src>>
-    requires home { IsHomeAt (S.answers _syntax.now) _module.now recipes.now _task.now.pair.recipe }
-    requires held { All (λ (d : Dependency). Contains (numbers recipes.now) d.recipe.0) dependencies.now }
+    requires place { task.now.pair.recipe < length recipes.now }
+    requires home { IsHomeAt (S.answers _syntax.now) _module.now recipes.now task.now.pair.recipe }
+    requires serves { ServesAt (S.answers _syntax.now) _module.now recipes.now task.now.pair.recipe _held.now }
+    requires resolved { All IsResolved recipes.now }
     ensures keeps { KeepsPromises (E.promised _evaluation.old) (E.promised _evaluation.new) }
-    ensures took { let took = AsksAlone (E.promised _evaluation.old) (Give (map (task_of recipes.now) dependencies.now)) in
+    ensures took { let took = AsksAlone (E.promised _evaluation.old) (follow_steps recipes.now task.now _held.now) in
         took (E.inquiries _evaluation.old) (E.inquiries _evaluation.new) (items_of result) }
 {
+    let dependencies = subsequents_at(recipes, task.pair.recipe);
     Ok(name_all(alloc, recipes, dependencies)?)
 }
 
-// The beginning of a task; it has no body yet.
+// The beginning of a task, by what it holds; it has no body yet.
 fn execute<'src, S: Syntax, E: Evaluation, H: Host>(
     recipes: &Recipes<'src>,
     _syntax: &S,
@@ -57,93 +108,92 @@ fn execute<'src, S: Syntax, E: Evaluation, H: Host>(
     _evaluation: &mut E,
     host: &mut H,
     task: &Task,
+    _held: &Held<'src>,
 ) -> Result<(), Halt<'src>>
     requires place { task.now.pair.recipe < length recipes.now }
     requires home { IsHomeAt (S.answers _syntax.now) _module.now recipes.now task.now.pair.recipe }
+    requires serves { ServesAt (S.answers _syntax.now) _module.now recipes.now task.now.pair.recipe _held.now }
     requires resolved { All IsResolved recipes.now }
     ensures keeps { KeepsPromises (E.promised _evaluation.old) (E.promised _evaluation.new) }
     ensures keeps_host { KeepsPromises (H.promised host.old) (H.promised host.new) }
     ensures took { let first = kept_by (H.entries host.old) (E.inquiries _evaluation.old) in
         let last = kept_by (H.entries host.new) (E.inquiries _evaluation.new) in
-        Executes (E.promised _evaluation.old) (H.promised host.old) recipes.now task.now first last result }
+        Executes (E.promised _evaluation.old) (H.promised host.old) recipes.now task.now _held.now first last result }
 {
     let recipe = recipe_at(recipes, task.pair.recipe);
     host.begin(recipe.recipe_path(), &task.pair.groups)?;
     Ok(())
 }
 
-// Calls a task: its priors are called next, and then its block, unless its pair ran.
-fn call_task<'src, S: Syntax, E: Evaluation>(
+// Calls a task: its priors are called next, and then its block with what is held for it, unless its pair ran.
+fn call_task<'src, S: Syntax, E: Evaluation, H: Host>(
     alloc: Global,
     recipes: &Recipes<'src>,
     scopes: &Scopes<'_, 'src, S>,
     evaluation: &mut E,
-    run: &mut Course,
+    host: &mut H,
+    run: &mut Course<'src>,
     task: Task,
 ) -> Result<(), Halt<'src>>
     requires ordered { IsOrdered recipes.now }
     requires resolved { All IsResolved recipes.now }
     requires callable { IsCallable (S.answers scopes.now.syntax.now) scopes.now.modules recipes.now task }
-    requires sound { IsSound (IsCallable (S.answers scopes.now.syntax.now) scopes.now.modules recipes.now) run.old }
+    requires sound { IsSoundIn (S.answers scopes.now.syntax.now) scopes.now.modules recipes.now run.old }
     ensures keeps { KeepsPromises (E.promised evaluation.old) (E.promised evaluation.new) }
-    ensures goes { let goes = Calls (E.promised evaluation.old) recipes.now task run.old (E.inquiries evaluation.old) in
-        goes run.new (E.inquiries evaluation.new) result }
-    ensures sound { OnOk result (IsSound (IsCallable (S.answers scopes.now.syntax.now) scopes.now.modules recipes.now) run.new) }
+    ensures keeps_host { KeepsPromises (H.promised host.old) (H.promised host.new) }
+    ensures goes { let first = kept_by (H.entries host.old) (E.inquiries evaluation.old) in
+        let last = kept_by (H.entries host.new) (E.inquiries evaluation.new) in
+        let calls = Calls (E.promised evaluation.old) (H.promised host.old) (scene_of scopes.now.modules recipes.now) in
+        calls task run.old first run.new last result }
+    ensures sound { OnOk result (IsSoundIn (S.answers scopes.now.syntax.now) scopes.now.modules recipes.now run.new) }
     ensures lighter { OnOk result (IsLighter run.new.frames.items run.old.frames.items (Frame.Call task)) }
 {
     count_call(&mut run.calls, run.current.number)?;
     if run.current.table.contains(&task.pair) {
         return Ok(());
     }
-    let module = module_of(scopes, recipe_at(recipes, task.pair.recipe));
-    let dependencies = priors_at(recipes, task.pair.recipe);
-    let priors = ask(
-        alloc,
-        recipes,
-        scopes.syntax,
-        module,
-        evaluation,
-        &task,
-        dependencies,
-    )?;
-    run.frames.push(Frame::Block(task))?;
+    let Preparation { held, priors } = ask(alloc, recipes, scopes, evaluation, host, &task)?;
+    run.frames.push(Frame::Block(task, held))?;
     push_calls(&mut run.frames, priors)?;
     Ok(())
 }
 
-// Runs the block of a task: it is executed, and its subsequents are called next under a table of their own.
+// Runs the block of a task with what it holds, which is let go then: it is executed, and its subsequents are called next
+// under a table of their own.
 fn run_block<'src, S: Syntax, E: Evaluation, H: Host>(
     alloc: Global,
     recipes: &Recipes<'src>,
     scopes: &Scopes<'_, 'src, S>,
     evaluation: &mut E,
     host: &mut H,
-    run: &mut Course,
+    run: &mut Course<'src>,
     task: Task,
+    held: Held<'src>,
 ) -> Result<(), Halt<'src>>
     requires ordered { IsOrdered recipes.now }
     requires resolved { All IsResolved recipes.now }
     requires callable { IsCallable (S.answers scopes.now.syntax.now) scopes.now.modules recipes.now task }
-    requires sound { IsSound (IsCallable (S.answers scopes.now.syntax.now) scopes.now.modules recipes.now) run.old }
+    requires served { IsServed (S.answers scopes.now.syntax.now) scopes.now.modules recipes.now task held }
+    requires sound { IsSoundIn (S.answers scopes.now.syntax.now) scopes.now.modules recipes.now run.old }
     ensures keeps { KeepsPromises (E.promised evaluation.old) (E.promised evaluation.new) }
     ensures keeps_host { KeepsPromises (H.promised host.old) (H.promised host.new) }
     ensures goes { let first = kept_by (H.entries host.old) (E.inquiries evaluation.old) in
         let last = kept_by (H.entries host.new) (E.inquiries evaluation.new) in
-        Blocks (E.promised evaluation.old) (H.promised host.old) recipes.now task run.old first run.new last result }
-    ensures sound { OnOk result (IsSound (IsCallable (S.answers scopes.now.syntax.now) scopes.now.modules recipes.now) run.new) }
-    ensures lighter { OnOk result (IsLighter run.new.frames.items run.old.frames.items (Frame.Block task)) }
+        let blocks = Blocks (E.promised evaluation.old) (H.promised host.old) (scene_of scopes.now.modules recipes.now) in
+        blocks task held.entry run.old first run.new last result }
+    ensures sound { OnOk result (IsSoundIn (S.answers scopes.now.syntax.now) scopes.now.modules recipes.now run.new) }
+    ensures lighter { OnOk result (IsLighter run.new.frames.items run.old.frames.items (Frame.Block task held.entry)) }
 {
-    let module = module_of(scopes, recipe_at(recipes, task.pair.recipe));
-    execute(recipes, scopes.syntax, module, evaluation, host, &task)?;
-    let dependencies = subsequents_at(recipes, task.pair.recipe);
-    let subsequents = ask(
+    let home = module_of(scopes, recipe_at(recipes, task.pair.recipe));
+    execute(recipes, scopes.syntax, home, evaluation, host, &task, &held)?;
+    let subsequents = follow(
         alloc,
         recipes,
         scopes.syntax,
-        module,
+        home,
         evaluation,
         &task,
-        dependencies,
+        &held,
     )?;
     run.current.table.insert(task.pair)?;
     run.open(alloc, subsequents)?;
@@ -157,24 +207,27 @@ fn take<'src, S: Syntax, E: Evaluation, H: Host>(
     scopes: &Scopes<'_, 'src, S>,
     evaluation: &mut E,
     host: &mut H,
-    run: &mut Course,
-    frame: Frame,
+    run: &mut Course<'src>,
+    frame: Frame<'src>,
 ) -> Result<(), Halt<'src>>
     requires ordered { IsOrdered recipes.now }
     requires resolved { All IsResolved recipes.now }
-    requires there { IsOpen (IsCallable (S.answers scopes.now.syntax.now) scopes.now.modules recipes.now) (length run.old.calls.items) frame }
-    requires sound { IsSound (IsCallable (S.answers scopes.now.syntax.now) scopes.now.modules recipes.now) run.old }
+    requires there { IsOpenIn (S.answers scopes.now.syntax.now) scopes.now.modules recipes.now (length run.old.calls.items) frame }
+    requires sound { IsSoundIn (S.answers scopes.now.syntax.now) scopes.now.modules recipes.now run.old }
     ensures keeps { KeepsPromises (E.promised evaluation.old) (E.promised evaluation.new) }
     ensures keeps_host { KeepsPromises (H.promised host.old) (H.promised host.new) }
     ensures goes { let first = kept_by (H.entries host.old) (E.inquiries evaluation.old) in
         let last = kept_by (H.entries host.new) (E.inquiries evaluation.new) in
-        Leads (E.promised evaluation.old) (H.promised host.old) recipes.now frame run.old first run.new last result }
-    ensures sound { OnOk result (IsSound (IsCallable (S.answers scopes.now.syntax.now) scopes.now.modules recipes.now) run.new) }
-    ensures lighter { OnOk result (IsLighter run.new.frames.items run.old.frames.items frame) }
+        let leads = Leads (E.promised evaluation.old) (H.promised host.old) (scene_of scopes.now.modules recipes.now) in
+        leads frame.entry run.old first run.new last result }
+    ensures sound { OnOk result (IsSoundIn (S.answers scopes.now.syntax.now) scopes.now.modules recipes.now run.new) }
+    ensures lighter { OnOk result (IsLighter run.new.frames.items run.old.frames.items frame.entry) }
 {
     match frame {
-        Frame::Call(task) => call_task(alloc, recipes, scopes, evaluation, run, task),
-        Frame::Block(task) => run_block(alloc, recipes, scopes, evaluation, host, run, task),
+        Frame::Call(task) => call_task(alloc, recipes, scopes, evaluation, host, run, task),
+        Frame::Block(task, held) => {
+            run_block(alloc, recipes, scopes, evaluation, host, run, task, held)
+        }
         Frame::Back(outer) => {
             run.current = outer;
             Ok(())
@@ -189,16 +242,17 @@ fn finish<'src, S: Syntax, E: Evaluation, H: Host>(
     scopes: &Scopes<'_, 'src, S>,
     evaluation: &mut E,
     host: &mut H,
-    run: &mut Course,
+    run: &mut Course<'src>,
 ) -> Result<(), Halt<'src>>
     requires ordered { IsOrdered recipes.now }
     requires resolved { All IsResolved recipes.now }
-    requires sound { IsSound (IsCallable (S.answers scopes.now.syntax.now) scopes.now.modules recipes.now) run.old }
+    requires sound { IsSoundIn (S.answers scopes.now.syntax.now) scopes.now.modules recipes.now run.old }
     ensures keeps { KeepsPromises (E.promised evaluation.old) (E.promised evaluation.new) }
     ensures keeps_host { KeepsPromises (H.promised host.old) (H.promised host.new) }
     ensures took { let first = kept_by (H.entries host.old) (E.inquiries evaluation.old) in
         let last = kept_by (H.entries host.new) (E.inquiries evaluation.new) in
-        Finishes (E.promised evaluation.old) (H.promised host.old) recipes.now run.old first run.new last result }
+        let scene = scene_of scopes.now.modules recipes.now in
+        Finishes (E.promised evaluation.old) (H.promised host.old) scene run.old first run.new last result }
 {
     while let Some(frame) = run.frames.pop() {
         take(alloc, recipes, scopes, evaluation, host, run, frame)?;
@@ -223,7 +277,8 @@ fn start<'src, S: Syntax, E: Evaluation, H: Host>(
     ensures keeps_host { KeepsPromises (H.promised host.old) (H.promised host.new) }
     ensures took { let first = kept_by (H.entries host.old) (E.inquiries evaluation.old) in
         let last = kept_by (H.entries host.new) (E.inquiries evaluation.new) in
-        Starts (E.promised evaluation.old) (H.promised host.old) recipes.now tasks.items first last result }
+        let scene = scene_of scopes.now.modules recipes.now in
+        Starts (E.promised evaluation.old) (H.promised host.old) scene tasks.items first last result }
 {
     if tasks.is_empty() {
         return Ok(Report {
@@ -239,7 +294,8 @@ fn start<'src, S: Syntax, E: Evaluation, H: Host>(
 }
 
 /// Runs tasks in turn under one once table: each pair once, after its priors, and its subsequents after it under a table
-/// of their own. The run ends at the first step that fails. It takes no stack for a chain of recipes.
+/// of their own. What is held for a task from the questions before its priors is there in its block, and is let go after
+/// it. The run ends at the first step that fails. It takes no stack for a chain of recipes.
 ///
 /// Each recipe has its path and at least as many dependencies as priors, and each task is that of a recipe that is there:
 /// compiling promises the one, and `InvocationParser` the other. The module of each recipe that the tasks lead to is in
@@ -257,12 +313,17 @@ pub fn run_tasks<'src, S: Syntax, E: Evaluation, H: Host>(
     requires home { AreHome (S.answers scopes.now.syntax.now) scopes.now.modules recipes.now tops.items }
     ensures keeps { KeepsPromises (E.promised evaluation.old) (E.promised evaluation.new) }
     ensures keeps_host { KeepsPromises (H.promised host.old) (H.promised host.new) }
+    ensures took { let first = kept_by (H.entries host.old) (E.inquiries evaluation.old) in
+        let last = kept_by (H.entries host.new) (E.inquiries evaluation.new) in
+        let scene = scene_of scopes.now.modules recipes.now in
+        Starts (E.promised evaluation.old) (H.promised host.old) scene tops.items first last result }
     ensures account { let first = kept_by (H.entries host.old) (E.inquiries evaluation.old) in
         let last = kept_by (H.entries host.new) (E.inquiries evaluation.new) in
         IsRun recipes.now tops.items first last result }
     ensures expected { let first = kept_by (H.entries host.old) (E.inquiries evaluation.old) in
         let last = kept_by (H.entries host.new) (E.inquiries evaluation.new) in
-        IsAsExpected (E.promised evaluation.old) (H.promised host.old) recipes.now tops.items first last result }
+        let scene = scene_of scopes.now.modules recipes.now in
+        IsAsExpected (E.promised evaluation.old) (H.promised host.old) scene tops.items first last result }
 {
     recipes.are_ordered();
     start(alloc, recipes, scopes, evaluation, host, tops)

@@ -1,5 +1,6 @@
 //! What recipes run in: the modules of a run.
-ghost use Rattle.just_execution.specs.Homes.{IsHome, IsHomeOf};
+ghost use Rattle.std.specs.Prelude.{◌≡◌, Some};
+ghost use Rattle.just_execution.specs.Homes.{IsHome, IsHomeOf, module_at};
 
 use just_parts::Recipe;
 use just_parts::layers::{Scope, Syntax};
@@ -31,7 +32,8 @@ pub(crate) fn module_of<'a, 'run, 'src, S: Syntax>(
     recipe: &Recipe<'src>,
 ) -> &'a ModuleScope<'run, 'src>
     requires { IsHome (S.answers scopes.now.syntax.now) scopes.now.modules recipe.now }
-    ensures { IsHomeOf (S.answers scopes.now.syntax.now) result.now recipe.now }
+    ensures own { IsHomeOf (S.answers scopes.now.syntax.now) result.now recipe.now }
+    ensures there { module_at scopes.now.modules recipe.now.module_path ≡ Some result.now }
 {
     scopes.modules.get(recipe.module_path()).unwrap()
 }

@@ -1,6 +1,6 @@
 -- Steps after steps.
 use Rattle.std.proofs.Common.{◌≡◌, ◌⊎◌, List, [], ◌∷◌, Option, refl, sym, ◌++◌, ◌∙◌, ap, subst, inl, inr, append_assoc, Ok, Err}
-use Rattle.std.specs.Prelude.{Result}
+use Rattle.std.specs.Prelude.{Result, IsErrAnd}
 use Rattle.std.proofs.lemmas.List.{append-nil}
 use Rattle.just_errors.specs.declared.halt.Halt.{Halt}
 use Rattle.just_errors.specs.declared.halt.Halt.TheVariants.{Memory}
@@ -121,3 +121,8 @@ took-gives p (Fail e) old new x (n, inl h) = absurd (cc)
 took-gives p (Fail e) old new x (n, inr h) = absurd (cc)
 took-gives p (Asks q g) old new x (inl (n, h)) = absurd (cc)
 took-gives p (Asks q g) old new x (inr (a, l, t)) = (a, took-gives p (g a) (after q old) new x t)
+
+-- an end that a caller hands on
+pub exited : {A : Type 0} (r : Result A Halt) (e : Halt) → IsErrAnd r (λ y. y ≡ e) → r ≡ Err e
+exited (Ok x) e h = absurd h
+exited (Err y) e h = ap (λ z. Err z) h

@@ -6,4 +6,5 @@ use Rattle.just_execution.proofs.Whole.{more-run}
 use Rattle.just_execution.proofs.laws.enough_fuel.Goals as goal
 
 pub returns : goal.returns
-returns c = λ rs n ordered enough f ts below. more-run (leaves_of rs) (leaves-lower rs ordered) f n (length rs) ts (below-more (length rs) n ts enough below) below
+returns c = λ scene n ordered enough f ts below.
+    more-run (leaves_of scene) (leaves-lower scene ordered) f n (length scene.recipes) ts (below-more (length scene.recipes) n ts enough below) below

@@ -3,9 +3,9 @@ use Rattle.std.specs.Prelude.{Result}
 use Rattle.just_errors.specs.declared.halt.Halt.{Halt}
 use Rattle.just_run_layers.specs.Host.{KeepsPromises}
 use Rattle.just_run_layers.specs.Steps.{Kept, Took, both, kept_by}
-use Rattle.just_execution.specs.Frames.{IsSound, left_of, weight}
-use Rattle.just_execution.specs.Homes.{IsCallable}
+use Rattle.just_execution.specs.Frames.{IsSoundIn, left_of, weight}
 use Rattle.just_execution.specs.Leaves.{leaves_of}
+use Rattle.just_execution.specs.Scene.{scene_of}
 use Rattle.just_execution.specs.Walking.{State}
 use Rattle.just_execution.proofs.running.finish.Given as goal
 
@@ -13,9 +13,9 @@ abbrev pub invariant-loop-frame : goal.invariant-loop-frame
 invariant-loop-frame g l = record {
   keeps : KeepsPromises (g.E.Evaluation.promised l.fn.evaluation) (g.E.Evaluation.promised l.evaluation);
   keeps_host : KeepsPromises (g.H.Host.promised l.fn.host) (g.H.Host.promised l.host);
-  sound : IsSound (IsCallable (g.S.Syntax.answers l.scopes.syntax.now) l.scopes.modules l.recipes) l.run;
-  rest : (new : Kept) (r : Result State Halt) → Took (both (g.E.Evaluation.promised l.evaluation) (g.H.Host.promised l.host)) (left_of (leaves_of l.recipes) l.run) (kept_by (g.H.Host.entries l.host) (g.E.Evaluation.inquiries l.evaluation)) new r
-      → Took (both (g.E.Evaluation.promised l.fn.evaluation) (g.H.Host.promised l.fn.host)) (left_of (leaves_of l.recipes) l.fn.run) (kept_by (g.H.Host.entries l.fn.host) (g.E.Evaluation.inquiries l.fn.evaluation)) new r;
+  sound : IsSoundIn (g.S.Syntax.answers l.scopes.syntax.now) l.scopes.modules l.recipes l.run;
+  rest : (new : Kept) (r : Result State Halt) → Took (both (g.E.Evaluation.promised l.evaluation) (g.H.Host.promised l.host)) (left_of (leaves_of (scene_of l.scopes.modules l.recipes)) l.run) (kept_by (g.H.Host.entries l.host) (g.E.Evaluation.inquiries l.evaluation)) new r
+      → Took (both (g.E.Evaluation.promised l.fn.evaluation) (g.H.Host.promised l.fn.host)) (left_of (leaves_of (scene_of l.scopes.modules l.recipes)) l.fn.run) (kept_by (g.H.Host.entries l.fn.host) (g.E.Evaluation.inquiries l.fn.evaluation)) new r;
 }
 
 abbrev pub decreases-loop-frame : goal.decreases-loop-frame

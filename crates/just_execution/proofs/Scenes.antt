@@ -1,0 +1,62 @@
+-- Scenes that are alike stand for the same runs.
+use Rattle.std.proofs.Common.{◌≡◌, ◌∙◌, ℕ, List, [], length, Option, Some, None, Result, refl, ap, subst}
+use Rattle.std.specs.List.{All, slice_get}
+use Rattle.just_errors.specs.declared.halt.Halt.{Halt}
+use Rattle.just_errors.specs.Halts.{without}
+use Rattle.just_recipe.specs.declared.dependency.Dependency.{Dependency}
+use Rattle.just_recipe.specs.declared.recipe.Recipe.{Recipe}
+use Rattle.just_run_layers.specs.declared.host.Entry.{Entry}
+use Rattle.just_run_layers.specs.Evaluation.{Inquiry}
+use Rattle.just_run_layers.specs.Host.{Answer}
+use Rattle.just_run_layers.specs.Steps.{Follows, IsSteady, Kept, Question, Took, both, outcome, path}
+use Rattle.just_paths.specs.declared.modulepath.Modulepath.{Modulepath}
+use Rattle.just_execution.specs.Leaves.{ask_steps, execute_steps, follow_steps, hold_steps, leaves_of, prepare_steps}
+use Rattle.just_execution.specs.Pairs.{priors}
+use Rattle.just_execution.specs.Reports.{IsAsExpected, Starts, calls_in}
+use Rattle.just_execution.specs.Run.{IsEven, run_steps}
+use Rattle.just_execution.specs.Scene.{AreAlike, ModuleContents, Scene}
+use Rattle.just_execution.specs.Walking.{Leaves, fresh_steps, walk_steps}
+use Rattle.just_execution.specs.declared.running.Report.{Report}
+use Rattle.just_execution.specs.declared.task.Task.{Task}
+use Rattle.just_execution.proofs.Homes.{All-got}
+
+-- these recipes in these modules
+abbrev scene : List (Recipe Dependency) → (Option Modulepath → Option ModuleContents) → Scene
+scene recipes modules = record { recipes = recipes; modules = modules }
+
+-- what is asked in modules that are the same for each recipe
+module _ (recipes : List (Recipe Dependency)) (ms ns : Option Modulepath → Option ModuleContents)
+    (agree : All (λ (r : Recipe Dependency). ms r.module_path ≡ ns r.module_path) recipes) where
+  same-prepared : (t : Task) (o : Option (Recipe Dependency)) → slice_get recipes t.pair.recipe ≡ o →
+      prepare_steps (scene recipes ms) (priors recipes t) o ≡ prepare_steps (scene recipes ns) (priors recipes t) o
+  same-prepared t None at = refl
+  same-prepared t (Some r) at = ap (hold_steps (priors recipes t)) (All-got (λ (r : Recipe Dependency). ms r.module_path ≡ ns r.module_path) recipes t.pair.recipe r agree at)
+
+  same-asked : (t : Task) → ask_steps (scene recipes ms) t ≡ ask_steps (scene recipes ns) t
+  same-asked t = same-prepared t (slice_get recipes t.pair.recipe) refl
+
+  same-parts : leaves_of (scene recipes ms) ≡ leaves_of (scene recipes ns)
+  same-parts = λ i. record { ask = λ t. same-asked t i; execute = execute_steps recipes; follow = follow_steps recipes }
+
+pub same-leaves : (first second : Scene) → AreAlike first second → leaves_of first ≡ leaves_of second
+same-leaves first second alike = same-parts first.recipes first.modules second.modules alike.modules ∙ ap (λ rs. leaves_of (scene rs second.modules)) alike.recipes
+
+-- so a run in one of them is one in the other
+module _ (e : Inquiry → Option Answer) (h : Entry → Option Answer) (tops : List Task) (old new : Kept) (r : Result Report Halt) where
+  abbrev IsStarted : Leaves → ℕ → Type 0
+  IsStarted leaves n = Took (both e h) (fresh_steps (walk_steps leaves n) tops []) old new (calls_in r)
+
+  abbrev IsExpectedBy : Leaves → ℕ → Type 0
+  IsExpectedBy leaves n =
+      (f : Question → Answer) → IsSteady (both e h) f (path f (run_steps leaves f n tops)) → IsEven leaves f n tops →
+      Follows (path f (run_steps leaves f n tops)) (outcome f (run_steps leaves f n tops)) old new (without r)
+
+  module _ (first second : Scene) (alike : AreAlike first second) where
+    carried : (P : Leaves → ℕ → Type 0) → P (leaves_of first) (length first.recipes) → P (leaves_of second) (length second.recipes)
+    carried P x = subst (λ rs. P (leaves_of second) (length rs)) alike.recipes (subst (λ leaves. P leaves (length first.recipes)) (same-leaves first second alike) x)
+
+    pub same-start : Starts e h first tops old new r → Starts e h second tops old new r
+    same-start started = carried IsStarted started
+
+    pub same-expected : IsAsExpected e h first tops old new r → IsAsExpected e h second tops old new r
+    same-expected expected = carried IsExpectedBy expected

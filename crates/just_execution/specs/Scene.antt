@@ -1,0 +1,49 @@
+-- What a run stands in, as a value.
+use Rattle.std.specs.Prelude.{◌≡◌, List, Option, Some, None}
+use Rattle.std.specs.List.{All}
+use Rattle.just_ast_definitions.specs.declared.assignment.Assignment.{Assignment}
+use Rattle.just_ast_definitions.specs.declared.function_definition.FunctionDefinition.{FunctionDefinition}
+use Rattle.just_ast_expressions.specs.declared.scope.Scope.{Scope}
+use Rattle.just_ast_expressions.specs.declared.settings.Settings.{Settings}
+use Rattle.just_names.specs.Texts.{Text}
+use Rattle.just_names.specs.declared.name.Name.{Name}
+use Rattle.just_paths.specs.declared.modulepath.Modulepath.{Modulepath}
+use Rattle.just_recipe.specs.declared.dependency.Dependency.{Dependency}
+use Rattle.just_recipe.specs.declared.recipe.Recipe.{Recipe}
+use Rattle.just_execution.specs.Homes.{Modules, module_at}
+use Rattle.just_execution.specs.declared.scopes.ModuleScope.{ModuleScope}
+
+-- what recipes run by in a module: its settings, its variables and functions, the variables that are kept out of the environment, and the values
+pub record ModuleContents : Type 0 where
+  pub settings : Settings
+  pub assignments : List (Text × Assignment)
+  pub functions : List (Text × FunctionDefinition)
+  pub unexports : List Name
+  pub scope : Scope
+
+-- the recipes of a run, and its modules, each by its path
+pub record Scene : Type 0 where
+  pub recipes : List (Recipe Dependency)
+  pub modules : Option Modulepath → Option ModuleContents
+
+-- two scenes have the same recipes, and the same in the module of each recipe
+pub record AreAlike (first second : Scene) : Type 0 where
+  pub recipes : first.recipes ≡ second.recipes
+  pub modules : All (λ (r : Recipe Dependency). first.modules r.module_path ≡ second.modules r.module_path) first.recipes
+
+-- for the private functions: the scene of recipes in the modules of a run
+abbrev pub contents_of : ModuleScope → ModuleContents
+contents_of m = record {
+  settings = m.context.settings.now;
+  assignments = m.context.assignments.now;
+  functions = m.context.functions.now;
+  unexports = m.context.unexports.now;
+  scope = m.scope;
+}
+
+abbrev pub contents_found : Option ModuleScope → Option ModuleContents
+contents_found None = None
+contents_found (Some m) = Some (contents_of m)
+
+abbrev pub scene_of : Modules → List (Recipe Dependency) → Scene
+scene_of modules recipes = record { recipes = recipes; modules = λ path. contents_found (module_at modules path) }
