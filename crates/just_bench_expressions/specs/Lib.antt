@@ -4,3 +4,4 @@ pub mod Spelling
 pub mod Expressions
 pub mod Features
 pub mod Stack
+pub mod Forms

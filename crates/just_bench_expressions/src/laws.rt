@@ -1,0 +1,17 @@
+//! Laws: calls that do nothing, whose contracts say what the grammar keeps.
+ghost use Rattle.std.specs.Prelude.{◌≡◌, ℕ, Bool, List, Some};
+ghost use Rattle.just_ast_expressions.specs.declared.expression.Expression.{Expression};
+ghost use Rattle.just_bench_expressions.specs.declared.expressions.Found.{Found};
+ghost use Rattle.just_bench_expressions.specs.declared.lexer.Lexeme.{Lexeme};
+ghost use Rattle.just_bench_expressions.specs.declared.lines.TextLine.{TextLine};
+ghost use Rattle.just_bench_expressions.specs.Expressions.{expression};
+ghost use Rattle.just_bench_expressions.specs.Forms.{StandsIn, spelling};
+ghost use Rattle.just_bench_expressions.specs.Lexemes.{lexemes};
+ghost use Rattle.just_bench_expressions.specs.Lines.{IsLineOf};
+
+/// The text of each expression that is read from a part of a line, and of each expression in it, is the spelling of
+/// its form. The call does nothing.
+pub fn texts_are_spellings()
+    ensures { (path text : List ℕ) (line : TextLine) (start end at : ℕ) (sums : Bool) (all : List Lexeme) (found : Found) (e : Expression) →
+        IsLineOf text line → lexemes path text line start end ≡ Some all → expression sums all at ≡ Some found → StandsIn found.made e → e.text ≡ spelling e }
+{}
