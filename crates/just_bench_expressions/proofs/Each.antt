@@ -67,7 +67,7 @@ length_left bytes at b rest is =
     let same : length (b ∷ rest) ≡ length bytes - at = ap length is ∙ length-drop at bytes in
     omega (arith, same)
 
-drop_next : (bytes : List ℕ) (at b : ℕ) (rest : List ℕ) → b ∷ rest ≡ drop at bytes → rest ≡ drop (at + 1) bytes
+pub drop_next : (bytes : List ℕ) (at b : ℕ) (rest : List ℕ) → b ∷ rest ≡ drop at bytes → rest ≡ drop (at + 1) bytes
 drop_next bytes at b rest is = ap (drop 1) is ∙ drop-drop 1 at bytes
 
 part_of_cut : (at size end : ℕ) (bytes : List ℕ) → at + size ≤ end → take size (drop at bytes) ≡ take size (drop at (take end bytes))
@@ -76,6 +76,15 @@ part_of_cut at size end bytes within =
     let whole : at + left ≡ end = omega (arith, within) in
     sym (take-take size left (drop at bytes) (omega (arith, within)))
     ∙ ap (take size) (sym (drop-take at left bytes) ∙ ap (λ m. drop at (take m bytes)) whole)
+
+-- the text of a lexeme at the front of what is left of a part of a line
+pub lexeme_taken : (path text : List ℕ) (line : TextLine) → IsLineOf text line → (end at b : ℕ) (rest : List ℕ) (k : Kind) (size : ℕ) → b ∷ rest ≡ drop at (take end line.text) → first (b ∷ rest) ≡ Some (k, size)
+    → lexeme (place path text line at size) ≡ take size (b ∷ rest)
+lexeme_taken path text line of end at b rest k size is here =
+    let fits : size ≤ length (b ∷ rest) = fits_of (first (b ∷ rest)) k size (length (b ∷ rest)) here (first_fits (b ∷ rest)) in
+    let cut : at + size ≤ end = omega (arith, fits, length_left (take end line.text) at b rest is, length-take end line.text) in
+    let within : at + size ≤ length line.text = omega (arith, fits, length_left (take end line.text) at b rest is, length-take end line.text) in
+    part_of_line path text line at size of within ∙ part_of_cut at size end line.text cut ∙ ap (take size) (sym is)
 
 module _ (P : Lexeme → Type 0) where
   each_more : (l : Lexeme) (others : Option (List Lexeme)) → P l → IfSome others (All P) → IfSome (option_map (λ ls. l ∷ ls) others) (All P)
@@ -97,11 +106,7 @@ module _ (P : Lexeme → Type 0) where
         let more : (skip : ℕ) → IfSome (lexemes_from token (at + 1) skip rest) (All P) = λ skip. each_from end (at + 1) skip rest (drop_next (take end line.text) at b rest is) in
         some_if (All P) (is_blank b) _ _ (more 0)
         (each_before token at (first (b ∷ rest)) (λ skip. lexemes_from token (at + 1) skip rest)
-        (λ k size here.
-        let fits : size ≤ length (b ∷ rest) = fits_of (first (b ∷ rest)) k size (length (b ∷ rest)) here (first_fits (b ∷ rest)) in
-        let cut : at + size ≤ end = omega (arith, fits, length_left (take end line.text) at b rest is, length-take end line.text) in
-        let within : at + size ≤ length line.text = omega (arith, fits, length_left (take end line.text) at b rest is, length-take end line.text) in
-        one (b ∷ rest) k size at here (part_of_line path text line at size of within ∙ part_of_cut at size end line.text cut ∙ ap (take size) (sym is)))
+        (λ k size here. one (b ∷ rest) k size at here (lexeme_taken path text line of end at b rest k size is here))
         more)
 
     -- the lexemes of a line

@@ -1,3 +1,4 @@
+pub mod Apart
 pub mod Cuts
 pub mod Each
 pub mod Forms

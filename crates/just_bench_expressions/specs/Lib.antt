@@ -1,3 +1,4 @@
+pub mod Apart
 pub mod Lexemes
 pub mod Lines
 pub mod Spelling
