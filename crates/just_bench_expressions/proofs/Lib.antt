@@ -1,5 +1,12 @@
+pub mod Apart
 pub mod Cuts
+pub mod Each
+pub mod Forms
+pub mod Leads
 pub mod Lexing
+pub mod Machine
+pub mod Plain
 pub mod Quoting
 pub mod Spelled
 pub mod Reading
+pub mod Spellings

@@ -1,23 +1,22 @@
 -- Quoted texts, from the lexemes of a line to what it says.
-use Rattle.std.proofs.Common.{suc, zero, ◌≡◌, ℕ, ◌+◌, ◌-◌, ◌<◌, ◌≤◌, sym, ◌∙◌, ap, refl, subst, List, [], ◌∷◌, ◌++◌, length, take, drop, get_or, Bool, true, false, arith, Option, Some, None, IfSome, length-drop, length-append, ◌==◌}
+use Rattle.std.proofs.Common.{suc, ◌≡◌, ℕ, ◌+◌, ◌-◌, ◌<◌, ◌≤◌, sym, ◌∙◌, ap, refl, subst, List, [], ◌∷◌, ◌++◌, length, take, drop, get_or, Bool, true, false, arith, Option, Some, None, IfSome, length-append, ◌==◌}
 use Rattle.std.proofs.Math.Seq.{get_or-append_seam, take-append_seam}
 use Rattle.std.proofs.lemmas.Option.{some_pair_parts}
 use Rattle.std.proofs.lemmas.Bool.{false≢true}
 use Rattle.std.specs.Prelude.{if◌then◌else◌, ◌&&◌}
 use Rattle.std.specs.List.{All, position, prefix_len}
 use Rattle.std.specs.Option.{option_map}
-use Rattle.std.proofs.lemmas.List.{take_more, get_or-take, get_or_default, drop-drop, drop-take, take-take, length-take, drop_all, append-nil}
-use Rattle.std.proofs.lemmas.List.Elements.{All-nil, All-cons}
+use Rattle.std.proofs.lemmas.List.{take_more, get_or-take, get_or_default, length-take, drop_all, append-nil}
 use Rattle.std.specs.Str.{IsCharBoundary, IsUtf8}
 use Rattle.std.proofs.lemmas.Str.{IsCharBoundary-after_ascii, IsCharBoundary-before_ascii}
-use Rattle.just_names.specs.Token.{Place, lexeme}
 use Rattle.just_names.specs.Identifier.{is_identifier_start, is_identifier_continue}
 use Rattle.just_bench_expressions.specs.declared.lines.TextLine.{TextLine}
 use Rattle.just_bench_expressions.specs.declared.lexer.Kind.{Kind}
 use Rattle.just_bench_expressions.specs.declared.lexer.Kind.TheVariants as kind
 use Rattle.just_bench_expressions.specs.declared.lexer.Lexeme.{Lexeme}
 use Rattle.just_bench_expressions.specs.Lines.{IsLineOf}
-use Rattle.just_bench_expressions.specs.Lexemes.{is_blank, is_quote, quoted, double_mark, single_mark, mark, first, place, before, lexemes_from, lexemes, is_quoted, IsQuoted, HasQuotes, between_quotes}
+use Rattle.just_bench_expressions.specs.Lexemes.{is_quote, quoted, double_mark, single_mark, mark, first, place, lexemes_from, lexemes, is_quoted, IsQuoted, HasQuotes, between_quotes}
+use Rattle.just_bench_expressions.proofs.Each.{each_lexeme}
 use Rattle.just_bench_expressions.proofs.Lexing.{Lexed, quote_found}
 
 -- a quoted text at the front
@@ -77,7 +76,7 @@ quoted_size None k size is = cc
 quoted_size (Some n) k size is = (n, refl, sym (some_pair_parts kind.Quoted k (n + 2) size is).1)
 
 -- a lexeme of this kind at the front is a quoted text, and is there
-pub first_quoted : (bytes : List ℕ) (k : Kind) (size : ℕ) → first bytes ≡ Some (k, size) → is_quoted k ≡ true → IsQuoted (take size bytes) × (size ≤ length bytes)
+first_quoted : (bytes : List ℕ) (k : Kind) (size : ℕ) → first bytes ≡ Some (k, size) → is_quoted k ≡ true → IsQuoted (take size bytes)
 first_quoted [] k size is q = cc
 first_quoted (b ∷ rest) k size is q =
     let marks : mark (double_mark b rest) (single_mark b) ≡ Some (k, size) → ⊥ = λ here. mark_is_other (double_mark b rest) (single_mark b) k size (double_is_other b rest) (single_is_other b) here q in
@@ -85,77 +84,19 @@ first_quoted (b ∷ rest) k size is q =
     let found = quoted_size (position is_quote rest) k size only.1 in
     let n = found.0 in
     let quote : b ≡ 39 = grind (arith, only.0) in
-    let at = quote_found rest n (sym found.1) in
-    (rw (quote, found.2) (quoted_front rest n (sym found.1)), omega (arith, at.0, found.2))
-
--- the text of a part of a line
-pub part_of_line : (path text : List ℕ) (line : TextLine) (at size : ℕ) → IsLineOf text line → at + size ≤ length line.text → lexeme (place path text line at size) ≡ take size (drop at line.text)
-part_of_line path text line at size of within =
-    let o = line.offset in
-    let left = length line.text - at in
-    let count : o + at + size - (o + at) ≡ size = omega arith in
-    let whole : at + left ≡ o + length line.text - o = omega (arith, within) in
-    ap (λ m. take m (drop (o + at) text)) count
-    ∙ sym (take-take size left (drop (o + at) text) (omega (arith, within)))
-    ∙ ap (λ t. take size (take left t)) (sym (drop-drop at o text))
-    ∙ ap (take size) (sym (drop-take at left (drop o text)) ∙ ap (λ m. drop at (take m (drop o text))) whole ∙ ap (drop at) of.same)
-
-sound_more : (l : Lexeme) (others : Option (List Lexeme)) → HasQuotes l → IfSome others (All HasQuotes) → IfSome (option_map (λ ls. l ∷ ls) others) (All HasQuotes)
-sound_more l None sound all = tt
-sound_more l (Some ls) sound all = All-cons HasQuotes l ls sound all
-
-sound_before : (token : ℕ → ℕ → Place) (at : ℕ) (f : Option (Kind × ℕ)) (others : ℕ → Option (List Lexeme)) → ((k : Kind) (size : ℕ) → f ≡ Some (k, size) → is_quoted k ≡ true → IsQuoted (lexeme (token at size)))
-    → ((more : ℕ) → IfSome (others more) (All HasQuotes)) → IfSome (before token at f others) (All HasQuotes)
-sound_before token at None others quoted all = tt
-sound_before token at (Some found) others quoted all = sound_more (record { kind = found.0; token = token at found.1 }) (others (found.1 - 1)) (quoted found.0 found.1 refl) (all (found.1 - 1))
-
-some_if : {A : Type 0} (P : A → Type 0) (c : Bool) (a b : Option A) → IfSome a P → IfSome b P → IfSome (if c then a else b) P
-some_if P true a b p q = p
-some_if P false a b p q = q
-
-length_left : (bytes : List ℕ) (at b : ℕ) (rest : List ℕ) → b ∷ rest ≡ drop at bytes → at + length (b ∷ rest) ≡ length bytes
-length_left bytes at b rest is =
-    let same : length (b ∷ rest) ≡ length bytes - at = ap length is ∙ length-drop at bytes in
-    omega (arith, same)
-
-drop_next : (bytes : List ℕ) (at b : ℕ) (rest : List ℕ) → b ∷ rest ≡ drop at bytes → rest ≡ drop (at + 1) bytes
-drop_next bytes at b rest is = ap (drop 1) is ∙ drop-drop 1 at bytes
-
-part_of_cut : (at size end : ℕ) (bytes : List ℕ) → at + size ≤ end → take size (drop at bytes) ≡ take size (drop at (take end bytes))
-part_of_cut at size end bytes within =
-    let left = end - at in
-    let whole : at + left ≡ end = omega (arith, within) in
-    sym (take-take size left (drop at bytes) (omega (arith, within)))
-    ∙ ap (take size) (sym (drop-take at left bytes) ∙ ap (λ m. drop at (take m bytes)) whole)
-
-sound_from : (path text : List ℕ) (line : TextLine) → IsLineOf text line → (end at skip : ℕ) (bytes : List ℕ) → end ≤ length line.text → bytes ≡ drop at (take end line.text)
-    → IfSome (lexemes_from (place path text line) at skip bytes) (All HasQuotes)
-sound_from path text line of end at skip [] fits is = All-nil HasQuotes
-sound_from path text line of end at (suc skip) (b ∷ rest) fits is = sound_from path text line of end (at + 1) skip rest fits (drop_next (take end line.text) at b rest is)
-sound_from path text line of end at zero (b ∷ rest) fits is =
-    let token = place path text line in
-    let more : (skip : ℕ) → IfSome (lexemes_from token (at + 1) skip rest) (All HasQuotes) = λ skip. sound_from path text line of end (at + 1) skip rest fits (drop_next (take end line.text) at b rest is) in
-    some_if (All HasQuotes) (is_blank b) _ _ (more 0)
-    (sound_before token at (first (b ∷ rest)) (λ skip. lexemes_from token (at + 1) skip rest)
-    (λ k size here quoted.
-    let found = first_quoted (b ∷ rest) k size here quoted in
-    let cut : at + size ≤ end = omega (arith, found.1, length_left (take end line.text) at b rest is, length-take end line.text, fits) in
-    let within : at + size ≤ length line.text = omega (arith, cut, fits) in
-    subst IsQuoted (sym (part_of_line path text line at size of within ∙ part_of_cut at size end line.text cut ∙ ap (take size) (sym is))) found.0)
-    more)
+    rw (quote, found.2) (quoted_front rest n (sym found.1))
 
 -- the lexemes of a line
-pub sound_lexemes : (path text : List ℕ) (line : TextLine) (start end : ℕ) → IsLineOf text line → end ≤ length line.text → IfSome (lexemes path text line start end) (All HasQuotes)
-unfolding lexemes
-sound_lexemes path text line start end of fits = sound_from path text line of end start 0 (drop start (take end line.text)) fits refl
+pub sound_lexemes : (path text : List ℕ) (line : TextLine) (start end : ℕ) → IsLineOf text line → IfSome (lexemes path text line start end) (All HasQuotes)
+sound_lexemes path text line start end of = each_lexeme HasQuotes path text line of (λ bytes k size at here is quoted. subst IsQuoted (sym is) (first_quoted bytes k size here quoted)) start end
 
 -- those that were read, where nothing is left
-pub read_quoted : (path text : List ℕ) (line : TextLine) (start end : ℕ) (found : List Lexeme) (at : ℕ) → IsLineOf text line → end ≤ length line.text
+pub read_quoted : (path text : List ℕ) (line : TextLine) (start end : ℕ) (found : List Lexeme) (at : ℕ) → IsLineOf text line
     → Lexed path text line start end found at → length (take end line.text) ≤ at → All HasQuotes found
-read_quoted path text line start end found at of fits read none =
+read_quoted path text line start end found at of read none =
     let is : lexemes path text line start end ≡ Some found =
     read.whole ∙ ap (λ rest. option_map (λ more. found ++ more) (lexemes_from (place path text line) at 0 rest)) (drop_all at (take end line.text) none) ∙ ap Some (append-nil found) in
-    subst (λ all. IfSome all (All HasQuotes)) is (sound_lexemes path text line start end of fits)
+    subst (λ all. IfSome all (All HasQuotes)) is (sound_lexemes path text line start end of)
 
 -- the text between the quotes is cut at characters
 pub quote_starts : (text : List ℕ) → IsUtf8 text → IsQuoted text → IsCharBoundary text 1

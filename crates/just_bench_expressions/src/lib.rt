@@ -3,6 +3,7 @@
 
 pub mod expressions;
 pub mod features;
+pub mod laws;
 pub mod lexer;
 pub mod lines;
 pub mod spelling;

@@ -35,13 +35,13 @@ skip one at (suc n) (b ∷ bytes) h =
     let same : at + 1 + n ≡ at + suc n = omega arith in
     skip one (at + 1) n bytes (omega (arith, h)) ∙ ap (λ m. parts_from one m 0 (drop n bytes)) same
 
-rest_after : (one : ℕ → Option Part) (at end : ℕ) (bytes : List ℕ) → at < end → end ≤ length bytes → parts_from one (at + 1) (end - (at + 1)) (drop (at + 1) bytes) ≡ parts_from one end 0 (drop end bytes)
+pub rest_after : (one : ℕ → Option Part) (at end : ℕ) (bytes : List ℕ) → at < end → end ≤ length bytes → parts_from one (at + 1) (end - (at + 1)) (drop (at + 1) bytes) ≡ parts_from one end 0 (drop end bytes)
 rest_after one at end bytes onward within =
     let same : at + 1 + (end - (at + 1)) ≡ end = omega (arith, onward) in
     skip one (at + 1) (end - (at + 1)) (drop (at + 1) bytes) (omega (arith, onward, within, length-drop (at + 1) bytes))
     ∙ rw (drop-drop (end - (at + 1)) (at + 1) bytes, same) refl
 
-at_one : (one : ℕ → Option Part) (at : ℕ) (bytes : List ℕ) → at < length bytes → parts_from one at 0 (drop at bytes) ≡ before_others at (one at) (λ n. parts_from one (at + 1) n (drop (at + 1) bytes))
+pub at_one : (one : ℕ → Option Part) (at : ℕ) (bytes : List ℕ) → at < length bytes → parts_from one at 0 (drop at bytes) ≡ before_others at (one at) (λ n. parts_from one (at + 1) n (drop (at + 1) bytes))
 at_one one at bytes within = let f = front bytes at within in ap (parts_from one at 0) f.1.dropped
 
 before_line : (number : ℕ) (p : Part) (more : Option (List Part)) → option_map (line_of number) (option_map (λ others. p ∷ others) more) ≡ option_map (joined (p.fragment ∷ []) p.lists) (option_map (line_of number) more)

@@ -8,5 +8,6 @@ pub mod Listed
 pub mod Marks
 pub mod Parts
 pub mod Paths
+pub mod Pieces
 pub mod Programs
 pub mod Props

@@ -7,4 +7,5 @@ pub mod Heading
 pub mod Meaning
 pub mod Parts
 pub mod Path
+pub mod Pieces
 pub mod Places

@@ -1,15 +1,17 @@
 //! Laws: calls that do nothing, whose contracts say what the grammar keeps.
-ghost use Rattle.std.specs.Prelude.{◌≡◌, ◌∷◌, ◌++◌, [], List, Some, map};
+ghost use Rattle.std.specs.Prelude.{◌≡◌, ◌∷◌, ◌++◌, [], ℕ, List, Some, map};
 ghost use Rattle.std.specs.List.{join_with_byte};
 ghost use Rattle.just_names.specs.declared.name.Name.{Name};
 ghost use Rattle.just_ast_definitions.specs.declared.assignment.Assignment.{Assignment};
 ghost use Rattle.just_ast_definitions.specs.declared.function_definition.FunctionDefinition.{FunctionDefinition};
 ghost use Rattle.just_ast_definitions.specs.declared.setting.Set.{Set};
 ghost use Rattle.just_bench_expressions.specs.declared.lexer.Lexeme.{Lexeme};
+ghost use Rattle.just_bench_expressions.specs.declared.lines.TextLine.{TextLine};
 ghost use Rattle.just_bench_expressions.specs.Lexemes.{IsQuoted, between_quotes};
-ghost use Rattle.just_bench_expressions.specs.Lines.{lines_of};
+ghost use Rattle.just_bench_expressions.specs.Lines.{IsLineOf, lines_of};
 ghost use Rattle.just_bench_lines.specs.declared.alias.AliasLine.{AliasLine};
 ghost use Rattle.just_bench_lines.specs.declared.attributes.Mark.{Mark};
+ghost use Rattle.just_bench_lines.specs.declared.body.BodyLine.{BodyLine};
 ghost use Rattle.just_bench_lines.specs.declared.heading.Heading.{Heading};
 ghost use Rattle.just_bench_lines.specs.declared.meaning.Declaration.{Declaration};
 ghost use Rattle.just_bench_lines.specs.declared.meaning.Meaning.TheVariants as meaning;
@@ -17,9 +19,11 @@ ghost use Rattle.just_bench_lines.specs.declared.meaning.Statement.{Statement};
 ghost use Rattle.just_bench_lines.specs.declared.meaning.Statement.TheVariants as item;
 ghost use Rattle.just_bench_lines.specs.Alias.{alias_line};
 ghost use Rattle.just_bench_lines.specs.Attributes.{attribute};
+ghost use Rattle.just_bench_lines.specs.Body.{body_line};
 ghost use Rattle.just_bench_lines.specs.Definitions as definitions;
 ghost use Rattle.just_bench_lines.specs.Heading.{heading};
 ghost use Rattle.just_bench_lines.specs.Meaning.{import, module_line, sorted, statement};
+ghost use Rattle.just_bench_lines.specs.Pieces.{AreFrom};
 
 /// Nothing of a text is lost: its lines, joined by line ends, are the text. The call does nothing.
 pub fn lines_joined(text: &str)
@@ -31,6 +35,13 @@ pub fn lines_joined(text: &str)
 pub fn quotes_joined(text: &str)
     requires { IsQuoted text.now }
     ensures { 39 ∷ between_quotes text.now ++ 39 ∷ [] ≡ text.now }
+{}
+
+/// Nothing of a line of a body is lost: from whichever column on it is read, its fragments are what stands there, each
+/// text as it is and each expression as what stands between its braces. The call does nothing.
+pub fn fragments_joined()
+    ensures { (path text : List ℕ) (line : TextLine) (start : ℕ) (b : BodyLine) →
+        IsLineOf text line → body_line path text line start ≡ Some b → AreFrom path text line start b.line.fragments }
 {}
 
 /// No line is of two kinds: what reads as a module, as an attribute, as an alias, as an item without attributes or as the

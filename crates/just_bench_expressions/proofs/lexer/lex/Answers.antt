@@ -33,4 +33,4 @@ pub returns-clause-quoted : goal.returns-clause-quoted
 returns-clause-quoted c =
     let line = c.args.line.now in
     let none : length (take c.args.end line.text) ≤ c.loop-at.at = grind (arith, common_steps) in
-    read_quoted c.args.path.now c.args.text.now line c.args.start c.args.end c.loop-at.found c.loop-at.at c.requires.line c.requires.within c.loop-at.invariant none
+    read_quoted c.args.path.now c.args.text.now line c.args.start c.args.end c.loop-at.found c.loop-at.at c.requires.line c.loop-at.invariant none
