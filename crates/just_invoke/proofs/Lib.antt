@@ -4,6 +4,7 @@ pub mod Faults
 pub mod HeadLemmas
 pub mod Holding
 pub mod ModuleLemmas
+pub mod ModulePaths
 pub mod Namings
 pub mod Outcomes
 pub mod Readings

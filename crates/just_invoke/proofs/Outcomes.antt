@@ -17,21 +17,26 @@ use Rattle.just_run_layers.specs.Evaluation.{Inquiry}
 use Rattle.just_errors.specs.Halts.{come_to}
 use Rattle.just_run_layers.specs.Host.{Answer}
 use Rattle.just_execution.specs.declared.running.Report.{Report}
-use Rattle.just_execution.specs.Reports.{IsAsExpected}
+use Rattle.just_execution.specs.Reports.{IsAsExpected, Starts}
+use Rattle.just_execution.specs.Scene.{AreAlike, Scene}
+use Rattle.just_execution.proofs.Scenes.{same-expected, same-start}
 use Rattle.just_execution.specs.Unready.{IsUnready, AreReady}
+use Rattle.just_execution.specs.declared.task.Task.{Task}
 use Rattle.just_justfile.specs.declared.justfile.Justfile.{Justfile}
 use Rattle.just_invoke.specs.Cause as cause
-use Rattle.just_invoke.specs.Going.{TasksComeTo, IsHindered}
+use Rattle.just_invoke.specs.Going.{RunsIn, TasksComeTo, IsHindered}
 use Rattle.just_invoke.specs.Outcome.{tops, Refuses, fault, excess, variables, not_yet, memory, MayRun, IsOutcome, refused, ran}
+use Rattle.just_invoke.specs.Scopes.{IsSceneOf}
 use Rattle.just_invoke.specs.Split.{Counts, Invoked, IsSplit, IsFault}
 use Rattle.just_invoke.specs.Variables.{SomeVariable, IsHeldBack}
 use Rattle.just_invoke.proofs.Faults.{split_no_fault}
 use Rattle.just_invoke.proofs.Unique.{split_once}
 
 -- what is expected where these are invoked
-abbrev IsSo : (Inquiry → Option Answer) → (Entry → Option Answer) → List (Recipe Dependency) → List Invoked → Kept → Kept → Result Report Error → Type 0
-IsSo evaluator host recipes invoked old new result =
-    (ended : Result Report Halt) × (result ≡ come_to ended) × IsAsExpected evaluator host recipes (tops recipes invoked) old new ended
+abbrev IsSo : (Inquiry → Option Answer) → (Entry → Option Answer) → Justfile → List (Recipe Dependency) → List Invoked → Kept → Kept → Result Report Error → Type 0
+IsSo evaluator host root recipes invoked old new result =
+    (ended : Result Report Halt) × (result ≡ come_to ended)
+    × ((scene : Scene) → IsSceneOf root recipes scene → IsAsExpected evaluator host scene (tops recipes invoked) old new ended)
 
 module _ (counts : Counts) (root : Justfile) (recipes : List (Recipe Dependency)) (words : List (List ℕ)) (config : Config) where
   -- words that are not read
@@ -44,12 +49,12 @@ module _ (counts : Counts) (root : Justfile) (recipes : List (Recipe Dependency)
   unread Exhausted x h = absurd x
 
   -- they are not expected to run
-  out : (p : Inquiry → Option Answer) (q : Entry → Option Answer) (invoked : List Invoked) (old : Kept) → IsSo p q recipes invoked old old (Err Memory)
-  out p q invoked old = (Err halt.Memory, refl, λ f steady even. inr (inl refl, ([], _, refl, sym (after-none old))))
+  out : (p : Inquiry → Option Answer) (q : Entry → Option Answer) (invoked : List Invoked) (old : Kept) → IsSo p q root recipes invoked old old (Err Memory)
+  out p q invoked old = (Err halt.Memory, refl, λ scene fits f steady even. inr (inl refl, ([], _, refl, sym (after-none old))))
 
   -- nor are words that have a fault
   unread-expected : (e : Error) → cause.IsOfWords e → IfSome (cause.cause_of e) (IsFault counts root recipes words) → (p : Inquiry → Option Answer) (q : Entry → Option Answer) (invoked : List Invoked) → IsSplit counts root recipes words invoked →
-      (old : Kept) → IsSo p q recipes invoked old old (Err e)
+      (old : Kept) → IsSo p q root recipes invoked old old (Err e)
   unread-expected (Invocation e) x h p q invoked split old = absurd (split_no_fault counts root recipes words invoked (cause.cause_of_fault e) split h)
   unread-expected Memory x h p q invoked split old = out p q invoked old
   unread-expected (Load e) x h p q invoked split old = absurd x
@@ -62,13 +67,13 @@ module _ (counts : Counts) (root : Justfile) (recipes : List (Recipe Dependency)
   answered (Ok report) e h = absurd h
   answered (Err y) e h = ap (λ y. Err y) h
 
-  pub unread-outcome : (e : Error) → cause.IsOfWords e → IfSome (cause.cause_of e) (IsFault counts root recipes words) → (r : Result Report Error) → IsErrAnd r (λ y. y ≡ e) → (old : Kept) →
-      IsOutcome counts root recipes words config old old r
-  unread-outcome e x h r is old = refused e (answered r e is) (unread e x h) refl
+  pub unread-outcome : (e : Error) → cause.IsOfWords e → IfSome (cause.cause_of e) (IsFault counts root recipes words) → (r : Result Report Error) → IsErrAnd r (λ y. y ≡ e) → (p : Inquiry → Option Answer) (q : Entry → Option Answer) (old : Kept) →
+      IsOutcome counts root recipes words config p q old old r
+  unread-outcome e x h r is p q old = refused e (answered r e is) (unread e x h) refl
 
   pub unread-so : (e : Error) → cause.IsOfWords e → IfSome (cause.cause_of e) (IsFault counts root recipes words) → (r : Result Report Error) → IsErrAnd r (λ y. y ≡ e) → (p : Inquiry → Option Answer) (q : Entry → Option Answer) (old : Kept) →
-      (invoked : List Invoked) → MayRun counts root recipes words config.one invoked → IsSo p q recipes invoked old old r
-  unread-so e x h r is p q old invoked may = subst (λ r. IsSo p q recipes invoked old old r) (sym (answered r e is)) (unread-expected e x h p q invoked may.split old)
+      (invoked : List Invoked) → MayRun counts root recipes words config.one invoked → IsSo p q root recipes invoked old old r
+  unread-so e x h r is p q old invoked may = subst (λ r. IsSo p q root recipes invoked old old r) (sym (answered r e is)) (unread-expected e x h p q invoked may.split old)
 
   -- what leads to a recipe that cannot be run is not ready
   not-ready : (invoked : List Invoked) (name : List ℕ) → IsUnready recipes (tops recipes invoked) name → AreReady recipes (tops recipes invoked) → ⊥
@@ -82,16 +87,17 @@ module _ (counts : Counts) (root : Justfile) (recipes : List (Recipe Dependency)
         subst (Refuses counts root recipes words config.one) (sym is)
         (variables first rest (subst (IsSplit counts root recipes words) are split) (subst (λ invoked. config.one ≡ true → length invoked ≤ 1) are few) has)
 
-    pub held-outcome : (e : Error) → IsHeldBack root invoked e → (r : Result Report Error) → IsErrAnd r (λ y. y ≡ e) → IsOutcome counts root recipes words config old old r
-    held-outcome e held r is = refused e (answered r e is) (held-back e held) refl
+    pub held-outcome : (e : Error) → IsHeldBack root invoked e → (r : Result Report Error) → IsErrAnd r (λ y. y ≡ e) → (p : Inquiry → Option Answer) (q : Entry → Option Answer) →
+        IsOutcome counts root recipes words config p q old old r
+    held-outcome e held r is p q = refused e (answered r e is) (held-back e held) refl
 
-    held-expected : (e : Error) → IsHeldBack root invoked e → (p : Inquiry → Option Answer) (q : Entry → Option Answer) (others : List Invoked) → MayRun counts root recipes words config.one others → IsSo p q recipes others old old (Err e)
-    held-expected e (inl is) p q others may = subst (λ e. IsSo p q recipes others old old (Err e)) (sym is) (out p q others old)
+    held-expected : (e : Error) → IsHeldBack root invoked e → (p : Inquiry → Option Answer) (q : Entry → Option Answer) (others : List Invoked) → MayRun counts root recipes words config.one others → IsSo p q root recipes others old old (Err e)
+    held-expected e (inl is) p q others may = subst (λ e. IsSo p q root recipes others old old (Err e)) (sym is) (out p q others old)
     held-expected e (inr (first, rest, are, is, has)) p q others may = absurd (may.plain has)
 
     pub held-so : (e : Error) → IsHeldBack root invoked e → (r : Result Report Error) → IsErrAnd r (λ y. y ≡ e) → (p : Inquiry → Option Answer) (q : Entry → Option Answer) (others : List Invoked) →
-        MayRun counts root recipes words config.one others → IsSo p q recipes others old old r
-    held-so e held r is p q others may = subst (λ r. IsSo p q recipes others old old r) (sym (answered r e is)) (held-expected e held p q others may)
+        MayRun counts root recipes words config.one others → IsSo p q root recipes others old old r
+    held-so e held r is p q others may = subst (λ r. IsSo p q root recipes others old old r) (sym (answered r e is)) (held-expected e held p q others may)
 
   module _ (p : Inquiry → Option Answer) (q : Entry → Option Answer) (invoked : List Invoked) (split : IsSplit counts root recipes words invoked) (few : config.one ≡ true → length invoked ≤ 1) (plain : SomeVariable root → ⊥)
       (old new : Kept) (result : Result Report Error) where
@@ -99,23 +105,23 @@ module _ (counts : Counts) (root : Justfile) (recipes : List (Recipe Dependency)
     stopped e (inl is) = subst (Refuses counts root recipes words config.one) (sym is) memory
     stopped e (inr (name, is, unready)) = subst (Refuses counts root recipes words config.one) (sym is) (not_yet name invoked split few unready)
 
-    pub went : TasksComeTo p q recipes (tops recipes invoked) old new result → IsOutcome counts root recipes words config old new result
+    pub went : TasksComeTo p q (IsSceneOf root recipes) recipes (tops recipes invoked) old new result → IsOutcome counts root recipes words config p q old new result
     went (inl (e, is, stops, same)) = refused e is (stopped e stops) same
-    went (inr (ready, ended, is, run, expected)) = ran invoked ended (record { split = split; few = few; plain = plain; ready = ready }) is run
+    went (inr (ready, ended, is, run, runs)) = ran invoked ended (record { split = split; few = few; plain = plain; ready = ready }) is run (λ scene fits. (runs scene fits).taken)
 
-    stopped-expected : (e : Error) → IsHindered recipes (tops recipes invoked) e → AreReady recipes (tops recipes invoked) → result ≡ Err e → new ≡ old → IsSo p q recipes invoked old new result
+    stopped-expected : (e : Error) → IsHindered recipes (tops recipes invoked) e → AreReady recipes (tops recipes invoked) → result ≡ Err e → new ≡ old → IsSo p q root recipes invoked old new result
     stopped-expected e (inl is) ready answer same =
-        subst (λ r. IsSo p q recipes invoked old new r) (sym (answer ∙ ap (λ e. Err e) is)) (subst (λ n. IsSo p q recipes invoked old n (Err Memory)) (sym same) (out p q invoked old))
+        subst (λ r. IsSo p q root recipes invoked old new r) (sym (answer ∙ ap (λ e. Err e) is)) (subst (λ n. IsSo p q root recipes invoked old n (Err Memory)) (sym same) (out p q invoked old))
     stopped-expected e (inr (name, is, unready)) ready answer same = absurd (not-ready invoked name unready ready)
 
-    went-so : AreReady recipes (tops recipes invoked) → TasksComeTo p q recipes (tops recipes invoked) old new result → IsSo p q recipes invoked old new result
+    went-so : AreReady recipes (tops recipes invoked) → TasksComeTo p q (IsSceneOf root recipes) recipes (tops recipes invoked) old new result → IsSo p q root recipes invoked old new result
     went-so ready (inl (e, is, stops, same)) = stopped-expected e stops ready is same
-    went-so ready (inr (all, ended, is, run, expected)) = (ended, is, expected)
+    went-so ready (inr (all, ended, is, run, runs)) = (ended, is, λ scene fits. (runs scene fits).expected)
 
-    pub went-expected : TasksComeTo p q recipes (tops recipes invoked) old new result → (others : List Invoked) → MayRun counts root recipes words config.one others → IsSo p q recipes others old new result
+    pub went-expected : TasksComeTo p q (IsSceneOf root recipes) recipes (tops recipes invoked) old new result → (others : List Invoked) → MayRun counts root recipes words config.one others → IsSo p q root recipes others old new result
     went-expected goes others may =
         let same : invoked ≡ others = split_once counts root recipes words invoked others split may.split in
-        subst (λ is. IsSo p q recipes is old new result) same (went-so (subst (λ is. AreReady recipes (tops recipes is)) (sym same) may.ready) goes)
+        subst (λ is. IsSo p q root recipes is old new result) same (went-so (subst (λ is. AreReady recipes (tops recipes is)) (sym same) may.ready) goes)
 
   -- several invocations where one alone is allowed
   module _ (invoked : List Invoked) (split : IsSplit counts root recipes words invoked) (alone : config.one ≡ true) (n : ℕ) (count : n ≡ length invoked) (several : 1 < n) where
@@ -127,3 +133,17 @@ module _ (counts : Counts) (root : Justfile) (recipes : List (Recipe Dependency)
         let same : length invoked ≡ length others = ap length (split_once counts root recipes words invoked others split may.split) in
         let few : length others ≤ 1 = may.few alone in
         omega arith
+
+-- what holds in each scene holds in some of them
+pub in-fewer : (p : Inquiry → Option Answer) (q : Entry → Option Answer) (IsSuch IsOther : Scene → Type 0) (recipes : List (Recipe Dependency)) (ts : List Task) (old new : Kept) (result : Result Report Error) →
+    ((scene : Scene) → IsOther scene → IsSuch scene) → TasksComeTo p q IsSuch recipes ts old new result → TasksComeTo p q IsOther recipes ts old new result
+in-fewer p q IsSuch IsOther recipes ts old new result some (inl hindered) = inl hindered
+in-fewer p q IsSuch IsOther recipes ts old new result some (inr (ready, ended, is, run, runs)) = inr (ready, ended, is, run, λ scene fits. runs scene (some scene fits))
+
+-- a run of these tasks in a scene is one in each that is alike
+pub runs-alike : (p : Inquiry → Option Answer) (q : Entry → Option Answer) (ts us : List Task) → ts ≡ us → (old new : Kept) (ended : Result Report Halt) (first second : Scene) → AreAlike first second →
+    Starts p q first ts old new ended → IsAsExpected p q first ts old new ended → RunsIn p q second us old new ended
+runs-alike p q ts us same old new ended first second alike started expected = subst (λ us. RunsIn p q second us old new ended) same (record {
+  taken = same-start p q ts old new ended first second alike started;
+  expected = same-expected p q ts old new ended first second alike expected;
+})

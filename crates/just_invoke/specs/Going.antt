@@ -13,7 +13,8 @@ use Rattle.just_run_layers.specs.Evaluation.{Inquiry}
 use Rattle.just_run_layers.specs.Host.{Answer}
 use Rattle.just_execution.specs.declared.running.Report.{Report}
 use Rattle.just_execution.specs.declared.task.Task.{Task}
-use Rattle.just_execution.specs.Reports.{IsRun, IsAsExpected}
+use Rattle.just_execution.specs.Reports.{IsRun, IsAsExpected, Starts}
+use Rattle.just_execution.specs.Scene.{Scene}
 use Rattle.just_execution.specs.Unready.{IsUnready, AreReady}
 use Rattle.just_invoke.specs.declared.invocation.Invocation.{Invocation}
 use Rattle.just_invoke.specs.Outcome.{tops_of}
@@ -22,13 +23,18 @@ use Rattle.just_invoke.specs.Outcome.{tops_of}
 abbrev pub IsHindered : List (Recipe Dependency) → List Task → Error → Type 0
 IsHindered recipes ts e = (e ≡ Memory) ⊎ ((name : List ℕ) × (e ≡ Run (NotYet name)) × IsUnready recipes ts name)
 
--- tasks are not run, and what is kept is as it was; or they are
-abbrev pub TasksComeTo : (Inquiry → Option Answer) → (Entry → Option Answer) → List (Recipe Dependency) → List Task → Kept → Kept → Result Report Error → Type 0
-TasksComeTo evaluator host recipes ts old new result =
+-- a run in a scene: its steps were taken, and it is as is expected
+pub record RunsIn (evaluator : Inquiry → Option Answer) (host : Entry → Option Answer) (scene : Scene) (ts : List Task) (old new : Kept) (ended : Result Report Halt) : Type 0 where
+  pub taken : Starts evaluator host scene ts old new ended
+  pub expected : IsAsExpected evaluator host scene ts old new ended
+
+-- tasks are not run, and what is kept is as it was; or they are, in each such scene
+abbrev pub TasksComeTo : (Inquiry → Option Answer) → (Entry → Option Answer) → (Scene → Type 0) → List (Recipe Dependency) → List Task → Kept → Kept → Result Report Error → Type 0
+TasksComeTo evaluator host IsSuch recipes ts old new result =
     ((e : Error) × (result ≡ Err e) × IsHindered recipes ts e × (new ≡ old))
     ⊎ (AreReady recipes ts × (ended : Result Report Halt) × (result ≡ come_to ended)
-    × IsRun recipes ts old new ended × IsAsExpected evaluator host recipes ts old new ended)
+    × IsRun recipes ts old new ended × ((scene : Scene) → IsSuch scene → RunsIn evaluator host scene ts old new ended))
 
 -- likewise of invocations
-abbrev pub ComesTo : (Inquiry → Option Answer) → (Entry → Option Answer) → List (Recipe Dependency) → List Invocation → Kept → Kept → Result Report Error → Type 0
-ComesTo evaluator host recipes invocations old new result = TasksComeTo evaluator host recipes (tops_of recipes invocations) old new result
+abbrev pub ComesTo : (Inquiry → Option Answer) → (Entry → Option Answer) → (Scene → Type 0) → List (Recipe Dependency) → List Invocation → Kept → Kept → Result Report Error → Type 0
+ComesTo evaluator host IsSuch recipes invocations old new result = TasksComeTo evaluator host IsSuch recipes (tops_of recipes invocations) old new result

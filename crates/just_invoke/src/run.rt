@@ -57,7 +57,8 @@ pub trait Run<'src> {
         ensures outcome { let counts = count_fault_of (E.answers evaluation.old) in
             let first = kept_by (H.entries host.old) (E.inquiries evaluation.old) in
             let last = kept_by (H.entries host.new) (E.inquiries evaluation.new) in
-            IsOutcome counts (root self.now) recipes.now (texts words.now) config.now first last result }
+            let outcome = IsOutcome counts (root self.now) recipes.now (texts words.now) config.now (E.promised evaluation.old) (H.promised host.old) in
+            outcome first last result }
         // For promised answers.
         ensures expected { let counts = count_fault_of (E.answers evaluation.old) in
             let expected = IsExpected counts (root self.now) recipes.now (texts words.now) config.now (E.promised evaluation.old) (H.promised host.old) in

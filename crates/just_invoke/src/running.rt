@@ -4,6 +4,7 @@ ghost use Rattle.just_recipe.specs.Recipes.{IsResolved};
 ghost use Rattle.just_run_layers.specs.Steps.{kept_by};
 ghost use Rattle.just_invoke.specs.declared.invocation.Invocation.{Invocation};
 ghost use Rattle.just_execution.specs.Homes.{IsAmong};
+ghost use Rattle.just_execution.specs.Scene.{AreAlike, scene_of};
 ghost use Rattle.just_justfile.specs.Closed.{IsHeld};
 ghost use Rattle.just_invoke.specs.Going.{ComesTo};
 
@@ -32,7 +33,8 @@ pub(crate) fn run_invocations<'src, S: Syntax, E: Evaluation, H: Host>(
     ensures keeps_host { KeepsPromises (H.promised host.old) (H.promised host.new) }
     ensures comes { let first = kept_by (H.entries host.old) (E.inquiries evaluation.old) in
         let last = kept_by (H.entries host.new) (E.inquiries evaluation.new) in
-        ComesTo (E.promised evaluation.old) (H.promised host.old) recipes.now invocations.now first last result }
+        let alike = AreAlike (scene_of scopes.now.modules recipes.now) in
+        ComesTo (E.promised evaluation.old) (H.promised host.old) alike recipes.now invocations.now first last result }
 {
     let tops = name_tops(alloc, recipes, invocations)?;
     if let Some(recipe) = find_unready(alloc, recipes, &tops)? {

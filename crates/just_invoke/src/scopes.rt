@@ -1,6 +1,6 @@
 //! The modules of a run.
 ghost use Rattle.std.specs.Prelude.{◌≡◌, IfOk};
-ghost use Rattle.just_invoke.specs.Scopes.{HasScopes, IsScopeOf};
+ghost use Rattle.just_invoke.specs.Scopes.{HasScopes, HaveOwnPaths, IsScopeOf};
 
 use crate::modules::modules_in;
 use just_data::{Chain, Text};
@@ -45,6 +45,7 @@ fn bare_modules<'run, 'src>(
     root: &'run Justfile<'src>,
     overrides: &'run HashMap<Number, Text>,
 ) -> Result<HashMap<Modulepath, ModuleScope<'run, 'src>>, AllocError>
+    requires { HaveOwnPaths root.now }
     ensures { IfOk result (HasScopes root.now) }
 {
     let mut modules = HashMap::new(alloc);
@@ -63,6 +64,7 @@ pub(crate) fn bare_scopes<'run, 'src, S: Syntax>(
     root: &'run Justfile<'src>,
     overrides: &'run HashMap<Number, Text>,
 ) -> Result<Scopes<'run, 'src, S>, AllocError>
+    requires { HaveOwnPaths root.now }
     ensures modules { IfOk result (λ scopes. HasScopes root.now scopes.modules) }
     ensures syntax { IfOk result (λ scopes. scopes.syntax.now ≡ syntax.now) }
 {

@@ -5,12 +5,15 @@ use Rattle.just_run_layers.specs.Steps.{kept_by}
 use Rattle.just_errors.specs.declared.error.Error.TheVariants.{Memory}
 use Rattle.just_names.specs.Texts.{texts}
 use Rattle.just_justfile.specs.Closed.{is_closed, is_ordered}
+use Rattle.just_execution.specs.Scene.{AreAlike, scene_of}
 use Rattle.just_invoke.specs.Going.{ComesTo}
 use Rattle.just_invoke.specs.Outcome.{refused}
+use Rattle.just_invoke.specs.Scopes.{IsSceneOf}
 use Rattle.just_invoke.specs.Split.{invoked_of}
 use Rattle.just_invoke.specs.Variables.{IsHeldBack}
-use Rattle.just_invoke.proofs.Outcomes.{unread-outcome, unread-so, held-outcome, held-so, went, went-expected, many, many-not}
-use Rattle.just_invoke.proofs.Scoping.{are-among}
+use Rattle.just_invoke.proofs.Outcomes.{in-fewer, unread-outcome, unread-so, held-outcome, held-so, went, went-expected, many, many-not}
+use Rattle.just_invoke.proofs.ModulePaths.{own_paths}
+use Rattle.just_invoke.proofs.Scoping.{are-alike, are-among}
 use Rattle.just_invoke.proofs.SplitLemmas.{split_some}
 use Rattle.just_invoke.proofs.run.JustfileRun.run.Goals as goal
 use Rattle.just_invoke.proofs.run.JustfileRun.run.Goals.{else-config-via-then-config+else-len-gt1, else-config-via-else-config}
@@ -23,7 +26,8 @@ run_invocations-requires-clause-resolved g c = (is_closed c.requires.closed).res
 
 pub returns-in_err-invocations-clause-outcome : goal.returns-in_err-invocations-clause-outcome
 returns-in_err-invocations-clause-outcome g c =
-    unread-outcome (count_fault_of (g.E.ConstantEvaluation.answers c.args.evaluation.now)) c.args.self.now c.args.recipes.now (texts c.args.words.now) c.args.config.now c.in_err-invocations.field-0.0 c.in_err-invocations.ensures.words c.in_err-invocations.ensures.fault c.from_residual.result (search rules) _
+    unread-outcome (count_fault_of (g.E.ConstantEvaluation.answers c.args.evaluation.now)) c.args.self.now c.args.recipes.now (texts c.args.words.now) c.args.config.now c.in_err-invocations.field-0.0 c.in_err-invocations.ensures.words c.in_err-invocations.ensures.fault c.from_residual.result (search rules)
+    (g.E.Evaluation.promised c.args.evaluation.now) (g.H.Host.promised c.args.host.now) _
 
 pub returns-in_err-invocations-clause-expected : goal.returns-in_err-invocations-clause-expected
 returns-in_err-invocations-clause-expected g c =
@@ -55,6 +59,7 @@ returns-in_err-check_variables-clause-outcome g c =
     held-outcome (count_fault_of (g.E.ConstantEvaluation.answers c.args.evaluation.now)) c.args.self.now c.args.recipes.now (texts c.args.words.now) c.args.config.now (map invoked_of c.in_ok-invocations.invocations.items) c.in_ok-invocations.ensures.split
     (λ yes. subst (λ n. n ≤ 1) (sym (length-map c.in_ok-invocations.invocations.items invoked_of)) (few yes)) _ c.in_err-check_variables.field-0.0
     (subst (λ is. IsHeldBack c.args.self.now (map invoked_of is) c.in_err-check_variables.field-0.0) c.as_slice.ensures.value c.in_err-check_variables.ensures.err) c.from_residual-in_err-check_variables.result (search rules)
+    (g.E.Evaluation.promised c.args.evaluation.now) (g.H.Host.promised c.args.host.now)
 
 pub returns-in_err-check_variables-clause-expected : goal.returns-in_err-check_variables-clause-expected
 returns-in_err-check_variables-clause-expected g c =
@@ -92,6 +97,9 @@ returns-in_err-scopes-clause-expected g c =
     (λ yes. subst (λ n. n ≤ 1) (sym (length-map c.in_ok-invocations.invocations.items invoked_of)) (few yes)) c.in_ok-check_variables.ensures.ok _ _ c.from_residual-in_err-scopes.result
     (inl (Memory, (search rules), inl refl, refl))
 
+pub bare_scopes-requires : goal.bare_scopes-requires
+bare_scopes-requires g c = own_paths c.args.recipes.now c.args.self.now c.requires.closed
+
 pub run_invocations-requires-clause-among : goal.run_invocations-requires-clause-among
 run_invocations-requires-clause-among g c =
     are-among c.args.self.now c.in_ok-scopes.scopes.modules c.args.recipes.now c.in_ok-scopes.ensures.modules c.requires.placed
@@ -106,7 +114,8 @@ returns-clause-outcome g c =
     ] in
     went (count_fault_of (g.E.ConstantEvaluation.answers c.args.evaluation.now)) c.args.self.now c.args.recipes.now (texts c.args.words.now) c.args.config.now p q (map invoked_of c.in_ok-invocations.invocations.items) c.in_ok-invocations.ensures.split
     (λ yes. subst (λ n. n ≤ 1) (sym (length-map c.in_ok-invocations.invocations.items invoked_of)) (few yes)) c.in_ok-check_variables.ensures.ok _ _ c.run_invocations.result
-    (subst (λ is. ComesTo p q c.args.recipes.now is (kept_by (g.H.Host.entries c.args.host.now) (g.E.Evaluation.inquiries c.args.evaluation.now)) (kept_by (g.H.Host.entries c.run_invocations.new.host) (g.E.Evaluation.inquiries c.run_invocations.new.evaluation)) c.run_invocations.result) c.as_slice-2.ensures.value c.run_invocations.ensures.comes)
+    (in-fewer p q (AreAlike (scene_of c.in_ok-scopes.scopes.modules c.args.recipes.now)) (IsSceneOf c.args.self.now c.args.recipes.now) c.args.recipes.now _ _ _ _ (are-alike c.args.self.now c.in_ok-scopes.scopes.modules c.args.recipes.now c.in_ok-scopes.ensures.modules c.requires.placed)
+    (subst (λ is. ComesTo p q (AreAlike (scene_of c.in_ok-scopes.scopes.modules c.args.recipes.now)) c.args.recipes.now is (kept_by (g.H.Host.entries c.args.host.now) (g.E.Evaluation.inquiries c.args.evaluation.now)) (kept_by (g.H.Host.entries c.run_invocations.new.host) (g.E.Evaluation.inquiries c.run_invocations.new.evaluation)) c.run_invocations.result) c.as_slice-2.ensures.value c.run_invocations.ensures.comes))
 
 pub returns-clause-expected : goal.returns-clause-expected
 returns-clause-expected g c =
@@ -118,4 +127,5 @@ returns-clause-expected g c =
     ] in
     went-expected (count_fault_of (g.E.ConstantEvaluation.answers c.args.evaluation.now)) c.args.self.now c.args.recipes.now (texts c.args.words.now) c.args.config.now p q (map invoked_of c.in_ok-invocations.invocations.items) c.in_ok-invocations.ensures.split
     (λ yes. subst (λ n. n ≤ 1) (sym (length-map c.in_ok-invocations.invocations.items invoked_of)) (few yes)) c.in_ok-check_variables.ensures.ok _ _ c.run_invocations.result
-    (subst (λ is. ComesTo p q c.args.recipes.now is (kept_by (g.H.Host.entries c.args.host.now) (g.E.Evaluation.inquiries c.args.evaluation.now)) (kept_by (g.H.Host.entries c.run_invocations.new.host) (g.E.Evaluation.inquiries c.run_invocations.new.evaluation)) c.run_invocations.result) c.as_slice-2.ensures.value c.run_invocations.ensures.comes)
+    (in-fewer p q (AreAlike (scene_of c.in_ok-scopes.scopes.modules c.args.recipes.now)) (IsSceneOf c.args.self.now c.args.recipes.now) c.args.recipes.now _ _ _ _ (are-alike c.args.self.now c.in_ok-scopes.scopes.modules c.args.recipes.now c.in_ok-scopes.ensures.modules c.requires.placed)
+    (subst (λ is. ComesTo p q (AreAlike (scene_of c.in_ok-scopes.scopes.modules c.args.recipes.now)) c.args.recipes.now is (kept_by (g.H.Host.entries c.args.host.now) (g.E.Evaluation.inquiries c.args.evaluation.now)) (kept_by (g.H.Host.entries c.run_invocations.new.host) (g.E.Evaluation.inquiries c.run_invocations.new.evaluation)) c.run_invocations.result) c.as_slice-2.ensures.value c.run_invocations.ensures.comes))
