@@ -7,6 +7,7 @@ pub mod ModuleLemmas
 pub mod ModulePaths
 pub mod Namings
 pub mod Outcomes
+pub mod Preordering
 pub mod Readings
 pub mod Scoping
 pub mod SplitLemmas

@@ -1,130 +1,99 @@
--- The modules that stand in one: those that are found, and those that are left to look at.
-use Rattle.std.proofs.Common.{◌≡◌, ℕ, ◌+◌, ◌<◌, List, [], ◌∷◌, ◌++◌, map, sym, ap, subst, ◌∙◌, inl, inr, ◌⊎◌, arith}
+-- The modules that stand in one, and loops over them.
+use Rattle.std.proofs.Common.{◌≡◌, ℕ, List, [], ◌∷◌, ◌++◌, ◌+◌, length, map, refl, sym, ap, subst, ◌∙◌, inl, inr, ◌⊎◌, arith}
 use Rattle.std.proofs.lemmas.List.{append-nil, append_assoc, map-append}
 use Rattle.std.proofs.lemmas.List.Elements.{All-contains, All-push, Contains-append_left, Contains-append_right, Contains-append_cases, Contains-push, Contains-push_cases}
-use Rattle.std.specs.Borrow.{Bor}
 use Rattle.std.specs.List.{All, Contains}
 use Rattle.just_justfile.specs.declared.justfile.Justfile.{Justfile, out-Justfile}
-use Rattle.just_justfile.specs.declared.justfile.Justfile.TheOpen.{Justfile-F}
-use Rattle.just_justfile.specs.declared.justfile.Justfile.TheFolds.{fold-Justfile, fold_out-Justfile}
 use Rattle.just_justfile.specs.Closed.{StandsIn, itself, inside}
+use Rattle.just_invoke.specs.Preorder.{AreBelow, IsPreorder, Placed, none, one, placed}
 use Rattle.just_invoke.specs.Scopes.{AreModulesIn}
+use Rattle.just_invoke.specs.declared.modules.PlacedModule.{PlacedModule}
 
-abbrev pub shown : List (Bor Justfile) → List Justfile
-shown ms = map (λ m. m.now) ms
+abbrev pub shown : List PlacedModule → List Justfile
+shown ms = map (λ m. m.justfile.now) ms
 
-abbrev total : List ℕ → ℕ
-total [] = 0
-total (n ∷ ns) = n + total ns
-
-abbrev count_step : Justfile-F ℕ → ℕ
-count_step m = total m.modules + 1
-
--- how many modules there are: this one and those in it
-abbrev count : Justfile → ℕ
-count = fold-Justfile ℕ count_step
-
-abbrev pub count_all : List Justfile → ℕ
-count_all ms = total (map count ms)
-
-count_out : (m : Justfile) → count m ≡ count_all (out-Justfile m).modules + 1
-count_out = fold_out-Justfile ℕ count_step
-
-count_append : (ms ns : List Justfile) → count_all (ms ++ ns) ≡ count_all ms + count_all ns
-count_append [] ns = omega arith
-count_append (m ∷ ms) ns = omega (arith, count_append ms ns)
-
--- fewer are left where a module's own take its place
-count_less : (ms : List Justfile) (m : Justfile) → count_all (ms ++ (out-Justfile m).modules) < count_all (ms ++ m ∷ [])
-count_less ms m = omega (arith, count_append ms (out-Justfile m).modules, count_append ms (m ∷ []), count_out m)
-
--- the found and the left ones stand in the root, and each that stands there is found or stands in one that is left
-pub record AreFound (root : Justfile) (found left : List Justfile) : Type 0 where
-  pub standing : (j : Justfile) → Contains found j → StandsIn root j
-  pub open_still : (j : Justfile) → Contains left j → StandsIn root j
-  pub each : (j : Justfile) → StandsIn root j → Contains found j ⊎ ((m : Justfile) × Contains left m × StandsIn m j)
-
-pub none_found : (root : Justfile) → AreFound root [] (root ∷ [])
-none_found root = record {
-  standing = λ j c. absurd (let l = c.1 in omega arith);
-  open_still = λ j c. elim (Contains-push_cases [] root j c) [
-    | inl none ↦ absurd (let l = none.1 in omega arith)
-    | inr same ↦ subst (StandsIn root) same itself
-  ];
-  each = λ j stands. inr (root, Contains-push [] root, stands);
-}
-
-pub all_found : (root : Justfile) (found : List Justfile) → AreFound root found [] → AreModulesIn root found
-all_found root found are j = (
-  are.standing j,
-  λ stands. elim (are.each j stands) [
-    | inl c ↦ c
-    | inr n ↦ absurd (let c = n.1 in let l = c.1 in omega arith)
-  ],
-)
+abbrev justfiles : List Placed → List Justfile
+justfiles ps = map (λ (p : Placed). p.justfile) ps
 
 -- the modules in one that stands in the root stand there too
 stands-below : (root m n : Justfile) → StandsIn root m → Contains (out-Justfile m).modules n → StandsIn root n
 stands-below root m n itself c = inside c itself
 stands-below root m n (inside {inner = i} d below) c = inside d (stands-below i m n below c)
 
--- one that is left is found, and its modules take its place
-module _ (root : Justfile) (found rest : List Justfile) (m : Justfile) (are : AreFound root found (rest ++ m ∷ [])) where
-  stood : StandsIn root m
-  stood = are.open_still m (Contains-push rest m)
+first : (j : Justfile) (js : List Justfile) → Contains (j ∷ js) j
+first j js = (0, omega arith, refl)
 
-  lower : (j : Justfile) → StandsIn m j → Contains (found ++ m ∷ []) j ⊎ ((n : Justfile) × Contains (rest ++ (out-Justfile m).modules) n × StandsIn n j)
-  lower j itself = inl (Contains-push found m)
-  lower j (inside {inner = n} c below) = inr (n, Contains-append_right rest (out-Justfile m).modules n c, below)
+later : (i j : Justfile) (js : List Justfile) → Contains js j → Contains (i ∷ js) j
+later i j js c = Contains-append_right (i ∷ []) js j c
 
-  lower-cases : (n j : Justfile) → Contains rest n ⊎ (m ≡ n) → StandsIn n j → Contains (found ++ m ∷ []) j ⊎ ((n : Justfile) × Contains (rest ++ (out-Justfile m).modules) n × StandsIn n j)
-  lower-cases n j (inl c) below = inr (n, Contains-append_left rest (out-Justfile m).modules n c, below)
-  lower-cases n j (inr same) below = lower j (subst (λ n. StandsIn n j) (sym same) below)
+first-or-later : (i j : Justfile) (js : List Justfile) → Contains (i ∷ js) j → (i ≡ j) ⊎ Contains js j
+first-or-later i j js c = elim (Contains-append_cases (i ∷ []) js j c) [
+  | inl here ↦ elim (Contains-push_cases [] i j here) [
+    | inl nowhere ↦ absurd (let l = nowhere.1 in omega arith)
+    | inr same ↦ inl same
+  ]
+  | inr more ↦ inr more
+]
 
-  more_found : AreFound root (found ++ m ∷ []) (rest ++ (out-Justfile m).modules)
-  more_found = record {
-    standing = λ j c. elim (Contains-push_cases found m j c) [
-      | inl before ↦ are.standing j before
-      | inr same ↦ subst (StandsIn root) same stood
-    ];
-    open_still = λ j c. elim (Contains-append_cases rest (out-Justfile m).modules j c) [
-      | inl before ↦ are.open_still j (Contains-append_left rest (m ∷ []) j before)
-      | inr own ↦ stands-below root m j stood own
-    ];
-    each = λ j stands. elim (are.each j stands) [
-      | inl before ↦ inl (Contains-append_left found (m ∷ []) j before)
-      | inr n ↦ lower-cases n.0 j (Contains-push_cases rest m n.0 n.1) n.2
-    ];
-  }
+-- what is listed below modules that stand in the root stands there
+listed-stands : (root : Justfile) (parent start : ℕ) (js : List Justfile) (ps : List Placed) → AreBelow parent start js ps → ((j : Justfile) → Contains js j → StandsIn root j) → (j : Justfile) → Contains (justfiles ps) j → StandsIn root j
+listed-stands root parent start _ _ none stand j c = absurd (let l = c.1 in omega arith)
+listed-stands root parent start _ _ (one {j = i} {js = js} {below = b} {rest = r} inner after) stand j c =
+    elim (first-or-later i j (justfiles (b ++ r)) c) [
+      | inl same ↦ subst (StandsIn root) same (stand i (first i js))
+      | inr more ↦ elim (Contains-append_cases (justfiles b) (justfiles r) j (subst (λ xs. Contains xs j) (map-append (λ (p : Placed). p.justfile) b r) more)) [
+        | inl within ↦ listed-stands root start (start + 1) (out-Justfile i).modules b inner (λ n d. stands-below root i n (stand i (first i js)) d) j within
+        | inr behind ↦ listed-stands root parent (start + 1 + length b) js r after (λ n d. stand n (later i n js d)) j behind
+      ]
+    ]
 
-shown-push : (ms : List (Bor Justfile)) (m : Bor Justfile) → shown (ms ++ m ∷ []) ≡ shown ms ++ m.now ∷ []
-shown-push ms m = map-append (λ m. m.now) ms (m ∷ [])
+-- a module, or what stands in one of its modules
+own-listed : (h j : Justfile) → StandsIn h j → (list : List Justfile) → ((n : Justfile) → Contains (out-Justfile h).modules n → StandsIn n j → Contains list j) → Contains (h ∷ list) j
+own-listed h j itself list found = first h list
+own-listed h j (inside {inner = n} d below) list found = later h j list (found n d below)
 
--- a module is taken from the end of those that are left
-module _ (all rest more : List (Bor Justfile)) (m : Bor Justfile) (taken : all ≡ rest ++ m ∷ []) (added : shown more ≡ shown rest ++ (out-Justfile m.now).modules) where
-  shown-taken : shown all ≡ shown rest ++ m.now ∷ []
-  shown-taken = ap shown taken ∙ shown-push rest m
+-- and whatever stands in one of them is listed
+standing-listed : (parent start : ℕ) (js : List Justfile) (ps : List Placed) → AreBelow parent start js ps → (i j : Justfile) → Contains js i → StandsIn i j → Contains (justfiles ps) j
+standing-listed parent start _ _ none i j c stands = absurd (let l = c.1 in omega arith)
+standing-listed parent start _ _ (one {j = h} {js = js} {below = b} {rest = r} inner after) i j c stands =
+    let behind : Contains (justfiles r) j → Contains (justfiles (b ++ r)) j = λ d. subst (λ xs. Contains xs j) (sym (map-append (λ (p : Placed). p.justfile) b r)) (Contains-append_right (justfiles b) (justfiles r) j d) in
+    let within : Contains (justfiles b) j → Contains (justfiles (b ++ r)) j = λ d. subst (λ xs. Contains xs j) (sym (map-append (λ (p : Placed). p.justfile) b r)) (Contains-append_left (justfiles b) (justfiles r) j d) in
+    elim (first-or-later h i js c) [
+      | inl same ↦ own-listed h j (subst (λ n. StandsIn n j) (sym same) stands) (justfiles (b ++ r)) (λ n d below. within (standing-listed start (start + 1) (out-Justfile h).modules b inner n j d below))
+      | inr more ↦ later h j (justfiles (b ++ r)) (behind (standing-listed parent (start + 1 + length b) js r after i j more stands))
+    ]
 
-  pub taken_found : (root : Justfile) (old new : List (Bor Justfile)) → new ≡ old ++ m ∷ [] → AreFound root (shown old) (shown all) → AreFound root (shown new) (shown more)
-  taken_found root old new pushed are =
-      subst (λ xs. AreFound root xs (shown more)) (sym (ap shown pushed ∙ shown-push old m)) (subst (AreFound root (shown old ++ m.now ∷ [])) (sym added)
-      (more_found root (shown old) (shown rest) m.now (subst (AreFound root (shown old)) shown-taken are)))
+shown_placed : (ms : List PlacedModule) → shown ms ≡ justfiles (map placed ms)
+shown_placed [] = refl
+shown_placed (m ∷ ms) = ap (λ js. m.justfile.now ∷ js) (shown_placed ms)
 
-  pub taken_less : count_all (shown more) < count_all (shown all)
-  taken_less = omega (arith, ap count_all added, ap count_all shown-taken, count_less (shown rest) m.now)
+-- modules in preorder are those that stand in the root
+pub are_modules : (root : Justfile) (ms : List PlacedModule) → IsPreorder root (map placed ms) → AreModulesIn root (shown ms)
+are_modules root ms (below, is, rest) =
+    let all : shown ms ≡ root ∷ justfiles below = shown_placed ms ∙ ap justfiles is in
+    λ j. (
+      λ c. elim (first-or-later root j (justfiles below) (subst (λ xs. Contains xs j) all c)) [
+        | inl same ↦ subst (StandsIn root) same itself
+        | inr more ↦ listed-stands root 0 1 (out-Justfile root).modules below rest (λ n d. inside d itself) j more
+      ],
+      λ stands. subst (λ xs. Contains xs j) (sym all) (own-listed root j stands (justfiles below) (λ n d in_n. standing-listed 0 1 (out-Justfile root).modules below rest n j d in_n)),
+    )
+
+shown-push : (ms : List PlacedModule) (m : PlacedModule) → shown (ms ++ m ∷ []) ≡ shown ms ++ m.justfile.now ∷ []
+shown-push ms m = map-append (λ m. m.justfile.now) ms (m ∷ [])
 
 -- a loop over the modules in the root: some are done, the others are left
-pub done_more : (P : Justfile → Type 0) (done : List (Bor Justfile)) (m : Bor Justfile) → All P (shown done) → P m.now → All P (shown (done ++ m ∷ []))
-done_more P done m before one = subst (All P) (sym (shown-push done m)) (All-push P (shown done) m.now before one)
+pub done_more : (P : Justfile → Type 0) (done : List (PlacedModule)) (m : PlacedModule) → All P (shown done) → P m.justfile.now → All P (shown (done ++ m ∷ []))
+done_more P done m before one = subst (All P) (sym (shown-push done m)) (All-push P (shown done) m.justfile.now before one)
 
-module _ (root : Justfile) (done left : List (Bor Justfile)) (all : AreModulesIn root (shown (done ++ left))) where
-  pub next_moved : (m : Bor Justfile) (more : List (Bor Justfile)) → left ≡ m ∷ more → AreModulesIn root (shown ((done ++ m ∷ []) ++ more))
+module _ (root : Justfile) (done left : List (PlacedModule)) (all : AreModulesIn root (shown (done ++ left))) where
+  pub next_moved : (m : PlacedModule) (more : List (PlacedModule)) → left ≡ m ∷ more → AreModulesIn root (shown ((done ++ m ∷ []) ++ more))
   next_moved m more next = subst (λ ms. AreModulesIn root (shown ms)) (ap (λ r. done ++ r) next ∙ sym (append_assoc done (m ∷ []) more)) all
 
-  pub next_stands : (m : Bor Justfile) (more : List (Bor Justfile)) → left ≡ m ∷ more → StandsIn root m.now
-  next_stands m more next = (next_moved m more next m.now).0 (subst (λ ms. Contains ms m.now)
-      (sym (map-append (λ m. m.now) (done ++ m ∷ []) more ∙ ap (λ ms. ms ++ shown more) (shown-push done m)))
-      (Contains-append_left (shown done ++ m.now ∷ []) (shown more) m.now (Contains-push (shown done) m.now)))
+  pub next_stands : (m : PlacedModule) (more : List (PlacedModule)) → left ≡ m ∷ more → StandsIn root m.justfile.now
+  next_stands m more next = (next_moved m more next m.justfile.now).0 (subst (λ ms. Contains ms m.justfile.now)
+      (sym (map-append (λ m. m.justfile.now) (done ++ m ∷ []) more ∙ ap (λ ms. ms ++ shown more) (shown-push done m)))
+      (Contains-append_left (shown done ++ m.justfile.now ∷ []) (shown more) m.justfile.now (Contains-push (shown done) m.justfile.now)))
 
   pub each_done : left ≡ [] → (P : Justfile → Type 0) → All P (shown done) → (j : Justfile) → StandsIn root j → P j
   each_done none P are j stands = All-contains P (shown done) j are (subst (λ ms. Contains (shown ms) j) (ap (λ r. done ++ r) none ∙ append-nil done) ((all j).1 stands))

@@ -1,7 +1,6 @@
 -- The modules of a run are those that stand in the root.
 use Rattle.std.proofs.Common.{◌≡◌, ◌∙◌, cond, true, List, [], ◌∷◌, ◌++◌, Some, refl, sym, ap, subst, inl, inr}
 use Rattle.std.specs.HashMap as hash
-use Rattle.std.specs.Borrow.{Bor}
 use Rattle.std.specs.List.{All}
 use Rattle.std.proofs.lemmas.Bool.{cases_Bool}
 use Rattle.std.proofs.lemmas.List.Elements.{All-weaker}
@@ -17,6 +16,7 @@ use Rattle.just_execution.specs.declared.scopes.ModuleScope.{ModuleScope}
 use Rattle.just_justfile.specs.Closed.{IsPlaced, StandsIn}
 use Rattle.just_invoke.specs.Scopes.{AreModulesIn, HasScope, HasScopes, HaveOwnPaths, IsSceneOf, IsScopeOf, bare_contents}
 use Rattle.just_justfile.specs.declared.justfile.Justfile.{Justfile, out-Justfile}
+use Rattle.just_invoke.specs.declared.modules.PlacedModule.{PlacedModule}
 use Rattle.just_invoke.proofs.ModuleLemmas.{shown, done_more, next_moved, next_stands}
 
 -- paths that are the same are equal
@@ -41,18 +41,18 @@ module _ (root : Justfile) (paths : HaveOwnPaths root) (old new : Modules) (m : 
         | inr f ↦ (here, record { scope = h.scope; there = put.0 at ∙ ap (λ b. cond b (Some scope) (module_at old (Some at))) f ∙ h.there; own = h.own })
       ]
 
-  put_more : (done : List (Bor Justfile)) → All (IsPut root old) (shown done) → All (IsPut root new) (shown done)
+  put_more : (done : List PlacedModule) → All (IsPut root old) (shown done) → All (IsPut root new) (shown done)
   put_more done are = All-weaker (IsPut root old) (IsPut root new) stays (shown done) are
 
 -- the next of the modules is put in
-pub next_scoped : {root : Justfile} {old new : Modules} (done : List (Bor Justfile)) {left more : List (Bor Justfile)} {m : Bor Justfile} {scope : ModuleScope} {path : Modulepath} → HaveOwnPaths root → IsScopeOf m.now scope → left ≡ m ∷ more →
-    path ≡ (out-Justfile m.now).module_path → hash.UpdatesBy path_eq.ghosts.eq (path_eq.ghosts.eq path) old new (Some scope) → All (IsPut root old) (shown done) → AreModulesIn root (shown (done ++ left)) →
+pub next_scoped : {root : Justfile} {old new : Modules} (done : List PlacedModule) {left more : List PlacedModule} {m : PlacedModule} {scope : ModuleScope} {path : Modulepath} → HaveOwnPaths root → IsScopeOf m.justfile.now scope → left ≡ m ∷ more →
+    path ≡ (out-Justfile m.justfile.now).module_path → hash.UpdatesBy path_eq.ghosts.eq (path_eq.ghosts.eq path) old new (Some scope) → All (IsPut root old) (shown done) → AreModulesIn root (shown (done ++ left)) →
     All (IsPut root new) (shown (done ++ m ∷ [])) × AreModulesIn root (shown ((done ++ m ∷ []) ++ more))
 next_scoped {root} {old} {new} done {left} {more} {m} {scope} {path} paths own next same put are all =
-    let stands : StandsIn root m.now = next_stands root done left all m more next in
-    let there : hash.UpdatesBy path_eq.ghosts.eq (path_eq.ghosts.eq (out-Justfile m.now).module_path) old new (Some scope) =
+    let stands : StandsIn root m.justfile.now = next_stands root done left all m more next in
+    let there : hash.UpdatesBy path_eq.ghosts.eq (path_eq.ghosts.eq (out-Justfile m.justfile.now).module_path) old new (Some scope) =
     subst (λ p. hash.UpdatesBy path_eq.ghosts.eq (path_eq.ghosts.eq p) old new (Some scope)) same put in
-    (done_more (IsPut root new) done m (put_more root paths old new m.now scope own stands there done are) (stands, put_there root paths old new m.now scope own stands there), next_moved root done left all m more next)
+    (done_more (IsPut root new) done m (put_more root paths old new m.justfile.now scope own stands there done are) (stands, put_there root paths old new m.justfile.now scope own stands there), next_moved root done left all m more next)
 
 -- so the module of each recipe is among them
 is-among : (root : Justfile) (modules : Modules) → HasScopes root modules → (r : Recipe Dependency) → IsPlaced root r → IsAmong modules r

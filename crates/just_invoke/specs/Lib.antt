@@ -3,6 +3,7 @@ pub mod Going
 pub mod Head
 pub mod Meaning
 pub mod Outcome
+pub mod Preorder
 pub mod Scopes
 pub mod Split
 pub mod Variables

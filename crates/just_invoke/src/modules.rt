@@ -1,37 +1,54 @@
 //! The modules that stand in one.
 ghost use Rattle.std.specs.Prelude.{◌≡◌, ◌++◌, map, IfOk, OnOk};
 ghost use Rattle.just_justfile.specs.declared.justfile.Justfile.{out-Justfile};
-ghost use Rattle.just_invoke.specs.Scopes.{AreModulesIn};
+ghost use Rattle.just_invoke.specs.Preorder.{IsPreorder, inner_modules, placed, waiting};
 
 use just_justfile::Justfile;
 use std::alloc::{AllocError, Global};
 
-// Adds the modules of a module to those that are left to look at.
+/// A module in the order of a walk, and the place of the one that it stands in, of which the root's has none.
+#[derive(Drop)]
+pub(crate) struct PlacedModule<'run, 'src> {
+    /// The module.
+    pub justfile: &'run Justfile<'src>,
+    /// The place, which is before that of this one.
+    pub parent: Option<usize>,
+}
+
+// Adds the modules of the one at a place to those that are left to look at, so that the first is taken next.
 fn add_modules<'run, 'src>(
-    left: &mut Vec<&'run Justfile<'src>>,
+    left: &mut Vec<PlacedModule<'run, 'src>>,
+    place: usize,
     parent: &'run Justfile<'src>,
 ) -> Result<(), AllocError>
-    ensures { OnOk result (map (λ m. m.now) left.new.items ≡ map (λ m. m.now) left.old.items ++ (out-Justfile parent.now).modules) }
+    ensures { OnOk result (waiting left.new.items ≡ inner_modules place (out-Justfile parent.now).modules ++ waiting left.old.items) }
 {
-    for inner in parent.modules.as_slice() {
-        left.push(inner)?;
+    let modules = parent.modules.as_slice();
+    for inner in (0..modules.len()).rev() {
+        left.push(PlacedModule {
+            justfile: &modules[inner],
+            parent: Some(place),
+        })?;
     }
     Ok(())
 }
 
-/// The modules that stand in the root, itself among them.
+/// The modules that stand in the root, itself among them: each before those in it, and these in the order of their names.
 pub(crate) fn modules_in<'run, 'src>(
     alloc: Global,
     root: &'run Justfile<'src>,
-) -> Result<Vec<&'run Justfile<'src>>, AllocError>
-    ensures { IfOk result (λ modules. AreModulesIn root.now (map (λ m. m.now) modules.items)) }
+) -> Result<Vec<PlacedModule<'run, 'src>>, AllocError>
+    ensures { IfOk result (λ modules. IsPreorder root.now (map placed modules.items)) }
 {
     let mut modules = Vec::new(alloc);
     let mut left = Vec::new(alloc);
-    left.push(root)?;
-    while let Some(module) = left.pop() {
-        modules.push(module)?;
-        add_modules(&mut left, module)?;
+    left.push(PlacedModule {
+        justfile: root,
+        parent: None,
+    })?;
+    while let Some(next) = left.pop() {
+        add_modules(&mut left, modules.len(), next.justfile)?;
+        modules.push(next)?;
     }
     Ok(modules)
 }

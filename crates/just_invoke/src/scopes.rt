@@ -50,8 +50,8 @@ fn bare_modules<'run, 'src>(
 {
     let mut modules = HashMap::new(alloc);
     for module in modules_in(alloc, root)? {
-        let path = module.module_path.clone()?;
-        modules.insert(path, bare_scope(alloc, config, module, overrides))?;
+        let path = module.justfile.module_path.clone()?;
+        modules.insert(path, bare_scope(alloc, config, module.justfile, overrides))?;
     }
     Ok(modules)
 }

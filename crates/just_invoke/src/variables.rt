@@ -21,7 +21,7 @@ pub(crate) fn check_variables<'src>(
     ensures err { IfErr result (IsHeldBack root.now (map invoked_of invocations.now)) }
 {
     for module in modules_in(alloc, root)? {
-        if !module.assignments.is_empty() {
+        if !module.justfile.assignments.is_empty() {
             let first = invocations[0].recipe;
             let recipe = BorrowedText::new(first.name.lexeme());
             return Err(Error::Run(RunError::NotYet { recipe }));

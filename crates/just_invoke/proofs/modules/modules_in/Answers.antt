@@ -1,23 +1,29 @@
-use Rattle.std.proofs.Common.{◌≡◌, [], ◌∷◌, sym, subst, rules}
-use Rattle.just_invoke.proofs.ModuleLemmas.{AreFound, shown, none_found, all_found, taken_found, taken_less}
+use Rattle.std.proofs.Common.{◌≡◌, ◌++◌, [], ◌∷◌, map, reverse, length, None, rules, ◌∙◌, ap, sym, subst}
+use Rattle.std.proofs.lemmas.List.{length-map, map-append}
+use Rattle.just_justfile.specs.declared.justfile.Justfile.{out-Justfile}
+use Rattle.just_invoke.specs.Preorder.{inner_modules, placed, waiting}
+use Rattle.just_invoke.proofs.Preordering.{begins, walks_on, ends, fewer}
 use Rattle.just_invoke.proofs.modules.modules_in.Goals as goal
 
-pub loop-module-init : goal.loop-module-init
-loop-module-init c =
-    let first : shown c.push.new.self.items ≡ c.args.root.now ∷ [] = search rules in
-    let none : shown c.new-modules.result.items ≡ [] = search rules in
-    subst (λ found. AreFound c.args.root.now found (shown c.push.new.self.items)) (sym none) (subst (AreFound c.args.root.now []) (sym first) (none_found c.args.root.now))
+pub loop-next-init : goal.loop-next-init
+loop-next-init c = begins c.args.root.now (map placed c.new-modules.result.items) (map placed c.push.new.self.items) (search rules) (search rules)
 
-pub loop-module-smaller : goal.loop-module-smaller
-loop-module-smaller c =
-    taken_less c.loop-module.left.items c.pop.new.self.items c.add_modules.new.left.items c.in-Some.module c.in-Some.ensures.items c.in_ok-add_modules.ensures
+pub loop-next-smaller : goal.loop-next-smaller
+loop-next-smaller c =
+    let front = c.pop.new.self.items in
+    fewer c.len.result (map placed front) (map placed c.loop-next.left.items) (map placed c.add_modules.new.left.items) (placed c.in-Some.next)
+    (ap (map placed) c.in-Some.ensures.items ∙ map-append placed front (c.in-Some.next ∷ [])) c.in_ok-add_modules.ensures
 
-pub loop-module-preserved : goal.loop-module-preserved
-loop-module-preserved c =
-    taken_found c.loop-module.left.items c.pop.new.self.items c.add_modules.new.left.items c.in-Some.module c.in-Some.ensures.items c.in_ok-add_modules.ensures
-    c.args.root.now c.loop-module.modules.items c.push-in-Some.new.self.items (search rules) c.loop-module.invariant
+pub loop-next-preserved : goal.loop-next-preserved
+loop-next-preserved c =
+    let front = c.pop.new.self.items in
+    let long : c.len.result ≡ length c.loop-next.modules.items = search rules in
+    let count : c.len.result ≡ length (map placed c.loop-next.modules.items) = long ∙ sym (length-map c.loop-next.modules.items placed) in
+    let added : waiting c.add_modules.new.left.items ≡ inner_modules (length (map placed c.loop-next.modules.items)) (out-Justfile c.in-Some.next.justfile.now).modules ++ waiting front =
+    c.in_ok-add_modules.ensures ∙ ap (λ n. inner_modules n (out-Justfile c.in-Some.next.justfile.now).modules ++ waiting front) count in
+    let pushed : c.push-in-Some.new.self.items ≡ c.loop-next.modules.items ++ c.in-Some.next ∷ [] = search rules in
+    walks_on c.args.root.now (map placed c.loop-next.modules.items) (map placed c.loop-next.left.items) (map placed front) (map placed c.add_modules.new.left.items) (map placed c.push-in-Some.new.self.items) (placed c.in-Some.next)
+    (ap (map placed) c.in-Some.ensures.items ∙ map-append placed front (c.in-Some.next ∷ [])) added (ap (map placed) pushed ∙ map-append placed c.loop-next.modules.items (c.in-Some.next ∷ [])) c.loop-next.invariant
 
 pub returns : goal.returns
-returns c =
-    let none : shown c.loop-module.left.items ≡ [] = search rules in
-    all_found c.args.root.now (shown c.loop-module.modules.items) (subst (AreFound c.args.root.now (shown c.loop-module.modules.items)) none c.loop-module.invariant)
+returns c = ends c.args.root.now (map placed c.loop-next.modules.items) (map placed c.loop-next.left.items) (search rules) c.loop-next.invariant

@@ -1,8 +1,10 @@
-use Rattle.just_invoke.proofs.ModuleLemmas.{AreFound, shown, count_all}
+use Rattle.std.proofs.Common.{map}
+use Rattle.just_invoke.specs.Preorder.{placed}
+use Rattle.just_invoke.proofs.Preordering.{Walks, count_all}
 use Rattle.just_invoke.proofs.modules.modules_in.Given as goal
 
-abbrev pub invariant-loop-module : goal.invariant-loop-module
-invariant-loop-module l = AreFound l.root (shown l.modules.items) (shown l.left.items)
+abbrev pub invariant-loop-next : goal.invariant-loop-next
+invariant-loop-next l = Walks l.root (map placed l.modules.items) (map placed l.left.items)
 
-abbrev pub decreases-loop-module : goal.decreases-loop-module
-decreases-loop-module l = count_all (shown l.left.items)
+abbrev pub decreases-loop-next : goal.decreases-loop-next
+decreases-loop-next l = count_all (map placed l.left.items)
