@@ -3,6 +3,7 @@ pub mod Faults
 pub mod InPlace
 pub mod Marks
 pub mod Proper
+pub mod Interpreters
 pub mod Steady
 pub mod Distinct
 pub mod Kept
