@@ -4,6 +4,7 @@ pub mod InPlace
 pub mod Marks
 pub mod Proper
 pub mod Interpreters
+pub mod Spoken
 pub mod Steady
 pub mod Distinct
 pub mod Kept
