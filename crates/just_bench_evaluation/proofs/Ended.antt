@@ -1,5 +1,5 @@
 -- The constants after all of an order of evaluation.
-use Rattle.std.proofs.Common.{◌≡◌, refl, sym, ◌∙◌, ap, subst, ℕ, zero, suc, ◌<◌, ◌≤◌, arith, Bool, true, false, cond, not, ◌||◌, ◌&&◌, List, [], ◌∷◌, length, map, take, Option, None, Some}
+use Rattle.std.proofs.Common.{◌≡◌, refl, sym, ◌∙◌, ap, subst, ℕ, zero, suc, ◌<◌, ◌≤◌, arith, Bool, true, false, cond, not, ◌||◌, ◌&&◌, List, [], ◌∷◌, length, map, reverse, take, Option, None, Some}
 use Rattle.std.specs.Prelude.{if◌then◌else◌}
 use Rattle.std.specs.Cmp.Lexicographic.{nat_list_eq_equiv}
 use Rattle.std.specs.List.{Contains, IsDistinct, list_all}
@@ -15,7 +15,7 @@ use Rattle.just_names.specs.Index.{AreDifferent, name_at}
 use Rattle.just_names.specs.Texts.{Text}
 use Rattle.just_names.specs.Name.{text_of_name}
 use Rattle.just_names.specs.declared.number.Number.{Number}
-use Rattle.just_parts.specs.Evaluator.{Binds, IsBindingOf, Values, Wanted, unnumbered_assignment, values_of, wanted_by}
+use Rattle.just_parts.specs.Evaluator.{Binds, IsBindingOf, Values, Wanted, unnumbered_assignment, value_in, values_of, wanted_by}
 use Rattle.just_parts.specs.Known.{sources}
 use Rattle.just_parts.specs.Reading.{IsEvaluationOrder}
 use Rattle.just_ast_definitions.specs.declared.assignment.Assignment.{Assignment}
@@ -27,7 +27,8 @@ use Rattle.just_bench_evaluation.specs.Constants.{assigned_value, constants_of, 
 use Rattle.just_bench_evaluation.specs.Lookup.{constant_name, table_values}
 use Rattle.just_bench_evaluation.specs.Values.{value_of}
 use Rattle.just_bench_evaluation.specs.declared.lookup.Constant.{Constant}
-use Rattle.just_bench_evaluation.proofs.Scoped.{bindings_of, scope_each, scope_once, scope_values}
+use Rattle.just_bench_evaluation.proofs.Scoped.{binding_names, bindings_of, scope_each, scope_once, scope_values}
+use Rattle.just_bench_evaluation.proofs.Reversed.{contains_reverse, names_different}
 use Rattle.just_bench_evaluation.proofs.Settled.{Settled, next_value, unassigned, unneeded_value}
 use Rattle.just_bench_evaluation.proofs.Steps.{after_needed, find_unnumbered, unneeded}
 
@@ -139,9 +140,9 @@ module _ (assignments : List (Text × Assignment)) (table : List (Text × Functi
     all_settled = all_pass (is_settled wanted last_values) wanted.assignments
         (λ entry. ap (λ b. not (wanted.needed entry.0) || b) (ap is_some (last_value entry.0) ∙ exactly entry.0) ∙ either (wanted.needed entry.0))
 
-    module _ (keyed : IsKeyed constant_name constants) (sorted : IsSorted constants) (scope : Scope) (bindings : scope.bindings ≡ bindings_of constants) where
+    module _ (keyed : IsKeyed constant_name constants) (sorted : IsSorted constants) (scope : Scope) (bindings : reverse scope.bindings ≡ bindings_of constants) where
       value_is : (name : Text) → values_of scope name ≡ table_values constants name
-      value_is name = ap (λ bs. values_of (record { bindings = bs }) name) bindings ∙ scope_values constants keyed name
+      value_is name = ap (λ bs. value_in bs name) bindings ∙ scope_values constants keyed name
 
       -- the constants are those of the scope
       pub constants_are : constants_of wanted ≡ Some (values_of scope)
@@ -157,14 +158,14 @@ module _ (assignments : List (Text × Assignment)) (table : List (Text × Functi
 
       each : (b : Binding) → Contains scope.bindings b → (a : Assignment) × (find (text_of_name b.name) assignments ≡ Some a) × IsBindingOf a b
       each b inside =
-          let constant = scope_each constants keyed sorted b (subst (λ bs. Contains bs b) bindings inside) in
+          let constant = scope_each constants keyed sorted b (subst (λ bs. Contains bs b) bindings (contains_reverse scope.bindings b inside)) in
           let bound = so.bound (text_of_name b.name) constant.0 constant.1 in
           (bound.assigned, bound.is, subst (IsBindingOf bound.assigned) constant.2 bound.binding)
 
       pub binds : Binds assignments wanted scope
       binds = record {
         exactly = λ name. ap is_some (value_is name) ∙ exactly name;
-        once = subst (λ (bs : List Binding). AreDifferent (map (λ (b : Binding). text_of_name b.name) bs)) (sym bindings) (scope_once constants keyed sorted);
+        once = names_different scope.bindings (subst (λ (bs : List Binding). AreDifferent (binding_names bs)) (sym bindings) (scope_once constants keyed sorted));
         each = each;
         overridden = λ name text need is. value_is name ∙ overridden name text need is;
       }

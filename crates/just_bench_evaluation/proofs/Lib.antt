@@ -12,6 +12,7 @@ pub mod Places
 pub mod Programs
 pub mod Ran
 pub mod Read
+pub mod Reversed
 pub mod Scoped
 pub mod Settled
 pub mod Shapes

@@ -83,6 +83,21 @@ fn add_constant<'src>(
     Ok(())
 }
 
+// The chain that goes through these from the first to the last.
+fn chained<'src>(
+    alloc: Global,
+    bindings: Vec<Binding<'src>>,
+) -> Result<Chain<Binding<'src>>, AllocError>
+    ensures { IfOk result (λ chain. reverse chain ≡ bindings.entry.items) }
+{
+    let mut rest = bindings;
+    let mut chain = Chain::new();
+    while let Some(binding) = rest.pop() {
+        chain = chain.pushed(alloc, binding)?;
+    }
+    Ok(chain)
+}
+
 // The scope of constants, whose names are different.
 fn scope_of<'src>(
     alloc: Global,
@@ -91,11 +106,13 @@ fn scope_of<'src>(
     ensures bindings { IfOk result (λ scope. reverse scope.bindings ≡ map (λ constant. constant.binding) (entries.values_of constants.entry)) }
     ensures sorted { IsSorted constants.entry }
 {
-    let mut bindings = Chain::new();
-    for constant in constants.into_values().rev() {
-        bindings = bindings.pushed(alloc, constant.binding)?;
+    let mut bindings = Vec::with_capacity(alloc, constants.len())?;
+    for constant in constants.into_values() {
+        bindings.push(constant.binding)?;
     }
-    Ok(Scope { bindings })
+    Ok(Scope {
+        bindings: chained(alloc, bindings)?,
+    })
 }
 
 /// The constants of a module: those of its variables whose numbers are in `references`, an overridden one as it is

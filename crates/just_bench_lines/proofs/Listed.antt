@@ -11,7 +11,7 @@ use Rattle.just_ast_definitions.specs.declared.function_definition.FunctionParam
 use Rattle.just_bench_expressions.specs.declared.lexer.Kind.{Kind}
 use Rattle.just_bench_expressions.specs.declared.lexer.Kind.TheVariants as kind
 use Rattle.just_bench_expressions.specs.declared.lexer.Lexeme.{Lexeme}
-use Rattle.just_bench_lines.specs.Definitions.{after_part, and_parameter, function_parameter, parameters, parameters_from}
+use Rattle.just_bench_lines.specs.Definitions.{after_part, and_parameter, closes, function_parameter, parameters, parameters_from}
 use Rattle.just_bench_lines.specs.Places.{is_comma, is_name, is_paren_close, name_at, name_there, stands, stands_there}
 use Rattle.just_bench_lines.proofs.Fronts.{front, stands_front}
 
@@ -68,7 +68,9 @@ no_name at l (m ∷ rest) h = rw h refl
 
 abbrev after_name : ℕ → Lexeme → List Lexeme → Option (List FunctionParameter × ℕ)
 after_name at l [] = None
-after_name at l (m ∷ rest) = if is_comma m.kind then and_parameter l (parameters_from (at + 2) rest) else (if is_paren_close m.kind then Some (function_parameter l ∷ [], at + 2) else None)
+after_name at l (m ∷ rest) =
+    if is_comma m.kind then (if closes rest then None else and_parameter l (parameters_from (at + 2) rest))
+    else (if is_paren_close m.kind then Some (function_parameter l ∷ [], at + 2) else None)
 
 a_name : (at : ℕ) (l : Lexeme) (rest : List Lexeme) → is_name l.kind ≡ true → parameters_from at (l ∷ rest) ≡ after_name at l rest
 a_name at l [] h = rw (name_is_no_close l.kind h) refl
@@ -89,12 +91,23 @@ within_stands is all at h = elim ((slice_get_cases all at).1) [
   | inr past ↦ absurd (false≢true (sym (ap (stands_there is) past.1) ∙ h))
 ]
 
+-- whether a `)` stands at a place
+closes_at : (all : List Lexeme) (at : ℕ) (b : Bool) → stands is_paren_close all at ≡ b → closes (drop at all) ≡ b
+closes_at all at b h = elim ((slice_get_cases all at).1) [
+  | inl here ↦ let f = front all at here.1 in ap closes f.1.dropped ∙ stands_front is_paren_close all at f.0 b f.1 h
+  | inr past ↦ ap closes (drop_all at all past.0) ∙ sym (ap (stands_there is_paren_close) past.1) ∙ h
+]
+
 -- after a name stands a comma
-comma_after : (all : List Lexeme) (at : ℕ) (l : Lexeme) → stands is_comma all (at + 1) ≡ true → after_name at l (drop (at + 1) all) ≡ and_parameter l (parameters_from (at + 2) (drop (at + 2) all))
-comma_after all at l h =
+comma_after : (all : List Lexeme) (at : ℕ) (l : Lexeme) (b : Bool) → stands is_comma all (at + 1) ≡ true → stands is_paren_close all (at + 1 + 1) ≡ b
+    → after_name at l (drop (at + 1) all) ≡ (if b then None else and_parameter l (parameters_from (at + 2) (drop (at + 2) all)))
+comma_after all at l b h close =
     let f = front all (at + 1) (within_stands is_comma all (at + 1) h) in
     let two : at + 1 + 1 ≡ at + 2 = omega arith in
-    ap (after_name at l) f.1.dropped ∙ rw (stands_front is_comma all (at + 1) f.0 true f.1 h) refl ∙ ap (λ n. and_parameter l (parameters_from (at + 2) (drop n all))) two
+    ap (after_name at l) f.1.dropped
+    ∙ rw (stands_front is_comma all (at + 1) f.0 true f.1 h) refl
+    ∙ ap (λ c. if c then None else and_parameter l (parameters_from (at + 2) (drop (at + 1 + 1) all))) (closes_at all (at + 1 + 1) b close)
+    ∙ ap (λ n. if b then None else and_parameter l (parameters_from (at + 2) (drop n all))) two
 
 -- or the `)`, which is what is read next
 close_after : (all : List Lexeme) (at : ℕ) (l : Lexeme) → stands is_comma all (at + 1) ≡ false → stands is_paren_close all (at + 1) ≡ true
@@ -108,20 +121,21 @@ close_after all at l other h =
     ap (parameters_from (at + 1)) f.1.dropped ∙ no_name (at + 1) f.0 (drop (at + 1 + 1) all) (close_is_no_name f.0.kind close) ∙ ap (λ b. if b then Some ([], at + 1 + 1) else None) close in
     ap (after_name at l) f.1.dropped ∙ named ∙ ap (λ n. Some (function_parameter l ∷ [], n)) two ∙ ap (and_parameter l) (sym read)
 
-goes_on : (all : List Lexeme) (at : ℕ) (l : Lexeme) (next : ℕ) (b c : Bool) → stands is_comma all (at + 1) ≡ b → stands is_paren_close all (at + 1) ≡ c
-    → Some next ≡ (if b then Some (at + 1 + 1) else (if c then Some (at + 1) else None)) → after_name at l (drop (at + 1) all) ≡ and_parameter l (parameters_from next (drop next all))
-goes_on all at l next true c p q h =
+goes_on : (all : List Lexeme) (at : ℕ) (l : Lexeme) (next : ℕ) (b c d : Bool) → stands is_comma all (at + 1) ≡ b → stands is_paren_close all (at + 1) ≡ c → stands is_paren_close all (at + 1 + 1) ≡ d
+    → Some next ≡ (if b then (if d then None else Some (at + 1 + 1)) else (if c then Some (at + 1) else None)) → after_name at l (drop (at + 1) all) ≡ and_parameter l (parameters_from next (drop next all))
+goes_on all at l next true c true p q r h = absurd (none-some next (sym h))
+goes_on all at l next true c false p q r h =
     let two : at + 2 ≡ next = omega (arith, same_Some next (at + 1 + 1) h) in
-    comma_after all at l p ∙ ap (λ n. and_parameter l (parameters_from n (drop n all))) two
-goes_on all at l next false true p q h = close_after all at l p q ∙ ap (λ n. and_parameter l (parameters_from n (drop n all))) (sym (same_Some next (at + 1) h))
-goes_on all at l next false false p q h = absurd (none-some next (sym h))
+    comma_after all at l false p r ∙ ap (λ n. and_parameter l (parameters_from n (drop n all))) two
+goes_on all at l next false true d p q r h = close_after all at l p q ∙ ap (λ n. and_parameter l (parameters_from n (drop n all))) (sym (same_Some next (at + 1) h))
+goes_on all at l next false false d p q r h = absurd (none-some next (sym h))
 
 pub listed_step : (all : List Lexeme) (start : ℕ) (made : List FunctionParameter) (at : ℕ) (name : Name) (next : ℕ) (made' : List FunctionParameter) → Listed all start made at → Some name ≡ name_at all at
     → Some next ≡ after_part all (at + 1) → made' ≡ made ++ record { name = name; number = no_number } ∷ [] → Listed all start made' next
 listed_step all start made at name next made' so_far is goes pushed =
     let t = tail_at all at name is in
     rw (pushed, t.1) (record {
-      whole = so_far.whole ∙ ap (after_those made) (t.2 ∙ goes_on all at t.0 next (stands is_comma all (at + 1)) (stands is_paren_close all (at + 1)) refl refl goes) ∙ grown made t.0 (parameters_from next (drop next all));
+      whole = so_far.whole ∙ ap (after_those made) (t.2 ∙ goes_on all at t.0 next (stands is_comma all (at + 1)) (stands is_paren_close all (at + 1)) (stands is_paren_close all (at + 1 + 1)) refl refl refl goes) ∙ grown made t.0 (parameters_from next (drop next all));
     })
 
 no_name_at : (all : List Lexeme) (at : ℕ) (b : Bool) → None ≡ name_at all at → stands is_paren_close all at ≡ b → parameters_from at (drop at all) ≡ (if b then Some ([], at + 1) else None)
@@ -138,12 +152,13 @@ listed_end all start made at so_far is close = sym (so_far.whole ∙ ap (after_t
 pub listed_fail : (all : List Lexeme) (start : ℕ) (made : List FunctionParameter) (at : ℕ) → Listed all start made at → None ≡ name_at all at → stands is_paren_close all at ≡ false → None ≡ parameters all start
 listed_fail all start made at so_far is close = sym (so_far.whole ∙ ap (after_those made) (no_name_at all at false is close))
 
--- after a name stands neither
-stuck : (all : List Lexeme) (at : ℕ) (l : Lexeme) (b c : Bool) → stands is_comma all (at + 1) ≡ b → stands is_paren_close all (at + 1) ≡ c → None ≡ (if b then Some (at + 1 + 1) else (if c then Some (at + 1) else None))
-    → after_name at l (drop (at + 1) all) ≡ None
-stuck all at l true c p q h = absurd (none-some (at + 1 + 1) h)
-stuck all at l false true p q h = absurd (none-some (at + 1) h)
-stuck all at l false false p q h = elim ((slice_get_cases all (at + 1)).1) [
+-- after a name stands neither, or a comma before the `)`
+stuck : (all : List Lexeme) (at : ℕ) (l : Lexeme) (b c d : Bool) → stands is_comma all (at + 1) ≡ b → stands is_paren_close all (at + 1) ≡ c → stands is_paren_close all (at + 1 + 1) ≡ d
+    → None ≡ (if b then (if d then None else Some (at + 1 + 1)) else (if c then Some (at + 1) else None)) → after_name at l (drop (at + 1) all) ≡ None
+stuck all at l true c true p q r h = comma_after all at l true p r
+stuck all at l true c false p q r h = absurd (none-some (at + 1 + 1) h)
+stuck all at l false true d p q r h = absurd (none-some (at + 1) h)
+stuck all at l false false d p q r h = elim ((slice_get_cases all (at + 1)).1) [
   | inl here ↦
       let f = front all (at + 1) here.1 in
       ap (after_name at l) f.1.dropped ∙ rw (stands_front is_comma all (at + 1) f.0 false f.1 p, stands_front is_paren_close all (at + 1) f.0 false f.1 q) refl
@@ -153,4 +168,4 @@ stuck all at l false false p q h = elim ((slice_get_cases all (at + 1)).1) [
 pub listed_stuck : (all : List Lexeme) (start : ℕ) (made : List FunctionParameter) (at : ℕ) (name : Name) → Listed all start made at → Some name ≡ name_at all at → None ≡ after_part all (at + 1) → None ≡ parameters all start
 listed_stuck all start made at name so_far is goes =
     let t = tail_at all at name is in
-    sym (so_far.whole ∙ ap (after_those made) (t.2 ∙ stuck all at t.0 (stands is_comma all (at + 1)) (stands is_paren_close all (at + 1)) refl refl goes))
+    sym (so_far.whole ∙ ap (after_those made) (t.2 ∙ stuck all at t.0 (stands is_comma all (at + 1)) (stands is_paren_close all (at + 1)) (stands is_paren_close all (at + 1 + 1)) refl refl refl goes))

@@ -36,9 +36,11 @@ ends_line all (Some found) = if found.end == length all then Some found.made els
 unfoldable pub whole_expression : List Lexeme → ℕ → Option Expression
 whole_expression all at = ends_line all (expression true all at)
 
--- the place after a part between parentheses: after its comma, or before the `)`
+-- the place after a part between parentheses: after its comma, behind which another part stands, or before the `)`
 abbrev pub after_part : List Lexeme → ℕ → Option ℕ
-after_part all at = if stands is_comma all at then Some (at + 1) else (if stands is_paren_close all at then Some at else None)
+after_part all at =
+    if stands is_comma all at then (if stands is_paren_close all (at + 1) then None else Some (at + 1))
+    else (if stands is_paren_close all at then Some at else None)
 
 -- the setting of a name that is on or off
 abbrev pub setting : List ℕ → Bool → Option Setting
@@ -138,12 +140,18 @@ function_parameter l = record { name = record { token = l.token }; number = no_n
 abbrev pub and_parameter : Lexeme → Option (List FunctionParameter × ℕ) → Option (List FunctionParameter × ℕ)
 and_parameter l = option_map {U = List FunctionParameter × ℕ} (λ more. (function_parameter l ∷ more.0, more.1))
 
+-- a `)` is at the front
+abbrev pub closes : List Lexeme → Bool
+closes [] = false
+closes (l ∷ rest) = is_paren_close l.kind
+
 -- the parameters of a function, with commas between them, up to the `)`, and the place after it
 abbrev pub parameters_from : ℕ → List Lexeme → Option (List FunctionParameter × ℕ)
 parameters_from at [] = None
 parameters_from at (l ∷ []) = if is_paren_close l.kind then Some ([], at + 1) else None
 parameters_from at (l ∷ m ∷ rest) =
-    if is_name l.kind then (if is_comma m.kind then and_parameter l (parameters_from (at + 2) rest) else (if is_paren_close m.kind then Some (function_parameter l ∷ [], at + 2) else None))
+    if is_name l.kind then (if is_comma m.kind then (if closes rest then None else and_parameter l (parameters_from (at + 2) rest))
+    else (if is_paren_close m.kind then Some (function_parameter l ∷ [], at + 2) else None))
     else (if is_paren_close l.kind then Some ([], at + 1) else None)
 
 unfoldable pub parameters : List Lexeme → ℕ → Option (List FunctionParameter × ℕ)

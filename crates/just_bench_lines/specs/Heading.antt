@@ -72,10 +72,10 @@ parameter all at =
 abbrev pub parameters : List Lexeme → ℕ → Option (List Parameter × ℕ)
 parameters = parts false is_colon parameter
 
--- those that run after it end the line
+-- those that run after it end the line, and there is one
 abbrev pub with_subsequents : List Lexeme → List UnresolvedDependency → Option (List UnresolvedDependency × ℕ) → Option (List UnresolvedDependency × List UnresolvedDependency)
 with_subsequents all priors None = None
-with_subsequents all priors (Some found) = if found.1 == length all then Some (priors, found.0) else None
+with_subsequents all priors (Some found) = if found.1 == length all then (if length found.0 == 0 then None else Some (priors, found.0)) else None
 
 -- after those that run before it stands nothing, or `&&` and those that run after it
 abbrev pub with_priors : List Lexeme → Option (List UnresolvedDependency × ℕ) → Option (List UnresolvedDependency × List UnresolvedDependency)

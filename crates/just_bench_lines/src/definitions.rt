@@ -37,13 +37,18 @@ pub fn whole_expression<'src>(
     }
 }
 
-/// The place after a part of what stands between two parentheses: that of the next part, or of the `)`.
+/// The place after a part of what stands between two parentheses: that of the next part after a comma, or of the `)`. A
+/// comma stands between two parts, and not before the `)`.
 pub fn after_part<'src>(lexemes: &[Lexeme<'src>], at: usize) -> Option<usize>
     ensures is { result ≡ spec.after_part lexemes.now at }
     ensures within { IfSome result (λ next. (at ≤ next) × (next ≤ length lexemes.now)) }
 {
     if mark_at(lexemes, at, Kind::Comma) {
-        return Some(at + 1);
+        return if mark_at(lexemes, at + 1, Kind::ParenClose) {
+            None
+        } else {
+            Some(at + 1)
+        };
     }
     if mark_at(lexemes, at, Kind::ParenClose) {
         Some(at)

@@ -180,7 +180,9 @@ fn read_dependencies<'src>(
         return Ok(Some((priors, Sequence::new(spelling.alloc()))));
     }
     match read_dependency_list(spelling, end + 1)? {
-        Some((subsequents, end)) if end == size => Ok(Some((priors, subsequents))),
+        Some((subsequents, end)) if end == size && !subsequents.is_empty() => {
+            Ok(Some((priors, subsequents)))
+        }
         _ => Ok(None),
     }
 }
@@ -211,7 +213,7 @@ fn after_name<'src>(
 }
 
 /// The heading that the lexemes of a line are: `@` or nothing, a name, parameters, `:`, dependencies, and `&&` before
-/// those that run after it. The error is want of memory.
+/// those that run after it, where there are such. The error is want of memory.
 #[tactic(auto, unfolding(crate::specs::Heading::heading))]
 pub fn read_heading<'src>(spelling: &Spelling<'src>) -> Result<Option<Heading<'src>>, AllocError>
     ensures { IfOk result (λ found. found ≡ spec.heading spelling.now) }

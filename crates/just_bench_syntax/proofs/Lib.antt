@@ -3,6 +3,8 @@ pub mod Faults
 pub mod InPlace
 pub mod Marks
 pub mod Proper
+pub mod Interpreters
+pub mod Spoken
 pub mod Steady
 pub mod Distinct
 pub mod Kept

@@ -103,11 +103,11 @@ at_last f [] = []
 at_last f (x ∷ []) = f x ∷ []
 at_last f (x ∷ y ∷ rest) = x ∷ at_last f (y ∷ rest)
 
--- how many blanks and tabs are dropped from a line that begins with so many, if it may stand in a body there
+-- how many blanks and tabs are dropped from a line that begins with so many, if it may stand in a body there: all of a line that has nothing else
 abbrev pub dropped : Body → TextLine → ℕ → Option ℕ
 dropped body.Closed line size = None
 dropped body.Begins line size = Some size
-dropped (body.Goes first) line size = if starts_with nat_eq (take size line.text) first then Some (length first) else (if size == length line.text then Some size else None)
+dropped (body.Goes first) line size = if size == length line.text then Some size else (if starts_with nat_eq (take size line.text) first then Some (length first) else None)
 
 -- the first line of a body that has more than blanks and tabs says which are dropped
 abbrev pub begun : TextLine → ℕ → Body → Body

@@ -1,6 +1,7 @@
 -- The recipe that a heading begins.
-use Rattle.std.specs.Prelude.{ℕ, ◌||◌, Bool, true, false, if◌then◌else◌, List, [], ◌∷◌, ◌++◌, map, length, Option, Some, None, is_some}
-use Rattle.std.specs.List.{find, list_any}
+use Rattle.std.specs.Prelude.{◌≡◌, ℕ, ◌||◌, Bool, true, false, if◌then◌else◌, List, [], ◌∷◌, ◌++◌, map, length, Option, Some, None, is_some}
+use Rattle.std.specs.List.{find, list_all, list_any, slice_get}
+use Rattle.std.specs.Option.{option_and_then}
 use Rattle.std.specs.Str.{bytes_eq}
 use Rattle.just_names.specs.Token.{lexeme}
 use Rattle.just_names.specs.Number.{no_number}
@@ -21,6 +22,21 @@ options_of options name = find (λ (o : Options). bytes_eq o.parameter name) opt
 
 abbrev pub is_parameter : List Parameter → List ℕ → Bool
 is_parameter parameters name = list_any (λ (p : Parameter). bytes_eq (lexeme p.name.token) name) parameters
+
+-- the names of parameters, and those that attributes speak of
+abbrev pub names_of : List Parameter → List (List ℕ)
+names_of = map (λ (p : Parameter). lexeme p.name.token)
+
+abbrev pub spoken_of : List Options → List (List ℕ)
+spoken_of = map (λ (o : Options). o.parameter)
+
+-- each attribute speaks of a parameter
+abbrev pub all_named : List Parameter → List Options → Bool
+all_named parameters = list_all (λ (o : Options). is_parameter parameters o.parameter)
+
+-- for the private functions: what is said of each name stands at the place that is found for it
+abbrev pub AreFound : List Options → (List ℕ → Option ℕ) → Type 0
+AreFound options place = (name : List ℕ) → options_of options name ≡ option_and_then (slice_get options) (place name)
 
 -- each attribute speaks of a parameter, of which no other does
 abbrev pub fits : List Parameter → List Options → Bool

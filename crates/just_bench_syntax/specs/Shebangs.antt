@@ -12,7 +12,7 @@ without_end text = take (length text - suffix_len is_ascii_whitespace text) text
 abbrev pub trimmed : Text → Text
 trimmed text = without_end (drop (prefix_len is_ascii_whitespace text) text)
 
-abbrev is_blank : ℕ → Bool
+abbrev pub is_blank : ℕ → Bool
 is_blank byte = byte == 32
 
 -- the program up to the first blank, and what stands behind it

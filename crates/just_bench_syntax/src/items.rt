@@ -219,7 +219,8 @@ fn push_body<'src>(
     Ok(())
 }
 
-// How many blanks and tabs are dropped from a line of a body that begins with so many, if it may stand there.
+// How many blanks and tabs are dropped from a line of a body that begins with so many, if it may stand there: all of a
+// line that has nothing else.
 #[tactic(auto, using(just_bench_lines::proofs::Bounds::prefix_fits))]
 fn dropped<'src>(body: &Body<'src>, line: &TextLine<'src>, blanks: usize) -> Option<usize>
     requires { blanks ≡ indent line.now }
@@ -231,11 +232,11 @@ fn dropped<'src>(body: &Body<'src>, line: &TextLine<'src>, blanks: usize) -> Opt
         Body::Closed => None,
         Body::Begins => Some(blanks),
         Body::Goes(first) => {
-            if text[..blanks].starts_with(first.as_str()) {
-                return Some(first.as_str().len());
-            }
             if blanks == text.len() {
-                Some(blanks)
+                return Some(blanks);
+            }
+            if text[..blanks].starts_with(first.as_str()) {
+                Some(first.as_str().len())
             } else {
                 None
             }

@@ -1,57 +1,113 @@
 //! The recipe that a heading begins.
-ghost use Rattle.std.specs.Prelude.{◌≡◌, map, OnOk, IfOk};
-ghost use Rattle.std.specs.List.{list_all, list_any};
+ghost use Rattle.std.specs.Prelude.{◌≡◌, map, OnOk, IfOk, IfSome, is_some};
+ghost use Rattle.std.specs.HashMap.{get};
+ghost use Rattle.std.specs.List.{list_any};
 ghost use Rattle.std.specs.Option.{option_copied};
+ghost use Rattle.std.specs.Str.{bytes_eq};
 ghost use Rattle.just_bench_syntax.specs.Recipe as spec;
 
 use just_ast_definitions::{Attribute, NamedAttribute, Parameter};
 use just_bench_lines::attributes::Options;
 use just_bench_lines::definitions::is_private;
 use just_bench_lines::heading::Heading;
-use just_data::{Chain, Sequence, Shared};
-use just_names::Number;
+use just_data::{BorrowedText, Chain, Sequence, Shared};
+use just_names::{Number, index_last, index_names};
 use just_parts::{Recipe, UnresolvedRecipe};
 use std::alloc::{AllocError, Global};
+use std::collections::HashMap;
+
+// Where attributes stand that speak of parameters, by the names of these.
+type Places<'a> = HashMap<BorrowedText<'a>, usize>;
+
+// The names of parameters.
+fn names_of<'src>(
+    alloc: Global,
+    parameters: &[Parameter<'src>],
+) -> Result<Vec<BorrowedText<'src>>, AllocError>
+    ensures { IfOk result (λ names. names.items ≡ spec.names_of parameters.now) }
+{
+    let mut names = Vec::new(alloc);
+    for parameter in parameters {
+        names.push(BorrowedText::new(parameter.name.lexeme()))?;
+    }
+    Ok(names)
+}
+
+// The names that attributes speak of.
+fn spoken_of<'a>(alloc: Global, options: &'a [Options]) -> Result<Vec<BorrowedText<'a>>, AllocError>
+    ensures { IfOk result (λ names. names.items ≡ spec.spoken_of options.now) }
+{
+    let mut names = Vec::new(alloc);
+    for it in options {
+        names.push(BorrowedText::new(it.parameter.as_str()))?;
+    }
+    Ok(names)
+}
+
+// Whether each of the attributes speaks of a parameter.
+fn all_named<'src>(
+    alloc: Global,
+    parameters: &[Parameter<'src>],
+    options: &[Options],
+) -> Result<bool, AllocError>
+    ensures { IfOk result (λ all. all ≡ spec.all_named parameters.now options.now) }
+{
+    let names = names_of(alloc, parameters)?;
+    let index = index_last(alloc, names.as_slice())?;
+    for it in options {
+        if !index.contains_key(&BorrowedText::new(it.parameter.as_str())) {
+            return Ok(false);
+        }
+    }
+    Ok(true)
+}
+
+// Where the attributes stand, or none where one speaks of no parameter, or of one of which another does.
+#[tactic(auto, using(crate::proofs::Spoken::all_fit, crate::proofs::Spoken::unnamed_fails, crate::proofs::Spoken::twice_fails))]
+fn fits<'a, 'src>(
+    alloc: Global,
+    parameters: &[Parameter<'src>],
+    options: &'a [Options],
+) -> Result<Option<Places<'a>>, AllocError>
+    ensures is { IfOk result (λ places. is_some places ≡ spec.fits parameters.now options.now) }
+    ensures places { IfOk result (λ places. IfSome places (λ found. spec.AreFound options.now (get bytes_eq found))) }
+{
+    let names = spoken_of(alloc, options)?;
+    let Ok(places) = index_names(alloc, names.as_slice())? else {
+        return Ok(None);
+    };
+    if all_named(alloc, parameters, options)? {
+        Ok(Some(places))
+    } else {
+        Ok(None)
+    }
+}
 
 // What attributes say of the parameter of this name.
-fn options_of<'a>(options: &'a [Options], name: &str) -> Option<&'a Options>
+fn options_of<'a, 'b>(
+    options: &'a [Options],
+    places: &Places<'b>,
+    name: &str,
+) -> Option<&'a Options>
+    requires { spec.AreFound options.now (get bytes_eq places.now) }
     ensures { option_copied result ≡ spec.options_of options.now name.now }
 {
-    options.iter().find(|it| it.parameter.as_str() == name)
-}
-
-// Whether one of the parameters has this name.
-fn is_parameter<'src>(parameters: &[Parameter<'src>], name: &str) -> bool
-    ensures { result ≡ spec.is_parameter parameters.now name.now }
-{
-    parameters
-        .iter()
-        .any(|parameter| parameter.name.lexeme() == name)
-}
-
-// Whether each of the attributes speaks of a parameter, of which no other does.
-fn fits<'src>(parameters: &[Parameter<'src>], options: &[Options]) -> bool
-    ensures { result ≡ spec.fits parameters.now options.now }
-{
-    let mut rest = options;
-    while let Some((first, others)) = rest.split_first() {
-        let name = first.parameter.as_str();
-        if !is_parameter(parameters, name) || options_of(others, name).is_some() {
-            return false;
-        }
-        rest = others;
+    match places.get(&BorrowedText::new(name)) {
+        Some(place) => options.get(*place),
+        None => None,
     }
-    true
 }
 
 // Gives a parameter what attributes say of it.
-fn give_options<'src>(
+fn give_options<'a, 'src>(
     parameter: &mut Parameter<'src>,
     options: &[Options],
+    places: &Places<'a>,
 ) -> Result<(), AllocError>
+    requires { spec.AreFound options.now (get bytes_eq places.now) }
     ensures { OnOk result (parameter.new ≡ spec.with_options options.now parameter.old) }
 {
-    let Some(found) = options_of(options, parameter.name.lexeme()) else {
+    let Some(found) = options_of(options, places, parameter.name.lexeme()) else {
         return Ok(());
     };
     parameter.long = found.long.clone()?;
@@ -62,14 +118,16 @@ fn give_options<'src>(
 
 // Gives each parameter what attributes say of it.
 #[tactic(auto, using(crate::proofs::InPlace::half_end))]
-fn give_all<'src>(
+fn give_all<'a, 'src>(
     parameters: &mut Vec<Parameter<'src>>,
     options: &[Options],
+    places: &Places<'a>,
 ) -> Result<(), AllocError>
+    requires { spec.AreFound options.now (get bytes_eq places.now) }
     ensures { OnOk result (parameters.new.items ≡ map (spec.with_options options.now) parameters.old.items) }
 {
     for place in 0..parameters.len() {
-        give_options(&mut parameters[place], options)?;
+        give_options(&mut parameters[place], options, places)?;
     }
     Ok(())
 }
@@ -101,11 +159,11 @@ pub fn make_recipe<'src>(
         priors,
         subsequents,
     } = heading;
-    if !fits(parameters.as_slice(), options) {
+    let Some(places) = fits(alloc, parameters.as_slice(), options)? else {
         return Ok(None);
-    }
+    };
     let mut parameters = parameters.into_vec();
-    give_all(&mut parameters, options)?;
+    give_all(&mut parameters, options, &places)?;
     let count = priors.len();
     let mut dependencies = priors;
     dependencies.append(subsequents)?;

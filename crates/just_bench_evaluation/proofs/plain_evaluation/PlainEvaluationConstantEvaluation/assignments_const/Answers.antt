@@ -1,4 +1,4 @@
-use Rattle.just_bench_evaluation.proofs.plain_evaluation.PlainEvaluationEvaluation.assignments_const.Goals as goal
+use Rattle.just_bench_evaluation.proofs.plain_evaluation.PlainEvaluationConstantEvaluation.assignments_const.Goals as goal
 
 pub returns-clause-constants : goal.returns-clause-constants
 returns-clause-constants c = c.constants_of.ensures.constants c.args.lists
