@@ -83,20 +83,20 @@ shown-push : (ms : List PlacedModule) (m : PlacedModule) → shown (ms ++ m ∷ 
 shown-push ms m = map-append (λ m. m.justfile.now) ms (m ∷ [])
 
 -- a loop over the modules in the root: some are done, the others are left
-pub done_more : (P : Justfile → Type 0) (done : List (PlacedModule)) (m : PlacedModule) → All P (shown done) → P m.justfile.now → All P (shown (done ++ m ∷ []))
-done_more P done m before one = subst (All P) (sym (shown-push done m)) (All-push P (shown done) m.justfile.now before one)
+pub done_more : (P : Justfile → Type 0) (done : List PlacedModule) (m : PlacedModule) → All P (shown done) → P m.justfile.now → All P (shown (done ++ m ∷ []))
+done_more P done m before own = subst (All P) (sym (shown-push done m)) (All-push P (shown done) m.justfile.now before own)
 
-module _ (root : Justfile) (done left : List (PlacedModule)) (all : AreModulesIn root (shown (done ++ left))) where
-  pub next_moved : (m : PlacedModule) (more : List (PlacedModule)) → left ≡ m ∷ more → AreModulesIn root (shown ((done ++ m ∷ []) ++ more))
+module _ (root : Justfile) (done left : List PlacedModule) (all : AreModulesIn root (shown (done ++ left))) where
+  pub next_moved : (m : PlacedModule) (more : List PlacedModule) → left ≡ m ∷ more → AreModulesIn root (shown ((done ++ m ∷ []) ++ more))
   next_moved m more next = subst (λ ms. AreModulesIn root (shown ms)) (ap (λ r. done ++ r) next ∙ sym (append_assoc done (m ∷ []) more)) all
 
-  pub next_stands : (m : PlacedModule) (more : List (PlacedModule)) → left ≡ m ∷ more → StandsIn root m.justfile.now
+  pub next_stands : (m : PlacedModule) (more : List PlacedModule) → left ≡ m ∷ more → StandsIn root m.justfile.now
   next_stands m more next = (next_moved m more next m.justfile.now).0 (subst (λ ms. Contains ms m.justfile.now)
       (sym (map-append (λ m. m.justfile.now) (done ++ m ∷ []) more ∙ ap (λ ms. ms ++ shown more) (shown-push done m)))
       (Contains-append_left (shown done ++ m.justfile.now ∷ []) (shown more) m.justfile.now (Contains-push (shown done) m.justfile.now)))
 
   pub each_done : left ≡ [] → (P : Justfile → Type 0) → All P (shown done) → (j : Justfile) → StandsIn root j → P j
-  each_done none P are j stands = All-contains P (shown done) j are (subst (λ ms. Contains (shown ms) j) (ap (λ r. done ++ r) none ∙ append-nil done) ((all j).1 stands))
+  each_done over P are j stands = All-contains P (shown done) j are (subst (λ ms. Contains (shown ms) j) (ap (λ r. done ++ r) over ∙ append-nil done) ((all j).1 stands))
 
 -- a module without variables
 abbrev pub IsBare : Justfile → Type 0

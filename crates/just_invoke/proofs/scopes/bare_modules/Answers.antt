@@ -9,7 +9,7 @@ use Rattle.just_invoke.proofs.scopes.bare_modules.Goals as goal
 
 pub loop-module-init : goal.loop-module-init
 loop-module-init c =
-    (All-nil (IsPut c.args.root.now c.new-modules.result), subst (λ ms. AreModulesIn c.args.root.now (shown ms)) (search rules) (are_modules c.args.root.now c.in_ok-module-items.field-0.items c.in_ok-module-items.ensures))
+    (All-nil (IsPut c.args.root.now c.new-modules.result), subst (λ ms. AreModulesIn c.args.root.now (shown ms)) (search rules) (are_modules c.args.root.now c.in_ok-module-items.module-items.items c.in_ok-module-items.ensures))
 
 pub loop-module-preserved-in_ok-insert : goal.loop-module-preserved-in_ok-insert
 loop-module-preserved-in_ok-insert c =

@@ -18,7 +18,7 @@ held_back root (i ∷ is) d name some named has = inr (invoked_of i, map invoked
 
 pub loop-module-init : goal.loop-module-init
 loop-module-init c =
-    (All-nil IsBare, subst (λ ms. AreModulesIn c.args.root.now (shown ms)) (search rules) (are_modules c.args.root.now c.in_ok-module-items.field-0.items c.in_ok-module-items.ensures))
+    (All-nil IsBare, subst (λ ms. AreModulesIn c.args.root.now (shown ms)) (search rules) (are_modules c.args.root.now c.in_ok-module-items.module-items.items c.in_ok-module-items.ensures))
 
 pub returns-then-not-is_empty-clause-err : goal.returns-then-not-is_empty-clause-err
 returns-then-not-is_empty-clause-err c =
