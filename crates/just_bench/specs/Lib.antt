@@ -1,3 +1,4 @@
 pub mod Bundle
+pub mod Entries
 pub mod Promises
 pub mod StopWriter

@@ -1,34 +1,60 @@
-use just_data::Text;
-use just_run_layers::{Entry, Groups};
+//! What is written of a run.
+ghost use Rattle.std.specs.Prelude.{OnOk};
+ghost use Rattle.std.specs.Io.KnownBytes.{Appends};
+ghost use Rattle.just_bench.specs.Entries.{entry_line, entry_lines, further, group_text, groups_text};
+
+use just_data::{Sequence, Text};
+use just_run_layers::Entry;
 use std::io;
 use std::io::Write;
 
+// Writes texts, each after a comma.
+fn write_further<W: Write>(output: &mut W, texts: &[Text]) -> io::Result<()>
+    ensures { OnOk result (Appends (W.contents output.old) (W.contents output.new) (further texts.now)) }
+{
+    for text in texts {
+        write!(output, ", {text}")?;
+    }
+    Ok(())
+}
+
 // Writes the texts of a group in brackets.
-fn write_group<W: Write>(output: &mut W, texts: &[Text]) -> io::Result<()> {
+fn write_group<W: Write>(output: &mut W, texts: &[Text]) -> io::Result<()>
+    ensures { OnOk result (Appends (W.contents output.old) (W.contents output.new) (group_text texts.now)) }
+{
     let Some((first, rest)) = texts.split_first() else {
         return write!(output, " []");
     };
     write!(output, " [{first}")?;
-    for text in rest {
-        write!(output, ", {text}")?;
-    }
+    write_further(output, rest)?;
     write!(output, "]")
 }
 
-fn write_groups<W: Write>(output: &mut W, groups: &Groups) -> io::Result<()> {
-    for group in groups.as_slice() {
+fn write_groups<W: Write>(output: &mut W, groups: &[Sequence<Text>]) -> io::Result<()>
+    ensures { OnOk result (Appends (W.contents output.old) (W.contents output.new) (groups_text groups.now)) }
+{
+    for group in groups {
         write_group(output, group.as_slice())?;
     }
     Ok(())
 }
 
+// Writes the line of a recipe that began.
+fn write_entry<W: Write>(output: &mut W, entry: &Entry) -> io::Result<()>
+    ensures { OnOk result (Appends (W.contents output.old) (W.contents output.new) (entry_line entry.now)) }
+{
+    let Entry::Begin { path, groups } = entry;
+    write!(output, "{path}")?;
+    write_groups(output, groups.as_slice())?;
+    writeln!(output)
+}
+
 /// Writes a line for each recipe that began, and sees that all is written.
-pub fn write_entries<W: Write>(output: &mut W, entries: &[Entry]) -> io::Result<()> {
+pub fn write_entries<W: Write>(output: &mut W, entries: &[Entry]) -> io::Result<()>
+    ensures { OnOk result (Appends (W.contents output.old) (W.contents output.new) (entry_lines entries.now)) }
+{
     for entry in entries {
-        let Entry::Begin { path, groups } = entry;
-        write!(output, "{path}")?;
-        write_groups(output, groups)?;
-        writeln!(output)?;
+        write_entry(output, entry)?;
     }
     output.flush()
 }

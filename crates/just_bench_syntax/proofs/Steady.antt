@@ -126,7 +126,8 @@ parameters_bare at [] = tt
 parameters_bare at (l ∷ []) = either ManyBare (is_paren_close l.kind) (Some ([], at + 1)) None refl tt
 parameters_bare at (l ∷ m ∷ rest) =
     either ManyBare (is_name l.kind) _ _
-    (either ManyBare (is_comma m.kind) _ _ (and_bare l (definitions.parameters_from (at + 2) rest) (parameters_bare (at + 2) rest))
+    (either ManyBare (is_comma m.kind) _ _
+    (either ManyBare (definitions.closes rest) None _ tt (and_bare l (definitions.parameters_from (at + 2) rest) (parameters_bare (at + 2) rest)))
     (either ManyBare (is_paren_close m.kind) (Some (definitions.function_parameter l ∷ [], at + 2)) None refl tt))
     (either ManyBare (is_paren_close l.kind) (Some ([], at + 1)) None refl tt)
 
