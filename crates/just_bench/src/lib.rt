@@ -7,7 +7,6 @@ mod entries;
 pub mod laws;
 mod one_line;
 mod program_error;
-mod reading;
 pub mod recorder;
 mod run;
 pub mod stop_writer;
@@ -16,9 +15,9 @@ mod words;
 
 pub use entries::write_entries;
 pub use just_bench_evaluation::PlainEvaluation;
+pub use just_bench_reading::{parse, root_source};
 pub use just_bench_syntax::PlainSyntax;
 pub use program_error::ProgramError;
-pub use reading::{parse, root_source};
 pub use recorder::Recorder;
 pub use run::run_and_write;
 pub use stop_writer::StopWriter;

@@ -1,5 +1,5 @@
 //! Calls of items and parameters, of a configuration, and of values.
-use just_bench::parse;
+use just_bench_reading::parse;
 use just_bench_syntax::PlainSyntax;
 use just_examples_format::asked::read_asked;
 use just_examples_format::faults::add_fault;

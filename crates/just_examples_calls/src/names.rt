@@ -1,6 +1,6 @@
 //! Calls of tokens, names and paths of names. They are those of a text's recipes.
 use crate::halves;
-use just_bench::parse;
+use just_bench_reading::parse;
 use just_bench_syntax::PlainSyntax;
 use just_data::BorrowedText;
 use just_examples_format::faults::add_fault;

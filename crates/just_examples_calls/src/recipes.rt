@@ -1,6 +1,6 @@
 //! Calls of recipes: of the first of a text.
 use crate::halves;
-use just_bench::parse;
+use just_bench_reading::parse;
 use just_bench_syntax::PlainSyntax;
 use just_data::Sequence;
 use just_examples_format::faults::add_fault;

@@ -3,7 +3,7 @@
 //! is one.
 use crate::halves;
 use just_ast_references::{Reference, References};
-use just_bench::parse;
+use just_bench_reading::parse;
 use just_bench_syntax::PlainSyntax;
 use just_data::{BorrowedText, Sequence, Text, copied};
 use just_examples_format::faults::add_fault;

@@ -1,7 +1,7 @@
 //! Calls of sources. The root is `/justfile`.
 use crate::halves;
 use crate::names::recipe_names;
-use just_bench::root_source;
+use just_bench_reading::root_source;
 use just_examples_format::faults::add_fault;
 use just_examples_format::lists::add_list;
 use just_parts::Source;

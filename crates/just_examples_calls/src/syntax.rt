@@ -1,6 +1,6 @@
 //! Calls of the grammar, which are given the lines of a text's first recipe, or a name.
 use crate::recipes::first_recipe;
-use just_bench::parse;
+use just_bench_reading::parse;
 use just_bench_syntax::PlainSyntax;
 use just_examples_format::faults::add_fault;
 use just_parts::layers::{Line, Settings, Sigil, Syntax};

@@ -1,4 +1,6 @@
-//! A text that is read as the root.
+//! A text that is read as the root, by the plain grammar.
+#![tactic(auto)]
+
 use just_bench_syntax::PlainSyntax;
 use just_data::Text;
 use just_parts::Source;
