@@ -4,11 +4,12 @@ use Rattle.just_errors.specs.declared.error.RunError.TheVariants.{NotYet}
 use Rattle.just_invoke.specs.declared.invocation.Invocation.{Invocation}
 use Rattle.just_justfile.specs.declared.justfile.Justfile.{Justfile, out-Justfile}
 use Rattle.just_justfile.specs.Closed.{name_of}
+use Rattle.std.proofs.lemmas.List.{nil_from_length}
 use Rattle.std.proofs.lemmas.List.Elements.{All-nil}
 use Rattle.just_invoke.specs.Scopes.{AreModulesIn}
 use Rattle.just_invoke.specs.Split.{invoked_of}
 use Rattle.just_invoke.specs.Variables.{IsHeldBack, SomeVariable}
-use Rattle.just_invoke.proofs.ModuleLemmas.{IsBare, are_modules, done_more, next_moved, next_stands, shown}
+use Rattle.just_invoke.proofs.ModuleLemmas.{IsBare, are_modules, done_more, each_done, next_moved, next_stands, shown}
 use Rattle.just_invoke.proofs.variables.check_variables.Goals as goal
 
 held_back : (root : Justfile) (is : List Invocation) (d : Invocation) (name : List ℕ) → 0 < length is → name ≡ name_of (get_or is 0 d).recipe.now →
@@ -34,3 +35,9 @@ loop-module-preserved c =
       done_more IsBare l.yielded c.in-Some.module l.invariant.0 bare,
       next_moved c.args.root.now l.yielded l.module-iterator.rest.items l.invariant.1 c.in-Some.module c.next.new.self.rest.items c.in-Some.ensures.steps.0,
     )
+
+pub returns-clause-ok : goal.returns-clause-ok
+returns-clause-ok c = λ has.
+    let rest = c.loop-module.module-iterator.rest in
+    let over : rest.items ≡ [] = nil_from_length rest.items (omega (arith, rest.ok, c.in-None.ensures.steps.0)) in
+    has.2 (each_done c.args.root.now c.loop-module.yielded rest.items c.loop-module.invariant.1 over IsBare c.loop-module.invariant.0 has.0 has.1)
