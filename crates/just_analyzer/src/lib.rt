@@ -29,8 +29,18 @@ pub mod modulepath {
 
 /// The traits of the layers, the records that they hand over and are handed, and the errors.
 pub mod layers {
-    pub use just_parts::layers::*;
-    pub use just_run_layers::*;
+    pub use just_parts::layers::{
+        Alias, ArgumentAttribute, ArgumentProperty, ArgumentRange, Assignment, Ast, Attribute,
+        Binding, CacheAttribute, CompileError, CompileErrorKind, ConditionalOperator, Config,
+        ConstantEvaluation, DependencyArgument, Edge, EnvironmentAttribute, Error, EvaluateFormat,
+        Exhausted, Expression, Fault, Fragment, FunctionDefinition, FunctionParameter, Given, Halt,
+        Interpreter, InvocationError, Item, Keyword, Line, ListFeature, ListUse, LoadError, Name,
+        NamedAttribute, Namepath, Number, Numerator, Output, Parameter, ParameterKind, Pattern,
+        Refusal, RunError, Scope, Set, Setting, Settings, Shape, Shebang, Sigil, Signal,
+        SourceError, StringLiteral, Subcommand, Switch, Syntax, Token, UnresolvedDependency,
+        UnstableFeature, Verbosity, Warning, WriteFailed, error, joined,
+    };
+    pub use just_run_layers::{Context, Entry, EnvironmentPair, Evaluation, Groups, Held, Host};
 }
 
 /// Files: how one came in, and all that there are, under their paths.
