@@ -173,22 +173,46 @@ pub(crate) fn first_recipe<'ast, 'src>(
     }
 }
 
+// Adds what a call of the first recipe of what a text says gives, and tells whether there is one.
+fn add_first<'src>(
+    alloc: Global,
+    call: &str,
+    settings: &Settings,
+    ast: &Ast<'src>,
+    answer: &mut String,
+) -> Result<bool, AllocError> {
+    match first_recipe(ast) {
+        Some(recipe) => add_recipe(alloc, call, settings, recipe, answer),
+        None => Ok(false),
+    }
+}
+
+// The same of a text, or its fault.
+fn add_parsed(
+    alloc: Global,
+    call: &str,
+    settings: &Settings,
+    text: &str,
+    answer: &mut String,
+) -> Result<bool, AllocError> {
+    match parse(alloc, &PlainSyntax::new(), text) {
+        Ok(ast) => add_first(alloc, call, settings, &ast, answer),
+        Err(error) => {
+            add_fault(answer, &error)?;
+            Ok(true)
+        }
+    }
+}
+
 /// Answers what a call of a text's first recipe gives, where it is resolved in the module `m`. The settings that are on stand
 /// before a ` | `.
 pub fn answer_recipe(alloc: Global, call: &str, rest: &str) -> Result<Option<String>, AllocError> {
     let (words, text) = halves(rest);
     let settings = settings_of(words);
     let mut answer = String::new(alloc);
-    match parse(alloc, &PlainSyntax::new(), text) {
-        Ok(ast) => match first_recipe(&ast) {
-            Some(recipe) => {
-                if !add_recipe(alloc, call, &settings, recipe, &mut answer)? {
-                    return Ok(None);
-                }
-            }
-            None => return Ok(None),
-        },
-        Err(error) => add_fault(&mut answer, &error)?,
+    if add_parsed(alloc, call, &settings, text, &mut answer)? {
+        Ok(Some(answer))
+    } else {
+        Ok(None)
     }
-    Ok(Some(answer))
 }
