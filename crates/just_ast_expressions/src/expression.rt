@@ -1,5 +1,8 @@
-ghost use Rattle.std.specs.Prelude.{◌≡◌};
+ghost use Rattle.std.specs.Prelude.{◌≡◌, ◌⊎◌, []};
+ghost use Rattle.just_ast_expressions.specs.Parts.{parts};
+ghost use Rattle.just_ast_expressions.specs.Taken.{untaken};
 
+use crate::parts::Parts;
 use just_data::{Exact, Excerpt, Sequence, Shared, Text};
 use just_names::{Name, Number};
 use std::alloc::AllocError;
@@ -19,7 +22,7 @@ pub enum ConditionalOperator {
 
 /// What a value is evaluated from. A clone shares its parts.
 #[cycle(expression)]
-#[derive(PartialEq, Eq, Drop)]
+#[derive(PartialEq, Eq)]
 pub struct Expression<'src> {
     /// Its form, with its parts.
     pub shape: Shared<Shape<'src>>,
@@ -108,6 +111,41 @@ pub enum Shape<'src> {
         name: Name<'src>,
         number: Option<Number>,
     },
+}
+
+impl<'src> Expression<'src> {
+    // Its parts. What other clones share stays theirs.
+    fn into_parts(self) -> Parts<'src>
+        ensures { (untaken result ≡ parts self.entry) ⊎ (untaken result ≡ []) }
+    {
+        let Expression { shape, text: _ } = self;
+        match shape.into_inner() {
+            Some(shape) => Parts::of(shape),
+            None => Parts::Empty,
+        }
+    }
+}
+
+// A loop over what is left, so that a deep expression is dropped in little stack. Where there is no memory for the list
+// of what is left, a part is dropped at once.
+impl<'src> Drop for Expression<'src> {
+    fn drop(self) {
+        let mut pending = Vec::new(self.text.alloc());
+        let mut parts = self.into_parts();
+        loop {
+            if let Some((others, last)) = parts.split_last() {
+                parts = others;
+                if let Err(refused) = pending.push(last) {
+                    drop(refused.value);
+                }
+            } else if let Some(next) = pending.pop() {
+                parts = next.into_parts();
+            } else {
+                break;
+            }
+        }
+        pending.destroy_empty();
+    }
 }
 
 impl<'src> Clone for Expression<'src> {

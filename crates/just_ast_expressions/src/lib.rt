@@ -6,6 +6,7 @@ pub mod expression;
 pub mod interpreter;
 pub mod keyword;
 pub mod list_use;
+mod parts;
 pub mod scope;
 pub mod settings;
 pub mod sigil;

@@ -1,15 +1,15 @@
--- The one equation of the recursion over parts, and of what is made by it.
-use Rattle.std.proofs.Common.{◌≡◌, sym, ◌∙◌, ap, ℕ, suc, List, ◌++◌, map}
-use Rattle.std.specs.List.{flat_map, sum, sum_by}
+-- The one equation of the recursion over parts, and of the references that are made by it.
+use Rattle.std.proofs.Common.{◌≡◌, sym, ◌∙◌, ap, List, ◌++◌, map}
+use Rattle.std.specs.List.{flat_map}
 use Rattle.std.proofs.lemmas.List.Folds.{flat_map-map}
-use Rattle.std.proofs.lemmas.List.Sums.{sum-map}
 use Rattle.just_ast_expressions.specs.declared.expression.Expression.{Expression, out-Expression, fold-Expression, fold_out-Expression}
 use Rattle.just_ast_expressions.specs.declared.expression.Shape.{Shape, out-Shape, roll-Shape, roll-out-Shape, fold-Shape, fold-roll-Shape}
 use Rattle.just_ast_expressions.specs.declared.expression.Shape.TheOpen.{Shape-F}
-use Rattle.just_ast_references.specs.Parts.{layer_parts, parts, shape_parts}
+use Rattle.just_ast_expressions.specs.Parts.{layer_parts, parts, shape_parts}
 use Rattle.just_ast_references.specs.References.{layer_mention, shape_mention, mention, shape_step, expression_step, over_parts, references}
 use Rattle.just_ast_references.specs.declared.references.Reference.{Reference}
-use Rattle.just_ast_references.proofs.Layers.{mention_map, parts_map}
+use Rattle.just_ast_expressions.proofs.Layers.{parts_map}
+use Rattle.just_ast_references.proofs.Layers.{mention_map}
 
 module _ {A : Type 0} (combine : List Reference → List A → A) where
   abbrev of_shape : Shape → A
@@ -35,10 +35,3 @@ pub references_are : (e : Expression) → references e ≡ mention e ++ flat_map
 references_are e =
     over_parts_are (λ own results. own ++ flat_map (λ r. r) results) e
     ∙ ap (λ rest. mention e ++ rest) (flat_map-map (λ r. r) references (parts e))
-
--- how many expressions there are in one, itself among them
-abbrev pub size : Expression → ℕ
-size = over_parts (λ own sizes. suc (sum sizes))
-
-pub size_is : (e : Expression) → size e ≡ suc (sum_by size (parts e))
-size_is e = over_parts_are (λ own sizes. suc (sum sizes)) e ∙ ap suc (sum-map size (parts e))

@@ -3,8 +3,8 @@ use Rattle.std.proofs.Common.{ℕ, suc, zero, ◌<◌, arith, List, [], ◌∷�
 use Rattle.std.specs.List.{AllByRecursion, sum_by}
 use Rattle.std.proofs.lemmas.List.Sums.{sum_by-cons}
 use Rattle.just_ast_expressions.specs.declared.expression.Expression.{Expression}
-use Rattle.just_ast_references.specs.Parts.{parts}
-use Rattle.just_ast_references.proofs.Fold.{size, size_is}
+use Rattle.just_ast_expressions.specs.Parts.{parts}
+use Rattle.just_ast_expressions.proofs.Sizes.{size, size_is}
 
 -- what holds of an expression where it holds of its parts holds of all
 module _ (P : Expression → Type 0) (step : (e : Expression) → AllByRecursion P (parts e) → P e) where

@@ -3,6 +3,5 @@ pub mod Induction
 pub mod Layers
 pub mod MentionsOf
 pub mod NumbersOf
-pub mod PartsOf
 pub mod Renumbering
 pub mod Stack

@@ -8,7 +8,7 @@ use Rattle.just_ast_expressions.specs.declared.expression.Expression.{Expression
 use Rattle.just_ast_expressions.specs.declared.expression.Shape.{Shape, out-Shape, roll-Shape, out-roll-Shape, roll-out-Shape, map-Shape}
 use Rattle.just_ast_expressions.specs.declared.expression.Shape.TheOpen.{Shape-F, Expression-F}
 use Rattle.just_ast_references.specs.Numbers.{numbered_layer, shape_with_numbers, with_numbers}
-use Rattle.just_ast_references.specs.Parts.{layer_parts, parts, shape_parts}
+use Rattle.just_ast_expressions.specs.Parts.{layer_parts, parts, shape_parts}
 use Rattle.just_ast_references.specs.References.{layer_mention, shape_mention, mention, references}
 use Rattle.just_ast_references.proofs.Fold.{references_are}
 use Rattle.just_ast_references.proofs.Induction.{over_all_parts}

@@ -7,10 +7,12 @@ use Rattle.std.proofs.lemmas.List.Concat.{flat_map-cons}
 use Rattle.std.proofs.lemmas.List.Elements.{All-rest}
 use Rattle.std.proofs.lemmas.List.Sums.{sum_by-cons, sum_by-append}
 use Rattle.just_ast_expressions.specs.declared.expression.Expression.{Expression}
-use Rattle.just_ast_references.specs.Parts.{borrowed, parts, waiting}
+use Rattle.just_ast_expressions.specs.Parts.{parts}
+use Rattle.just_ast_references.specs.Parts.{borrowed, waiting}
 use Rattle.just_ast_references.specs.References.{IsReference, mention, references}
 use Rattle.just_ast_references.specs.declared.references.Reference.{Reference}
-use Rattle.just_ast_references.proofs.Fold.{references_are, size, size_is}
+use Rattle.just_ast_expressions.proofs.Sizes.{size, size_is}
+use Rattle.just_ast_references.proofs.Fold.{references_are}
 
 -- what is pushed is popped next
 pub waiting_push : (stack : List (Bor Expression)) (next : Bor Expression) → waiting (stack ++ next ∷ []) ≡ next.now ∷ waiting stack

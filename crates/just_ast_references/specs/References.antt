@@ -4,7 +4,7 @@ use Rattle.std.specs.List.{flat_map}
 use Rattle.just_ast_expressions.specs.declared.expression.Expression.{Expression, out-Expression, fold-Expression}
 use Rattle.just_ast_expressions.specs.declared.expression.Shape.{Shape, out-Shape}
 use Rattle.just_ast_expressions.specs.declared.expression.Shape.TheOpen.{Shape-F, Expression-F}
-use Rattle.just_ast_references.specs.Parts.{layer_parts}
+use Rattle.just_ast_expressions.specs.Parts.{layer_parts}
 use Rattle.just_ast_references.specs.declared.references.Reference.{Reference}
 use Rattle.just_ast_references.specs.declared.references.Reference.TheVariants as reference
 

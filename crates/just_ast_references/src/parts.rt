@@ -2,7 +2,8 @@
 
 ghost use Rattle.std.specs.Prelude.{◌≡◌, ◌∷◌, ◌++◌, OnOk};
 ghost use Rattle.std.specs.Option.{option_to_list};
-ghost use Rattle.just_ast_references.specs.Parts.{parts, waiting};
+ghost use Rattle.just_ast_expressions.specs.Parts.{parts};
+ghost use Rattle.just_ast_references.specs.Parts.{waiting};
 
 use just_ast_expressions::{Expression, Shape};
 use std::alloc::AllocError;
@@ -47,7 +48,7 @@ fn push_all<'a, 'src>(
 
 /// Puts the parts of an expression on a stack, where the first of them is popped next. Where memory is refused, some of
 /// them may be there.
-#[tactic(auto, using(crate::proofs::PartsOf::shapes))]
+#[tactic(auto, using(just_ast_expressions::proofs::PartsOf::shapes))]
 pub fn push_parts<'a, 'src>(
     expression: &'a Expression<'src>,
     stack: &mut Vec<&'a Expression<'src>>,

@@ -13,7 +13,7 @@ use Rattle.just_ast_expressions.specs.declared.expression.Shape.{Shape, out-Shap
 use Rattle.just_ast_expressions.specs.declared.expression.Shape.TheOpen.{Shape-F, Expression-F}
 use Rattle.just_ast_references.specs.Body.{Calls, Mention, Names, mention_of}
 use Rattle.just_ast_references.specs.Numbers.{bare, shape_with_numbers, with_numbers}
-use Rattle.just_ast_references.specs.Parts.{layer_parts, parts, shape_parts}
+use Rattle.just_ast_expressions.specs.Parts.{layer_parts, parts, shape_parts}
 use Rattle.just_ast_references.specs.References.{layer_mention, mention, references, shape_mention}
 use Rattle.just_ast_references.proofs.Fold.{references_are}
 use Rattle.just_ast_references.proofs.Induction.{over_all_parts}

@@ -8,7 +8,7 @@ use Rattle.just_names.specs.Token.{Place}
 use Rattle.just_names.specs.declared.name.Name.{Name}
 use Rattle.just_ast_definitions.specs.declared.function_definition.FunctionDefinition.{FunctionDefinition}
 use Rattle.just_ast_expressions.specs.declared.expression.Expression.{Expression}
-use Rattle.just_ast_references.specs.Parts.{parts}
+use Rattle.just_ast_expressions.specs.Parts.{parts}
 use Rattle.just_parts.specs.Evaluator.{functions_by_name}
 use Rattle.just_parts.specs.Told.{IsPlaceIn, IsPlaceInOne}
 use Rattle.just_table.specs.Entries.{find}

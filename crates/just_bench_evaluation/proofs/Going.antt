@@ -10,8 +10,8 @@ use Rattle.just_ast_definitions.specs.declared.function_definition.FunctionDefin
 use Rattle.just_ast_expressions.specs.declared.expression.Expression.{Expression, out-Expression}
 use Rattle.just_ast_expressions.specs.declared.expression.Shape.{Shape}
 use Rattle.just_ast_expressions.specs.declared.expression.Shape.TheVariants as shape
-use Rattle.just_ast_references.specs.Parts.{parts, shape_parts}
-use Rattle.just_ast_references.proofs.PartsOf.{parts_of-Call, parts_of-Concatenation, parts_of-Group, parts_of-List}
+use Rattle.just_ast_expressions.specs.Parts.{parts, shape_parts}
+use Rattle.just_ast_expressions.proofs.PartsOf.{parts_of-Call, parts_of-Concatenation, parts_of-Group, parts_of-List}
 use Rattle.just_ast_references.specs.References.{shape_mention}
 use Rattle.just_errors.specs.declared.error.Error.{Error}
 use Rattle.just_parts.specs.Evaluator.{FaultsAt}

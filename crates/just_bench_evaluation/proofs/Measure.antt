@@ -6,8 +6,8 @@ use Rattle.std.specs.Str.{bytes_eq}
 use Rattle.just_names.specs.Texts.{Text}
 use Rattle.just_ast_definitions.specs.declared.function_definition.FunctionDefinition.{FunctionDefinition}
 use Rattle.just_ast_expressions.specs.declared.expression.Expression.{Expression}
-use Rattle.just_ast_references.specs.Parts.{parts}
-use Rattle.just_ast_references.proofs.Fold.{size, size_is}
+use Rattle.just_ast_expressions.specs.Parts.{parts}
+use Rattle.just_ast_expressions.proofs.Sizes.{size, size_is}
 use Rattle.just_table.specs.Entries.{find}
 use Rattle.just_bench_evaluation.specs.Tasks.{bodies_size, body_size, cost, room}
 

@@ -14,12 +14,12 @@ use Rattle.just_ast_definitions.specs.declared.function_definition.FunctionDefin
 use Rattle.just_ast_expressions.specs.declared.expression.Expression.{Expression, out-Expression}
 use Rattle.just_ast_expressions.specs.declared.expression.Shape.{Shape}
 use Rattle.just_ast_expressions.specs.declared.expression.Shape.TheVariants as shape
-use Rattle.just_ast_references.specs.Parts.{parts, shape_parts}
+use Rattle.just_ast_expressions.specs.Parts.{parts, shape_parts}
 use Rattle.just_ast_references.specs.References.{mention, shape_mention}
 use Rattle.just_ast_references.specs.declared.references.Reference.{Reference}
 use Rattle.just_ast_references.specs.declared.references.Reference.TheVariants as reference
 use Rattle.just_ast_references.proofs.MentionsOf.{mention_of-Call, mention_of-Variable}
-use Rattle.just_ast_references.proofs.PartsOf.{parts_of-Call, parts_of-Concatenation, parts_of-Group, parts_of-List}
+use Rattle.just_ast_expressions.proofs.PartsOf.{parts_of-Call, parts_of-Concatenation, parts_of-Group, parts_of-List}
 use Rattle.just_parts.specs.Told.{IsPlaceIn, IsPlaceInOne, assigned_values, at_name, in_body, in_part, of_no_name, nowhere}
 use Rattle.just_bench_evaluation.specs.Lookup.{IsPlaceOfCall, at_call, in_called}
 

@@ -3,7 +3,7 @@ use Rattle.std.specs.Prelude.{List, [], ◌∷◌, Option, Some, None, codes, if
 use Rattle.just_names.specs.Texts.{Text}
 use Rattle.just_ast_definitions.specs.Parameter.{is_variadic}
 use Rattle.just_ast_definitions.specs.declared.parameter.ParameterKind.{ParameterKind}
-use Rattle.just_errors.specs.declared.error.Fault.{Fault}
+use Rattle.just_errors.specs.declared.fault.Fault.{Fault}
 
 -- what is told of a parameter that has several texts, and may have one
 abbrev pub is_one : Fault

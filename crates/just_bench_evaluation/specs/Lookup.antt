@@ -1,7 +1,7 @@
 -- Where values are looked up.
 use Rattle.std.specs.Prelude.{◌≡◌, List, Option, Some, Result, Ok, Err}
 use Rattle.std.specs.Option.{option_map}
-use Rattle.just_errors.specs.declared.error.CompileErrorKind.TheVariants as kind
+use Rattle.just_errors.specs.declared.compile_error.CompileErrorKind.TheVariants as kind
 use Rattle.just_errors.specs.declared.error.Error.{Error}
 use Rattle.just_errors.specs.declared.error.Error.TheVariants as error
 use Rattle.just_ast_definitions.specs.declared.function_definition.FunctionDefinition.{FunctionDefinition}

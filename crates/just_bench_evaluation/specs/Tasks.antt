@@ -10,8 +10,8 @@ use Rattle.just_names.specs.declared.name.Name.{Name}
 use Rattle.just_errors.specs.declared.error.Error.{Error}
 use Rattle.just_ast_definitions.specs.declared.function_definition.FunctionDefinition.{FunctionDefinition}
 use Rattle.just_ast_expressions.specs.declared.expression.Expression.{Expression}
-use Rattle.just_ast_references.specs.Parts.{parts}
-use Rattle.just_ast_references.proofs.Fold.{size}
+use Rattle.just_ast_expressions.specs.Parts.{parts}
+use Rattle.just_ast_expressions.proofs.Sizes.{size}
 use Rattle.just_parts.specs.Evaluator.{FaultsAt, Functions, Values, functions_by_name}
 use Rattle.just_parts.specs.Told.{IsPlaceIn, IsPlaceInOne, IsToldIn}
 use Rattle.just_bench_evaluation.specs.Lookup.{IsPlaceOfCall, constant_values}

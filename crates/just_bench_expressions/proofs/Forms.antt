@@ -12,7 +12,7 @@ use Rattle.just_ast_expressions.specs.declared.expression.Expression.{Expression
 use Rattle.just_ast_expressions.specs.declared.expression.Shape.{Shape, roll-Shape, fold-Shape, fold-roll-Shape, map-Shape}
 use Rattle.just_ast_expressions.specs.declared.expression.Shape.TheOpen.{Shape-F}
 use Rattle.just_ast_expressions.specs.declared.expression.Shape.TheVariants as shape
-use Rattle.just_ast_references.specs.Parts.{parts, shape_parts}
+use Rattle.just_ast_expressions.specs.Parts.{parts, shape_parts}
 use Rattle.just_bench_expressions.specs.Forms.{listed, form_spelling, as_its_form, spelling, StandsIn, itself, inside}
 
 abbrev pub shape_spelling : Shape → Text

@@ -11,8 +11,8 @@ use Rattle.just_names.specs.Token.{lexeme}
 use Rattle.just_ast_expressions.specs.declared.expression.Expression.{Expression}
 use Rattle.just_ast_expressions.specs.declared.expression.Shape.{Shape}
 use Rattle.just_ast_expressions.specs.declared.expression.Shape.TheVariants as shape
-use Rattle.just_ast_references.specs.Parts.{shape_parts}
-use Rattle.just_ast_references.proofs.PartsOf.{parts_of-StringLiteral, parts_of-Variable, parts_of-Call, parts_of-Group, parts_of-List, parts_of-Concatenation}
+use Rattle.just_ast_expressions.specs.Parts.{shape_parts}
+use Rattle.just_ast_expressions.proofs.PartsOf.{parts_of-StringLiteral, parts_of-Variable, parts_of-Call, parts_of-Group, parts_of-List, parts_of-Concatenation}
 use Rattle.just_bench_expressions.specs.declared.expressions.Bracket.{Bracket}
 use Rattle.just_bench_expressions.specs.declared.expressions.Bracket.TheVariants as bracket
 use Rattle.just_bench_expressions.specs.declared.expressions.Found.{Found}

@@ -5,7 +5,7 @@ use Rattle.just_names.specs.Name.{text_of_name}
 use Rattle.just_names.specs.Texts.{Text, joined}
 use Rattle.just_ast_expressions.specs.declared.expression.Expression.{Expression, fold-Expression}
 use Rattle.just_ast_expressions.specs.declared.expression.Shape.TheOpen.{Shape-F, Expression-F}
-use Rattle.just_ast_references.specs.Parts.{parts}
+use Rattle.just_ast_expressions.specs.Parts.{parts}
 
 -- spellings with a comma and a blank between any two
 abbrev pub listed : List Text → Text

@@ -17,7 +17,7 @@ use Rattle.just_ast_definitions.specs.declared.parameter.Parameter.{Parameter}
 use Rattle.just_bench_expressions.specs.declared.lines.TextLine.{TextLine}
 use Rattle.just_bench_expressions.specs.Lines.{is_newline, line_place, lines_of}
 use Rattle.just_bench_expressions.proofs.Cuts.{line_at_number, number_at}
-use Rattle.just_errors.specs.declared.error.CompileErrorKind.TheVariants.{Syntax}
+use Rattle.just_errors.specs.declared.compile_error.CompileErrorKind.TheVariants.{Syntax}
 use Rattle.just_errors.specs.declared.error.Error.{Error}
 use Rattle.just_errors.specs.declared.error.Error.TheVariants as error
 use Rattle.just_bench_syntax.specs.declared.items.Items.{Items}

@@ -1,8 +1,8 @@
 -- What a refusal of the plain grammar says.
 use Rattle.std.specs.Prelude.{◌≡◌, ◌<◌, ℕ, ◌^◌, List, Some, Err}
 use Rattle.std.specs.List.{slice_get}
-use Rattle.just_errors.specs.declared.error.CompileError.{CompileError}
-use Rattle.just_errors.specs.declared.error.CompileErrorKind.TheVariants.{Syntax}
+use Rattle.just_errors.specs.declared.compile_error.CompileError.{CompileError}
+use Rattle.just_errors.specs.declared.compile_error.CompileErrorKind.TheVariants.{Syntax}
 use Rattle.just_errors.specs.declared.error.Error.{Error}
 use Rattle.just_errors.specs.declared.error.Error.TheVariants as error
 use Rattle.just_bench_expressions.specs.declared.lines.TextLine.{TextLine}

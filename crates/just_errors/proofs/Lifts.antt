@@ -1,6 +1,6 @@
 -- A group's errors as those of a larger group.
 use Rattle.std.proofs.Common.{Result, Ok, Err, IfErr}
-use Rattle.just_errors.specs.declared.error.LoadError.TheVariants as load
+use Rattle.just_errors.specs.declared.load_error.LoadError.TheVariants as load
 use Rattle.just_errors.specs.declared.error.Error.{Error}
 use Rattle.just_errors.specs.declared.error.Error.TheVariants as error
 use Rattle.just_errors.specs.Causes.{Cause, NoFile, NoHome, NoImport, NoModule, SeveralFiles, LeadsBack, NoVariables, Broken, NoNumber, Reports}

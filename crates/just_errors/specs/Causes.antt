@@ -2,8 +2,8 @@
 use Rattle.std.specs.Prelude.{ℕ, List}
 use Rattle.just_names.specs.Token.{Place}
 use Rattle.just_names.specs.declared.name.Name.{Name}
-use Rattle.just_errors.specs.declared.error.LoadError.TheVariants as load
-use Rattle.just_errors.specs.declared.error.CompileErrorKind.{CompileErrorKind}
+use Rattle.just_errors.specs.declared.load_error.LoadError.TheVariants as load
+use Rattle.just_errors.specs.declared.compile_error.CompileErrorKind.{CompileErrorKind}
 use Rattle.just_errors.specs.declared.error.Error.{Error}
 use Rattle.just_errors.specs.declared.error.Error.TheVariants as error
 

@@ -7,17 +7,17 @@ use Rattle.just_names.specs.Token.{Place, lexeme}
 use Rattle.just_errors.specs.Wording.{arguments_text, takes_text, place_text, at_text, on_line_text, spaced_text}
 use Rattle.std.specs.Fmt.{signed_decimal}
 use Rattle.just_names.specs.declared.name.Namepath.{Namepath}
-use Rattle.just_errors.specs.declared.error.LoadError.{LoadError}
-use Rattle.just_errors.specs.declared.error.LoadError.TheVariants as load
-use Rattle.just_errors.specs.declared.error.Definition.{Definition}
-use Rattle.just_errors.specs.declared.error.Definition.TheVariants as definition
-use Rattle.just_errors.specs.declared.error.CompileErrorKind.{CompileErrorKind}
-use Rattle.just_errors.specs.declared.error.CompileErrorKind.TheVariants as kind
-use Rattle.just_errors.specs.declared.error.CompileError.{CompileError}
-use Rattle.just_errors.specs.declared.error.InvocationError.{InvocationError}
-use Rattle.just_errors.specs.declared.error.InvocationError.TheVariants as invocation
-use Rattle.just_errors.specs.declared.error.RunError.{RunError}
-use Rattle.just_errors.specs.declared.error.RunError.TheVariants as run
+use Rattle.just_errors.specs.declared.load_error.LoadError.{LoadError}
+use Rattle.just_errors.specs.declared.load_error.LoadError.TheVariants as load
+use Rattle.just_errors.specs.declared.compile_error.Definition.{Definition}
+use Rattle.just_errors.specs.declared.compile_error.Definition.TheVariants as definition
+use Rattle.just_errors.specs.declared.compile_error.CompileErrorKind.{CompileErrorKind}
+use Rattle.just_errors.specs.declared.compile_error.CompileErrorKind.TheVariants as kind
+use Rattle.just_errors.specs.declared.compile_error.CompileError.{CompileError}
+use Rattle.just_errors.specs.declared.invocation_error.InvocationError.{InvocationError}
+use Rattle.just_errors.specs.declared.invocation_error.InvocationError.TheVariants as invocation
+use Rattle.just_errors.specs.declared.run_error.RunError.{RunError}
+use Rattle.just_errors.specs.declared.run_error.RunError.TheVariants as run
 use Rattle.just_errors.specs.declared.signal.Signal.{Signal}
 use Rattle.just_errors.specs.declared.signal.Signal.TheVariants as signal
 use Rattle.just_errors.specs.declared.error.Error.{Error}

@@ -1,6 +1,6 @@
 -- Parts of messages: counts of arguments, places in a file, lines, and the arguments of a command.
-use Rattle.std.specs.Prelude.{ℕ, Option, Some, None, Bool, ◌+◌, ◌==◌, ◌&&◌, nat_le, min, List, [], ◌∷◌, ◌++◌, codes, decimal, if◌then◌else◌}
-use Rattle.std.specs.List.{flat_map}
+use Rattle.std.specs.Prelude.{ℕ, Option, Some, None, Bool, ◌+◌, ◌-◌, ◌==◌, ◌&&◌, ◌||◌, nat_le, nat_lt, min, length, slice_range, List, [], ◌∷◌, ◌++◌, codes, decimal, if◌then◌else◌}
+use Rattle.std.specs.List.{count_by, flat_map}
 use Rattle.std.specs.Char.{encode_utf8}
 use Rattle.just_names.specs.Token.{Place}
 use Rattle.just_errors.specs.declared.switch.Switch.{Switch}
@@ -28,9 +28,22 @@ takes_text least most =
 abbrev pub place_text : ℕ → List ℕ
 place_text n = decimal (min (n + 1) 18446744073709551615)
 
--- where a token stands
+-- how many characters begin in some bytes: each does in a byte that goes on with none before it
+abbrev pub begins_character : ℕ → Bool
+begins_character byte = nat_lt byte 128 || nat_le 192 byte
+
+abbrev pub characters : List ℕ → ℕ
+characters bytes = count_by begins_character bytes
+
+-- what stands before a token in its line
+abbrev pub before_in_line : Place → List ℕ
+before_in_line token =
+    let end = min token.offset (length token.src) in
+    slice_range token.src (min (token.offset - token.column) end) end
+
+-- where a token stands: the column counts characters
 abbrev pub at_text : Place → List ℕ
-at_text token = token.path ++ (codes ":" ++ (place_text token.line ++ (codes ":" ++ place_text token.column)))
+at_text token = token.path ++ (codes ":" ++ (place_text token.line ++ (codes ":" ++ place_text (characters (before_in_line token)))))
 
 -- paths in backquotes, with commas between them
 abbrev pub listed_text : List (List ℕ) → List ℕ

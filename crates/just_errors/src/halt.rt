@@ -1,5 +1,6 @@
 //! How a run ends early.
-use crate::error::{Error, RunError};
+use crate::error::Error;
+use crate::run_error::RunError;
 use std::alloc::{AllocError, AllocFailed};
 
 /// Why a run ended before its end.

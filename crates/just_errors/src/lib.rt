@@ -1,18 +1,26 @@
 //! Errors, their names and what they say.
 #![tactic(auto)]
 
+pub mod compile_error;
 pub mod error;
+pub mod fault;
 pub mod halt;
+pub mod invocation_error;
+pub mod load_error;
 pub mod refusal;
+pub mod run_error;
 pub mod signal;
 mod switch;
 mod wording;
 
-pub use error::{
-    CompileError, CompileErrorKind, Error, Fault, InvocationError, LoadError, RunError, SourceError,
-};
+pub use compile_error::{CompileError, CompileErrorKind};
+pub use error::{Error, SourceError};
+pub use fault::Fault;
 pub use halt::Halt;
+pub use invocation_error::InvocationError;
+pub use load_error::LoadError;
 pub use refusal::Refusal;
+pub use run_error::RunError;
 pub use signal::Signal;
 pub use switch::Switch;
 pub use wording::ArgumentRange;

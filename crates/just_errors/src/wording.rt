@@ -1,5 +1,6 @@
 //! Parts of messages: a place in a file, a count of arguments, a list of paths, a line, and the arguments of a command.
-ghost use Rattle.std.specs.Prelude.{◌≡◌};
+ghost use Rattle.std.specs.Prelude.{◌≡◌, ◌≤◌, length};
+ghost use Rattle.just_errors.specs.Wording as spec;
 ghost use Rattle.just_errors.specs.Wording.{noun_text, takes};
 
 use just_data::{Exact, Text};
@@ -76,7 +77,31 @@ impl fmt::Display for ArgumentRange {
     }
 }
 
-/// Where a token stands, as `FILE:LINE:COLUMN`. Lines and columns count from 1.
+// How many characters begin in some bytes.
+fn characters(bytes: &[u8]) -> usize
+    ensures count { result ≡ spec.characters bytes.now }
+    ensures most { result ≤ length bytes.now }
+{
+    let mut count = 0;
+    for byte in bytes {
+        if *byte < 128 || *byte >= 192 {
+            count += 1;
+        }
+    }
+    count
+}
+
+// What stands before a token in its line.
+fn before_in_line<'src>(token: &Token<'src>) -> &'src [u8]
+    ensures { result.now ≡ spec.before_in_line token.now }
+{
+    let bytes = token.src().as_bytes();
+    let end = token.offset().min(bytes.len());
+    let start = token.offset().saturating_sub(token.column()).min(end);
+    &bytes[start..end]
+}
+
+/// Where a token stands, as `FILE:LINE:COLUMN`. Lines and columns count from 1, and columns count characters.
 #[derive(Drop)]
 pub(crate) struct At<'a, 'src>(pub &'a Token<'src>);
 
@@ -89,7 +114,7 @@ impl<'a, 'src> fmt::Display for At<'a, 'src> {
     fn fmt<W: fmt::Write>(&self, f: &mut fmt::Formatter<W>) -> fmt::Result {
         let path = self.0.path();
         let line = self.0.line().saturating_add(1);
-        let column = self.0.column().saturating_add(1);
+        let column = characters(before_in_line(self.0)).saturating_add(1);
         write!(f, "{path}:{line}:{column}")
     }
 }

@@ -8,7 +8,7 @@ use Rattle.just_recipe.specs.declared.dependency.Dependency.{Dependency}
 use Rattle.just_parts.specs.declared.layers.config.Config.{Config}
 use Rattle.just_errors.specs.declared.error.Error.{Error}
 use Rattle.just_errors.specs.declared.error.Error.TheVariants.{Load, Compile, Invocation, Run, Exhausted, Memory}
-use Rattle.just_errors.specs.declared.error.RunError.TheVariants.{ExcessInvocations}
+use Rattle.just_errors.specs.declared.run_error.RunError.TheVariants.{ExcessInvocations}
 use Rattle.just_errors.specs.declared.halt.Halt.{Halt}
 use Rattle.just_errors.specs.declared.halt.Halt.TheVariants as halt
 use Rattle.just_run_layers.specs.declared.host.Entry.{Entry}

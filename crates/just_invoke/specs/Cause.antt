@@ -3,9 +3,9 @@ use Rattle.std.specs.Prelude.{ℕ, Option, Some, None, List}
 use Rattle.just_names.specs.Texts.{Text}
 use Rattle.just_errors.specs.declared.error.Error.{Error}
 use Rattle.just_errors.specs.declared.error.Error.TheVariants as error
-use Rattle.just_errors.specs.declared.error.Fault.{Fault}
-use Rattle.just_errors.specs.declared.error.InvocationError.{InvocationError}
-use Rattle.just_errors.specs.declared.error.InvocationError.TheVariants as fault
+use Rattle.just_errors.specs.declared.fault.Fault.{Fault}
+use Rattle.just_errors.specs.declared.invocation_error.InvocationError.{InvocationError}
+use Rattle.just_errors.specs.declared.invocation_error.InvocationError.TheVariants as fault
 use Rattle.just_errors.specs.declared.switch.Switch.{Switch}
 use Rattle.just_tail.specs.Cause as tail
 

@@ -4,7 +4,7 @@ use Rattle.just_run_layers.specs.Steps.{Kept}
 use Rattle.just_recipe.specs.declared.dependency.Dependency.{Dependency}
 use Rattle.just_errors.specs.declared.error.Error.{Error}
 use Rattle.just_errors.specs.declared.error.Error.TheVariants.{Run, Memory}
-use Rattle.just_errors.specs.declared.error.RunError.TheVariants.{NotYet}
+use Rattle.just_errors.specs.declared.run_error.RunError.TheVariants.{NotYet}
 use Rattle.just_errors.specs.declared.halt.Halt.{Halt}
 use Rattle.just_run_layers.specs.declared.host.Entry.{Entry}
 use Rattle.just_recipe.specs.declared.recipe.Recipe.{Recipe}

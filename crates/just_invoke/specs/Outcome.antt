@@ -5,7 +5,7 @@ use Rattle.just_recipe.specs.declared.dependency.Dependency.{Dependency}
 use Rattle.just_parts.specs.declared.layers.config.Config.{Config}
 use Rattle.just_errors.specs.declared.error.Error.{Error}
 use Rattle.just_errors.specs.declared.error.Error.TheVariants.{Run, Memory}
-use Rattle.just_errors.specs.declared.error.RunError.TheVariants.{ExcessInvocations, NotYet}
+use Rattle.just_errors.specs.declared.run_error.RunError.TheVariants.{ExcessInvocations, NotYet}
 use Rattle.just_errors.specs.declared.halt.Halt.{Halt}
 use Rattle.just_run_layers.specs.declared.host.Entry.{Entry}
 use Rattle.just_recipe.specs.declared.recipe.Recipe.{Recipe}

@@ -2,7 +2,7 @@
 use Rattle.std.specs.Prelude.{◌≡◌, ◌≢◌, ◌⊎◌, List, [], ◌∷◌}
 use Rattle.just_errors.specs.declared.error.Error.{Error}
 use Rattle.just_errors.specs.declared.error.Error.TheVariants.{Run, Memory}
-use Rattle.just_errors.specs.declared.error.RunError.TheVariants.{NotYet}
+use Rattle.just_errors.specs.declared.run_error.RunError.TheVariants.{NotYet}
 use Rattle.just_justfile.specs.declared.justfile.Justfile.{Justfile, out-Justfile}
 use Rattle.just_justfile.specs.Closed.{StandsIn, name_of}
 use Rattle.just_invoke.specs.Split.{Invoked}

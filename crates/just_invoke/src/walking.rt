@@ -3,7 +3,7 @@ ghost use Rattle.std.specs.Prelude.{◌≡◌, ◌≤◌, ◌<◌, [], true, IfO
 ghost use Rattle.std.specs.Option.{option_copied};
 ghost use Rattle.just_names.specs.Texts.{texts};
 ghost use Rattle.just_errors.specs.declared.error.Error.TheVariants as error;
-ghost use Rattle.just_errors.specs.declared.error.InvocationError.TheVariants as fault;
+ghost use Rattle.just_errors.specs.declared.invocation_error.InvocationError.TheVariants as fault;
 ghost use Rattle.just_justfile.specs.Closed.{default_recipe, name_of};
 ghost use Rattle.just_justfile.specs.Walks.{IsOrdered};
 ghost use Rattle.just_justfile.specs.declared.justfile.Justfile.{out-Justfile};

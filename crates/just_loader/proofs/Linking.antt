@@ -1,7 +1,7 @@
 -- What items lead to.
 use Rattle.std.proofs.Common.{◌≡◌, ℕ, ◌<◌, Bool, List, [], ◌∷◌, length, map, ◌⊎◌, inl, inr, Result, Ok, Err, IfErr, refl, arith}
 use Rattle.just_names.specs.declared.name.Name.{Name}
-use Rattle.just_errors.specs.declared.error.LoadError.TheVariants as load
+use Rattle.just_errors.specs.declared.load_error.LoadError.TheVariants as load
 use Rattle.just_errors.specs.declared.error.Error.{Error}
 use Rattle.just_errors.specs.declared.error.Error.TheVariants as error
 use Rattle.just_loader.specs.ModuleFile.{relative}

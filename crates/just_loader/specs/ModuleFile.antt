@@ -11,7 +11,7 @@ use Rattle.just_names.specs.Texts.{Text}
 use Rattle.just_names.specs.declared.name.Name.{Name}
 use Rattle.just_errors.specs.declared.error.Error.{Error}
 use Rattle.just_errors.specs.declared.error.Error.TheVariants as error
-use Rattle.just_errors.specs.declared.error.LoadError.TheVariants as load
+use Rattle.just_errors.specs.declared.load_error.LoadError.TheVariants as load
 use Rattle.just_loader.specs.Sources.{Files}
 
 -- what a text has after a prefix

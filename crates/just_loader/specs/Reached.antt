@@ -8,7 +8,7 @@ use Rattle.just_names.specs.Texts.{Text}
 use Rattle.just_names.specs.Token.{Place}
 use Rattle.just_parts.specs.Items.{Ast, Item}
 use Rattle.just_parts.specs.declared.layers.config.Config.{Config}
-use Rattle.just_errors.specs.declared.error.CompileErrorKind.TheVariants as kind
+use Rattle.just_errors.specs.declared.compile_error.CompileErrorKind.TheVariants as kind
 use Rattle.just_loader.specs.Links.{Link, To, Fault, link_in}
 use Rattle.just_loader.specs.ModuleFile.{relative}
 use Rattle.just_errors.specs.Causes.{Cause, Broken, NoNumber}

@@ -10,9 +10,9 @@ use Rattle.just_names.specs.Name.{text_of_name}
 use Rattle.just_names.specs.Token.{Place}
 use Rattle.just_names.specs.declared.name.Name.{Name}
 use Rattle.just_errors.specs.Causes.{Broken, Keeps}
-use Rattle.just_errors.specs.declared.error.CompileErrorKind.{CompileErrorKind}
-use Rattle.just_errors.specs.declared.error.CompileErrorKind.TheVariants as kind
-use Rattle.just_errors.specs.declared.error.Definition.TheVariants as definition
+use Rattle.just_errors.specs.declared.compile_error.CompileErrorKind.{CompileErrorKind}
+use Rattle.just_errors.specs.declared.compile_error.CompileErrorKind.TheVariants as kind
+use Rattle.just_errors.specs.declared.compile_error.Definition.TheVariants as definition
 use Rattle.just_recipe.specs.declared.dependency.UnresolvedDependency.{UnresolvedDependency}
 use Rattle.just_recipe.specs.declared.recipe.Recipe.{Recipe}
 use Rattle.just_module_contents.specs.Contents.{Contents, Defined, all_defined, defined_in, defined_naming, defined_recipe, function_texts, signatures, texts_of_defined, texts_of_named, variable_names}

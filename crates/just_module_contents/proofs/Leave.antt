@@ -6,7 +6,7 @@ use Rattle.std.proofs.lemmas.List.{drop_more}
 use Rattle.std.proofs.lemmas.Option.{get_or_from_slice_get, slice_get_within}
 use Rattle.just_graph.proofs.Index.{some_same}
 use Rattle.just_errors.specs.Causes.{Broken, Keeps}
-use Rattle.just_errors.specs.declared.error.CompileErrorKind.TheVariants as kind
+use Rattle.just_errors.specs.declared.compile_error.CompileErrorKind.TheVariants as kind
 use Rattle.just_names.specs.Texts.{Text}
 use Rattle.just_names.specs.Token.{Place}
 use Rattle.just_names.specs.declared.list_feature.ListFeature.{ListFeature}

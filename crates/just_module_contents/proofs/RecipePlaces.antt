@@ -6,7 +6,7 @@ use Rattle.std.proofs.lemmas.List.{length-map, take_more, map-append, get_or-map
 use Rattle.std.specs.Borrow.{Bor}
 use Rattle.just_recipe.specs.declared.dependency.UnresolvedDependency.{UnresolvedDependency}
 use Rattle.just_recipe.specs.declared.recipe.Recipe.{Recipe}
-use Rattle.just_errors.specs.declared.error.CompileErrorKind.TheVariants as kind
+use Rattle.just_errors.specs.declared.compile_error.CompileErrorKind.TheVariants as kind
 use Rattle.just_names.specs.Name.{text_of_name}
 use Rattle.just_names.specs.declared.name.Name.{Name}
 use Rattle.just_module_contents.specs.Recipes.{FollowsDefault, NoneFollows, name_of, named_parameters, parameter_names, lent, no_recipe, recipe_at, names_of}

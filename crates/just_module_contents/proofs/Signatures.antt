@@ -9,9 +9,9 @@ use Rattle.just_names.specs.Token.{Place}
 use Rattle.just_names.specs.declared.name.Name.{Name}
 use Rattle.just_ast_definitions.specs.declared.function_definition.FunctionDefinition.{FunctionDefinition}
 use Rattle.just_errors.specs.Causes.{Broken, Cause, Keeps}
-use Rattle.just_errors.specs.declared.error.CompileErrorKind.{CompileErrorKind}
-use Rattle.just_errors.specs.declared.error.CompileErrorKind.TheVariants as kind
-use Rattle.just_errors.specs.declared.error.Definition.TheVariants as definition
+use Rattle.just_errors.specs.declared.compile_error.CompileErrorKind.{CompileErrorKind}
+use Rattle.just_errors.specs.declared.compile_error.CompileErrorKind.TheVariants as kind
+use Rattle.just_errors.specs.declared.compile_error.Definition.TheVariants as definition
 use Rattle.just_module_contents.specs.Contents.{Signature, function_names, signature, signatures}
 use Rattle.just_names.specs.Index.{texts_of_names, AreDifferent, Repeats}
 use Rattle.just_module_contents.specs.Rules.{Functions, RepeatsParameter, duplicate_function_parameter, function_redefinition, of_function}

@@ -5,8 +5,8 @@ use Rattle.just_table.specs.Entries.{find}
 use Rattle.just_names.specs.Texts.{Text, joined}
 use Rattle.just_names.specs.Token.{Place}
 use Rattle.just_errors.specs.Causes.{Broken, Cause}
-use Rattle.just_errors.specs.declared.error.CompileErrorKind.TheVariants as kind
-use Rattle.just_errors.specs.declared.error.Fault.{Fault}
+use Rattle.just_errors.specs.declared.compile_error.CompileErrorKind.TheVariants as kind
+use Rattle.just_errors.specs.declared.fault.Fault.{Fault}
 use Rattle.just_parts.specs.Bare.{bare_function}
 use Rattle.just_parts.specs.Evaluator.{Evaluator, Functions, Values, Wanted, bare_set, functions_by_name, set_expressions, unnumbered}
 use Rattle.just_parts.specs.Known.{Known, none_hidden}

@@ -11,8 +11,8 @@ use Rattle.just_ast_definitions.specs.declared.function_definition.FunctionDefin
 use Rattle.just_ast_expressions.specs.declared.list_use.ListUse.{ListUse}
 use Rattle.just_ast_definitions.specs.declared.setting.Set.{Set}
 use Rattle.just_names.specs.Index.{texts_of_names}
-use Rattle.just_errors.specs.declared.error.Definition.{Definition}
-use Rattle.just_errors.specs.declared.error.Definition.TheVariants as definition
+use Rattle.just_errors.specs.declared.compile_error.Definition.{Definition}
+use Rattle.just_errors.specs.declared.compile_error.Definition.TheVariants as definition
 use Rattle.just_recipe.specs.declared.dependency.UnresolvedDependency.{UnresolvedDependency}
 use Rattle.just_recipe.specs.declared.recipe.Recipe.{Recipe}
 use Rattle.just_module_contents.specs.declared.definitions.Naming.{Naming}

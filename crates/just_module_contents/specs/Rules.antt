@@ -7,9 +7,9 @@ use Rattle.just_names.specs.Texts.{Text}
 use Rattle.just_names.specs.Name.{text_of_name, texts_of_path}
 use Rattle.just_names.specs.Token.{Place, lexeme}
 use Rattle.just_names.specs.declared.name.Namepath.{Namepath}
-use Rattle.just_errors.specs.declared.error.CompileErrorKind.{CompileErrorKind}
-use Rattle.just_errors.specs.declared.error.CompileErrorKind.TheVariants as kind
-use Rattle.just_errors.specs.declared.error.Definition.TheVariants as definition
+use Rattle.just_errors.specs.declared.compile_error.CompileErrorKind.{CompileErrorKind}
+use Rattle.just_errors.specs.declared.compile_error.CompileErrorKind.TheVariants as kind
+use Rattle.just_errors.specs.declared.compile_error.Definition.TheVariants as definition
 use Rattle.just_names.specs.declared.name.Name.{Name}
 use Rattle.just_ast_definitions.specs.declared.alias.Alias.{Alias}
 use Rattle.just_ast_expressions.specs.declared.list_use.ListUse.{ListUse}

@@ -2,7 +2,7 @@
 use Rattle.std.specs.Prelude.{◌≡◌, ℕ, ◌<◌, Bool, true, false, List, length, Some}
 use Rattle.std.specs.List.{Contains, slice_get}
 use Rattle.just_errors.specs.Causes.{Cause, Broken}
-use Rattle.just_errors.specs.declared.error.CompileErrorKind.TheVariants as kind
+use Rattle.just_errors.specs.declared.compile_error.CompileErrorKind.TheVariants as kind
 use Rattle.just_names.specs.Name.{text_of_name}
 use Rattle.just_names.specs.Token.{Place, lexeme}
 use Rattle.just_ast_definitions.specs.declared.attribute.Attribute.{Attribute}

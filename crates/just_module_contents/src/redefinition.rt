@@ -2,7 +2,7 @@
 
 ghost use Rattle.std.specs.Prelude.{◌≡◌};
 ghost use Rattle.just_names.specs.Name.{text_of_name};
-ghost use Rattle.just_errors.specs.declared.error.CompileErrorKind.TheVariants as kind;
+ghost use Rattle.just_errors.specs.declared.compile_error.CompileErrorKind.TheVariants as kind;
 ghost use Rattle.just_module_contents.specs.Contents.{defined};
 ghost use Rattle.just_module_contents.specs.Rules.{IsRedefinition};
 

@@ -7,7 +7,7 @@ use Rattle.std.specs.declared.cmp.Ordering.TheVariants.{Less}
 use Rattle.std.specs.List.{Contains, list_any, slice_get}
 use Rattle.std.proofs.lemmas.List.{length-map}
 use Rattle.just_errors.specs.Causes.{Broken, Cause, Keeps}
-use Rattle.just_errors.specs.declared.error.CompileErrorKind.TheVariants as kind
+use Rattle.just_errors.specs.declared.compile_error.CompileErrorKind.TheVariants as kind
 use Rattle.just_names.specs.Name.{text_of_name}
 use Rattle.just_names.specs.Texts.{Text}
 use Rattle.just_names.specs.Token.{Place, lexeme}
@@ -32,7 +32,7 @@ use Rattle.just_recipe.specs.declared.dependency.UnresolvedDependency.{Unresolve
 use Rattle.just_recipe.specs.declared.recipe.Recipe.{Recipe}
 use Rattle.just_names.specs.declared.name.Name.{Name}
 use Rattle.just_names.specs.declared.name.Namepath.{Namepath}
-use Rattle.just_errors.specs.declared.error.Definition.TheVariants as definition
+use Rattle.just_errors.specs.declared.compile_error.Definition.TheVariants as definition
 use Rattle.just_module_contents.specs.Contents.{Contents, Defined, Signature, all_defined, defined, defined_in, defined_naming, defined_recipe, function_names, signature, signatures, variable_names}
 use Rattle.just_names.specs.Index.{texts_of_names, Repeats}
 use Rattle.just_module_contents.specs.Constants.{AreConstants, AsksConstants, AsksFor, Constants, Docs, Evaluated, IsEvaluated, constant_expressions, constants_fault, doc_fault, functions_asked, in_doc, in_setting, recipe_expressions, settings_among, settings_fault, sets_lists}

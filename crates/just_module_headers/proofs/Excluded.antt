@@ -15,7 +15,7 @@ use Rattle.just_names.proofs.SameTexts.{same_or_not}
 use Rattle.just_ast_expressions.specs.declared.keyword.Keyword.{Keyword}
 use Rattle.just_ast_definitions.specs.declared.setting.Set.{Set}
 use Rattle.just_errors.specs.Causes.{Broken, Keeps}
-use Rattle.just_errors.specs.declared.error.CompileErrorKind.TheVariants as kind
+use Rattle.just_errors.specs.declared.compile_error.CompileErrorKind.TheVariants as kind
 use Rattle.just_names.specs.Index.{AreDifferent, IsLast, Repeats, name_at}
 use Rattle.just_module_contents.specs.Rules.{SetTwice, Sets, duplicate_set, incompatible_settings, set_twice}
 use Rattle.just_module_contents.specs.Settings.{Conflicts, are_incompatible, excludes, line_at, no_set, place_at, set_at, setting_at, setting_names, stands_in}

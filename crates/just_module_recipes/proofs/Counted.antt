@@ -7,7 +7,7 @@ use Rattle.std.proofs.lemmas.List.Elements.{All-push}
 use Rattle.just_ast_definitions.specs.Parameter.{least_arguments, most_arguments}
 use Rattle.just_ast_definitions.specs.declared.parameter.Parameter.{Parameter}
 use Rattle.just_errors.specs.Causes.{Broken, Cause, Keeps}
-use Rattle.just_errors.specs.declared.error.CompileErrorKind.TheVariants as kind
+use Rattle.just_errors.specs.declared.compile_error.CompileErrorKind.TheVariants as kind
 use Rattle.just_justfile.specs.declared.resolution.Resolution.TheVariants as resolution
 use Rattle.just_module_contents.specs.Recipes.{name_of, names_of, recipe_at}
 use Rattle.just_module_contents.specs.Rules.{IsOutside, StandsWith, argument_count, starred}

@@ -6,7 +6,7 @@ use Rattle.just_paths.specs.declared.modulepath.Modulepath.{Modulepath}
 use Rattle.std.proofs.lemmas.List.{get_or_default, length-map}
 use Rattle.std.proofs.lemmas.Option.{slice_get_read}
 use Rattle.just_errors.specs.Causes.{Broken}
-use Rattle.just_errors.specs.declared.error.CompileErrorKind.TheVariants as kind
+use Rattle.just_errors.specs.declared.compile_error.CompileErrorKind.TheVariants as kind
 use Rattle.just_graph.proofs.Index.{got_in}
 use Rattle.just_graph.proofs.Members.{contained, is_in, in_map}
 use Rattle.just_justfile.specs.declared.resolution.Resolution.{Resolution}

@@ -7,7 +7,7 @@ use Rattle.std.specs.declared.cmp.Ordering.TheVariants.{Less, Equal, Greater}
 use Rattle.std.proofs.lemmas.Bool.{cases_lt, false≢true}
 use Rattle.std.proofs.lemmas.Cmp.{nat_list_cmp_total}
 use Rattle.just_errors.specs.Causes.{Broken, Keeps}
-use Rattle.just_errors.specs.declared.error.CompileErrorKind.TheVariants as kind
+use Rattle.just_errors.specs.declared.compile_error.CompileErrorKind.TheVariants as kind
 use Rattle.just_names.specs.Token.{Place}
 use Rattle.just_recipe.specs.declared.dependency.UnresolvedDependency.{UnresolvedDependency}
 use Rattle.just_recipe.specs.declared.recipe.Recipe.{Recipe}

@@ -2,7 +2,7 @@
 use Rattle.std.specs.Prelude.{◌≡◌, ◌≢◌, List, [], ◌∷◌, flat_map, Option, None, Some}
 use Rattle.just_ast_definitions.specs.declared.alias.Alias.{Alias}
 use Rattle.just_errors.specs.Causes.{Cause, Broken}
-use Rattle.just_errors.specs.declared.error.CompileErrorKind.TheVariants as kind
+use Rattle.just_errors.specs.declared.compile_error.CompileErrorKind.TheVariants as kind
 use Rattle.just_justfile.specs.Walks.{resolved_module, resolved_recipe}
 use Rattle.just_justfile.specs.declared.aliases.Aliases.{Aliases}
 use Rattle.just_justfile.specs.declared.disabled.Disabled.{Disabled}

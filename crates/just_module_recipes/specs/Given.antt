@@ -1,7 +1,7 @@
 -- The rules of the arguments that a dependency gives.
 use Rattle.std.specs.Prelude.{◌≡◌, ℕ, Bool, true, false, length}
 use Rattle.just_errors.specs.Causes.{Broken, Cause}
-use Rattle.just_errors.specs.declared.error.CompileErrorKind.TheVariants as kind
+use Rattle.just_errors.specs.declared.compile_error.CompileErrorKind.TheVariants as kind
 use Rattle.just_module_contents.specs.Rules.{IsOutside}
 use Rattle.just_recipe.specs.Starred.{has_star}
 use Rattle.just_recipe.specs.declared.dependency.UnresolvedDependency.{UnresolvedDependency}

@@ -7,7 +7,7 @@ use Rattle.std.proofs.lemmas.Bool.{cases_lt}
 use Rattle.std.proofs.lemmas.List.{get_or-map, get_or_default, length-map}
 use Rattle.std.proofs.lemmas.Map.Entries.{length-keys_of}
 use Rattle.just_errors.specs.Causes.{Broken}
-use Rattle.just_errors.specs.declared.error.CompileErrorKind.TheVariants as kind
+use Rattle.just_errors.specs.declared.compile_error.CompileErrorKind.TheVariants as kind
 use Rattle.just_graph.specs.Graph.{HasEdge}
 use Rattle.just_graph.specs.Steps.{IsCircle, Leads, by_step}
 use Rattle.just_graph.proofs.Walks.{then_step}

@@ -3,8 +3,8 @@ use Rattle.std.specs.Prelude.{◌≡◌, List, [], ◌∷◌, flat_map, Option, 
 use Rattle.just_names.specs.Texts.{Text}
 use Rattle.just_names.specs.Token.{Place}
 use Rattle.just_errors.specs.Causes.{Broken, Cause, Keeps}
-use Rattle.just_errors.specs.declared.error.CompileErrorKind.TheVariants as kind
-use Rattle.just_errors.specs.declared.error.Fault.{Fault}
+use Rattle.just_errors.specs.declared.compile_error.CompileErrorKind.TheVariants as kind
+use Rattle.just_errors.specs.declared.fault.Fault.{Fault}
 use Rattle.just_parts.specs.Evaluator.{Covers, Evaluator, Values, functions_by_name}
 use Rattle.just_parts.specs.Known.{Known, known, none_hidden, sources}
 use Rattle.just_parts.specs.Syntax.{SyntaxAnswers}

@@ -6,7 +6,8 @@ use Rattle.just_names.specs.declared.number.Number.{Number}
 use Rattle.just_ast_expressions.specs.declared.expression.Expression.{Expression}
 use Rattle.just_name_resolution.specs.Nodes.{LeadsBack, LieOn}
 use Rattle.just_ast_references.specs.Numbers.{with_numbers}
-use Rattle.just_ast_references.specs.Parts.{parts, waiting}
+use Rattle.just_ast_expressions.specs.Parts.{parts}
+use Rattle.just_ast_references.specs.Parts.{waiting}
 use Rattle.just_ast_references.proofs.Renumbering.{keeps_parts}
 use Rattle.just_ast_references.proofs.Stack.{waiting_push}
 

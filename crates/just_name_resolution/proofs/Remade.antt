@@ -11,9 +11,9 @@ use Rattle.just_ast_expressions.specs.declared.expression.Shape.TheVariants as s
 use Rattle.just_name_resolution.specs.Nodes.{LieOn}
 use Rattle.just_name_resolution.proofs.Taken.{front}
 use Rattle.just_ast_references.specs.Numbers.{shape_with_numbers, with_numbers}
-use Rattle.just_ast_references.specs.Parts.{shape_parts}
+use Rattle.just_ast_expressions.specs.Parts.{shape_parts}
 use Rattle.just_ast_references.proofs.NumbersOf as numbers
-use Rattle.just_ast_references.proofs.PartsOf as parts
+use Rattle.just_ast_expressions.proofs.PartsOf as parts
 
 -- as many wait as a form has parts
 all_wait : {form known : Shape} {ps : List Expression} {n : ℕ} → form ≡ known → shape_parts known ≡ ps → length (shape_parts form) ≤ n → length ps ≤ n

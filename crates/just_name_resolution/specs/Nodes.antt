@@ -1,7 +1,7 @@
 -- The expressions in one, and what waits beside some of them.
 use Rattle.std.specs.Prelude.{◌≡◌, List, [], ◌∷◌, ◌++◌, drop, length}
 use Rattle.just_ast_expressions.specs.declared.expression.Expression.{Expression}
-use Rattle.just_ast_references.specs.Parts.{parts}
+use Rattle.just_ast_expressions.specs.Parts.{parts}
 
 -- From those that wait, a walk over expressions leads back to where `whole` alone waited: each of them, the last of the
 -- walk first, waited itself where its parts wait after it.

@@ -6,7 +6,8 @@ ghost use Rattle.just_names.specs.Name.{text_of_name};
 ghost use Rattle.just_name_resolution.specs.Nodes.{LeadsBack, LieOn};
 ghost use Rattle.just_name_resolution.specs.Numbers.{number_in};
 ghost use Rattle.just_ast_references.specs.Numbers.{shape_with_numbers, with_numbers};
-ghost use Rattle.just_ast_references.specs.Parts.{parts, shape_parts, waiting};
+ghost use Rattle.just_ast_expressions.specs.Parts.{parts, shape_parts};
+ghost use Rattle.just_ast_references.specs.Parts.{waiting};
 
 use just_ast_expressions::{Expression, Shape};
 use just_ast_references::push_parts;

@@ -6,7 +6,7 @@ use Rattle.std.proofs.lemmas.List.{length-map}
 use Rattle.just_ast_definitions.specs.declared.alias.Alias.{Alias}
 use Rattle.just_ast_items.specs.declared.item.Item.TheVariants as item
 use Rattle.just_errors.specs.Causes.{Broken, Keeps}
-use Rattle.just_errors.specs.declared.error.CompileErrorKind.TheVariants as kind
+use Rattle.just_errors.specs.declared.compile_error.CompileErrorKind.TheVariants as kind
 use Rattle.just_graph.proofs.Index.{some_at}
 use Rattle.just_graph.proofs.Members.{In}
 use Rattle.just_module_contents.specs.Contents.{Defined, defined_naming, texts_of_named}
@@ -20,7 +20,7 @@ use Rattle.just_names.specs.Token.{Place}
 use Rattle.just_names.specs.declared.name.Namepath.{Namepath}
 use Rattle.just_parts.specs.Items.{Item}
 use Rattle.just_compiled.proofs.Placing.{head_differs, tail_differs}
-use Rattle.just_errors.specs.declared.error.CompileErrorKind.{CompileErrorKind}
+use Rattle.just_errors.specs.declared.compile_error.CompileErrorKind.{CompileErrorKind}
 
 -- of aliases with one name there is one
 abbrev pub OnceNamed : List (Alias Namepath) → Type 0

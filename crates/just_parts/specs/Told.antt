@@ -10,7 +10,7 @@ use Rattle.just_errors.specs.declared.error.Error.TheVariants as error
 use Rattle.just_ast_definitions.specs.declared.assignment.Assignment.{Assignment}
 use Rattle.just_ast_definitions.specs.declared.function_definition.FunctionDefinition.{FunctionDefinition}
 use Rattle.just_ast_expressions.specs.declared.expression.Expression.{Expression}
-use Rattle.just_ast_references.specs.Parts.{parts}
+use Rattle.just_ast_expressions.specs.Parts.{parts}
 use Rattle.just_ast_references.specs.References.{mention}
 use Rattle.just_ast_references.specs.declared.references.Reference.{Reference}
 use Rattle.just_ast_references.specs.declared.references.Reference.TheVariants as reference

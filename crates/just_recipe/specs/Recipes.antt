@@ -2,8 +2,8 @@
 use Rattle.std.specs.Prelude.{◌≡◌, ◌≤◌, ℕ, ◌<◌, ◌==◌, List, [], ◌∷◌, ◌++◌, map, length, Option, Some, IsSome, slice_index, find}
 use Rattle.std.specs.List.{All, Contains}
 use Rattle.just_ast_definitions.specs.Parameter.{least_arguments}
-use Rattle.just_errors.specs.declared.error.InvocationError.{InvocationError}
-use Rattle.just_errors.specs.declared.error.InvocationError.TheVariants as invocation
+use Rattle.just_errors.specs.declared.invocation_error.InvocationError.{InvocationError}
+use Rattle.just_errors.specs.declared.invocation_error.InvocationError.TheVariants as invocation
 use Rattle.just_names.specs.Name.{text_of_name}
 use Rattle.just_recipe.specs.declared.dependency.Dependency.{Dependency}
 use Rattle.just_recipe.specs.declared.recipe.Recipe.{Recipe}

@@ -11,8 +11,8 @@ use Rattle.just_ast_definitions.specs.declared.attribute.NamedAttribute.{NamedAt
 use Rattle.just_ast_definitions.specs.declared.parameter.Parameter.{Parameter}
 use Rattle.just_ast_expressions.specs.declared.expression.Expression.{Expression}
 use Rattle.just_errors.specs.Causes.{Broken, Cause}
-use Rattle.just_errors.specs.declared.error.CompileErrorKind.TheVariants as kind
-use Rattle.just_errors.specs.declared.error.Fault.{Fault}
+use Rattle.just_errors.specs.declared.compile_error.CompileErrorKind.TheVariants as kind
+use Rattle.just_errors.specs.declared.fault.Fault.{Fault}
 use Rattle.just_module_contents.specs.RecipeValues.{patterns_in, text_said}
 use Rattle.just_parts.specs.Evaluator.{Covers, values_of}
 use Rattle.just_parts.specs.Known.{sources}

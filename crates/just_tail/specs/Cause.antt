@@ -1,7 +1,7 @@
 -- Why words are no arguments.
 use Rattle.std.specs.Prelude.{ℕ, Option, Some, None}
 use Rattle.just_names.specs.Texts.{Text}
-use Rattle.just_errors.specs.declared.error.Fault.{Fault}
+use Rattle.just_errors.specs.declared.fault.Fault.{Fault}
 use Rattle.just_errors.specs.declared.switch.Switch.{Switch}
 use Rattle.just_tail.specs.declared.error.TailError.{TailError}
 use Rattle.just_tail.specs.declared.error.TailError.TheVariants as error

@@ -3,7 +3,7 @@ use Rattle.std.specs.Prelude.{◌≡◌, ◌⊎◌, ℕ, Bool, true, false, not,
 use Rattle.std.specs.List.{list_any}
 use Rattle.just_names.specs.Texts.{Text}
 use Rattle.just_names.specs.Name.{text_of_name}
-use Rattle.just_errors.specs.declared.error.Fault.{Fault}
+use Rattle.just_errors.specs.declared.fault.Fault.{Fault}
 use Rattle.just_patterns.specs.Pattern.{is_match}
 use Rattle.just_ast_definitions.specs.Parameter.{is_option, is_required, is_variadic}
 use Rattle.just_ast_definitions.specs.declared.parameter.Parameter.{Parameter}

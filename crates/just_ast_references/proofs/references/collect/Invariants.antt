@@ -2,7 +2,7 @@ use Rattle.std.proofs.Common.{◌≡◌, ◌++◌, All}
 use Rattle.std.specs.List.{flat_map, sum_by}
 use Rattle.just_ast_references.specs.Parts.{borrowed, waiting}
 use Rattle.just_ast_references.specs.References.{IsReference, mention, references}
-use Rattle.just_ast_references.proofs.Fold.{size}
+use Rattle.just_ast_expressions.proofs.Sizes.{size}
 use Rattle.just_ast_references.proofs.references.collect.Given as goal
 
 abbrev pub invariant-loop-next : goal.invariant-loop-next

@@ -1,6 +1,6 @@
 use Rattle.std.proofs.Common.{◌≡◌, ◌≢◌, ◌<◌, ℕ, List, [], ◌∷◌, get_or, length, map, refl, ap, subst, ◌∙◌, inr, arith, rules}
 use Rattle.just_errors.specs.declared.error.Error.TheVariants.{Run}
-use Rattle.just_errors.specs.declared.error.RunError.TheVariants.{NotYet}
+use Rattle.just_errors.specs.declared.run_error.RunError.TheVariants.{NotYet}
 use Rattle.just_invoke.specs.declared.invocation.Invocation.{Invocation}
 use Rattle.just_justfile.specs.declared.justfile.Justfile.{Justfile, out-Justfile}
 use Rattle.just_justfile.specs.Closed.{name_of}

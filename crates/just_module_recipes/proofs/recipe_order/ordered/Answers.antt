@@ -3,7 +3,7 @@ use Rattle.std.proofs.lemmas.List.{get_or_default}
 use Rattle.std.proofs.lemmas.Grind.{common_steps}
 use Rattle.std.specs.List.{Contains}
 use Rattle.just_errors.specs.Causes.{Broken}
-use Rattle.just_errors.specs.declared.error.CompileErrorKind.TheVariants as kind
+use Rattle.just_errors.specs.declared.compile_error.CompileErrorKind.TheVariants as kind
 use Rattle.just_graph.specs.Graph.{HasEdge}
 use Rattle.just_graph.specs.Building.{EachRow}
 use Rattle.just_graph.specs.Steps.{IsCircle, IsOrder, circle_by}

@@ -4,7 +4,7 @@ use Rattle.just_name_resolution.specs.Numbers.{number_in}
 use Rattle.just_name_resolution.proofs.Remade.{all_waits, first_waits, others_wait, second_waits, third_waits, optional_waits, last_waits, none_made, variable_made, one_made, two_made, many_made, assert_made, conditional_made, join_made}
 use Rattle.just_name_resolution.proofs.numbers.remade_shape.Goals as goal
 use Rattle.just_ast_references.proofs.NumbersOf as numbers
-use Rattle.just_ast_references.proofs.PartsOf as parts
+use Rattle.just_ast_expressions.proofs.PartsOf as parts
 
 pub taken-requires : goal.taken-requires
 taken-requires g c = first_waits c.in-And.is (parts.parts_of-And c.in-And.lhs c.in-And.rhs) c.requires.count

@@ -1,6 +1,6 @@
 use Rattle.std.proofs.Common.{◌∙◌, arith, subst, sym}
 use Rattle.just_ast_definitions.specs.Parameter.{least_arguments}
-use Rattle.just_errors.specs.declared.error.InvocationError.TheVariants as invocation
+use Rattle.just_errors.specs.declared.invocation_error.InvocationError.TheVariants as invocation
 use Rattle.just_recipe.specs.Recipes.{CannotBeDefault, requires_arguments}
 use Rattle.just_recipe.proofs.recipe.Recipe.check_can_be_default_recipe.Goals as goal
 

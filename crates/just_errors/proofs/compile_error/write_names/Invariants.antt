@@ -2,7 +2,7 @@ use Rattle.std.proofs.Common.{◌++◌, take}
 use Rattle.std.specs.Prelude.{codes}
 use Rattle.std.specs.List.{flat_map}
 use Rattle.std.specs.Fmt.{HasWritten, IsPlainFormatter}
-use Rattle.just_errors.proofs.error.write_names.Given as goal
+use Rattle.just_errors.proofs.compile_error.write_names.Given as goal
 
 abbrev pub invariant-loop-name : goal.invariant-loop-name
 invariant-loop-name g l =

@@ -8,7 +8,7 @@ use Rattle.just_ast_expressions.specs.declared.expression.Expression.{Expression
 use Rattle.just_ast_expressions.specs.declared.expression.Shape.{Shape, roll-Shape, out-roll-Shape}
 use Rattle.just_ast_expressions.specs.declared.expression.Shape.TheOpen.{Shape-F}
 use Rattle.just_ast_expressions.specs.declared.expression.Shape.TheVariants as shape
-use Rattle.just_ast_references.specs.Parts.{layer_parts, shape_parts}
+use Rattle.just_ast_expressions.specs.Parts.{layer_parts, shape_parts}
 
 -- those of its level
 parts_at : (layer : Shape-F Shape Expression) {s : Shape} → roll-Shape layer ≡ s → shape_parts s ≡ layer_parts layer

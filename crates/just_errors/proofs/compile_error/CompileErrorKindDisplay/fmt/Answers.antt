@@ -1,4 +1,4 @@
-use Rattle.just_errors.proofs.error.CompileErrorKindDisplay.fmt.Goals as goal
+use Rattle.just_errors.proofs.compile_error.CompileErrorKindDisplay.fmt.Goals as goal
 
 pub returns-in-DuplicateSet-clause-writes : goal.returns-in-DuplicateSet-clause-writes
 returns-in-DuplicateSet-clause-writes g c = λ plain ok. rw (c.in-DuplicateSet.is, ← c.saturating_add-line.ensures) (c.write-in-DuplicateSet.ensures.writes plain ok)

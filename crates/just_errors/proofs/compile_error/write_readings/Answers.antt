@@ -3,7 +3,7 @@ use Rattle.std.proofs.lemmas.Grind.{put_three}
 use Rattle.just_names.specs.Texts.{joined}
 use Rattle.just_errors.specs.Messages.{readings_text}
 use Rattle.just_errors.proofs.Pieces.{three_parts}
-use Rattle.just_errors.proofs.error.write_readings.Goals as goal
+use Rattle.just_errors.proofs.compile_error.write_readings.Goals as goal
 
 pub returns : goal.returns
 returns g c = λ plain ok.

@@ -1,4 +1,4 @@
-use Rattle.just_errors.proofs.error.RunErrorDisplay.fmt.Goals as goal
+use Rattle.just_errors.proofs.run_error.RunErrorDisplay.fmt.Goals as goal
 
 pub returns-in-ShellIo-clause-writes : goal.returns-in-ShellIo-clause-writes
 returns-in-ShellIo-clause-writes g c = λ plain ok. rw c.in-ShellIo.is (c.write-in-ShellIo.ensures.writes plain ok)

@@ -1,0 +1,3 @@
+pub mod Layers
+pub mod PartsOf
+pub mod Sizes
