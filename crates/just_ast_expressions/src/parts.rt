@@ -49,8 +49,7 @@ impl<'src> Parts<'src> {
             Shape::Call { arguments, .. } => Parts::Listed(arguments.into_vec()),
             Shape::FormatString { expressions, .. } => Parts::Listed(expressions.into_vec()),
             Shape::List { elements } => Parts::Listed(elements.into_vec()),
-            Shape::Group { contents: part }
-            | Shape::Not { operand: part } => Parts::One(part),
+            Shape::Group { contents: part } | Shape::Not { operand: part } => Parts::One(part),
             Shape::Backtick { .. } | Shape::StringLiteral { .. } | Shape::Variable { .. } => {
                 Parts::Empty
             }

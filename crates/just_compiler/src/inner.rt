@@ -14,7 +14,7 @@ use just_table::Table;
 use std::alloc::{AllocError, Global};
 
 /// A justfile under a label.
-pub fn labelled<'src>(justfile: Justfile<'src>, label: Label<'src>) -> Justfile<'src>
+pub fn labelled<'src>(mut justfile: Justfile<'src>, label: Label<'src>) -> Justfile<'src>
     ensures { result ≡ labelled_as label.entry justfile.entry }
 {
     let Label {
@@ -24,13 +24,11 @@ pub fn labelled<'src>(justfile: Justfile<'src>, label: Label<'src>) -> Justfile<
         private,
         ..
     } = label;
-    Justfile {
-        name,
-        doc,
-        groups,
-        private,
-        ..justfile
-    }
+    justfile.name = name;
+    justfile.doc = doc;
+    justfile.groups = groups;
+    justfile.private = private;
+    justfile
 }
 
 // The values of a table, in the order of their names.

@@ -1,9 +1,10 @@
 -- A walk in preorder: what is listed, and what is left.
 use Rattle.std.proofs.Common.{◌≡◌, ℕ, ◌+◌, ◌<◌, List, [], ◌∷◌, ◌++◌, length, map, reverse, Option, Some, None, refl, sym, ap, subst, ◌∙◌, inl, inr, ◌⊎◌, arith}
+use Rattle.std.specs.List.{sum_by}
+use Rattle.std.proofs.lemmas.List.Sums.{sum_by-append, sum_by-cons}
 use Rattle.std.proofs.lemmas.List.{append-nil, append_assoc, map-append, length-append, reverse-append, reverse-reverse}
 use Rattle.just_justfile.specs.declared.justfile.Justfile.{Justfile, out-Justfile}
-use Rattle.just_justfile.specs.declared.justfile.Justfile.TheOpen.{Justfile-F}
-use Rattle.just_justfile.specs.declared.justfile.Justfile.TheFolds.{fold-Justfile, fold_out-Justfile}
+use Rattle.just_justfile.proofs.Counts.{count, count_is}
 use Rattle.just_invoke.specs.Preorder.{Placed, AreBelow, none, one, IsPreorder, inner_modules}
 
 -- what is listed of those that are left, the first of which is taken next
@@ -55,31 +56,27 @@ pub ends : (root : Justfile) (done left : List Placed) → left ≡ [] → Walks
 ends root done left none_left walks =
     subst (IsPreorder root) (append-nil done) (walks [] (subst (λ xs. AreLeft (length done) (reverse xs) []) (sym none_left) nothing))
 
--- how many modules there are: this one and those in it
-abbrev total : List ℕ → ℕ
-total [] = 0
-total (n ∷ ns) = n + total ns
-
-abbrev count_step : Justfile-F ℕ → ℕ
-count_step m = total m.modules + 1
-
-abbrev count : Justfile → ℕ
-count = fold-Justfile ℕ count_step
-
 abbrev pub count_all : List Placed → ℕ
-count_all ps = total (map (λ (p : Placed). count p.justfile) ps)
+count_all ps = sum_by (λ (p : Placed). count p.justfile) ps
+
+count_inner : (place : ℕ) (js : List Justfile) → count_all (inner_modules place js) ≡ sum_by count js
+count_inner place [] = refl
+count_inner place (j ∷ js) =
+    omega (
+      arith,
+      sum_by-cons (λ (p : Placed). count p.justfile) (record { justfile = j; parent = Some place }) (inner_modules place js),
+      sum_by-cons count j js,
+      count_inner place js,
+    )
 
 count_append : (xs ys : List Placed) → count_all (xs ++ ys) ≡ count_all xs + count_all ys
-count_append [] ys = omega arith
-count_append (x ∷ xs) ys = omega (arith, count_append xs ys)
-
-count_inner : (place : ℕ) (js : List Justfile) → count_all (inner_modules place js) ≡ total (map count js)
-count_inner place [] = refl
-count_inner place (j ∷ js) = omega (arith, count_inner place js)
+count_append xs ys = sum_by-append (λ (p : Placed). count p.justfile) xs ys
 
 count_reversed : (ps : List Placed) → count_all (reverse ps) ≡ count_all ps
 count_reversed [] = refl
-count_reversed (p ∷ ps) = ap count_all (reverse-append (p ∷ []) ps) ∙ omega (arith, count_append (reverse ps) (p ∷ []), count_reversed ps)
+count_reversed (p ∷ ps) =
+    ap count_all (reverse-append (p ∷ []) ps)
+    ∙ omega (arith, count_append (reverse ps) (p ∷ []), count_reversed ps, sum_by-cons (λ (q : Placed). count q.justfile) p ps)
 
 -- fewer are left where a module's own take its place
 pub fewer : (place : ℕ) (front left more : List Placed) (p : Placed) → left ≡ front ++ p ∷ [] → reverse more ≡ inner_modules place (out-Justfile p.justfile).modules ++ reverse front → count_all more < count_all left
@@ -93,5 +90,5 @@ fewer place front left more p taken turned =
       count_reversed more,
       count_reversed front,
       count_inner place (out-Justfile p.justfile).modules,
-      fold_out-Justfile ℕ count_step p.justfile,
+      count_is p.justfile,
     )

@@ -1,3 +1,4 @@
+pub mod Counts
 pub mod Holding
 pub mod Leading
 pub mod Resolving

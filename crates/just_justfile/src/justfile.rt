@@ -40,7 +40,6 @@ impl<'src> Exact for RecipeKey<'src> {
 }
 
 /// A compiled module.
-#[derive(Drop)]
 pub struct Justfile<'src> {
     /// The names of the optional modules that have no file.
     pub absent_modules: Table<'src, BorrowedText<'src>>,
@@ -88,6 +87,65 @@ pub struct Justfile<'src> {
     pub warnings: Sequence<Warning>,
     /// The folder of its own file.
     pub working_directory: Text,
+}
+
+impl<'src> Justfile<'src> {
+    ghost use Rattle.std.specs.Prelude.{◌≡◌};
+    ghost use Rattle.just_justfile.specs.declared.justfile.Justfile.{out-Justfile};
+
+    // The modules in it. All else is dropped.
+    fn into_modules(self) -> Vec<Justfile<'src>>
+        ensures { result.items ≡ (out-Justfile self.entry).modules }
+    {
+        let Justfile {
+            absent_modules: _,
+            aliases: _,
+            assignments: _,
+            default: _,
+            disabled_recipes: _,
+            doc: _,
+            evaluation_order: _,
+            functions: _,
+            groups: _,
+            loaded: _,
+            module_path: _,
+            modules,
+            name: _,
+            overridden: _,
+            private: _,
+            recipes: _,
+            settings: _,
+            source: _,
+            unstable_features: _,
+            unexports: _,
+            warnings: _,
+            working_directory: _,
+        } = self;
+        modules.into_vec()
+    }
+}
+
+// A loop over what is left, so that modules inside each other are dropped in little stack. Where there is no memory for
+// the list of what is left, a module is dropped at once.
+impl<'src> Drop for Justfile<'src> {
+    fn drop(self) {
+        let mut inner = self.into_modules();
+        let mut pending = Vec::new(*inner.allocator());
+        loop {
+            if let Some(module) = inner.pop() {
+                if let Err(refused) = pending.push(module) {
+                    drop(refused.value);
+                }
+            } else if let Some(next) = pending.pop() {
+                inner.destroy_empty();
+                inner = next.into_modules();
+            } else {
+                break;
+            }
+        }
+        inner.destroy_empty();
+        pending.destroy_empty();
+    }
 }
 
 impl<'src> Keyed<'src> for Justfile<'src> {
