@@ -32,13 +32,13 @@ pub mod layers {
     pub use just_parts::layers::{
         Alias, ArgumentAttribute, ArgumentProperty, ArgumentRange, Assignment, Ast, Attribute,
         Binding, CacheAttribute, CompileError, CompileErrorKind, ConditionalOperator, Config,
-        ConstantEvaluation, DependencyArgument, Edge, EnvironmentAttribute, Error, EvaluateFormat,
-        Exhausted, Expression, Fault, Fragment, FunctionDefinition, FunctionParameter, Given, Halt,
-        Interpreter, InvocationError, Item, Keyword, Line, ListFeature, ListUse, LoadError, Name,
-        NamedAttribute, Namepath, Number, Numerator, Output, Parameter, ParameterKind, Pattern,
-        Refusal, RunError, Scope, Set, Setting, Settings, Shape, Shebang, Sigil, Signal,
-        SourceError, StringLiteral, Subcommand, Switch, Syntax, Token, UnresolvedDependency,
-        UnstableFeature, Verbosity, Warning, WriteFailed, error, joined,
+        ConstantEvaluation, Definition, DependencyArgument, Edge, EnvironmentAttribute, Error,
+        EvaluateFormat, Exhausted, Expression, Fault, Fragment, FunctionDefinition,
+        FunctionParameter, Given, Halt, Interpreter, InvocationError, Item, Keyword, Line,
+        ListFeature, ListUse, LoadError, Name, NamedAttribute, Namepath, Number, Numerator, Output,
+        Parameter, ParameterKind, Pattern, Refusal, RunError, Scope, Set, Setting, Settings, Shape,
+        Shebang, Sigil, Signal, SourceError, StringLiteral, Subcommand, Switch, Syntax, Token,
+        UnresolvedDependency, UnstableFeature, Verbosity, Warning, WriteFailed, joined,
     };
     pub use just_run_layers::{Context, Entry, EnvironmentPair, Evaluation, Groups, Held, Host};
 }

@@ -13,7 +13,7 @@ pub mod signal;
 mod switch;
 mod wording;
 
-pub use compile_error::{CompileError, CompileErrorKind};
+pub use compile_error::{CompileError, CompileErrorKind, Definition};
 pub use error::{Error, SourceError};
 pub use fault::Fault;
 pub use halt::Halt;

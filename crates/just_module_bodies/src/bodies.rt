@@ -14,8 +14,9 @@ use just_data::BorrowedText;
 use just_module_contents::definitions::{Definitions, Naming};
 use just_module_contents::redefinition::redefinition;
 use just_names::{index_last, repeated_below, texts_of};
-use just_parts::layers::error::Definition;
-use just_parts::layers::{CompileError, CompileErrorKind, Error, ListUse, Name, Settings, Syntax};
+use just_parts::layers::{
+    CompileError, CompileErrorKind, Definition, Error, ListUse, Name, Settings, Syntax,
+};
 use std::alloc::{AllocError, Global};
 use std::collections::HashMap;
 

@@ -4,10 +4,9 @@ use crate::enabled::is_enabled;
 use crate::labels::doc_of;
 use just_data::BorrowedText;
 use just_parts::UnresolvedRecipe;
-use just_parts::layers::error::Definition;
 use just_parts::layers::{
-    Alias, Assignment, Expression, FunctionDefinition, Item, ListUse, Name, NamedAttribute, Set,
-    Syntax,
+    Alias, Assignment, Definition, Expression, FunctionDefinition, Item, ListUse, Name,
+    NamedAttribute, Set, Syntax,
 };
 use std::alloc::{AllocError, Global};
 

@@ -7,8 +7,7 @@ ghost use Rattle.just_module_contents.specs.Contents.{defined};
 ghost use Rattle.just_module_contents.specs.Rules.{IsRedefinition};
 
 use just_data::BorrowedText;
-use just_parts::layers::error::Definition;
-use just_parts::layers::{CompileError, CompileErrorKind, Name};
+use just_parts::layers::{CompileError, CompileErrorKind, Definition, Name};
 
 /// Tells a definition that comes after another one of its name.
 pub fn told<'src>(

@@ -12,8 +12,9 @@ use just_data::BorrowedText;
 use just_module_contents::definitions::Definitions;
 use just_module_contents::redefinition::told;
 use just_names::repeated_name;
-use just_parts::layers::error::Definition;
-use just_parts::layers::{CompileError, CompileErrorKind, Error, FunctionDefinition, Name};
+use just_parts::layers::{
+    CompileError, CompileErrorKind, Definition, Error, FunctionDefinition, Name,
+};
 use std::alloc::{AllocError, Global};
 
 // The names of a function's parameters.
