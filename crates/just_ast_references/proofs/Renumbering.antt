@@ -12,7 +12,8 @@ use Rattle.just_ast_expressions.specs.Parts.{layer_parts, parts, shape_parts}
 use Rattle.just_ast_references.specs.References.{layer_mention, shape_mention, mention, references}
 use Rattle.just_ast_references.proofs.Fold.{references_are}
 use Rattle.just_ast_references.proofs.Induction.{over_all_parts}
-use Rattle.just_ast_references.proofs.Layers.{mention_map, parts_map}
+use Rattle.just_ast_expressions.proofs.Layers.{parts_map}
+use Rattle.just_ast_references.proofs.Layers.{mention_map}
 use Rattle.just_ast_references.proofs.NumbersOf.{given_layer, numbers_out, numbers_roll}
 
 module _ {A B : Type 0} (number_of : List ℕ → Option Number) where
