@@ -1,4 +1,3 @@
-pub mod Bundle
 pub mod Entries
 pub mod Promises
 pub mod StopWriter

@@ -2,7 +2,6 @@
 //! root, words that are run over a module, and what the program writes of a run and of an error.
 #![tactic(auto)]
 
-pub mod bundle;
 mod entries;
 pub mod laws;
 mod one_line;
@@ -14,6 +13,7 @@ mod told;
 mod words;
 
 pub use entries::write_entries;
+pub use just_bench_bundle::{BundleError, InputError, read_sources, read_text};
 pub use just_bench_evaluation::PlainEvaluation;
 pub use just_bench_reading::{parse, root_source};
 pub use just_bench_syntax::PlainSyntax;

@@ -1,5 +1,6 @@
 //! Why the program ends early.
-use crate::bundle::BundleError;
+use just_bench_bundle::{BundleError, InputError};
+use just_data::{BorrowedText, Sequence};
 use just_parts::layers::Error;
 use std::fmt;
 
@@ -8,8 +9,12 @@ use std::fmt;
 pub enum ProgramError<'src> {
     /// The root, which is told, is no clean path.
     NotClean(&'src str),
+    /// The input is no text.
+    Input(InputError),
     /// The input is no bundle of files.
-    Bundle(BundleError),
+    Bundle(BundleError<'src>),
+    /// The root is not among the files, of which these have a path like it.
+    NoRoot(Error<'src>, Sequence<BorrowedText<'src>>),
     /// Compiling or running failed.
     Analyzer(Error<'src>),
     /// The output could not be written.
@@ -23,13 +28,26 @@ impl<'src> ProgramError<'src> {
     pub fn name(&self) -> &'static str {
         match self {
             ProgramError::NotClean(_) => "NotClean",
-            ProgramError::Bundle(BundleError::Memory) => "Memory",
-            ProgramError::Bundle(_) => "Bundle",
-            ProgramError::Analyzer(error) => error.name(),
+            ProgramError::Input(InputError::Memory) | ProgramError::Bundle(BundleError::Memory) =>
+                "Memory",
+            ProgramError::Input(_) | ProgramError::Bundle(_) => "Bundle",
+            ProgramError::NoRoot(error, _) | ProgramError::Analyzer(error) => error.name(),
             ProgramError::Write => "Write",
             ProgramError::Memory => "Memory",
         }
     }
+}
+
+// Writes paths in backquotes, with commas between them.
+fn write_paths<W: fmt::Write>(f: &mut fmt::Formatter<W>, paths: &[BorrowedText]) -> fmt::Result {
+    let Some((first, rest)) = paths.split_first() else {
+        return Ok(());
+    };
+    write!(f, "`{first}`")?;
+    for path in rest {
+        write!(f, ", `{path}`")?;
+    }
+    Ok(())
 }
 
 impl<'src> fmt::Display for ProgramError<'src> {
@@ -41,7 +59,12 @@ impl<'src> fmt::Display for ProgramError<'src> {
                     "The root `{root}` is not a clean path: that begins with `/`, and no part of it is empty, `.` or `..`"
                 )
             }
+            ProgramError::Input(error) => write!(f, "{error}"),
             ProgramError::Bundle(error) => write!(f, "{error}"),
+            ProgramError::NoRoot(error, like) => {
+                write!(f, "{error}, but the input has ")?;
+                write_paths(f, like.as_slice())
+            }
             ProgramError::Analyzer(error) => write!(f, "{error}"),
             ProgramError::Write => f.write_str("The output could not be written"),
             ProgramError::Memory => f.write_str("Out of memory"),

@@ -6,8 +6,7 @@ ghost use Rattle.just_analyzer.specs.Words.{IsClean, IsOrdered, IsRooted, root_a
 use crate::find::answer_find;
 use just_analyzer::layers::{Config, Error};
 use just_analyzer::{Compilation, Compiler, Sources, is_clean};
-use just_bench::bundle::read_sources;
-use just_bench::{PlainEvaluation, PlainSyntax};
+use just_bench::{PlainEvaluation, PlainSyntax, read_sources};
 use just_examples_answers::compiled::add_compiled;
 use just_examples_answers::held::{add_justfile, add_recipes};
 use just_examples_answers::variables::add_variable;

@@ -1,8 +1,7 @@
 //! The search for the file of a module.
 use just_analyzer::layers::{Ast, Error, Item, LoadError, Name};
 use just_analyzer::{Compiler, Sources, Text};
-use just_bench::bundle::read_sources;
-use just_bench::parse;
+use just_bench::{parse, read_sources};
 use just_bench_syntax::PlainSyntax;
 use std::alloc::{AllocError, Global};
 

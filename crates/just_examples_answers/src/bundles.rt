@@ -1,5 +1,5 @@
 //! Files of a bundle.
-use just_bench::bundle::read_sources;
+use just_bench::read_sources;
 use std::alloc::{AllocError, Global};
 
 /// Answers what a bundle has under a path, with `/` for each line end.

@@ -1,43 +1,15 @@
 -- Modules that stand in a closed root, by their paths.
 use Rattle.std.proofs.Common.{◌≡◌, ◌∙◌, List, [], ◌∷◌, ◌++◌, length, drop, Option, None, Some, refl, sym, ap}
-use Rattle.std.specs.List.{Contains}
-use Rattle.std.proofs.lemmas.List.{append-nil, append_assoc}
 use Rattle.just_names.specs.Texts.{Text}
 use Rattle.just_paths.specs.declared.modulepath.Modulepath.{Modulepath}
 use Rattle.just_recipe.specs.declared.dependency.Dependency.{Dependency}
 use Rattle.just_recipe.specs.declared.recipe.Recipe.{Recipe}
 use Rattle.just_execution.specs.Scene.{ModuleContents, Scene}
-use Rattle.just_justfile.specs.Closed.{AreClosed, HaveNames, StandsIn, have_names, inner_closed, inside, itself}
-use Rattle.just_justfile.specs.Module.{module_name}
+use Rattle.just_justfile.specs.Closed.{AreClosed, StandsIn}
 use Rattle.just_justfile.specs.Walks.{inner_along}
 use Rattle.just_justfile.specs.declared.justfile.Justfile.{Justfile, out-Justfile}
-use Rattle.just_justfile.proofs.Searching.{named_by}
+use Rattle.just_justfile.proofs.Returning.{IsBelow, stands_by}
 use Rattle.just_invoke.specs.Scopes.{HaveOwnPaths, IsSceneOf, bare_contents}
-
--- what follows a name, by the module of the name
-next_by : List Text → Option Justfile → Option Justfile
-next_by names found = elim found as (λ _. Option Justfile) [
-  | Some inner ↦ inner_along inner names
-  | None ↦ None
-]
-
--- the names that lead from a module to one that stands in it: they end its path
-record IsBelow (root j : Justfile) : Type 0 where
-  names : List Text
-  path : (out-Justfile j).module_path.components ≡ (out-Justfile root).module_path.components ++ names
-  found : inner_along root names ≡ Some j
-
-further : (root inner j : Justfile) → HaveNames root → Contains (out-Justfile root).modules inner → IsBelow inner j → IsBelow root j
-unfolding next_by
-further root inner j names c below = record {
-  names = module_name inner ∷ below.names;
-  path = below.path ∙ ap (λ (p : Modulepath). p.components ++ below.names) (names.paths inner c) ∙ append_assoc (out-Justfile root).module_path.components (module_name inner ∷ []) below.names;
-  found = ap (next_by below.names) (named_by (out-Justfile root).modules names.names inner c) ∙ below.found;
-}
-
-stands_by : {recipes : List (Recipe Dependency)} {root j : Justfile} → AreClosed recipes root → StandsIn root j → IsBelow root j
-stands_by {root = root} closed itself = record { names = []; path = sym (append-nil (out-Justfile root).module_path.components); found = refl }
-stands_by {root = root} {j = j} closed (inside {inner = inner} c s) = further root inner j (have_names closed) c (stands_by (inner_closed closed inner c) s)
 
 dropped : {A : Type 0} (front rest : List A) → drop (length front) (front ++ rest) ≡ rest
 dropped [] rest = refl

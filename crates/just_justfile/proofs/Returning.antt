@@ -20,10 +20,10 @@ next_by names found = elim found as (λ _. Option Justfile) [
 ]
 
 -- The names by which a module is found below another one, and which end its path.
-record IsBelow (root j : Justfile) : Type 0 where
-  names : List Text
-  path : (out-Justfile j).module_path.components ≡ (out-Justfile root).module_path.components ++ names
-  found : inner_along root names ≡ Some j
+pub record IsBelow (root j : Justfile) : Type 0 where
+  pub names : List Text
+  pub path : (out-Justfile j).module_path.components ≡ (out-Justfile root).module_path.components ++ names
+  pub found : inner_along root names ≡ Some j
 
 further : (root inner j : Justfile) → HaveNames root → Contains (out-Justfile root).modules inner → IsBelow inner j → IsBelow root j
 unfolding next_by
@@ -33,7 +33,7 @@ further root inner j names c below = record {
   found = ap (next_by below.names) (named_by (out-Justfile root).modules names.names inner c) ∙ below.found;
 }
 
-stands_by : {recipes : List (Recipe Dependency)} {root j : Justfile} → AreClosed recipes root → StandsIn root j → IsBelow root j
+pub stands_by : {recipes : List (Recipe Dependency)} {root j : Justfile} → AreClosed recipes root → StandsIn root j → IsBelow root j
 stands_by {root = root} closed itself = record { names = []; path = sym (append-nil (out-Justfile root).module_path.components); found = refl }
 stands_by {root = root} {j = j} closed (inside {inner = inner} c s) = further root inner j (have_names closed) c (stands_by (inner_closed closed inner c) s)
 

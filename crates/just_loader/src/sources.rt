@@ -1,4 +1,7 @@
-ghost use Rattle.std.specs.Prelude.{◌≡◌, ◌↔◌, [], IfSome, IfOk, IsErrOf, OnOk, OnErr};
+ghost use Rattle.std.specs.Prelude.{◌≡◌, ◌↔◌, [], IfSome, IfOk, IsErrOf, OnOk, OnErr, List, ℕ, map};
+ghost use Rattle.std.specs.Borrow.{Bor};
+ghost use Rattle.std.specs.Map.{keys_of};
+ghost use Rattle.std.specs.Map.Iter.{ShowsInOrder, deref};
 ghost use Rattle.std.specs.Option.{option_map, option_copied};
 ghost use Rattle.just_paths.specs.Clean.{IsClean};
 ghost use Rattle.just_table.specs.Entries.{find, put};
@@ -12,6 +15,7 @@ use just_parts::layers::SourceError;
 use just_paths::is_clean;
 use just_table::{Keyed, Table};
 use std::alloc::{AllocError, Global};
+use std::collections::btree_map::Keys;
 use std::marker::Model;
 
 /// A file of a source map.
@@ -116,6 +120,14 @@ impl<'src> Sources<'src> {
             Some(file) => Some(file.text.as_str()),
             None => None,
         }
+    }
+
+    /// The paths of the files, in byte order.
+    pub fn paths(&self) -> Keys<'_, &'src str, SourceFile<'src>>
+        ensures rest { map (λ path. path.now) result ≡ keys_of self.now }
+        ensures runs { ShowsInOrder (deref {X = Bor (List ℕ)}) }
+    {
+        self.files.keys()
     }
 
     // The file of a path.

@@ -3,10 +3,10 @@ use Rattle.std.proofs.lemmas.Grind.{common_steps}
 use Rattle.std.proofs.lemmas.List.{nil_from_length}
 use Rattle.std.specs.Str.Iter.{split_inclusive_text, split_inclusive_pattern}
 use Rattle.std.specs.Str.Pattern.{EndsAtFirstMatch, FindsText}
-use Rattle.just_bench.specs.Bundle.{mark}
-use Rattle.just_bench.proofs.Parts.{Taken, cut, taken, taken_none, stripped, marked_end, bad_end, bad_part, bad_result, holds_none}
-use Rattle.just_bench.proofs.bundle.read_sources.Goals.{then-is_empty-2-via-then-is_empty-2, then-is_empty-2-via-else-is_empty-2+then-ends_with}
-use Rattle.just_bench.proofs.bundle.read_sources.Goals as goal
+use Rattle.just_bench_bundle.specs.Bundle.{mark}
+use Rattle.just_bench_bundle.proofs.Parts.{Taken, cut, taken, taken_none, stripped, marked_end, bad_end, bad_part, bad_result, holds_none}
+use Rattle.just_bench_bundle.proofs.bundle.read_sources.Goals.{then-is_empty-2-via-then-is_empty-2, then-is_empty-2-via-else-is_empty-2+then-ends_with}
+use Rattle.just_bench_bundle.proofs.bundle.read_sources.Goals as goal
 
 pub returns-then-is_empty-clause-files : goal.returns-then-is_empty-clause-files
 returns-then-is_empty-clause-files c = holds_none c.args.text.now c.new-sources.result (nil_from_length c.args.text.now (grind (arith, common_steps))) c.new-sources.ensures
@@ -28,7 +28,7 @@ loop-part-init c =
     let begun = taken_none c.args.text.now c.in-Some.files.now (stripped c.args.text.now c.in-Some.files.now c.in-Some.ensures.cases) some c.if-ends_with.ensures.cases in
     record {
       pattern = pattern;
-      taken = subst (λ r. Taken c.args.text.now r c.new-sources.result) (sym left) (subst (Taken c.args.text.now c.in-Some.files.now) (sym c.new-sources.ensures) begun);
+      taken = subst (λ r. Taken c.args.text.now r 1 c.new-sources.result) (sym left) (subst (Taken c.args.text.now c.in-Some.files.now 1) (sym c.new-sources.ensures) begun);
     }
 
 pub loop-part-preserved : goal.loop-part-preserved
@@ -40,7 +40,7 @@ loop-part-preserved c =
     let here = cut s x t steps.1.0 (subst (λ n. EndsAtFirstMatch (FindsText n) s x) c.loop-part.invariant.pattern steps.1.1) in
     record {
       pattern = steps.0 ∙ c.loop-part.invariant.pattern;
-      taken = taken c.args.text.now s x t c.without_next_mark.result.now c.loop-part.sources c.insert_file.new.sources
+      taken = taken c.args.text.now s x t c.without_next_mark.result.now c.loop-part.line c.loop-part.sources c.insert_file.new.sources
           c.loop-part.invariant.taken steps.1.0 here c.without_next_mark.ensures.followed c.without_next_mark.ensures.last c.in_ok-insert_file.ensures.held;
     }
 
@@ -51,5 +51,5 @@ returns-in_err-insert_file-clause-fault c =
     let t = split_inclusive_text c.next.new.self in
     let steps = c.in-Some-part.ensures.steps in
     let here = cut s x t steps.1.0 (subst (λ n. EndsAtFirstMatch (FindsText n) s x) c.loop-part.invariant.pattern steps.1.1) in
-    bad_result c.from_residual.result c.without_next_mark.result.now c.args.text.now (search rules)
-    (bad_part c.args.text.now s x t c.without_next_mark.result.now c.loop-part.sources c.loop-part.invariant.taken steps.1.0 here c.without_next_mark.ensures.followed c.without_next_mark.ensures.last)
+    bad_result c.from_residual.result c.loop-part.line c.without_next_mark.result.now c.args.text.now (search rules)
+    (bad_part c.args.text.now s x t c.without_next_mark.result.now c.loop-part.line c.loop-part.sources c.loop-part.invariant.taken steps.1.0 here c.without_next_mark.ensures.followed c.without_next_mark.ensures.last)

@@ -1,13 +1,12 @@
 -- Many files in one text.
-use Rattle.std.specs.Prelude.{◌≡◌, ◌≢◌, ◌⊎◌, ℕ, List, [], ◌∷◌, ◌++◌, map, Option, IfSome}
-use Rattle.std.specs.List.{before_first, after_first}
-use Rattle.std.specs.Str.{IsUtf8}
+use Rattle.std.specs.Prelude.{◌≡◌, ◌≢◌, ◌⊎◌, ℕ, ◌+◌, List, [], ◌∷◌, ◌++◌, map}
+use Rattle.std.specs.List.{before_first, after_first, count_by}
 use Rattle.just_paths.specs.Clean.{IsClean}
 use Rattle.just_table.specs.Entries.{put}
 use Rattle.just_loader.specs.declared.sources.SourceFile.{SourceFile}
 use Rattle.just_loader.specs.Sources.{Files}
-use Rattle.just_bench.specs.declared.bundle.BundleError.{BundleError}
-use Rattle.just_bench.specs.declared.bundle.BundleError.TheVariants as error
+use Rattle.just_bench_bundle.specs.declared.bundle.BundleError.{BundleError}
+use Rattle.just_bench_bundle.specs.declared.bundle.BundleError.TheVariants as error
 use Rattle.just_bench_expressions.specs.Lines.{is_newline}
 
 abbrev pub Text : Type 0
@@ -46,34 +45,28 @@ pub record HoldsBundle (text : Text) (held : Files) : Type 0 where
 abbrev pub IsBeforeLine : Text → Type 0
 IsBeforeLine front = (front ≡ []) ⊎ ((before : Text) × (front ≡ before ++ 10 ∷ []))
 
--- a line that begins with the mark has a path that is not clean
-pub record HasBadPath (text : Text) : Type 0 where
+-- how many lines end in a text
+abbrev pub line_ends : Text → ℕ
+line_ends text = count_by is_newline text
+
+-- this line, counted from 1, begins with the mark and has this path, which is not clean
+pub record HasBadPath (text : Text) (line : ℕ) (path : Text) : Type 0 where
   pub front : Text
   pub back : Text
   pub whole : text ≡ front ++ (mark ++ back)
-  pub line : IsBeforeLine front
-  pub bad : IsClean (before_first is_newline back) → ⊥
+  pub begins : IsBeforeLine front
+  pub number : line ≡ line_ends front + 1
+  pub told : path ≡ before_first is_newline back
+  pub bad : IsClean path → ⊥
 
 -- why a text is no bundle
 abbrev pub IsNoBundle : Text → BundleError → Type 0
 IsNoBundle text error.NoFile = (text ≢ []) × ((back : Text) → text ≢ mark ++ back)
-IsNoBundle text error.NotClean = HasBadPath text
+IsNoBundle text (error.NotClean line path) = HasBadPath text line path
 IsNoBundle text error.Memory = Unit {0}
-IsNoBundle text error.Unreadable = ⊥
-IsNoBundle text error.NotText = ⊥
 
--- why an input is not read as a text, where these bytes are left to read, if that is known
-abbrev pub IsUnread : Option Text → BundleError → Type 0
-IsUnread left error.NotText = IfSome left (λ bytes. IsUtf8 bytes → ⊥)
-IsUnread left error.Unreadable = Unit {0}
-IsUnread left error.Memory = Unit {0}
-IsUnread left error.NoFile = ⊥
-IsUnread left error.NotClean = ⊥
-
--- why a part is no file
-abbrev pub IsNoFile : Text → BundleError → Type 0
-IsNoFile part error.NotClean = IsClean (before_first is_newline part) → ⊥
-IsNoFile part error.Memory = Unit {0}
-IsNoFile part error.NoFile = ⊥
-IsNoFile part error.Unreadable = ⊥
-IsNoFile part error.NotText = ⊥
+-- why a part, which begins in this line, is no file
+abbrev pub IsNoFile : ℕ → Text → BundleError → Type 0
+IsNoFile line part (error.NotClean at path) = (at ≡ line) × (path ≡ before_first is_newline part) × (IsClean path → ⊥)
+IsNoFile line part error.Memory = Unit {0}
+IsNoFile line part error.NoFile = ⊥
