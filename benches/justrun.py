@@ -16,6 +16,9 @@ import time
 
 PROGRAM = "crates/justrun/out/justrun"
 
+# Bytes of the call stack.
+STACK = 8 << 20
+
 
 def bundle(*lines):
     return "--- /justfile\n" + "".join(f"{line}\n" for line in lines)
@@ -391,9 +394,11 @@ INPUTS = {
     "1,000 recipes, each in every one of 100 files": duplicates(100_000),
     "a recipe that is defined 100,000 times over 100 files": one_name(100_000),
     "parentheses 10,000 deep": parentheses(10_000),
+    "parentheses 1,000,000 deep": parentheses(1_000_000),
     "list of 100,000 elements": elements(100_000),
     "sum of 10,000 parts": parts(10_000),
-    "sum of 100,000 parts, with a stack of 64 MiB": parts(100_000),
+    "sum of 100,000 parts": parts(100_000),
+    "sum of 1,000,000 parts": parts(1_000_000),
     "body of 100,000 lines": body(100_000),
     "10,000 recipes with ten lines each": bodies(10_000),
     "recipe with 10,000 attributes": attributes(10_000),
@@ -414,7 +419,7 @@ INPUTS = {
 }
 
 
-def measure(program, text, arguments, stack=None):
+def measure(program, text, arguments):
     """The status, the lines printed, the seconds, the peak memory in MiB and the first line of errors."""
     with tempfile.TemporaryFile() as given, tempfile.TemporaryFile() as output, tempfile.TemporaryFile() as errors:
         given.write(text.encode())
@@ -422,8 +427,7 @@ def measure(program, text, arguments, stack=None):
         began = time.monotonic()
         child = os.fork()
         if child == 0:
-            if stack:
-                resource.setrlimit(resource.RLIMIT_STACK, (stack, resource.getrlimit(resource.RLIMIT_STACK)[1]))
+            resource.setrlimit(resource.RLIMIT_STACK, (STACK, resource.getrlimit(resource.RLIMIT_STACK)[1]))
             for stream, number in ((given, 0), (output, 1), (errors, 2)):
                 os.dup2(stream.fileno(), number)
             os.execv(program, [program, *arguments])
@@ -444,8 +448,7 @@ def main():
     for name, (text, arguments) in INPUTS.items():
         if words and not any(word in name for word in words):
             continue
-        stack = 1 << 26 if "stack of 64 MiB" in name else None
-        runs = [measure(program, text, ["/justfile", *arguments], stack) for _ in range(3)]
+        runs = [measure(program, text, ["/justfile", *arguments]) for _ in range(3)]
         status, printed, seconds, peak, told = min(runs, key=lambda run: run[2])
         print(f"{name}: {len(text)} bytes, status {status}, {printed} lines, {seconds:.2f} s, {peak:.0f} MiB {told[:100]}", flush=True)
 
