@@ -27,10 +27,7 @@ fn add_items(alloc: Global, read: &str, text: &mut String) -> Result<(), AllocEr
 
 // Adds what becomes of the source of a root.
 fn add_source(alloc: Global, text: &mut String) -> Result<(), AllocError> {
-    match root_source(alloc) {
-        Ok(source) => add_copy(&source, "source", text),
-        Err(error) => add_fault(text, &error),
-    }
+    add_copy(&root_source(alloc)?, "source", text)
 }
 
 // One group of one word.
