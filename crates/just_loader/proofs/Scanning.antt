@@ -8,7 +8,8 @@ use Rattle.just_names.specs.declared.name.Name.{Name}
 use Rattle.just_parts.specs.Items.{Item}
 use Rattle.just_ast_items.specs.Edge.{Edge, Imports, Declares, edge_of}
 use Rattle.just_loader.specs.Links.{Link, Nowhere, To, Fault}
-use Rattle.just_loader.specs.Scanned.{IsPlaceOf, ArePlacesOf, IsStepTo, IsStepOf, AreSteps, Grows, Extends}
+use Rattle.just_loader.specs.Scanned.{IsPlaceOf, ArePlacesOf, IsStepTo, IsStepOf, AreSteps, Grows, Extends, HasFault}
+use Rattle.just_errors.specs.Causes.{Cause}
 use Rattle.just_loader.proofs.Numberings.{get_more, map_get, got, named_more}
 use Rattle.std.proofs.lemmas.Option.{slice_get_read}
 
@@ -87,6 +88,10 @@ targets_step L items i x old mid new ts more t h is places grows place one e =
       subst (λ us. ArePlacesOf new (map L (take (i + 1) items)) us) (sym e) (subst (λ ls. ArePlacesOf new ls (ts ++ t ∷ [])) (sym links) pushed),
       grows_on (λ p. L x ≡ To p) (λ p. Contains (map L items) (To p)) old mid new grows one (λ p to. subst (Contains (map L items)) to (contains_map L items i x h is)),
     )
+
+-- the fault of one of the items is a fault of a link
+pub fault_among : (L : Item → Link) (items : List Item) (i : ℕ) (x : Item) → i < length items → x ≡ get_or items i x → (cause : Cause) → L x ≡ Fault cause → HasFault (map L items) cause
+fault_among L items i x h is cause at_fault = subst (Contains (map L items)) at_fault (contains_map L items i x h is)
 
 pub row_step : (items : List Item) (targets : List (Option ℕ)) (i : ℕ) (x : Item) (t : Option ℕ) (old mid new : List Name) (row more : List Step) → i < length items → length targets ≡ length items → x ≡ get_or items i x → t ≡ get_or targets i t
     → AreSteps mid (take i items) (take i targets) row → Extends old mid → (steps : List Step) × IsStepOf new x t steps × (more ≡ row ++ steps) → Extends mid new

@@ -1,8 +1,10 @@
-use Rattle.std.proofs.Common.{subst}
-use Rattle.just_loader.specs.Links.{link_in, links_by}
+use Rattle.std.proofs.Common.{◌≡◌, IfErr, map, rules, subst}
+use Rattle.just_errors.specs.Causes.{Reports}
+use Rattle.just_errors.proofs.Lifts.{lifted}
+use Rattle.just_loader.specs.Links.{Fault, link_in, links_by}
 use Rattle.just_loader.specs.Numbering.{paths_of}
-use Rattle.just_loader.specs.Scanned.{FindsAll}
-use Rattle.just_loader.proofs.Scanning.{targets_step}
+use Rattle.just_loader.specs.Scanned.{FindsAll, HasFault}
+use Rattle.just_loader.proofs.Scanning.{fault_among, targets_step}
 use Rattle.just_loader.proofs.scan.targets.Goals as goal
 
 pub loop-item-preserved : goal.loop-item-preserved
@@ -15,3 +17,11 @@ loop-item-preserved g c =
 pub returns-clause-grows : goal.returns-clause-grows
 returns-clause-grows g c =
     subst (λ items. FindsAll (links_by c.args.sources.now c.args.config.now (g.S.Syntax.answers c.args.syntax.now) c.args.folder.now items) c.args.found.now c.loop-item.found) c.as_slice-items.ensures c.loop-item.invariant.grows
+
+pub returns-in_err-target-clause-error : goal.returns-in_err-target-clause-error
+returns-in_err-target-clause-error g c =
+    let L = link_in c.args.sources.now c.args.config.now.home ((g.S.Syntax.answers c.args.syntax.now).enabled) c.args.folder.now in
+    let items = c.as_slice-items.result.now in
+    subst (λ all. IfErr c.from_residual.result (Reports (HasFault (map L all)))) c.as_slice-items.ensures
+    (lifted (λ cause. L c.item-item.result ≡ Fault cause) (HasFault (map L items))
+    (fault_among L items c.loop-item.item-index c.item-item.result c.loop-item-test.true c.item-item.is) c.from_residual.result (search rules))
