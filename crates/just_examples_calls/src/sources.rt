@@ -53,7 +53,7 @@ fn declared<'src>(alloc: Global, path: &str, text: &'src str) -> Result<Source<'
 pub fn answer_source(alloc: Global, call: &str, rest: &str) -> Result<Option<String>, AllocError> {
     let (path, given) = halves(rest);
     let made = match call {
-        "root" => root_source(alloc),
+        "root" => Ok(root_source(alloc)?),
         "import" => imported(alloc, path, given),
         "module" => declared(alloc, path, given),
         _ => return Ok(None),
