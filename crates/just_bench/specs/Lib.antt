@@ -1,3 +1,4 @@
 pub mod Entries
 pub mod Promises
+pub mod Ran
 pub mod StopWriter

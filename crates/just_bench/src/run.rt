@@ -1,5 +1,10 @@
 //! The run of a compiled module, and what is written of it.
+ghost use Rattle.std.specs.Prelude.{IfErr, IsOk, OnOk};
+ghost use Rattle.std.specs.Io.KnownBytes.{Appends};
 ghost use Rattle.just_justfile.specs.Closed.{IsRooted};
+ghost use Rattle.just_names.specs.Texts.{texts};
+ghost use Rattle.just_bench.specs.Entries.{entry_lines};
+ghost use Rattle.just_bench.specs.Ran.{IsRunFault, Ran};
 
 use crate::entries::write_entries;
 use crate::program_error::ProgramError;
@@ -12,7 +17,8 @@ use std::alloc::Global;
 use std::collections::HashMap;
 use std::io::Write;
 
-/// Runs words over a compiled module, and writes which recipes began, before an error too.
+/// Runs words over a compiled module, and writes which recipes began, before an error too. The error is that of the run, or
+/// else tells that the lines could not be written.
 pub fn run_and_write<'src, W: Write>(
     alloc: Global,
     root: &Justfile<'src>,
@@ -23,6 +29,10 @@ pub fn run_and_write<'src, W: Write>(
     output: &mut W,
 ) -> Result<(), ProgramError<'src>>
     requires { IsRooted root.now recipes.now }
+    ensures done { let ran = Ran root.now recipes.now config.now (texts words.now) in
+        OnOk result ((r : ran) × IsOk r.result × Appends (W.contents output.old) (W.contents output.new) (entry_lines r.entries)) }
+    ensures fault { let ran = Ran root.now recipes.now config.now (texts words.now) in
+        IfErr result (λ e. (r : ran) × IsRunFault r.result e) }
 {
     let mut host = Recorder::new(alloc);
     let ran = run_words(alloc, root, recipes, overrides, config, &mut host, words);

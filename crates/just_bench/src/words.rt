@@ -1,5 +1,7 @@
 //! The run of a compiled module over the layers of the bench.
 ghost use Rattle.just_justfile.specs.Closed.{IsRooted};
+ghost use Rattle.just_names.specs.Texts.{texts};
+ghost use Rattle.just_bench.specs.Ran.{IsPlainOutcome};
 
 use crate::recorder::Recorder;
 use crate::stop_writer::StopWriter;
@@ -23,6 +25,7 @@ pub fn run_words<'src>(
     words: &[&str],
 ) -> Result<Report, Error<'src>>
     requires { IsRooted root.now recipes.now }
+    ensures { IsPlainOutcome root.now recipes.now config.now (texts words.now) host.old host.new result }
 {
     let mut writer = StopWriter::new(alloc, 0)?;
     root.run(
