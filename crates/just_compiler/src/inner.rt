@@ -12,6 +12,7 @@ use just_justfile::Justfile;
 use just_module_contents::Label;
 use just_table::Table;
 use std::alloc::{AllocError, Global};
+use std::mem::replace;
 
 /// A justfile under a label.
 pub fn labelled<'src>(mut justfile: Justfile<'src>, label: Label<'src>) -> Justfile<'src>
@@ -24,9 +25,9 @@ pub fn labelled<'src>(mut justfile: Justfile<'src>, label: Label<'src>) -> Justf
         private,
         ..
     } = label;
-    justfile.name = name;
-    justfile.doc = doc;
-    justfile.groups = groups;
+    drop(replace(&mut justfile.name, name));
+    drop(replace(&mut justfile.doc, doc));
+    drop(replace(&mut justfile.groups, groups));
     justfile.private = private;
     justfile
 }
