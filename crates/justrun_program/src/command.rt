@@ -2,14 +2,13 @@
 ghost use Rattle.std.specs.Prelude.{◌≡◌, ◌≢◌, ◌<◌, [], slice_get, IsNone, IfOk, IfSome};
 ghost use Rattle.just_analyzer.specs.Words.{IsClean, IsRooted};
 
-use just_analyzer::layers::{Config, Error, LoadError};
+use just_analyzer::layers::{Config, Error};
 use just_analyzer::{Compilation, Compiler, Sources, is_clean};
 use just_bench::{
     PlainEvaluation, PlainSyntax, ProgramError, read_sources, read_text, run_and_write, tell,
     tell_usage,
 };
-use just_data::{BorrowedText, Sequence};
-use std::alloc::{AllocError, Global};
+use std::alloc::Global;
 use std::io::{Read, Write};
 
 // Compiles the root of a bundle.
@@ -30,36 +29,6 @@ fn compile<'src>(
         sources,
         root,
     )
-}
-
-// The paths of the files that are like the root's: equal but for blanks around them and the case of letters.
-fn paths_like<'src>(
-    alloc: Global,
-    sources: &Sources<'src>,
-    root: &str,
-) -> Result<Sequence<BorrowedText<'src>>, AllocError> {
-    let mut like = Sequence::new(alloc);
-    for path in sources.paths() {
-        if path.trim().eq_ignore_ascii_case(root.trim()) {
-            like.push(BorrowedText::new(path))?;
-        }
-    }
-    Ok(like)
-}
-
-// Why a root is not compiled: where it is not among the files, with those that are like it.
-fn refusal<'src>(
-    alloc: Global,
-    sources: &Sources<'src>,
-    root: &str,
-    error: Error<'src>,
-) -> ProgramError<'src> {
-    match (&error, paths_like(alloc, sources, root)) {
-        (Error::Load(LoadError::Load { .. }), Ok(like)) if !like.is_empty() => {
-            ProgramError::NoRoot(error, like)
-        }
-        _ => ProgramError::Analyzer(error),
-    }
 }
 
 // Compiles the root of a source map, and runs the words.
@@ -83,7 +52,7 @@ fn run_sources<'src, W: Write>(
             } = &compilation;
             run_and_write(alloc, justfile, recipes, overrides, &config, words, output)
         }
-        Err(error) => Err(refusal(alloc, sources, root, error)),
+        Err(error) => Err(ProgramError::Analyzer(error)),
     }
 }
 
