@@ -47,6 +47,20 @@ fn search<'src>(
     }
 }
 
+/// Answers which file of a bundle is found for the module whose name heads a text.
+fn search_bundle<'src>(
+    alloc: Global,
+    bundle: &'src str,
+    folder: &str,
+    text: &'src str,
+    path: Option<&str>,
+) -> Result<String, AllocError> {
+    match read_sources(alloc, bundle) {
+        Ok(sources) => search(alloc, &sources, folder, text, path),
+        Err(error) => format!(in alloc; "error Bundle: {error}\n"),
+    }
+}
+
 /// Answers which file of a bundle is found for a module that a file in a folder declares: the folder, the name, and the path
 /// where the declaration has one.
 pub fn answer_find(alloc: Global, bundle: &str, rest: &str) -> Result<String, AllocError> {
@@ -56,8 +70,5 @@ pub fn answer_find(alloc: Global, bundle: &str, rest: &str) -> Result<String, Al
         None => (declared, None),
     };
     let text = format!(in alloc; "{name}:\n")?;
-    match read_sources(alloc, bundle) {
-        Ok(sources) => search(alloc, &sources, folder, text.as_str(), path),
-        Err(error) => format!(in alloc; "error Bundle: {error}\n"),
-    }
+    search_bundle(alloc, bundle, folder, text.as_str(), path)
 }
