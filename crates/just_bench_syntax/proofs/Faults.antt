@@ -1,93 +1,163 @@
--- A fault is told at a line of the text.
-use Rattle.std.proofs.Common.{suc, ◌≡◌, ℕ, ◌+◌, ◌<◌, sym, ◌∙◌, ap, refl, subst, List, [], ◌∷◌, length, arith, Option, Some, None, Result, Ok, Err}
-use Rattle.std.specs.Prelude.{IfErr}
-use Rattle.std.specs.List.{All, slice_split}
-use Rattle.std.proofs.lemmas.List.Splits.{length-slice_split}
+-- A fault is told at a part of a line of the text.
+use Rattle.std.proofs.Common.{suc, ◌≡◌, ℕ, ◌+◌, ◌<◌, sym, ◌∙◌, ap, refl, subst, List, [], ◌∷◌, ◌++◌, length, get_or, arith, Bool, true, false, Option, Some, None, Result, Ok, Err}
+use Rattle.std.specs.Prelude.{IfErr, IfSome, if◌then◌else◌}
+use Rattle.std.specs.List.{All}
+use Rattle.std.proofs.lemmas.List.{get_or_default}
+use Rattle.std.proofs.lemmas.List.Elements.{All-nil, All-push}
+use Rattle.just_names.specs.Token.{Place}
 use Rattle.just_recipe.specs.declared.dependency.UnresolvedDependency.{UnresolvedDependency}
 use Rattle.just_recipe.specs.declared.recipe.Recipe.{Recipe}
+use Rattle.just_ast_definitions.specs.declared.parameter.Parameter.{Parameter}
+use Rattle.just_ast_definitions.specs.declared.attribute.NamedAttribute.{NamedAttribute}
+use Rattle.just_ast_expressions.specs.declared.expression.Expression.{Expression}
 use Rattle.just_ast_expressions.specs.declared.list_use.ListUse.{ListUse}
 use Rattle.just_bench_expressions.specs.declared.lines.TextLine.{TextLine}
-use Rattle.just_bench_expressions.specs.Lines.{is_newline, lines_from, lines_of}
-use Rattle.just_bench_expressions.proofs.Cuts.{number_at}
+use Rattle.just_bench_expressions.specs.Lines.{line_place, lines_of}
+use Rattle.just_bench_expressions.proofs.Cuts.{line_at_number}
+use Rattle.just_bench_lines.specs.declared.attributes.Options.{Options}
 use Rattle.just_bench_lines.specs.declared.body.BodyLine.{BodyLine}
-use Rattle.just_bench_syntax.specs.declared.items.Items.{Items}
-use Rattle.just_bench_syntax.specs.declared.items.Reading.{Reading}
+use Rattle.just_bench_lines.specs.declared.heading.Heading.{Heading}
+use Rattle.just_bench_lines.specs.declared.meaning.Declaration.{Declaration}
 use Rattle.just_bench_lines.specs.declared.meaning.Meaning.{Meaning}
 use Rattle.just_bench_lines.specs.declared.meaning.Meaning.TheVariants as meaning
 use Rattle.just_bench_lines.specs.Body.{body_line, indent}
-use Rattle.just_bench_syntax.specs.Items as items
 use Rattle.just_bench_lines.specs.Meaning as said
-use Rattle.just_bench_syntax.specs.Recipe.{recipe}
-use Rattle.just_bench_syntax.proofs.Proper.{either}
+use Rattle.just_bench_syntax.specs.declared.items.Items.{Items}
+use Rattle.just_bench_syntax.specs.declared.items.Reading.{Reading}
+use Rattle.just_bench_syntax.specs.declared.recipe.Spoken.{Spoken}
+use Rattle.just_bench_syntax.specs.Items as items
+use Rattle.just_bench_syntax.specs.Recipe as recipe
+use Rattle.just_bench_syntax.specs.Refusal.{IsInLine}
+use Rattle.just_parts.specs.Items.{Item}
 
--- the number that would be told is that of a line
-abbrev pub Within : ℕ → Result Reading ℕ → Type 0
-Within count (Ok r) = r.first < count
-Within count (Err number) = number < count
+-- a whole line
+line_told : (path text : List ℕ) (line : TextLine) (k : ℕ) → k < length (lines_of text) → get_or (lines_of text) k line ≡ line → IsInLine path text (line_place path text line)
+line_told path text line k within here =
+    let start : line.offset ≡ line.offset + 0 = omega arith in
+    record {
+      line = line;
+      stands = line_at_number text k line within here;
+      within = omega arith;
+      is = ap (λ n. record { line = line.number; column = 0; offset = n; length = length line.text; path = path; src = text }) start;
+    }
 
-recipe_within : (count : ℕ) (r : Reading) (made : Option (Recipe UnresolvedDependency)) → r.first < count → Within count (items.with_recipe_of r made)
-recipe_within count r None h = h
-recipe_within count r (Some made) h = h
+-- what would be told stands in a line
+module _ (path text : List ℕ) where
+  abbrev pub Told : Place → Type 0
+  Told at = IsInLine path text at
 
-line_within : (count : ℕ) (line : TextLine) (size : ℕ) (r : Reading) (made : Option BodyLine) → line.number < count → r.first < count → Within count (items.with_body_line line size r made)
-line_within count line size r None n h = n
-line_within count line size r (Some made) n h = h
+  pub record AreTold (r : Reading) : Type 0 where
+    pub first : IfSome r.first Told
+    pub spoken : All (λ (s : Spoken). Told s.at) r.spoken
 
-dropped_within : (count : ℕ) (path text : List ℕ) (line : TextLine) (size : ℕ) (r : Reading) (start : Option ℕ) → line.number < count → r.first < count → Within count (items.with_dropped path text line size r start)
-dropped_within count path text line size r None n h = n
-dropped_within count path text line size r (Some start) n h = line_within count line size r (body_line path text line start) n h
+  abbrev pub Goes : Result Reading Place → Type 0
+  Goes (Ok r) = AreTold r
+  Goes (Err at) = Told at
 
-meaning_within : (count : ℕ) (path text : List ℕ) (line : TextLine) (m : Meaning) (r : Reading) → line.number < count → r.first < count → Within count (items.with_meaning path text line m r)
-meaning_within count path text line meaning.Bad r n h = n
-meaning_within count path text line meaning.Ignored r n h = h
-meaning_within count path text line meaning.Indented r n h = dropped_within count path text line (indent line) r (items.dropped r.body line (indent line)) n h
-meaning_within count path text line (meaning.Marks m) r n h = either (λ k. k < count) (items.is_nil r.attributes) line.number r.first n h
-meaning_within count path text line (meaning.Begins b) r n h = recipe_within count r (recipe b r.attributes r.options) h
-meaning_within count path text line (meaning.Declares d) r n h = either (Within count) (items.is_nil r.options) _ _ h h
-meaning_within count path text line (meaning.Aliases a) r n h = either (Within count) (items.is_nil r.attributes) _ _ h h
-meaning_within count path text line (meaning.States s) r n h = either (Within count) (items.is_nil r.attributes) _ _ h h
+  -- an attribute that does not fit
+  if_told : (b : Bool) (x y : Option Place) → IfSome x Told → IfSome y Told → IfSome (if b then x else y) Told
+  if_told true x y p q = p
+  if_told false x y p q = q
 
-onward_within : {B : Type 0} (count : ℕ) (P : Result B ℕ → Type 0) (r : Result Reading ℕ) (more : Reading → Result B ℕ) → Within count r → ((n : ℕ) → n < count → P (Err n)) → ((x : Reading) → x.first < count → P (more x))
-    → P (items.onward r more)
-onward_within count P (Ok x) more h fault next = next x h
-onward_within count P (Err n) more h fault next = fault n h
+  misfit_told : (ps : List Parameter) (before spoken : List Spoken) → All (λ (s : Spoken). Told s.at) spoken → IfSome (recipe.misfit_from ps before spoken) Told
+  misfit_told ps before [] all = tt
+  misfit_told ps before (s ∷ rest) all =
+      if_told (recipe.fits ps before s.options.parameter) (recipe.misfit_from ps (before ++ s ∷ []) rest) (Some s.at)
+      (misfit_told ps (before ++ s ∷ []) rest (λ k d within. all (suc k) d (omega (arith, within)))) (all 0 s (omega arith))
 
-uses_within : (count : ℕ) (lists : List ListUse) (r : Result Reading ℕ) → Within count r → Within count (items.with_uses lists r)
-uses_within count lists (Err n) h = h
-uses_within count lists (Ok r) h = h
+  abbrev RecipeTold : Result (Recipe UnresolvedDependency) Place → Type 0
+  RecipeTold (Ok r) = Unit {0}
+  RecipeTold (Err at) = Told at
 
-lines_within : (count : ℕ) (path text : List ℕ) (r : Reading) (ls : List TextLine) → All (λ (l : TextLine). l.number < count) ls → r.first < count → Within count (items.with_lines path text r ls)
-lines_within count path text r [] all h = h
-lines_within count path text r (line ∷ rest) all h =
-    onward_within count (Within count) (items.with_said path text line (said.said path text line) r) (λ more. items.with_lines path text more rest)
-    (uses_within count (said.said path text line).lists (items.with_meaning path text line (said.said path text line).meaning r)
-    (meaning_within count path text line (said.said path text line).meaning r (all 0 line (omega arith)) h))
-    (λ n k. k)
-    (λ more k. lines_within count path text more rest (λ i d inside. all (suc i) d (omega (arith, inside))) k)
+  by_told : (h : Heading) (attributes : List (NamedAttribute Expression)) (spoken : List Spoken) (o : Option Place) → IfSome o Told → RecipeTold (recipe.recipe_by h attributes spoken o)
+  by_told h attributes spoken None told = tt
+  by_told h attributes spoken (Some at) told = told
 
-lines_count : (number offset : ℕ) (parts : List (List ℕ)) → length (lines_from number offset parts) ≡ length parts
-lines_count number offset [] = refl
-lines_count number offset (part ∷ rest) = ap suc (lines_count (number + 1) (offset + length part + 1) rest)
+  recipe_told : (h : Heading) (attributes : List (NamedAttribute Expression)) (spoken : List Spoken) → All (λ (s : Spoken). Told s.at) spoken → RecipeTold (recipe.recipe h attributes spoken)
+  unfolding recipe.recipe
+  recipe_told h attributes spoken all = by_told h attributes spoken (recipe.misfit h.parameters spoken) (misfit_told h.parameters [] spoken all)
 
-some_line : (text : List ℕ) → 0 < length (lines_of text)
-some_line text = let count = lines_count 0 0 (slice_split is_newline text) ∙ length-slice_split is_newline text in omega (arith, count)
+  begun_told : (r : Reading) (made : Result (Recipe UnresolvedDependency) Place) → RecipeTold made → Goes (items.with_recipe_of r made)
+  begun_told r (Ok made) told = record { first = tt; spoken = All-nil (λ (s : Spoken). Told s.at) }
+  begun_told r (Err at) told = told
 
-numbers_within : (text : List ℕ) → All (λ (l : TextLine). l.number < length (lines_of text)) (lines_of text)
-numbers_within text k d inside = let number = number_at 0 0 (slice_split is_newline text) k d inside in omega (arith, number, inside)
+  item_told : (r : Reading) (it : Item) (first : Option Place) → first ≡ r.first → AreTold r → Goes (items.item_by r it first)
+  item_told r it None is told = record { first = told.first; spoken = told.spoken }
+  item_told r it (Some first) is told = subst (λ o. IfSome o Told) (sym is) told.first
 
-pub fault_within : (path text : List ℕ) → IfErr (items.items_of path text) (λ n. n < length (lines_of text))
-unfolding items.items_of
-fault_within path text =
-    onward_within (length (lines_of text)) (λ (found : Result Items ℕ). IfErr found (λ n. n < length (lines_of text))) (items.with_lines path text items.unread (lines_of text)) items.finished
-    (lines_within (length (lines_of text)) path text items.unread (lines_of text) (numbers_within text) (some_line text))
-    (λ n h. h)
-    (λ r h. either (λ (found : Result Items ℕ). IfErr found (λ n. n < length (lines_of text))) (items.is_nil r.attributes) _ _ tt h)
+  module_told : (r : Reading) (d : Declaration) (spoken : List Spoken) → spoken ≡ r.spoken → AreTold r → Goes (items.module_by r d spoken)
+  module_told r d [] is told = record { first = tt; spoken = told.spoken }
+  module_told r d (s ∷ rest) is told = subst (λ ss. All (λ (x : Spoken). Told x.at) ss) (sym is) told.spoken 0 s (omega arith)
 
-pub found_told : (path text : List ℕ) (all : List TextLine) (found : Result Items ℕ) → all ≡ lines_of text → found ≡ items.items_of path text → IfErr found (λ n. n < length all)
-found_told path text all found whole is = rw whole (subst (λ r. IfErr r (λ n. n < length (lines_of text))) (sym is) (fault_within path text))
+  first_told : (first : Option Place) (at : Place) → IfSome first Told → Told at → Told (items.or_first first at)
+  first_told None at told here = here
+  first_told (Some first) at told here = told
+
+  spoken_told : (spoken : List Spoken) (at : Place) (o : Option Options) → All (λ (s : Spoken). Told s.at) spoken → Told at → All (λ (s : Spoken). Told s.at) (items.and_spoken spoken at o)
+  spoken_told spoken at None all here = all
+  spoken_told spoken at (Some options) all here = All-push (λ (s : Spoken). Told s.at) spoken (record { options = options; at = at }) all here
+
+  body_told : (line : TextLine) (size : ℕ) (r : Reading) (made : Option BodyLine) → Told (line_place path text line) → AreTold r → Goes (items.with_body_line path text line size r made)
+  body_told line size r None here told = here
+  body_told line size r (Some made) here told = record { first = told.first; spoken = told.spoken }
+
+  dropped_told : (line : TextLine) (size : ℕ) (r : Reading) (start : Option ℕ) → Told (line_place path text line) → AreTold r → Goes (items.with_dropped path text line size r start)
+  dropped_told line size r None here told = here
+  dropped_told line size r (Some start) here told = body_told line size r (body_line path text line start) here told
+
+  meaning_told : (line : TextLine) (m : Meaning) (r : Reading) → Told (line_place path text line) → AreTold r → Goes (items.with_meaning path text line m r)
+  meaning_told line meaning.Bad r here told = here
+  meaning_told line meaning.Ignored r here told = told
+  meaning_told line meaning.Indented r here told = dropped_told line (indent line) r (items.dropped r.body line (indent line)) here told
+  meaning_told line (meaning.Marks m) r here told = record {
+    first = first_told r.first (line_place path text line) told.first here;
+    spoken = spoken_told r.spoken (line_place path text line) m.options told.spoken here;
+  }
+  meaning_told line (meaning.Begins h) r here told = begun_told r (recipe.recipe h r.attributes r.spoken) (recipe_told h r.attributes r.spoken told.spoken)
+  meaning_told line (meaning.Declares d) r here told = module_told r d r.spoken refl told
+  meaning_told line (meaning.Aliases a) r here told = item_told r (items.alias_item a) r.first refl told
+  meaning_told line (meaning.States s) r here told = item_told r (items.item_of s) r.first refl told
+
+  onward_told : {B : Type 0} (P : Result B Place → Type 0) (r : Result Reading Place) (more : Reading → Result B Place) → Goes r → ((at : Place) → Told at → P (Err at)) → ((x : Reading) → AreTold x → P (more x))
+      → P (items.onward r more)
+  onward_told P (Ok x) more told fault next = next x told
+  onward_told P (Err at) more told fault next = fault at told
+
+  uses_told : (lists : List ListUse) (r : Result Reading Place) → Goes r → Goes (items.with_uses lists r)
+  uses_told lists (Ok r) told = record { first = told.first; spoken = told.spoken }
+  uses_told lists (Err at) told = told
+
+  lines_told : (r : Reading) (ls : List TextLine) → All (λ (l : TextLine). Told (line_place path text l)) ls → AreTold r → Goes (items.with_lines path text r ls)
+  lines_told r [] all told = told
+  lines_told r (line ∷ rest) all told =
+      onward_told Goes (items.with_said path text line (said.said path text line) r) (λ more. items.with_lines path text more rest)
+      (uses_told (said.said path text line).lists (items.with_meaning path text line (said.said path text line).meaning r)
+      (meaning_told line (said.said path text line).meaning r (all 0 line (omega arith)) told))
+      (λ at here. here)
+      (λ more t. lines_told more rest (λ k d within. all (suc k) d (omega (arith, within))) t)
+
+  each_line : All (λ (l : TextLine). Told (line_place path text l)) (lines_of text)
+  each_line k d within =
+      let l = get_or (lines_of text) k d in
+      line_told path text l k within (get_or_default (lines_of text) k l d within)
+
+  ends_told : (r : Reading) (first : Option Place) → IfSome first Told → IfErr (items.finished_by r first) Told
+  ends_told r None told = tt
+  ends_told r (Some first) told = told
+
+  pub fault_told : IfErr (items.items_of path text) Told
+  unfolding items.items_of
+  fault_told =
+      onward_told (λ (found : Result Items Place). IfErr found Told) (items.with_lines path text items.unread (lines_of text)) items.finished
+      (lines_told items.unread (lines_of text) each_line (record { first = tt; spoken = All-nil (λ (s : Spoken). Told s.at) }))
+      (λ at here. here)
+      (λ r told. ends_told r r.first told.first)
+
+pub found_told : (path text : List ℕ) (found : Result Items Place) → found ≡ items.items_of path text → IfErr found (IsInLine path text)
+found_told path text found is = subst (λ r. IfErr r (IsInLine path text)) (sym is) (fault_told path text)
 
 -- all lines, from the first
-pub read_all : (path text : List ℕ) (all : List TextLine) (start : Reading) (r : Result Reading ℕ) → all ≡ lines_of text → start ≡ items.unread → r ≡ items.with_lines path text start all
+pub read_all : (path text : List ℕ) (all : List TextLine) (start : Reading) (r : Result Reading Place) → all ≡ lines_of text → start ≡ items.unread → r ≡ items.with_lines path text start all
     → items.onward r items.finished ≡ items.items_of path text
 unfolding items.items_of
 read_all path text all start r whole first read =

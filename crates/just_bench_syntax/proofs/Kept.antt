@@ -1,9 +1,9 @@
 -- What numbers do not change of items.
-use Rattle.std.proofs.Common.{zero, suc, ◌≡◌, ℕ, ◌+◌, ◌<◌, sym, ◌∙◌, ap, refl, subst, List, [], ◌∷◌, length, map, get_or, arith, Result, Ok, Err}
+use Rattle.std.proofs.Common.{zero, suc, ◌≡◌, ℕ, ◌+◌, sym, ap, refl, subst, List, [], ◌∷◌, map, get_or, arith, Result, Ok, Err}
 use Rattle.std.specs.Prelude.{IfErr}
 use Rattle.std.specs.Option.{option_map}
 use Rattle.std.specs.Result.{result_ok}
-use Rattle.std.specs.List.{All, Contains, slice_split}
+use Rattle.std.specs.List.{All, Contains}
 use Rattle.just_names.specs.Token.{Place, lexeme}
 use Rattle.just_parts.specs.Bare.{bare_item, bare_parameter}
 use Rattle.just_parts.specs.Items.{Item}
@@ -14,10 +14,6 @@ use Rattle.just_ast_definitions.specs.declared.attribute.Attribute.TheVariants a
 use Rattle.just_ast_expressions.specs.declared.expression.Expression.{Expression}
 use Rattle.just_ast_expressions.specs.declared.keyword.Keyword.{Keyword}
 use Rattle.just_ast_definitions.specs.declared.parameter.Parameter.{Parameter}
-use Rattle.just_bench_expressions.specs.declared.lines.TextLine.{TextLine}
-use Rattle.just_bench_expressions.specs.Lines.{is_newline, line_place, lines_of}
-use Rattle.just_bench_expressions.proofs.Cuts.{line_at_number, number_at}
-use Rattle.just_errors.specs.declared.compile_error.CompileErrorKind.TheVariants.{Syntax}
 use Rattle.just_errors.specs.declared.error.Error.{Error}
 use Rattle.just_errors.specs.declared.error.Error.TheVariants as error
 use Rattle.just_bench_syntax.specs.declared.items.Items.{Items}
@@ -25,7 +21,7 @@ use Rattle.just_bench_syntax.specs.Items.{items_of}
 use Rattle.just_bench_syntax.specs.Proper.{IsProper}
 use Rattle.just_bench_syntax.specs.Answers.{answers, ast_of, counted_in, spends}
 use Rattle.just_bench_syntax.specs.Numbering.{Spent, counted}
-use Rattle.just_bench_syntax.specs.Refusal.{IsBadLine, RefusesLine}
+use Rattle.just_bench_syntax.specs.Refusal.{RefusesLine}
 
 pub all_bare : (items : List Item) → All IsProper items → All (λ i. bare_item i ≡ i) items
 all_bare items proper k d within = (proper k d within).bare
@@ -78,20 +74,6 @@ pub spent_on_text : (path text : List ℕ) (found : Items) (low : ℕ) (e : Erro
 spent_on_text path text found low e is h = rw (spends_is path text found is) (why_spent path text (low + counted found.items) e h)
 
 -- the line that is told
-pub bad_line : (path text : List ℕ) (all : List TextLine) (number : ℕ) (line : TextLine) (token : Place) → all ≡ lines_of text → items_of path text ≡ Err number → number < length all → line ≡ get_or all number line
-    → token ≡ line_place path text line → IsBadLine path text (record { token = token; kind = Syntax })
-bad_line path text all number line token whole told within is token_is =
-    let inside : number < length (lines_of text) = rw (← whole) within in
-    let stands : get_or (lines_of text) number line ≡ line = ap (λ ls. get_or ls number line) (sym whole) ∙ sym is in
-    let there : line.number ≡ number = ap (λ (l : TextLine). l.number) (sym stands) ∙ number_at 0 0 (slice_split is_newline text) number line inside ∙ omega arith in
-    rw token_is (record {
-      kind = refl;
-      told = told ∙ ap (λ n. Err n) (sym there);
-      line = line;
-      stands = line_at_number text number line inside stands;
-      whole = refl;
-    })
-
 -- in the words of the layer
 pub line_refuses : (pairs : List (Keyword × Keyword)) (path text : List ℕ) (given : ℕ) (e : Error) → RefusesLine path text e (given + spends path text) → Refuses (answers pairs) path text given e
 line_refuses pairs path text given error.Exhausted h = h
@@ -99,8 +81,8 @@ line_refuses pairs path text given error.Memory h = tt
 line_refuses pairs path text given (error.Compile e) h = record {
   says_nothing = ap (λ r. option_map ast_of (result_ok r)) h.told;
   kind = h.kind;
-  path = ap (λ (t : Place). t.path) h.whole;
-  src = ap (λ (t : Place). t.src) h.whole;
+  path = ap (λ (t : Place). t.path) h.place.is;
+  src = ap (λ (t : Place). t.src) h.place.is;
 }
 line_refuses pairs path text given (error.Load e) h = absurd h
 line_refuses pairs path text given (error.Invocation e) h = absurd h

@@ -1,6 +1,6 @@
 -- What is read has no numbers, and its attributes fit.
-use Rattle.std.proofs.Common.{zero, suc, ◌⊎◌, inl, inr, get_or, ◌≡◌, ℕ, ◌+◌, ◌-◌, sym, ◌∙◌, ap, refl, subst, List, [], ◌∷◌, map, drop, Bool, true, false, arith, Option, Some, None}
-use Rattle.std.specs.Prelude.{if◌then◌else◌, is_some}
+use Rattle.std.proofs.Common.{zero, suc, ◌⊎◌, inl, inr, get_or, ◌≡◌, ◌≢◌, ℕ, ◌+◌, ◌-◌, sym, ◌∙◌, ap, refl, subst, List, [], ◌∷◌, ◌++◌, map, drop, Bool, true, false, arith, Option, Some, None, Result, Ok, Err}
+use Rattle.std.specs.Prelude.{if◌then◌else◌, is_some, not}
 use Rattle.std.specs.List.{All, Contains}
 use Rattle.std.specs.Option.{option_map}
 use Rattle.std.specs.Str.{bytes_eq}
@@ -8,7 +8,7 @@ use Rattle.std.proofs.lemmas.Bool.{or_cases}
 use Rattle.std.proofs.lemmas.List.{length-append}
 use Rattle.std.proofs.lemmas.List.Elements.{Contains-append_right}
 use Rattle.std.proofs.lemmas.Slice.Eq.{bytes_eq-Decides}
-use Rattle.just_names.specs.Token.{lexeme}
+use Rattle.just_names.specs.Token.{Place, lexeme}
 use Rattle.just_names.specs.declared.name.Name.{Name}
 use Rattle.just_parts.specs.Bare.{bare_parameter}
 use Rattle.just_parts.specs.Syntax.{IsPlain, NamesParameter}
@@ -29,6 +29,7 @@ use Rattle.just_bench_lines.specs.declared.attributes.Options.{Options}
 use Rattle.just_bench_lines.specs.declared.heading.Heading.{Heading}
 use Rattle.just_bench_lines.specs.Heading as heading
 use Rattle.just_bench_lines.specs.Parts.{before_others, parts, parts_from}
+use Rattle.just_bench_syntax.specs.declared.recipe.Spoken.{Spoken}
 use Rattle.just_bench_syntax.specs.Proper.{IsProper}
 use Rattle.just_bench_lines.specs.Places.{name_at, stands, is_at_sign, is_colon, is_equals, is_plus, is_star}
 use Rattle.just_bench_syntax.specs.Recipe as recipe
@@ -133,12 +134,16 @@ abbrev pub IsSaid : List Options → Attribute Expression → Type 0
 IsSaid options (attribute.Arg a) = SpeakOf options a.name.cooked × (a.pattern ≡ None) × (a.help ≡ None)
 IsSaid options _ = Unit {0}
 
--- options leave a parameter without a number
-given_fresh : (o : Option Options) (p : Parameter) → IsFresh p → IsFresh (recipe.given o p)
-given_fresh None p fresh = fresh
-given_fresh (Some o) p fresh = (ap (λ (q : Parameter). record q { long = o.long; short = o.short; flag = o.flag }) fresh.0, fresh.1)
+-- what attributes say
+abbrev pub said_of : List Spoken → List Options
+said_of = map (λ (s : Spoken). s.options)
 
-options_fresh : (options : List Options) (ps : List Parameter) → AreFresh ps → AreFresh (map (recipe.with_options options) ps)
+-- options leave a parameter without a number
+given_fresh : (o : Option Spoken) (p : Parameter) → IsFresh p → IsFresh (recipe.given o p)
+given_fresh None p fresh = fresh
+given_fresh (Some s) p fresh = (ap (λ (q : Parameter). record q { long = s.options.long; short = s.options.short; flag = s.options.flag }) fresh.0, fresh.1)
+
+options_fresh : (options : List Spoken) (ps : List Parameter) → AreFresh ps → AreFresh (map (recipe.with_options options) ps)
 options_fresh options [] fresh = tt
 options_fresh options (p ∷ ps) fresh = (given_fresh (recipe.options_of options (lexeme p.name.token)) p fresh.0, options_fresh options ps fresh.1)
 
@@ -159,57 +164,61 @@ named_in (p ∷ ps) name h = elim (or_cases (bytes_eq (lexeme p.name.token) name
   | inr e ↦ Contains-append_right (lexeme p.name.token ∷ []) (map (λ (q : Parameter). lexeme q.name.token) ps) name (named_in ps name e)
 ]
 
-both_hold : (a b c : Bool) → (if a then (if b then false else c) else false) ≡ true → (a ≡ true) × (c ≡ true)
-both_hold true true c h = cc
-both_hold true false c h = (refl, h)
-both_hold false b c h = cc
+both_hold : (a b : Bool) (x at : Option Place) → at ≢ None → (if (if a then b else false) then x else at) ≡ None → (a ≡ true) × (x ≡ None)
+both_hold true true x at some h = (refl, h)
+both_hold true false x at some h = absurd (some h)
+both_hold false b x at some h = absurd (some h)
 
-fits_named : (ps : List Parameter) (options : List Options) (name : List ℕ) → recipe.fits ps options ≡ true → SpeakOf options name → Contains (map (λ (p : Parameter). lexeme p.name.token) ps) name
-fits_named ps [] name fits said = absurd said
-fits_named ps (o ∷ rest) name fits (inl e) =
-    let b = both_hold (recipe.is_parameter ps o.parameter) (is_some (recipe.options_of rest o.parameter)) (recipe.fits ps rest) fits in
-    subst (λ n. Contains (map (λ (p : Parameter). lexeme p.name.token) ps) n) e (named_in ps o.parameter b.0)
-fits_named ps (o ∷ rest) name fits (inr s) =
-    let b = both_hold (recipe.is_parameter ps o.parameter) (is_some (recipe.options_of rest o.parameter)) (recipe.fits ps rest) fits in
-    fits_named ps rest name b.1 s
+some_there : (at : Place) → Some at ≢ None
+some_there at h = cc
+
+fits_named : (ps : List Parameter) (before spoken : List Spoken) (name : List ℕ) → recipe.misfit_from ps before spoken ≡ None → SpeakOf (said_of spoken) name
+    → Contains (map (λ (p : Parameter). lexeme p.name.token) ps) name
+fits_named ps before [] name fits said = absurd said
+fits_named ps before (s ∷ rest) name fits said =
+    let b = both_hold (recipe.is_parameter ps s.options.parameter) (not (is_some (recipe.options_of before s.options.parameter))) (recipe.misfit_from ps (before ++ s ∷ []) rest) (Some s.at) (some_there s.at) fits in
+    elim said [
+      | inl e ↦ subst (λ n. Contains (map (λ (p : Parameter). lexeme p.name.token) ps) n) e (named_in ps s.options.parameter b.0)
+      | inr more ↦ fits_named ps (before ++ s ∷ []) rest name b.1 more
+    ]
 
 -- options leave a parameter its name
-given_name : (o : Option Options) (p : Parameter) → (recipe.given o p).name ≡ p.name
+given_name : (o : Option Spoken) (p : Parameter) → (recipe.given o p).name ≡ p.name
 given_name None p = refl
 given_name (Some o) p = refl
 
-options_names : (options : List Options) (ps : List Parameter) → map (λ (p : Parameter). lexeme p.name.token) (map (recipe.with_options options) ps) ≡ map (λ (p : Parameter). lexeme p.name.token) ps
+options_names : (options : List Spoken) (ps : List Parameter) → map (λ (p : Parameter). lexeme p.name.token) (map (recipe.with_options options) ps) ≡ map (λ (p : Parameter). lexeme p.name.token) ps
 options_names options [] = refl
 options_names options (p ∷ ps) =
     ap (λ (n : Name). lexeme n.token ∷ map (λ (q : Parameter). lexeme q.name.token) (map (recipe.with_options options) ps)) (given_name (recipe.options_of options (lexeme p.name.token)) p)
     ∙ ap (λ ns. lexeme p.name.token ∷ ns) (options_names options ps)
 
-said_named : (ps : List Parameter) (options : List Options) (a : Attribute Expression) → recipe.fits ps options ≡ true → IsSaid options a → NamesParameter (map (recipe.with_options options) ps) a
-said_named ps options (attribute.Arg a) fits said =
-    (subst (λ ns. Contains ns a.name.cooked) (sym (options_names options ps)) (fits_named ps options a.name.cooked fits said.0), said.1, said.2)
-said_named ps options _ fits said = tt
+said_named : (ps : List Parameter) (spoken : List Spoken) (a : Attribute Expression) → recipe.misfit ps spoken ≡ None → IsSaid (said_of spoken) a → NamesParameter (map (recipe.with_options spoken) ps) a
+said_named ps spoken (attribute.Arg a) fits said =
+    (subst (λ ns. Contains ns a.name.cooked) (sym (options_names spoken ps)) (fits_named ps [] spoken a.name.cooked fits said.0), said.1, said.2)
+said_named ps spoken _ fits said = tt
 
 -- a recipe as it is made of a heading
-abbrev pub RecipeProper : Option (Recipe UnresolvedDependency) → Type 0
-RecipeProper None = Unit {0}
-RecipeProper (Some r) = IsProper (item.Recipe r)
+abbrev pub RecipeProper : Result (Recipe UnresolvedDependency) Place → Type 0
+RecipeProper (Err at) = Unit {0}
+RecipeProper (Ok r) = IsProper (item.Recipe r)
 
-made_proper : (h : Heading) (attributes : List (NamedAttribute Expression)) (options : List Options) → AreFresh h.parameters → recipe.fits h.parameters options ≡ true
-    → All (λ (n : NamedAttribute Expression). IsSaid options n.attribute) attributes → IsProper (item.Recipe (recipe.made_of h attributes options))
-made_proper h attributes options fresh fits said = record {
-  bare = ap (λ ps. item.Recipe (record (recipe.made_of h attributes options) { parameters = ps })) (bare_of (map (recipe.with_options options) h.parameters) (options_fresh options h.parameters fresh));
+made_proper : (h : Heading) (attributes : List (NamedAttribute Expression)) (spoken : List Spoken) → AreFresh h.parameters → recipe.misfit h.parameters spoken ≡ None
+    → All (λ (n : NamedAttribute Expression). IsSaid (said_of spoken) n.attribute) attributes → IsProper (item.Recipe (recipe.made_of h attributes spoken))
+made_proper h attributes spoken fresh fits said = record {
+  bare = ap (λ ps. item.Recipe (record (recipe.made_of h attributes spoken) { parameters = ps })) (bare_of (map (recipe.with_options spoken) h.parameters) (options_fresh spoken h.parameters fresh));
   priors = rw (length-append h.priors h.subsequents) (omega arith);
   attributes = record {
-    parameters = plain_of (map (recipe.with_options options) h.parameters) (options_fresh options h.parameters fresh);
-    attributes = λ k d within. said_named h.parameters options (get_or attributes k d).attribute fits (said k d within);
+    parameters = plain_of (map (recipe.with_options spoken) h.parameters) (options_fresh spoken h.parameters fresh);
+    attributes = λ k d within. said_named h.parameters spoken (get_or attributes k d).attribute fits (said k d within);
   };
 }
 
-if_proper : (b : Bool) (r : Recipe UnresolvedDependency) → (b ≡ true → IsProper (item.Recipe r)) → RecipeProper (if b then Some r else None)
-if_proper true r proper = proper refl
-if_proper false r proper = tt
+by_proper : (h : Heading) (attributes : List (NamedAttribute Expression)) (spoken : List Spoken) (o : Option Place) → (o ≡ None → IsProper (item.Recipe (recipe.made_of h attributes spoken))) → RecipeProper (recipe.recipe_by h attributes spoken o)
+by_proper h attributes spoken None proper = proper refl
+by_proper h attributes spoken (Some at) proper = tt
 
-pub recipe_proper : (h : Heading) (attributes : List (NamedAttribute Expression)) (options : List Options) → AreFresh h.parameters
-    → All (λ (n : NamedAttribute Expression). IsSaid options n.attribute) attributes → RecipeProper (recipe.recipe h attributes options)
+pub recipe_proper : (h : Heading) (attributes : List (NamedAttribute Expression)) (spoken : List Spoken) → AreFresh h.parameters
+    → All (λ (n : NamedAttribute Expression). IsSaid (said_of spoken) n.attribute) attributes → RecipeProper (recipe.recipe h attributes spoken)
 unfolding recipe.recipe
-recipe_proper h attributes options fresh said = if_proper (recipe.fits h.parameters options) (recipe.made_of h attributes options) (λ fits. made_proper h attributes options fresh fits said)
+recipe_proper h attributes spoken fresh said = by_proper h attributes spoken (recipe.misfit h.parameters spoken) (λ fits. made_proper h attributes spoken fresh fits said)

@@ -1,92 +1,63 @@
 -- What attributes say of parameters, found by the names of the parameters.
-use Rattle.std.proofs.Common.{zero, suc, ◌≡◌, ◌≢◌, ℕ, ◌+◌, ◌<◌, sym, ◌∙◌, ap, refl, List, [], ◌∷◌, length, map, drop, get_or, add-one, Bool, true, false, cond, ◌&&◌, ◌||◌, arith, Option, Some, None, is_some}
-use Rattle.std.specs.Prelude.{if◌then◌else◌}
-use Rattle.std.specs.List.{find, list_all, slice_get}
+use Rattle.std.proofs.Common.{zero, suc, ◌≡◌, ◌≢◌, ℕ, ◌+◌, ◌<◌, sym, ◌∙◌, ap, refl, subst, List, [], ◌∷◌, ◌++◌, length, take, drop, get_or, add-one, Bool, true, false, cond, ◌||◌, arith, Option, Some, None, is_some}
+use Rattle.std.specs.Prelude.{if◌then◌else◌, not}
+use Rattle.std.specs.List.{slice_get}
 use Rattle.std.specs.Option.{option_and_then}
 use Rattle.std.specs.Str.{bytes_eq}
 use Rattle.std.proofs.Math.Seq.{drop-cons}
+use Rattle.std.proofs.lemmas.List.{drop_all, length-map, take_more}
 use Rattle.std.proofs.lemmas.Slice.Eq.{bytes_eq-Decides}
-use Rattle.just_names.specs.Index.{AreDifferent, IsIndex, IsLast, Repeats, name_at}
+use Rattle.just_names.specs.Index.{AreDifferent, IsIndex, IsLast, name_at}
 use Rattle.just_names.specs.Texts.{Text}
 use Rattle.just_names.specs.Token.{lexeme}
 use Rattle.just_names.proofs.Indexing.{texts_apart}
 use Rattle.just_ast_definitions.specs.declared.parameter.Parameter.{Parameter}
-use Rattle.just_bench_lines.specs.declared.attributes.Options.{Options}
-use Rattle.just_bench_syntax.specs.Recipe.{AreFound, all_named, fits, is_parameter, names_of, options_of, spoken_of}
+use Rattle.just_bench_syntax.specs.declared.recipe.Spoken.{Spoken}
+use Rattle.just_bench_syntax.specs.Recipe.{AreFound, fits, is_parameter, misfit, misfit_from, names_of, options_of, spoken_of}
 
--- nothing is said of a name that no attribute has
-pub none_said : (os : List Options) (name : Text) → ((k : ℕ) → k < length (spoken_of os) → name_at (spoken_of os) k ≢ name) → options_of os name ≡ None
-none_said [] name none = refl
-none_said (o ∷ os) name none =
-    ap (λ b. cond b (Some o) (options_of os name)) (texts_apart o.parameter name (none 0 (omega arith)))
-    ∙ none_said os name (λ k h. none (suc k) (omega (arith, h)))
+-- nothing is said of a name that no attribute has among the first
+pub none_said : (ss : List Spoken) (name : Text) (n : ℕ) → ((k : ℕ) → k < n → name_at (spoken_of ss) k ≢ name) → options_of (take n ss) name ≡ None
+none_said [] name zero none = refl
+none_said [] name (suc n) none = refl
+none_said (s ∷ ss) name zero none = refl
+none_said (s ∷ ss) name (suc n) none =
+    ap (λ b. cond b (Some s) (options_of (take n ss) name)) (texts_apart s.options.parameter name (none 0 (omega arith)))
+    ∙ none_said ss name n (λ k h. none (suc k) (omega (arith, h)))
 
-found_or : (b : Bool) (o : Options) (more : Option Options) → is_some more ≡ true → is_some (cond b (Some o) more) ≡ true
-found_or true o more h = refl
-found_or false o more h = h
+found_or : (b : Bool) (s : Spoken) (more : Option Spoken) → is_some more ≡ true → is_some (cond b (Some s) more) ≡ true
+found_or true s more h = refl
+found_or false s more h = h
 
-pub some_said : (os : List Options) (name : Text) (k : ℕ) → k < length (spoken_of os) → name_at (spoken_of os) k ≡ name → is_some (options_of os name) ≡ true
-some_said [] name k h is = absurd (omega (arith, h))
-some_said (o ∷ os) name zero h is = ap (λ b. is_some (cond b (Some o) (options_of os name))) ((bytes_eq-Decides o.parameter name).1 is)
-some_said (o ∷ os) name (suc k) h is = found_or (bytes_eq o.parameter name) o (options_of os name) (some_said os name k (omega (arith, h)) is)
+some_said : (ss : List Spoken) (name : Text) (n k : ℕ) → k < n → k < length ss → name_at (spoken_of ss) k ≡ name → is_some (options_of (take n ss) name) ≡ true
+some_said [] name n k l h is = absurd (omega (arith, h))
+some_said (s ∷ ss) name zero k l h is = absurd (omega (arith, l))
+some_said (s ∷ ss) name (suc n) zero l h is = ap (λ b. is_some (cond b (Some s) (options_of (take n ss) name))) ((bytes_eq-Decides s.options.parameter name).1 is)
+some_said (s ∷ ss) name (suc n) (suc k) l h is =
+    found_or (bytes_eq s.options.parameter name) s (options_of (take n ss) name) (some_said ss name n k (omega (arith, l)) (omega (arith, h)) is)
+
+-- whether one of the first speaks of a name, by the place where it stands last among them
+pub said_before : (ss : List Spoken) (name : Text) (n : ℕ) (o : Option ℕ) → n < length ss → IsLast (spoken_of ss) n name o → is_some (options_of (take n ss) name) ≡ is_some o
+said_before ss name n None within last = ap is_some (none_said ss name n last)
+said_before ss name n (Some k) within last = some_said ss name n k last.0 (omega (arith, last.0, within)) last.1
 
 -- what is said of a name that stands at one place alone
-pub said_at : (os : List Options) (name : Text) (k : ℕ) → AreDifferent (spoken_of os) → k < length (spoken_of os) → name_at (spoken_of os) k ≡ name → options_of os name ≡ slice_get os k
+said_at : (ss : List Spoken) (name : Text) (k : ℕ) → AreDifferent (spoken_of ss) → k < length (spoken_of ss) → name_at (spoken_of ss) k ≡ name → options_of ss name ≡ slice_get ss k
 said_at [] name k apart h is = absurd (omega (arith, h))
-said_at (o ∷ os) name zero apart h is = ap (λ b. cond b (Some o) (options_of os name)) ((bytes_eq-Decides o.parameter name).1 is)
-said_at (o ∷ os) name (suc k) apart h is =
-    ap (λ b. cond b (Some o) (options_of os name)) (texts_apart o.parameter name (λ same. apart 0 (suc k) (omega arith) h (same ∙ sym is)))
-    ∙ said_at os name k (λ i j l m. apart (suc i) (suc j) (omega (arith, l)) (omega (arith, m))) (omega (arith, h)) is
+said_at (s ∷ ss) name zero apart h is = ap (λ b. cond b (Some s) (options_of ss name)) ((bytes_eq-Decides s.options.parameter name).1 is)
+said_at (s ∷ ss) name (suc k) apart h is =
+    ap (λ b. cond b (Some s) (options_of ss name)) (texts_apart s.options.parameter name (λ same. apart 0 (suc k) (omega arith) h (same ∙ sym is)))
+    ∙ said_at ss name k (λ i j l m. apart (suc i) (suc j) (omega (arith, l)) (omega (arith, m))) (omega (arith, h)) is
+
+none_at_all : (ss : List Spoken) (name : Text) → ((k : ℕ) → k < length (spoken_of ss) → name_at (spoken_of ss) k ≢ name) → options_of ss name ≡ None
+none_at_all [] name none = refl
+none_at_all (s ∷ ss) name none =
+    ap (λ b. cond b (Some s) (options_of ss name)) (texts_apart s.options.parameter name (none 0 (omega arith)))
+    ∙ none_at_all ss name (λ k h. none (suc k) (omega (arith, h)))
 
 -- what is said of a name, by the place that an index has for it
-pub said_by : (os : List Options) (name : Text) (o : Option ℕ) → AreDifferent (spoken_of os) → IsLast (spoken_of os) (length (spoken_of os)) name o → options_of os name ≡ option_and_then (slice_get os) o
-said_by os name None apart last = none_said os name last
-said_by os name (Some k) apart last = said_at os name k apart last.0 last.1
-
-abbrev fits_by : Bool → Bool → Bool → Bool
-fits_by named again rest = if named then (if again then false else rest) else false
-
-both_fit : (named more : Bool) (again rest : Bool) → (named && more) ≡ true → again ≡ false → (more ≡ true → rest ≡ true) → fits_by named again rest ≡ true
-both_fit true true again rest h none goes = ap (λ b. if b then false else rest) none ∙ goes refl
-both_fit true false again rest h none goes = cc
-both_fit false more again rest h none goes = cc
-
-pub all_fit : (ps : List Parameter) (os : List Options) → AreDifferent (spoken_of os) → all_named ps os ≡ true → fits ps os ≡ true
-all_fit ps [] apart named = refl
-all_fit ps (o ∷ os) apart named =
-    both_fit (is_parameter ps o.parameter) (all_named ps os) (is_some (options_of os o.parameter)) (fits ps os) named
-    (ap is_some (none_said os o.parameter (λ k h same. apart 0 (suc k) (omega arith) (omega (arith, h)) (sym same))))
-    (all_fit ps os (λ i j l m. apart (suc i) (suc j) (omega (arith, l)) (omega (arith, m))))
-
-one_fails : (named more : Bool) (again rest : Bool) → (named && more) ≡ false → (more ≡ false → rest ≡ false) → fits_by named again rest ≡ false
-one_fails false more again rest h goes = refl
-one_fails true more true rest h goes = refl
-one_fails true more false rest h goes = goes h
-
-pub unnamed_fails : (ps : List Parameter) (os : List Options) → all_named ps os ≡ false → fits ps os ≡ false
-unnamed_fails ps [] h = cc
-unnamed_fails ps (o ∷ os) h = one_fails (is_parameter ps o.parameter) (all_named ps os) (is_some (options_of os o.parameter)) (fits ps os) h (unnamed_fails ps os)
-
-again_fails : (named again rest : Bool) → again ≡ true → fits_by named again rest ≡ false
-again_fails true true rest h = refl
-again_fails true false rest h = cc
-again_fails false again rest h = refl
-
-rest_fails : (named again rest : Bool) → rest ≡ false → fits_by named again rest ≡ false
-rest_fails true true rest h = refl
-rest_fails true false rest h = h
-rest_fails false again rest h = refl
-
-repeats_fail : (ps : List Parameter) (os : List Options) (i j : ℕ) → i < j → j < length (spoken_of os) → name_at (spoken_of os) i ≡ name_at (spoken_of os) j → fits ps os ≡ false
-repeats_fail ps [] i j l h same = absurd (omega (arith, h))
-repeats_fail ps (o ∷ os) i zero l h same = absurd (omega (arith, l))
-repeats_fail ps (o ∷ os) zero (suc j) l h same =
-    again_fails (is_parameter ps o.parameter) (is_some (options_of os o.parameter)) (fits ps os) (some_said os o.parameter j (omega (arith, h)) (sym same))
-repeats_fail ps (o ∷ os) (suc i) (suc j) l h same =
-    rest_fails (is_parameter ps o.parameter) (is_some (options_of os o.parameter)) (fits ps os) (repeats_fail ps os i j (omega (arith, l)) (omega (arith, h)) same)
-
-pub twice_fails : (ps : List Parameter) (os : List Options) (i j : ℕ) → Repeats (spoken_of os) i j → fits ps os ≡ false
-twice_fails ps os i j r = repeats_fail ps os i j r.apart r.within r.same
+said_by : (ss : List Spoken) (name : Text) (o : Option ℕ) → AreDifferent (spoken_of ss) → IsLast (spoken_of ss) (length (spoken_of ss)) name o → options_of ss name ≡ option_and_then (slice_get ss) o
+said_by ss name None apart last = none_at_all ss name last
+said_by ss name (Some k) apart last = said_at ss name k apart last.0 last.1
 
 -- whether a parameter has a name, by the place that an index has for it
 no_parameter : (ps : List Parameter) (name : Text) → ((k : ℕ) → k < length (names_of ps) → name_at (names_of ps) k ≢ name) → is_parameter ps name ≡ false
@@ -108,24 +79,60 @@ named_by : (ps : List Parameter) (name : Text) (o : Option ℕ) → IsLast (name
 named_by ps name None last = sym (no_parameter ps name last)
 named_by ps name (Some k) last = sym (a_parameter ps name k last.0 last.1)
 
-pub named_index : (ps : List Parameter) (found : Text → Option ℕ) → IsIndex (names_of ps) found → (name : Text) → is_some (found name) ≡ is_parameter ps name
-named_index ps found index name = named_by ps name (found name) (index name)
+-- whether a look-up has a name that is looked up
+pub named_index : (ps : List Parameter) (names : List Text) (found : Text → Option ℕ) (key name : Text) (has b : Bool) → names ≡ names_of ps → IsIndex names found → key ≡ name → has ≡ is_some (found key) → has ≡ b
+    → is_parameter ps name ≡ b
+named_index ps names found key name has b all index is known it =
+    sym (named_by ps name (found name) (subst (λ ns. IsIndex ns found) all index name)) ∙ sym (known ∙ ap (λ n. is_some (found n)) is) ∙ it
 
-pub all_found : (os : List Options) (found : Text → Option ℕ) → AreDifferent (spoken_of os) → IsIndex (spoken_of os) found → AreFound os found
-all_found os found apart index name = said_by os name (found name) apart (index name)
+-- how far attributes were looked at: all fit so far, and each name stands at its place
+pub record Looked (ps : List Parameter) (ss : List Spoken) (found : Text → Option ℕ) (n : ℕ) : Type 0 where
+  pub so_far : misfit ps ss ≡ misfit_from ps (take n ss) (drop n ss)
+  pub index : (name : Text) → IsLast (spoken_of ss) n name (found name)
+  pub different : (i j : ℕ) → i < j → j < n → name_at (spoken_of ss) i ≢ name_at (spoken_of ss) j
 
--- one that was looked at
-named_at : (ps : List Parameter) (os : List Options) (k : ℕ) (o : Options) (b : Bool) → all_named ps os ≡ all_named ps (drop k os) → k < length os → o ≡ get_or os k o → is_parameter ps o.parameter ≡ b
-    → all_named ps os ≡ (b && all_named ps (drop (k + 1) os))
-named_at ps os k o b so_far within is named =
+-- an attribute that is looked at
+pub looked_at : (ps : List Parameter) (ss : List Spoken) (n : ℕ) (s : Spoken) (b : Bool) → misfit ps ss ≡ misfit_from ps (take n ss) (drop n ss) → n < length ss → s ≡ get_or ss n s → fits ps (take n ss) s.options.parameter ≡ b
+    → misfit ps ss ≡ (if b then misfit_from ps (take n ss ++ s ∷ []) (drop (n + 1) ss) else Some s.at)
+looked_at ps ss n s b so_far within is fit =
     so_far
-    ∙ ap (all_named ps) (drop-cons os k o within ∙ ap (λ m. get_or os k o ∷ drop m os) (sym (add-one k)) ∙ ap (λ x. x ∷ drop (k + 1) os) (sym is))
-    ∙ ap (λ c. c && all_named ps (drop (k + 1) os)) named
+    ∙ ap (misfit_from ps (take n ss)) (drop-cons ss n s within ∙ ap (λ m. get_or ss n s ∷ drop m ss) (sym (add-one n)) ∙ ap (λ x. x ∷ drop (n + 1) ss) (sym is))
+    ∙ ap (λ c. if c then misfit_from ps (take n ss ++ s ∷ []) (drop (n + 1) ss) else Some s.at) fit
 
-pub named_step : (ps : List Parameter) (os : List Options) (k : ℕ) (o : Options) → all_named ps os ≡ all_named ps (drop k os) → k < length os → o ≡ get_or os k o → is_parameter ps o.parameter ≡ true
-    → all_named ps os ≡ all_named ps (drop (k + 1) os)
-named_step ps os k o so_far within is named = named_at ps os k o true so_far within is named
+-- one that speaks of no parameter, one of which another spoke, and one that fits
+pub unknown_told : (ps : List Parameter) (ss : List Spoken) (n : ℕ) (s : Spoken) → misfit ps ss ≡ misfit_from ps (take n ss) (drop n ss) → n < length ss → s ≡ get_or ss n s → is_parameter ps s.options.parameter ≡ false
+    → misfit ps ss ≡ Some s.at
+unknown_told ps ss n s so_far within is unknown =
+    looked_at ps ss n s false so_far within is (ap (λ b. if b then not (is_some (options_of (take n ss) s.options.parameter)) else false) unknown)
 
-pub named_fails : (ps : List Parameter) (os : List Options) (k : ℕ) (o : Options) → all_named ps os ≡ all_named ps (drop k os) → k < length os → o ≡ get_or os k o → is_parameter ps o.parameter ≡ false
-    → false ≡ all_named ps os
-named_fails ps os k o so_far within is named = sym (named_at ps os k o false so_far within is named)
+fit_by : (ps : List Parameter) (before : List Spoken) (name : Text) (again : Bool) → is_parameter ps name ≡ true → is_some (options_of before name) ≡ again → fits ps before name ≡ not again
+fit_by ps before name again known is = ap (λ b. if b then not (is_some (options_of before name)) else false) known ∙ ap not is
+
+pub again_told : (ps : List Parameter) (ss : List Spoken) (found : Text → Option ℕ) (n : ℕ) (s : Spoken) → Looked ps ss found n → n < length ss → s ≡ get_or ss n s → is_parameter ps s.options.parameter ≡ true
+    → is_some (found s.options.parameter) ≡ true → misfit ps ss ≡ Some s.at
+again_told ps ss found n s looked within is known again =
+    let name = s.options.parameter in
+    looked_at ps ss n s false looked.so_far within is (fit_by ps (take n ss) name true known (said_before ss name n (found name) within (looked.index name) ∙ again))
+
+pub fits_on : (ps : List Parameter) (ss : List Spoken) (found : Text → Option ℕ) (n : ℕ) (s : Spoken) → Looked ps ss found n → n < length ss → s ≡ get_or ss n s → is_parameter ps s.options.parameter ≡ true
+    → is_some (found s.options.parameter) ≡ false → misfit ps ss ≡ misfit_from ps (take (n + 1) ss) (drop (n + 1) ss)
+fits_on ps ss found n s looked within is known new =
+    let name = s.options.parameter in
+    let more : take (n + 1) ss ≡ take n ss ++ s ∷ [] = take_more ss n s within ∙ ap (λ x. take n ss ++ x ∷ []) (sym is) in
+    looked_at ps ss n s true looked.so_far within is (fit_by ps (take n ss) name false known (said_before ss name n (found name) within (looked.index name) ∙ new))
+    ∙ ap (λ xs. misfit_from ps xs (drop (n + 1) ss)) (sym more)
+
+-- a name that is spoken of, at its place
+pub name_spoken : (ss : List Spoken) (n : ℕ) (s : Spoken) → n < length ss → s ≡ get_or ss n s → s.options.parameter ≡ name_at (spoken_of ss) n
+name_spoken [] n s within is = absurd (omega (arith, within))
+name_spoken (x ∷ ss) zero s within is = ap (λ (y : Spoken). y.options.parameter) is
+name_spoken (x ∷ ss) (suc n) s within is = name_spoken ss n s (omega (arith, within)) is
+
+-- all were looked at
+pub all_fit : (ps : List Parameter) (ss : List Spoken) (found : Text → Option ℕ) (n : ℕ) → Looked ps ss found n → length ss ≡ n → misfit ps ss ≡ None
+all_fit ps ss found n looked count = looked.so_far ∙ ap (misfit_from ps (take n ss)) (drop_all n ss (omega (arith, count)))
+
+pub all_found : (ps : List Parameter) (ss : List Spoken) (found : Text → Option ℕ) (n : ℕ) → Looked ps ss found n → length ss ≡ n → AreFound ss found
+all_found ps ss found n looked count name =
+    let size : n ≡ length (spoken_of ss) = sym (length-map ss (λ (s : Spoken). s.options.parameter) ∙ count) in
+    said_by ss name (found name) (λ i j l m. looked.different i j l (omega (arith, m, size))) (subst (λ k. IsLast (spoken_of ss) k name (found name)) size (looked.index name))

@@ -3,7 +3,9 @@ use Rattle.std.proofs.Common.{zero, suc, inl, inr, ◌≡◌, ℕ, ◌+◌, sym,
 use Rattle.std.specs.Prelude.{◌==◌, codes, drop, IfOk}
 use Rattle.std.specs.List.{All}
 use Rattle.std.specs.Option.{option_map, option_to_list}
+use Rattle.std.proofs.lemmas.List.{map-append}
 use Rattle.std.proofs.lemmas.List.Elements.{All-push}
+use Rattle.just_names.specs.Token.{Place}
 use Rattle.just_names.specs.declared.name.Name.{Name}
 use Rattle.just_parts.specs.Bare.{bare_assignment, bare_function, bare_function_parameter}
 use Rattle.just_parts.specs.Items.{Item}
@@ -24,7 +26,7 @@ use Rattle.just_ast_expressions.specs.declared.string_literal.StringLiteral.{Str
 use Rattle.just_bench_expressions.specs.declared.lexer.Lexeme.{Lexeme}
 use Rattle.just_bench_expressions.specs.declared.lines.TextLine.{TextLine}
 use Rattle.just_bench_expressions.specs.Lexemes.{is_blank, lexemes}
-use Rattle.just_bench_expressions.specs.Lines.{lines_of}
+use Rattle.just_bench_expressions.specs.Lines.{line_place, lines_of}
 use Rattle.just_bench_lines.specs.declared.attributes.Mark.{Mark}
 use Rattle.just_bench_lines.specs.declared.attributes.Options.{Options}
 use Rattle.just_bench_lines.specs.declared.alias.AliasLine.{AliasLine}
@@ -32,6 +34,7 @@ use Rattle.just_bench_lines.specs.declared.body.BodyLine.{BodyLine}
 use Rattle.just_bench_lines.specs.declared.heading.Heading.{Heading}
 use Rattle.just_bench_syntax.specs.declared.items.Items.{Items}
 use Rattle.just_bench_syntax.specs.declared.items.Reading.{Reading}
+use Rattle.just_bench_syntax.specs.declared.recipe.Spoken.{Spoken}
 use Rattle.just_bench_lines.specs.declared.meaning.Declaration.{Declaration}
 use Rattle.just_bench_lines.specs.declared.meaning.Meaning.{Meaning}
 use Rattle.just_bench_lines.specs.declared.meaning.Meaning.TheVariants as meaning
@@ -49,12 +52,12 @@ use Rattle.just_bench_lines.specs.Places.{literal_at, name_at, stands, word_at, 
 use Rattle.just_bench_syntax.specs.Proper.{IsProper}
 use Rattle.just_bench_syntax.specs.Recipe.{recipe}
 use Rattle.just_bench_syntax.proofs.Marks.{MarkSaid, mark_said}
-use Rattle.just_bench_syntax.proofs.Proper.{AreFresh, HeadingFresh, IsSaid, RecipeProper, SpeakOf, either, heading_fresh, recipe_proper}
+use Rattle.just_bench_syntax.proofs.Proper.{AreFresh, HeadingFresh, IsSaid, RecipeProper, SpeakOf, either, heading_fresh, recipe_proper, said_of}
 
 -- what lines say so far
 pub record IsSteady (r : Reading) : Type 0 where
   pub proper : All IsProper r.items
-  pub said : All (λ (n : NamedAttribute Expression). IsSaid r.options n.attribute) r.attributes
+  pub said : All (λ (n : NamedAttribute Expression). IsSaid (said_of r.spoken) n.attribute) r.attributes
 
 -- a line that has no numbers
 abbrev pub IsFine : Meaning → Type 0
@@ -245,49 +248,55 @@ said_last : (xs ys : List Options) (a : Attribute Expression) → IsSaid ys a �
 said_last xs ys (attribute.Arg a) s = (speak_last xs ys a.name.cooked s.0, s.1, s.2)
 said_last xs ys _ s = tt
 
-options_more : (xs : List Options) (o : Option Options) (a : Attribute Expression) → IsSaid xs a → IsSaid (items.and_options xs o) a
-options_more xs None a s = s
-options_more xs (Some o) a s = said_more xs (o ∷ []) a s
+spoken_more : (xs : List Spoken) (at : Place) (o : Option Options) (a : Attribute Expression) → IsSaid (said_of xs) a → IsSaid (said_of (items.and_spoken xs at o)) a
+spoken_more xs at None a s = s
+spoken_more xs at (Some o) a s = subst (λ ys. IsSaid ys a) (sym (map-append (λ (x : Spoken). x.options) xs (record { options = o; at = at } ∷ []))) (said_more (said_of xs) (o ∷ []) a s)
 
 said_nothing : (xs : List Options) (a : Attribute Expression) → IsSaid [] a → IsSaid xs a
 said_nothing xs (attribute.Arg a) s = absurd s.0
 said_nothing xs _ s = tt
 
-options_last : (xs : List Options) (o : Option Options) (a : Attribute Expression) → IsSaid (option_to_list o) a → IsSaid (items.and_options xs o) a
-options_last xs None a s = said_nothing xs a s
-options_last xs (Some o) a s = said_last xs (o ∷ []) a s
+spoken_last : (xs : List Spoken) (at : Place) (o : Option Options) (a : Attribute Expression) → IsSaid (option_to_list o) a → IsSaid (said_of (items.and_spoken xs at o)) a
+spoken_last xs at None a s = said_nothing (said_of xs) a s
+spoken_last xs at (Some o) a s = subst (λ ys. IsSaid ys a) (sym (map-append (λ (x : Spoken). x.options) xs (record { options = o; at = at } ∷ []))) (said_last (said_of xs) (o ∷ []) a s)
 
 -- steady steps
-abbrev pub Goes : Result Reading ℕ → Type 0
+abbrev pub Goes : Result Reading Place → Type 0
 Goes r = IfOk r IsSteady
 
+item_steady_by : (r : Reading) (it : Item) (first : Option Place) → IsSteady r → IsProper it → Goes (items.item_by r it first)
+item_steady_by r it None steady proper = record { proper = All-push IsProper r.items it steady.proper proper; said = steady.said }
+item_steady_by r it (Some first) steady proper = tt
+
 item_steady : (r : Reading) (it : Item) → IsSteady r → IsProper it → Goes (items.with_item r it)
-item_steady r it steady proper =
-    either Goes (items.is_nil r.attributes) _ _ (record { proper = All-push IsProper r.items it steady.proper proper; said = steady.said }) tt
+item_steady r it steady proper = item_steady_by r it r.first steady proper
 
 alias_proper : (a : AliasLine) → IsProper (items.alias_item a)
 alias_proper a = record { bare = refl; priors = tt; attributes = tt }
 
-mark_steady : (r : Reading) (number : ℕ) (m : Mark) → IsSteady r → MarkSaid (Some m) → IsSteady (items.with_mark r number m)
-mark_steady r number m steady marked = record {
+mark_steady : (r : Reading) (at : Place) (m : Mark) → IsSteady r → MarkSaid (Some m) → IsSteady (items.with_mark r at m)
+mark_steady r at m steady marked = record {
   proper = steady.proper;
-  said = All-push (λ (n : NamedAttribute Expression). IsSaid (items.and_options r.options m.options) n.attribute) r.attributes m.named
-      (λ k d within. options_more r.options m.options (get_or r.attributes k d).attribute (steady.said k d within)) (options_last r.options m.options m.named.attribute marked);
+  said = All-push (λ (n : NamedAttribute Expression). IsSaid (said_of (items.and_spoken r.spoken at m.options)) n.attribute) r.attributes m.named
+      (λ k d within. spoken_more r.spoken at m.options (get_or r.attributes k d).attribute (steady.said k d within)) (spoken_last r.spoken at m.options m.named.attribute marked);
 }
 
-recipe_steady : (r : Reading) (made : Option (Recipe UnresolvedDependency)) → IsSteady r → RecipeProper made → Goes (items.with_recipe_of r made)
-recipe_steady r None steady proper = tt
-recipe_steady r (Some made) steady proper = record {
+recipe_steady : (r : Reading) (made : Result (Recipe UnresolvedDependency) Place) → IsSteady r → RecipeProper made → Goes (items.with_recipe_of r made)
+recipe_steady r (Err at) steady proper = tt
+recipe_steady r (Ok made) steady proper = record {
   proper = All-push IsProper r.items (item.Recipe made) steady.proper proper;
   said = λ k d within. absurd (omega (arith, within));
 }
 
+module_steady_by : (r : Reading) (d : Declaration) (spoken : List Spoken) → IsSteady r → Goes (items.module_by r d spoken)
+module_steady_by r d [] steady = record {
+  proper = All-push IsProper r.items (item.Module d.name d.path None r.attributes None d.optional) steady.proper (record { bare = refl; priors = tt; attributes = tt });
+  said = λ k d within. absurd (omega (arith, within));
+}
+module_steady_by r d (s ∷ rest) steady = tt
+
 module_steady : (r : Reading) (d : Declaration) → IsSteady r → Goes (items.with_module r d)
-module_steady r d steady =
-    either Goes (items.is_nil r.options) _ _ (record {
-      proper = All-push IsProper r.items (item.Module d.name d.path None r.attributes None d.optional) steady.proper (record { bare = refl; priors = tt; attributes = tt });
-      said = λ k d within. absurd (omega (arith, within));
-    }) tt
+module_steady r d steady = module_steady_by r d r.spoken steady
 
 -- a line more
 line_proper : (line : Line) (it : Item) → IsProper it → IsProper (items.add_line line it)
@@ -305,29 +314,29 @@ last_proper f (x ∷ []) keeps all (suc k) d within = absurd (omega (arith, with
 last_proper f (x ∷ y ∷ rest) keeps all zero d within = all 0 d (omega arith)
 last_proper f (x ∷ y ∷ rest) keeps all (suc k) d within = last_proper f (y ∷ rest) keeps (λ n e h. all (suc n) e (omega (arith, h))) k d (omega (arith, within))
 
-body_steady : (line : TextLine) (size : ℕ) (r : Reading) (made : Option BodyLine) → IsSteady r → Goes (items.with_body_line line size r made)
-body_steady line size r None steady = tt
-body_steady line size r (Some made) steady = record { proper = last_proper (items.add_line made.line) r.items (line_proper made.line) steady.proper; said = steady.said }
+body_steady : (path text : List ℕ) (line : TextLine) (size : ℕ) (r : Reading) (made : Option BodyLine) → IsSteady r → Goes (items.with_body_line path text line size r made)
+body_steady path text line size r None steady = tt
+body_steady path text line size r (Some made) steady = record { proper = last_proper (items.add_line made.line) r.items (line_proper made.line) steady.proper; said = steady.said }
 
 dropped_steady : (path text : List ℕ) (line : TextLine) (size : ℕ) (r : Reading) (start : Option ℕ) → IsSteady r → Goes (items.with_dropped path text line size r start)
 dropped_steady path text line size r None steady = tt
-dropped_steady path text line size r (Some start) steady = body_steady line size r (body_line path text line start) steady
+dropped_steady path text line size r (Some start) steady = body_steady path text line size r (body_line path text line start) steady
 
 meaning_steady : (path text : List ℕ) (line : TextLine) (m : Meaning) (r : Reading) → IsSteady r → IsFine m → Goes (items.with_meaning path text line m r)
 meaning_steady path text line meaning.Bad r steady fine = tt
 meaning_steady path text line meaning.Ignored r steady fine = steady
 meaning_steady path text line meaning.Indented r steady fine = dropped_steady path text line (indent line) r (items.dropped r.body line (indent line)) steady
-meaning_steady path text line (meaning.Marks m) r steady fine = mark_steady r line.number m steady fine
-meaning_steady path text line (meaning.Begins h) r steady fine = recipe_steady r (recipe h r.attributes r.options) steady (recipe_proper h r.attributes r.options fine steady.said)
+meaning_steady path text line (meaning.Marks m) r steady fine = mark_steady r (line_place path text line) m steady fine
+meaning_steady path text line (meaning.Begins h) r steady fine = recipe_steady r (recipe h r.attributes r.spoken) steady (recipe_proper h r.attributes r.spoken fine steady.said)
 meaning_steady path text line (meaning.Declares d) r steady fine = module_steady r d steady
 meaning_steady path text line (meaning.Aliases a) r steady fine = item_steady r (items.alias_item a) steady (alias_proper a)
 meaning_steady path text line (meaning.States s) r steady fine = item_steady r (items.item_of s) steady fine
 
-onward_steady : {B : Type 0} (P : B → Type 0) (r : Result Reading ℕ) (more : Reading → Result B ℕ) → Goes r → ((x : Reading) → IsSteady x → IfOk (more x) P) → IfOk (items.onward r more) P
+onward_steady : {B : Type 0} (P : B → Type 0) (r : Result Reading Place) (more : Reading → Result B Place) → Goes r → ((x : Reading) → IsSteady x → IfOk (more x) P) → IfOk (items.onward r more) P
 onward_steady P (Err n) more goes next = tt
 onward_steady P (Ok x) more goes next = next x goes
 
-uses_steady : (lists : List ListUse) (r : Result Reading ℕ) → Goes r → Goes (items.with_uses lists r)
+uses_steady : (lists : List ListUse) (r : Result Reading Place) → Goes r → Goes (items.with_uses lists r)
 uses_steady lists (Err n) steady = tt
 uses_steady lists (Ok r) steady = record { proper = steady.proper; said = steady.said }
 
@@ -339,8 +348,12 @@ lines_steady path text r (line ∷ rest) steady =
     (meaning_steady path text line (said.said path text line).meaning r steady (said_fine path text line)))
     (λ more s. lines_steady path text more rest s)
 
+finished_proper_by : (r : Reading) (first : Option Place) → IsSteady r → IfOk (items.finished_by r first) (λ (i : Items). All IsProper i.items)
+finished_proper_by r None steady = steady.proper
+finished_proper_by r (Some first) steady = tt
+
 finished_proper : (r : Reading) → IsSteady r → IfOk (items.finished r) (λ (i : Items). All IsProper i.items)
-finished_proper r steady = either (λ (x : Result Items ℕ). IfOk x (λ (i : Items). All IsProper i.items)) (items.is_nil r.attributes) _ _ steady.proper tt
+finished_proper r steady = finished_proper_by r r.first steady
 
 -- the items of a text have no numbers, their priors are dependencies, and their attributes name parameters
 pub items_proper : (path text : List ℕ) → IfOk (items.items_of path text) (λ (i : Items). All IsProper i.items)
@@ -350,5 +363,5 @@ items_proper path text =
     (lines_steady path text items.unread (lines_of text) (record { proper = λ k d within. absurd (omega (arith, within)); said = λ k d within. absurd (omega (arith, within)) }))
     finished_proper
 
-pub found_proper : (path text : List ℕ) (found : Result Items ℕ) → found ≡ items.items_of path text → IfOk found (λ (i : Items). All IsProper i.items)
+pub found_proper : (path text : List ℕ) (found : Result Items Place) → found ≡ items.items_of path text → IfOk found (λ (i : Items). All IsProper i.items)
 found_proper path text found is = subst (λ r. IfOk r (λ (i : Items). All IsProper i.items)) (sym is) (items_proper path text)

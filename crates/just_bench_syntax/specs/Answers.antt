@@ -3,6 +3,7 @@ use Rattle.std.specs.Prelude.{ℕ, true, if◌then◌else◌, List, codes, Optio
 use Rattle.std.specs.Option.{option_map}
 use Rattle.std.specs.Result.{result_ok}
 use Rattle.std.specs.Str.{bytes_eq}
+use Rattle.just_names.specs.Token.{Place}
 use Rattle.just_errors.specs.declared.wording.ArgumentRange.{ArgumentRange}
 use Rattle.just_parts.specs.Bare.{ast_of_items}
 use Rattle.just_parts.specs.Items.{Ast}
@@ -19,9 +20,9 @@ use Rattle.just_bench_syntax.specs.Sigils as sigil
 abbrev pub ast_of : Items → Ast
 ast_of found = record (ast_of_items found.items) { list_features = found.lists }
 
-abbrev pub counted_in : Result Items ℕ → ℕ
+abbrev pub counted_in : Result Items Place → ℕ
 counted_in (Ok found) = counted found.items
-counted_in (Err number) = 0
+counted_in (Err at) = 0
 
 -- how many numbers a text takes; none where it does not follow the grammar
 unfoldable pub spends : List ℕ → List ℕ → ℕ

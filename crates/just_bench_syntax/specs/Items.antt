@@ -1,7 +1,7 @@
 -- The items of a text, line by line, without numbers.
 use Rattle.std.specs.Prelude.{ℕ, ◌==◌, Bool, true, false, if◌then◌else◌, List, [], ◌∷◌, ◌++◌, length, take, codes, nat_eq, Option, Some, None, Result, Ok, Err}
 use Rattle.std.specs.List.{starts_with}
-use Rattle.just_names.specs.Token.{lexeme}
+use Rattle.just_names.specs.Token.{Place, lexeme}
 use Rattle.just_parts.specs.Items.{Item}
 use Rattle.just_ast_items.specs.declared.item.Item.TheVariants as item
 use Rattle.just_recipe.specs.declared.dependency.UnresolvedDependency.{UnresolvedDependency}
@@ -11,7 +11,7 @@ use Rattle.just_ast_definitions.specs.declared.line.Fragment.TheVariants as frag
 use Rattle.just_ast_definitions.specs.declared.line.Line.{Line}
 use Rattle.just_ast_expressions.specs.declared.list_use.ListUse.{ListUse}
 use Rattle.just_bench_expressions.specs.declared.lines.TextLine.{TextLine}
-use Rattle.just_bench_expressions.specs.Lines.{lines_of}
+use Rattle.just_bench_expressions.specs.Lines.{line_place, lines_of}
 use Rattle.just_bench_lines.specs.declared.alias.AliasLine.{AliasLine}
 use Rattle.just_bench_lines.specs.declared.attributes.Mark.{Mark}
 use Rattle.just_bench_lines.specs.declared.attributes.Options.{Options}
@@ -21,6 +21,7 @@ use Rattle.just_bench_syntax.specs.declared.items.Body.{Body}
 use Rattle.just_bench_syntax.specs.declared.items.Body.TheVariants as body
 use Rattle.just_bench_syntax.specs.declared.items.Items.{Items}
 use Rattle.just_bench_syntax.specs.declared.items.Reading.{Reading}
+use Rattle.just_bench_syntax.specs.declared.recipe.Spoken.{Spoken}
 use Rattle.just_bench_lines.specs.declared.meaning.Declaration.{Declaration}
 use Rattle.just_bench_lines.specs.declared.meaning.Meaning.{Meaning}
 use Rattle.just_bench_lines.specs.declared.meaning.Meaning.TheVariants as meaning
@@ -35,10 +36,10 @@ abbrev pub is_nil : {A : Type 0} → List A → Bool
 is_nil [] = true
 is_nil (x ∷ rest) = false
 
--- for the private functions: what was changed, or the number of a line that does not follow the grammar
-abbrev pub told : Result (Unit {0}) ℕ → Reading → Result Reading ℕ
+-- for the private functions: what was changed, or where the text does not follow the grammar
+abbrev pub told : Result (Unit {0}) Place → Reading → Result Reading Place
 told (Ok done) reading = Ok reading
-told (Err number) reading = Err number
+told (Err at) reading = Err at
 
 -- the item that a line is
 abbrev pub item_of : Statement → Item
@@ -53,35 +54,45 @@ abbrev pub alias_item : AliasLine → Item
 alias_item line = item.Alias (record { attributes = []; name = line.name; target = line.target })
 
 -- an item that takes no attributes
-abbrev pub with_item : Reading → Item → Result Reading ℕ
-with_item reading it = if is_nil reading.attributes then Ok (record reading { items = reading.items ++ it ∷ []; body = body.Closed }) else Err reading.first
+abbrev pub item_by : Reading → Item → Option Place → Result Reading Place
+item_by reading it None = Ok (record reading { items = reading.items ++ it ∷ []; body = body.Closed })
+item_by reading it (Some first) = Err first
 
--- an attribute of the next item, on this line
-abbrev pub and_options : List Options → Option Options → List Options
-and_options options None = options
-and_options options (Some more) = options ++ more ∷ []
+abbrev pub with_item : Reading → Item → Result Reading Place
+with_item reading it = item_by reading it reading.first
 
-abbrev pub with_mark : Reading → ℕ → Mark → Reading
-with_mark reading number mark = record reading {
+-- an attribute of the next item, which is a line
+abbrev pub and_spoken : List Spoken → Place → Option Options → List Spoken
+and_spoken spoken at None = spoken
+and_spoken spoken at (Some options) = spoken ++ record { options = options; at = at } ∷ []
+
+abbrev pub or_first : Option Place → Place → Place
+or_first None at = at
+or_first (Some first) at = first
+
+abbrev pub with_mark : Reading → Place → Mark → Reading
+with_mark reading at mark = record reading {
   attributes = reading.attributes ++ mark.named ∷ [];
-  options = and_options reading.options mark.options;
-  first = if is_nil reading.attributes then number else reading.first;
+  spoken = and_spoken reading.spoken at mark.options;
+  first = Some (or_first reading.first at);
   body = body.Closed;
 }
 
 -- a recipe with the attributes before it
-abbrev pub with_recipe_of : Reading → Option (Recipe UnresolvedDependency) → Result Reading ℕ
-with_recipe_of reading None = Err reading.first
-with_recipe_of reading (Some r) = Ok (record reading { items = reading.items ++ item.Recipe r ∷ []; attributes = []; options = []; body = body.Begins })
+abbrev pub with_recipe_of : Reading → Result (Recipe UnresolvedDependency) Place → Result Reading Place
+with_recipe_of reading (Err at) = Err at
+with_recipe_of reading (Ok r) = Ok (record reading { items = reading.items ++ item.Recipe r ∷ []; attributes = []; spoken = []; first = None; body = body.Begins })
 
-abbrev pub with_recipe : Reading → Heading → Result Reading ℕ
-with_recipe reading h = with_recipe_of reading (recipe h reading.attributes reading.options)
+abbrev pub with_recipe : Reading → Heading → Result Reading Place
+with_recipe reading h = with_recipe_of reading (recipe h reading.attributes reading.spoken)
 
 -- a module with the attributes before it, none of which speaks of a parameter
-abbrev pub with_module : Reading → Declaration → Result Reading ℕ
-with_module reading declared =
-    if is_nil reading.options then Ok (record reading { items = reading.items ++ item.Module declared.name declared.path None reading.attributes None declared.optional ∷ []; attributes = []; body = body.Closed })
-    else Err reading.first
+abbrev pub module_by : Reading → Declaration → List Spoken → Result Reading Place
+module_by reading declared [] = Ok (record reading { items = reading.items ++ item.Module declared.name declared.path None reading.attributes None declared.optional ∷ []; attributes = []; first = None; body = body.Closed })
+module_by reading declared (s ∷ rest) = Err s.at
+
+abbrev pub with_module : Reading → Declaration → Result Reading Place
+with_module reading declared = module_by reading declared reading.spoken
 
 -- a line that begins with `#!`
 abbrev pub begins_shebang : List Fragment → Bool
@@ -114,55 +125,59 @@ abbrev pub begun : TextLine → ℕ → Body → Body
 begun line size body.Begins = if size == length line.text then body.Begins else body.Goes (take size line.text)
 begun line size it = it
 
-abbrev pub with_body_line : TextLine → ℕ → Reading → Option BodyLine → Result Reading ℕ
-with_body_line line size reading None = Err line.number
-with_body_line line size reading (Some made) =
+abbrev pub with_body_line : List ℕ → List ℕ → TextLine → ℕ → Reading → Option BodyLine → Result Reading Place
+with_body_line path text line size reading None = Err (line_place path text line)
+with_body_line path text line size reading (Some made) =
     Ok (record reading { items = at_last (add_line made.line) reading.items; lists = reading.lists ++ made.lists; body = begun line size reading.body })
 
-abbrev pub with_dropped : List ℕ → List ℕ → TextLine → ℕ → Reading → Option ℕ → Result Reading ℕ
-with_dropped path text line size reading None = Err line.number
-with_dropped path text line size reading (Some start) = with_body_line line size reading (body_line path text line start)
+abbrev pub with_dropped : List ℕ → List ℕ → TextLine → ℕ → Reading → Option ℕ → Result Reading Place
+with_dropped path text line size reading None = Err (line_place path text line)
+with_dropped path text line size reading (Some start) = with_body_line path text line size reading (body_line path text line start)
 
-abbrev pub with_body : List ℕ → List ℕ → TextLine → Reading → Result Reading ℕ
+abbrev pub with_body : List ℕ → List ℕ → TextLine → Reading → Result Reading Place
 with_body path text line reading = with_dropped path text line (indent line) reading (dropped reading.body line (indent line))
 
 -- after a line that means this
-abbrev pub with_meaning : List ℕ → List ℕ → TextLine → Meaning → Reading → Result Reading ℕ
-with_meaning path text line meaning.Bad reading = Err line.number
+abbrev pub with_meaning : List ℕ → List ℕ → TextLine → Meaning → Reading → Result Reading Place
+with_meaning path text line meaning.Bad reading = Err (line_place path text line)
 with_meaning path text line meaning.Ignored reading = Ok reading
 with_meaning path text line meaning.Indented reading = with_body path text line reading
-with_meaning path text line (meaning.Marks mark) reading = Ok (with_mark reading line.number mark)
+with_meaning path text line (meaning.Marks mark) reading = Ok (with_mark reading (line_place path text line) mark)
 with_meaning path text line (meaning.Begins h) reading = with_recipe reading h
 with_meaning path text line (meaning.Declares declared) reading = with_module reading declared
 with_meaning path text line (meaning.Aliases it) reading = with_item reading (alias_item it)
 with_meaning path text line (meaning.States it) reading = with_item reading (item_of it)
 
 -- for what follows
-abbrev pub onward : {A B : Type 0} → Result A ℕ → (A → Result B ℕ) → Result B ℕ
-onward (Err number) more = Err number
+abbrev pub onward : {A B : Type 0} → Result A Place → (A → Result B Place) → Result B Place
+onward (Err at) more = Err at
 onward (Ok x) more = more x
 
 -- after a line, with where it needs lists
-abbrev pub with_uses : List ListUse → Result Reading ℕ → Result Reading ℕ
-with_uses lists (Err number) = Err number
+abbrev pub with_uses : List ListUse → Result Reading Place → Result Reading Place
+with_uses lists (Err at) = Err at
 with_uses lists (Ok reading) = Ok (record reading { lists = reading.lists ++ lists })
 
-abbrev pub with_said : List ℕ → List ℕ → TextLine → Said → Reading → Result Reading ℕ
+abbrev pub with_said : List ℕ → List ℕ → TextLine → Said → Reading → Result Reading Place
 with_said path text line it reading = with_uses it.lists (with_meaning path text line it.meaning reading)
 
 -- after lines
-abbrev pub with_lines : List ℕ → List ℕ → Reading → List TextLine → Result Reading ℕ
+abbrev pub with_lines : List ℕ → List ℕ → Reading → List TextLine → Result Reading Place
 with_lines path text reading [] = Ok reading
 with_lines path text reading (line ∷ rest) = onward (with_said path text line (said path text line) reading) (λ more. with_lines path text more rest)
 
 -- before any line
 abbrev pub unread : Reading
-unread = record { items = []; lists = []; attributes = []; options = []; first = 0; body = body.Closed }
+unread = record { items = []; lists = []; attributes = []; spoken = []; first = None; body = body.Closed }
 
 -- at the end of a text no attribute is left
-abbrev pub finished : Reading → Result Items ℕ
-finished reading = if is_nil reading.attributes then Ok (record { items = reading.items; lists = reading.lists }) else Err reading.first
+abbrev pub finished_by : Reading → Option Place → Result Items Place
+finished_by reading None = Ok (record { items = reading.items; lists = reading.lists })
+finished_by reading (Some first) = Err first
 
--- the items of a text, or the number of a line that does not follow the grammar
-unfoldable pub items_of : List ℕ → List ℕ → Result Items ℕ
+abbrev pub finished : Reading → Result Items Place
+finished reading = finished_by reading reading.first
+
+-- the items of a text, or where it does not follow the grammar: at the line of an attribute that does not fit, or at another
+unfoldable pub items_of : List ℕ → List ℕ → Result Items Place
 items_of path text = onward (with_lines path text unread (lines_of text)) finished

@@ -1,9 +1,9 @@
 -- The recipe that a heading begins.
-use Rattle.std.specs.Prelude.{◌≡◌, ℕ, ◌||◌, Bool, true, false, if◌then◌else◌, List, [], ◌∷◌, ◌++◌, map, length, Option, Some, None, is_some}
-use Rattle.std.specs.List.{find, list_all, list_any, slice_get}
+use Rattle.std.specs.Prelude.{◌≡◌, ℕ, ◌||◌, Bool, true, false, not, if◌then◌else◌, List, [], ◌∷◌, ◌++◌, map, length, Option, Some, None, is_some, Result, Ok, Err}
+use Rattle.std.specs.List.{find, list_any, slice_get}
 use Rattle.std.specs.Option.{option_and_then}
 use Rattle.std.specs.Str.{bytes_eq}
-use Rattle.just_names.specs.Token.{lexeme}
+use Rattle.just_names.specs.Token.{Place, lexeme}
 use Rattle.just_names.specs.Number.{no_number}
 use Rattle.just_recipe.specs.declared.dependency.UnresolvedDependency.{UnresolvedDependency}
 use Rattle.just_recipe.specs.declared.recipe.Recipe.{Recipe}
@@ -12,13 +12,13 @@ use Rattle.just_ast_definitions.specs.declared.attribute.Attribute.TheVariants a
 use Rattle.just_ast_definitions.specs.declared.attribute.NamedAttribute.{NamedAttribute}
 use Rattle.just_ast_expressions.specs.declared.expression.Expression.{Expression}
 use Rattle.just_ast_definitions.specs.declared.parameter.Parameter.{Parameter}
-use Rattle.just_bench_lines.specs.declared.attributes.Options.{Options}
 use Rattle.just_bench_lines.specs.declared.heading.Heading.{Heading}
 use Rattle.just_bench_lines.specs.Definitions.{is_private}
+use Rattle.just_bench_syntax.specs.declared.recipe.Spoken.{Spoken}
 
 -- what attributes say of the parameter of a name
-abbrev pub options_of : List Options → List ℕ → Option Options
-options_of options name = find (λ (o : Options). bytes_eq o.parameter name) options
+abbrev pub options_of : List Spoken → List ℕ → Option Spoken
+options_of spoken name = find (λ (s : Spoken). bytes_eq s.options.parameter name) spoken
 
 abbrev pub is_parameter : List Parameter → List ℕ → Bool
 is_parameter parameters name = list_any (λ (p : Parameter). bytes_eq (lexeme p.name.token) name) parameters
@@ -27,29 +27,32 @@ is_parameter parameters name = list_any (λ (p : Parameter). bytes_eq (lexeme p.
 abbrev pub names_of : List Parameter → List (List ℕ)
 names_of = map (λ (p : Parameter). lexeme p.name.token)
 
-abbrev pub spoken_of : List Options → List (List ℕ)
-spoken_of = map (λ (o : Options). o.parameter)
-
--- each attribute speaks of a parameter
-abbrev pub all_named : List Parameter → List Options → Bool
-all_named parameters = list_all (λ (o : Options). is_parameter parameters o.parameter)
+abbrev pub spoken_of : List Spoken → List (List ℕ)
+spoken_of = map (λ (s : Spoken). s.options.parameter)
 
 -- for the private functions: what is said of each name stands at the place that is found for it
-abbrev pub AreFound : List Options → (List ℕ → Option ℕ) → Type 0
-AreFound options place = (name : List ℕ) → options_of options name ≡ option_and_then (slice_get options) (place name)
+abbrev pub AreFound : List Spoken → (List ℕ → Option ℕ) → Type 0
+AreFound spoken place = (name : List ℕ) → options_of spoken name ≡ option_and_then (slice_get spoken) (place name)
 
--- each attribute speaks of a parameter, of which no other does
-abbrev pub fits : List Parameter → List Options → Bool
-fits parameters [] = true
-fits parameters (o ∷ rest) = if is_parameter parameters o.parameter then (if is_some (options_of rest o.parameter) then false else fits parameters rest) else false
+-- an attribute fits that speaks of a parameter, of which none before it does
+abbrev pub fits : List Parameter → List Spoken → List ℕ → Bool
+fits parameters before name = if is_parameter parameters name then not (is_some (options_of before name)) else false
+
+-- the first attribute that does not fit, after those before it
+abbrev pub misfit_from : List Parameter → List Spoken → List Spoken → Option Place
+misfit_from parameters before [] = None
+misfit_from parameters before (s ∷ rest) = if fits parameters before s.options.parameter then misfit_from parameters (before ++ s ∷ []) rest else Some s.at
+
+abbrev pub misfit : List Parameter → List Spoken → Option Place
+misfit parameters spoken = misfit_from parameters [] spoken
 
 -- a parameter with what is said of it
-abbrev pub given : Option Options → Parameter → Parameter
+abbrev pub given : Option Spoken → Parameter → Parameter
 given None p = p
-given (Some o) p = record p { long = o.long; short = o.short; flag = o.flag }
+given (Some s) p = record p { long = s.options.long; short = s.options.short; flag = s.options.flag }
 
-abbrev pub with_options : List Options → Parameter → Parameter
-with_options options p = given (options_of options (lexeme p.name.token)) p
+abbrev pub with_options : List Spoken → Parameter → Parameter
+with_options spoken p = given (options_of spoken (lexeme p.name.token)) p
 
 -- the attribute `private`
 abbrev pub is_private_mark : Attribute Expression → Bool
@@ -60,8 +63,8 @@ abbrev pub says_private : NamedAttribute Expression → Bool
 says_private named = is_private_mark named.attribute
 
 -- a recipe without a number and without a body
-abbrev pub made_of : Heading → List (NamedAttribute Expression) → List Options → Recipe UnresolvedDependency
-made_of h attributes options = record {
+abbrev pub made_of : Heading → List (NamedAttribute Expression) → List Spoken → Recipe UnresolvedDependency
+made_of h attributes spoken = record {
   attributes = attributes;
   body = [];
   dependencies = h.priors ++ h.subsequents;
@@ -70,7 +73,7 @@ made_of h attributes options = record {
   import_offsets = [];
   name = h.name;
   number = no_number;
-  parameters = map (with_options options) h.parameters;
+  parameters = map (with_options spoken) h.parameters;
   priors = length h.priors;
   private = is_private h.name || list_any says_private attributes;
   quiet = h.quiet;
@@ -80,6 +83,10 @@ made_of h attributes options = record {
   variable_references = [];
 }
 
--- the recipe of a heading after these attributes, none where one of them does not fit
-unfoldable pub recipe : Heading → List (NamedAttribute Expression) → List Options → Option (Recipe UnresolvedDependency)
-recipe h attributes options = if fits h.parameters options then Some (made_of h attributes options) else None
+-- the recipe of a heading after these attributes, or the first of them that does not fit
+abbrev pub recipe_by : Heading → List (NamedAttribute Expression) → List Spoken → Option Place → Result (Recipe UnresolvedDependency) Place
+recipe_by h attributes spoken None = Ok (made_of h attributes spoken)
+recipe_by h attributes spoken (Some at) = Err at
+
+unfoldable pub recipe : Heading → List (NamedAttribute Expression) → List Spoken → Result (Recipe UnresolvedDependency) Place
+recipe h attributes spoken = recipe_by h attributes spoken (misfit h.parameters spoken)

@@ -1,5 +1,5 @@
 -- What runs a script, by its first line.
-use Rattle.std.specs.Prelude.{ℕ, ◌-◌, ◌==◌, Bool, if◌then◌else◌, nat_eq, List, [], ◌∷◌, drop, take, length, codes, Option, Some, None}
+use Rattle.std.specs.Prelude.{ℕ, ◌-◌, ◌==◌, Bool, if◌then◌else◌, nat_eq, [], ◌∷◌, drop, take, length, codes, Option, Some, None}
 use Rattle.std.specs.List.{after_first, before_first, list_any, prefix_len, starts_with, suffix_len}
 use Rattle.std.specs.Char.{is_ascii_whitespace}
 use Rattle.just_names.specs.Texts.{Text}

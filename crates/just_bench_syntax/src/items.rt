@@ -5,18 +5,20 @@ ghost use Rattle.std.specs.List.{All};
 ghost use Rattle.just_bench_lines.specs.Body.{indent};
 ghost use Rattle.just_bench_lines.specs.Meaning.{said};
 ghost use Rattle.just_bench_syntax.specs.Proper.{IsProper};
+ghost use Rattle.just_bench_syntax.specs.Refusal.{IsInLine};
 ghost use Rattle.just_bench_syntax.specs.Items as spec;
 
-use crate::recipe::make_recipe;
+use crate::recipe::{Spoken, make_recipe};
 use just_ast_definitions::{Alias, Fragment, Line, NamedAttribute};
 use just_ast_expressions::ListUse;
-use just_bench_expressions::lines::TextLine;
+use just_bench_expressions::lines::{TextLine, line_token};
 use just_bench_lines::alias::AliasLine;
-use just_bench_lines::attributes::{Mark, Options};
+use just_bench_lines::attributes::Mark;
 use just_bench_lines::body::{BodyLine, indent, read_body};
 use just_bench_lines::heading::Heading;
 use just_bench_lines::meaning::{Declaration, Meaning, Said, Statement, read_line};
 use just_data::{BorrowedText, Sequence};
+use just_names::Token;
 use just_parts::layers::Item;
 use std::alloc::{AllocError, Global};
 use std::mem::replace;
@@ -42,9 +44,9 @@ pub struct Reading<'src> {
     /// The attributes of the next item.
     pub attributes: Sequence<NamedAttribute<'src>>,
     /// What these say of parameters.
-    pub options: Sequence<Options>,
-    /// The number of the line of the first of them.
-    pub first: usize,
+    pub spoken: Sequence<Spoken<'src>>,
+    /// The line of the first of them, where there is one.
+    pub first: Option<Token<'src>>,
     /// Where a line of a body may stand.
     pub body: Body<'src>,
 }
@@ -87,36 +89,36 @@ fn alias_item<'src>(alloc: Global, line: AliasLine<'src>) -> Item<'src>
     })
 }
 
-// Puts an item last that takes no attributes. The number is that of the line that does not follow the grammar.
+// Puts an item last that takes no attributes, or answers the first that waits.
 fn add_item<'src>(
     reading: &mut Reading<'src>,
     item: Item<'src>,
-) -> Result<Result<(), usize>, AllocError>
+) -> Result<Result<(), Token<'src>>, AllocError>
     ensures { IfOk result (λ told. spec.told told reading.new ≡ spec.with_item reading.old item.entry) }
 {
-    if !reading.attributes.is_empty() {
-        return Ok(Err(reading.first));
+    if let Some(first) = &reading.first {
+        return Ok(Err(first.copied()));
     }
     reading.items.push(item)?;
     reading.body = Body::Closed;
     Ok(Ok(()))
 }
 
-// Keeps an attribute for the next item.
+// Keeps an attribute for the next item, which is a line.
 fn add_mark<'src>(
     reading: &mut Reading<'src>,
-    number: usize,
+    at: Token<'src>,
     mark: Mark<'src>,
 ) -> Result<(), AllocError>
-    ensures { OnOk result (reading.new ≡ spec.with_mark reading.old number mark.entry) }
+    ensures { OnOk result (reading.new ≡ spec.with_mark reading.old at.entry mark.entry) }
 {
     let Mark { named, options } = mark;
-    if reading.attributes.is_empty() {
-        reading.first = number;
+    if reading.first.is_none() {
+        reading.first = Some(at.copied());
     }
     reading.attributes.push(named)?;
     if let Some(options) = options {
-        reading.options.push(options)?;
+        reading.spoken.push(Spoken { options, at })?;
     }
     reading.body = Body::Closed;
     Ok(())
@@ -127,15 +129,16 @@ fn add_recipe<'src>(
     alloc: Global,
     reading: &mut Reading<'src>,
     heading: Heading<'src>,
-) -> Result<Result<(), usize>, AllocError>
+) -> Result<Result<(), Token<'src>>, AllocError>
     ensures { IfOk result (λ told. spec.told told reading.new ≡ spec.with_recipe reading.old heading.entry) }
 {
     let attributes = replace(&mut reading.attributes, Sequence::new(alloc));
-    let options = replace(&mut reading.options, Sequence::new(alloc));
-    match make_recipe(alloc, heading, attributes, options.as_slice())? {
-        None => Ok(Err(reading.first)),
-        Some(recipe) => {
+    let spoken = replace(&mut reading.spoken, Sequence::new(alloc));
+    match make_recipe(alloc, heading, attributes, spoken.as_slice())? {
+        Err(misfit) => Ok(Err(misfit)),
+        Ok(recipe) => {
             reading.items.push(Item::Recipe(recipe))?;
+            reading.first = None;
             reading.body = Body::Begins;
             Ok(Ok(()))
         }
@@ -147,11 +150,11 @@ fn add_module<'src>(
     alloc: Global,
     reading: &mut Reading<'src>,
     declaration: Declaration<'src>,
-) -> Result<Result<(), usize>, AllocError>
+) -> Result<Result<(), Token<'src>>, AllocError>
     ensures { IfOk result (λ told. spec.told told reading.new ≡ spec.with_module reading.old declaration.entry) }
 {
-    if !reading.options.is_empty() {
-        return Ok(Err(reading.first));
+    if let Some(first) = reading.spoken.as_slice().first() {
+        return Ok(Err(first.at.copied()));
     }
     let Declaration {
         name,
@@ -167,6 +170,7 @@ fn add_module<'src>(
         doc: None,
         optional,
     })?;
+    reading.first = None;
     reading.body = Body::Closed;
     Ok(Ok(()))
 }
@@ -263,16 +267,16 @@ fn add_body<'src>(
     text: &'src str,
     line: &TextLine<'src>,
     reading: &mut Reading<'src>,
-) -> Result<Result<(), usize>, AllocError>
+) -> Result<Result<(), Token<'src>>, AllocError>
     requires { IsLineOf text.now line.now }
     ensures { IfOk result (λ told. spec.told told reading.new ≡ spec.with_body path.now text.now line.now reading.old) }
 {
     let blanks = indent(line);
     let Some(size) = dropped(&reading.body, line, blanks) else {
-        return Ok(Err(line.number));
+        return Ok(Err(line_token(path, text, line)));
     };
     let Some(BodyLine { line: made, lists }) = read_body(alloc, path, text, line, size)? else {
-        return Ok(Err(line.number));
+        return Ok(Err(line_token(path, text, line)));
     };
     begin_body(line, blanks, &mut reading.body);
     reading.lists.append(lists)?;
@@ -288,15 +292,18 @@ fn add_meaning<'src>(
     line: &TextLine<'src>,
     meaning: Meaning<'src>,
     reading: &mut Reading<'src>,
-) -> Result<Result<(), usize>, AllocError>
+) -> Result<Result<(), Token<'src>>, AllocError>
     requires { IsLineOf text.now line.now }
     ensures { IfOk result (λ told. spec.told told reading.new ≡ spec.with_meaning path.now text.now line.now meaning.entry reading.old) }
 {
     match meaning {
-        Meaning::Bad => Ok(Err(line.number)),
+        Meaning::Bad => Ok(Err(line_token(path, text, line))),
         Meaning::Ignored => Ok(Ok(())),
         Meaning::Indented => add_body(alloc, path, text, line, reading),
-        Meaning::Marks(mark) => Ok(Ok(add_mark(reading, line.number, mark)?)),
+        Meaning::Marks(mark) => {
+            let at = line_token(path, text, line);
+            Ok(Ok(add_mark(reading, at, mark)?))
+        }
         Meaning::Begins(heading) => add_recipe(alloc, reading, heading),
         Meaning::Declares(declaration) => add_module(alloc, reading, declaration),
         Meaning::Aliases(alias) => add_item(reading, alias_item(alloc, alias)),
@@ -311,7 +318,7 @@ fn add_line<'src>(
     text: &'src str,
     line: &TextLine<'src>,
     reading: &mut Reading<'src>,
-) -> Result<Result<(), usize>, AllocError>
+) -> Result<Result<(), Token<'src>>, AllocError>
     requires { IsLineOf text.now line.now }
     ensures { IfOk result (λ told. spec.told told reading.new ≡ spec.with_said path.now text.now line.now (said path.now text.now line.now) reading.old) }
 {
@@ -328,14 +335,14 @@ fn add_lines<'src>(
     text: &'src str,
     all: &[TextLine<'src>],
     reading: &mut Reading<'src>,
-) -> Result<Result<(), usize>, AllocError>
+) -> Result<Result<(), Token<'src>>, AllocError>
     requires { All (IsLineOf text.now) all.now }
     ensures { IfOk result (λ told. spec.told told reading.new ≡ spec.with_lines path.now text.now reading.old all.now) }
 {
     for line in all {
         match add_line(alloc, path, text, line, reading)? {
             Ok(()) => continue,
-            Err(number) => return Ok(Err(number)),
+            Err(at) => return Ok(Err(at)),
         }
     }
     Ok(Ok(()))
@@ -349,45 +356,51 @@ fn unread<'src>(alloc: Global) -> Reading<'src>
         items: Sequence::new(alloc),
         lists: Sequence::new(alloc),
         attributes: Sequence::new(alloc),
-        options: Sequence::new(alloc),
-        first: 0,
+        spoken: Sequence::new(alloc),
+        first: None,
         body: Body::Closed,
     }
 }
 
 // What lines say where no more follow: no attribute is left.
-fn finished<'src>(reading: Reading<'src>) -> Result<Items<'src>, usize>
+fn finished<'src>(reading: Reading<'src>) -> Result<Items<'src>, Token<'src>>
     ensures { result ≡ spec.finished reading.entry }
 {
-    if !reading.attributes.is_empty() {
-        return Err(reading.first);
+    let Reading {
+        items,
+        lists,
+        first,
+        ..
+    } = reading;
+    if let Some(first) = first {
+        return Err(first);
     }
-    let mut items = reading.items.into_vec();
+    let mut items = items.into_vec();
     items.shrink_to_fit();
     Ok(Items {
         items: Sequence::from_vec(items),
-        lists: reading.lists,
+        lists,
     })
 }
 
-/// The items of a text, without numbers, or the number of a line that does not follow the grammar. The error is want of
-/// memory.
+/// The items of a text, without numbers, or where it does not follow the grammar: at an attribute that does not fit, or at
+/// another line. The error is want of memory.
 #[tactic(auto, unfolding(crate::specs::Items::items_of))]
 pub fn read_items<'src>(
     alloc: Global,
     path: &'src str,
     text: &'src str,
     all: &[TextLine<'src>],
-) -> Result<Result<Items<'src>, usize>, AllocError>
+) -> Result<Result<Items<'src>, Token<'src>>, AllocError>
     requires lines { all.now ≡ lines_of text.now }
     requires within { All (IsLineOf text.now) all.now }
     ensures is { IfOk result (λ found. found ≡ spec.items_of path.now text.now) }
     ensures proper { IfOk result (λ found. IfOk found (λ it. All IsProper it.items)) }
-    ensures told { IfOk result (λ found. IfErr found (λ number. number < length all.now)) }
+    ensures told { IfOk result (λ found. IfErr found (IsInLine path.now text.now)) }
 {
     let mut reading = unread(alloc);
     match add_lines(alloc, path, text, all, &mut reading)? {
         Ok(()) => Ok(finished(reading)),
-        Err(number) => Ok(Err(number)),
+        Err(at) => Ok(Err(at)),
     }
 }

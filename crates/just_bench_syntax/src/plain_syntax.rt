@@ -3,21 +3,20 @@ ghost use Rattle.std.specs.Prelude.{◌≡◌, ◌≤◌, ◌<◌, ◌+◌, ◌^
 ghost use Rattle.std.specs.List.{All};
 ghost use Rattle.just_parts.specs.Bare.{bare_ast};
 ghost use Rattle.just_parts.specs.Syntax.{IsFrom, AreNoConstants, AttributesNameParameters, PriorsAreDependencies, components_of, numbers, AreRising, Refuses};
-ghost use Rattle.just_bench_expressions.specs.Lines.{IsLineOf, lines_of};
 ghost use Rattle.just_bench_syntax.specs.Items.{items_of};
-ghost use Rattle.just_bench_syntax.specs.Refusal.{RefusesLine};
+ghost use Rattle.just_bench_syntax.specs.Refusal.{IsInLine, RefusesLine};
 ghost use Rattle.just_bench_syntax.specs.Answers as spec;
 
 use crate::conflicts::conflicts;
 use crate::items::{Items, read_items};
 use crate::numbering::number_items;
 use crate::{shebangs, sigils};
-use just_bench_expressions::lines::{TextLine, line_token, lines};
+use just_bench_expressions::lines::lines;
 use just_data::Sequence;
 use just_parts::Source;
 use just_parts::layers::{
     ArgumentRange, Ast, CompileError, CompileErrorKind, Error, Item, Keyword, Line, Namepath,
-    Number, Numerator, Setting, Settings, Shebang, Sigil, Syntax,
+    Number, Numerator, Setting, Settings, Shebang, Sigil, Syntax, Token,
 };
 use just_paths::Modulepath;
 use std::alloc::{AllocError, Global};
@@ -27,7 +26,7 @@ use std::alloc::{AllocError, Global};
 /// A line is an import, a module, a setting, an unexport, a variable, a function, an alias, an attribute, a recipe, or a
 /// line of a recipe's body; an empty line, and one that begins with `#`, is ignored. `docs/plain.md` has the table of
 /// lines. Where a text does not follow the grammar, the token of the fault is the whole of a line: the first that does not
-/// follow it, or that of the first attribute before an item that the attributes do not fit.
+/// follow it, or that of the first attribute that does not fit the item after it.
 #[derive(Clone, Copy)]
 pub struct PlainSyntax<'a> {
     pairs: &'a [(Keyword, Keyword)],
@@ -49,21 +48,14 @@ impl<'a> PlainSyntax<'a> {
     }
 }
 
-// The fault of a text at the line of a number.
-fn fault_at<'src>(
-    path: &'src str,
-    text: &'src str,
-    all: &[TextLine<'src>],
-    number: usize,
-) -> Error<'src>
-    requires lines { all.now ≡ lines_of text.now }
-    requires within { All (IsLineOf text.now) all.now }
-    requires told { items_of path.now text.now ≡ Err number }
-    requires there { number < length all.now }
+// The fault of a text at a place.
+fn fault_at<'src>(path: &str, text: &str, token: Token<'src>) -> Error<'src>
+    requires told { items_of path.now text.now ≡ Err token }
+    requires there { IsInLine path.now text.now token }
     ensures { (wanted : ℕ) → RefusesLine path.now text.now result wanted }
 {
     Error::Compile(CompileError {
-        token: line_token(path, text, &all[number]),
+        token,
         kind: CompileErrorKind::Syntax,
     })
 }
@@ -97,7 +89,7 @@ impl<'a> Syntax for PlainSyntax<'a> {
         let all = lines(alloc, text)?;
         let Items { items, lists } = match read_items(alloc, relative, text, all.as_slice())? {
             Ok(items) => items,
-            Err(number) => return Err(fault_at(relative, text, all.as_slice(), number)),
+            Err(token) => return Err(fault_at(relative, text, token)),
         };
         let mut items = items.into_vec();
         number_items(alloc, &mut items, source, numerator)?;

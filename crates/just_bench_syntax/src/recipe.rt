@@ -1,5 +1,5 @@
 //! The recipe that a heading begins.
-ghost use Rattle.std.specs.Prelude.{◌≡◌, map, OnOk, IfOk, IfSome, is_some};
+ghost use Rattle.std.specs.Prelude.{◌≡◌, map, None, Some, OnOk, IfErr, IfOk};
 ghost use Rattle.std.specs.HashMap.{get};
 ghost use Rattle.std.specs.List.{list_any};
 ghost use Rattle.std.specs.Option.{option_copied};
@@ -11,10 +11,19 @@ use just_bench_lines::attributes::Options;
 use just_bench_lines::definitions::is_private;
 use just_bench_lines::heading::Heading;
 use just_data::{BorrowedText, Chain, Sequence, Shared};
-use just_names::{Number, index_last, index_names};
+use just_names::{Number, Token, index_last};
 use just_parts::{Recipe, UnresolvedRecipe};
 use std::alloc::{AllocError, Global};
 use std::collections::HashMap;
+
+/// What an attribute says of a parameter, and where the attribute stands.
+#[derive(Drop)]
+pub struct Spoken<'src> {
+    /// What it says.
+    pub options: Options,
+    /// The line that it is.
+    pub at: Token<'src>,
+}
 
 // Where attributes stand that speak of parameters, by the names of these.
 type Places<'a> = HashMap<BorrowedText<'a>, usize>;
@@ -33,67 +42,45 @@ fn names_of<'src>(
     Ok(names)
 }
 
-// The names that attributes speak of.
-fn spoken_of<'a>(alloc: Global, options: &'a [Options]) -> Result<Vec<BorrowedText<'a>>, AllocError>
-    ensures { IfOk result (λ names. names.items ≡ spec.spoken_of options.now) }
-{
-    let mut names = Vec::new(alloc);
-    for it in options {
-        names.push(BorrowedText::new(it.parameter.as_str()))?;
-    }
-    Ok(names)
-}
-
-// Whether each of the attributes speaks of a parameter.
-fn all_named<'src>(
+// Where the attributes stand, or the first of them that speaks of no parameter, or of one of which another before it does.
+#[tactic(auto, using(crate::proofs::Spoken::unknown_told, crate::proofs::Spoken::again_told))]
+fn places_of<'a, 'src>(
     alloc: Global,
     parameters: &[Parameter<'src>],
-    options: &[Options],
-) -> Result<bool, AllocError>
-    ensures { IfOk result (λ all. all ≡ spec.all_named parameters.now options.now) }
+    spoken: &'a [Spoken<'src>],
+) -> Result<Result<Places<'a>, Token<'src>>, AllocError>
+    ensures fit { IfOk result (λ told. IfOk told (λ _. spec.misfit parameters.now spoken.now ≡ None)) }
+    ensures places { IfOk result (λ told. IfOk told (λ found. spec.AreFound spoken.now (get bytes_eq found))) }
+    ensures misfit { IfOk result (λ told. IfErr told (λ at. spec.misfit parameters.now spoken.now ≡ Some at)) }
 {
     let names = names_of(alloc, parameters)?;
-    let index = index_last(alloc, names.as_slice())?;
-    for it in options {
-        if !index.contains_key(&BorrowedText::new(it.parameter.as_str())) {
-            return Ok(false);
+    let known = index_last(alloc, names.as_slice())?;
+    let mut places = HashMap::new(alloc);
+    for place in 0..spoken.len() {
+        let it = &spoken[place];
+        let name = BorrowedText::new(it.options.parameter.as_str());
+        if !known.contains_key(&name) {
+            return Ok(Err(it.at.copied()));
+        }
+        match places.insert(name, place)? {
+            None => continue,
+            Some(_) => return Ok(Err(it.at.copied())),
         }
     }
-    Ok(true)
-}
-
-// Where the attributes stand, or none where one speaks of no parameter, or of one of which another does.
-#[tactic(auto, using(crate::proofs::Spoken::all_fit, crate::proofs::Spoken::unnamed_fails, crate::proofs::Spoken::twice_fails))]
-fn fits<'a, 'src>(
-    alloc: Global,
-    parameters: &[Parameter<'src>],
-    options: &'a [Options],
-) -> Result<Option<Places<'a>>, AllocError>
-    ensures is { IfOk result (λ places. is_some places ≡ spec.fits parameters.now options.now) }
-    ensures places { IfOk result (λ places. IfSome places (λ found. spec.AreFound options.now (get bytes_eq found))) }
-{
-    let names = spoken_of(alloc, options)?;
-    let Ok(places) = index_names(alloc, names.as_slice())? else {
-        return Ok(None);
-    };
-    if all_named(alloc, parameters, options)? {
-        Ok(Some(places))
-    } else {
-        Ok(None)
-    }
+    Ok(Ok(places))
 }
 
 // What attributes say of the parameter of this name.
-fn options_of<'a, 'b>(
-    options: &'a [Options],
+fn options_of<'a, 'b, 'src>(
+    spoken: &'a [Spoken<'src>],
     places: &Places<'b>,
     name: &str,
-) -> Option<&'a Options>
-    requires { spec.AreFound options.now (get bytes_eq places.now) }
-    ensures { option_copied result ≡ spec.options_of options.now name.now }
+) -> Option<&'a Spoken<'src>>
+    requires { spec.AreFound spoken.now (get bytes_eq places.now) }
+    ensures { option_copied result ≡ spec.options_of spoken.now name.now }
 {
     match places.get(&BorrowedText::new(name)) {
-        Some(place) => options.get(*place),
+        Some(place) => spoken.get(*place),
         None => None,
     }
 }
@@ -101,18 +88,18 @@ fn options_of<'a, 'b>(
 // Gives a parameter what attributes say of it.
 fn give_options<'a, 'src>(
     parameter: &mut Parameter<'src>,
-    options: &[Options],
+    spoken: &[Spoken<'src>],
     places: &Places<'a>,
 ) -> Result<(), AllocError>
-    requires { spec.AreFound options.now (get bytes_eq places.now) }
-    ensures { OnOk result (parameter.new ≡ spec.with_options options.now parameter.old) }
+    requires { spec.AreFound spoken.now (get bytes_eq places.now) }
+    ensures { OnOk result (parameter.new ≡ spec.with_options spoken.now parameter.old) }
 {
-    let Some(found) = options_of(options, places, parameter.name.lexeme()) else {
+    let Some(found) = options_of(spoken, places, parameter.name.lexeme()) else {
         return Ok(());
     };
-    parameter.long = found.long.clone()?;
-    parameter.short = found.short;
-    parameter.flag = found.flag;
+    parameter.long = found.options.long.clone()?;
+    parameter.short = found.options.short;
+    parameter.flag = found.options.flag;
     Ok(())
 }
 
@@ -120,14 +107,14 @@ fn give_options<'a, 'src>(
 #[tactic(auto, using(crate::proofs::InPlace::half_end))]
 fn give_all<'a, 'src>(
     parameters: &mut Vec<Parameter<'src>>,
-    options: &[Options],
+    spoken: &[Spoken<'src>],
     places: &Places<'a>,
 ) -> Result<(), AllocError>
-    requires { spec.AreFound options.now (get bytes_eq places.now) }
-    ensures { OnOk result (parameters.new.items ≡ map (spec.with_options options.now) parameters.old.items) }
+    requires { spec.AreFound spoken.now (get bytes_eq places.now) }
+    ensures { OnOk result (parameters.new.items ≡ map (spec.with_options spoken.now) parameters.old.items) }
 {
     for place in 0..parameters.len() {
-        give_options(&mut parameters[place], options, places)?;
+        give_options(&mut parameters[place], spoken, places)?;
     }
     Ok(())
 }
@@ -141,16 +128,16 @@ fn says_private<'src>(attributes: &[NamedAttribute<'src>]) -> bool
         .any(|named| matches!(named.attribute, Attribute::Private))
 }
 
-/// The recipe that a heading begins after these attributes, without numbers and without a body, or `None` where an
-/// attribute speaks of no parameter of it, or of one of which another does. The error is want of memory.
+/// The recipe that a heading begins after these attributes, without numbers and without a body, or the first attribute
+/// that speaks of no parameter of it, or of one of which another before it does. The error is want of memory.
 #[tactic(auto, unfolding(crate::specs::Recipe::recipe))]
 pub fn make_recipe<'src>(
     alloc: Global,
     heading: Heading<'src>,
     attributes: Sequence<NamedAttribute<'src>>,
-    options: &[Options],
-) -> Result<Option<UnresolvedRecipe<'src>>, AllocError>
-    ensures { IfOk result (λ made. made ≡ spec.recipe heading.entry attributes.entry options.now) }
+    spoken: &[Spoken<'src>],
+) -> Result<Result<UnresolvedRecipe<'src>, Token<'src>>, AllocError>
+    ensures { IfOk result (λ made. made ≡ spec.recipe heading.entry attributes.entry spoken.now) }
 {
     let Heading {
         quiet,
@@ -159,17 +146,18 @@ pub fn make_recipe<'src>(
         priors,
         subsequents,
     } = heading;
-    let Some(places) = fits(alloc, parameters.as_slice(), options)? else {
-        return Ok(None);
+    let places = match places_of(alloc, parameters.as_slice(), spoken)? {
+        Ok(places) => places,
+        Err(at) => return Ok(Err(at)),
     };
     let mut parameters = parameters.into_vec();
-    give_all(&mut parameters, options, &places)?;
+    give_all(&mut parameters, spoken, &places)?;
     let count = priors.len();
     let mut dependencies = priors;
     dependencies.append(subsequents)?;
     let private = is_private(&name) || says_private(attributes.as_slice());
     let variable_references = Shared::new(alloc, Sequence::new(alloc))?;
-    Ok(Some(Recipe {
+    Ok(Ok(Recipe {
         attributes,
         body: Sequence::new(alloc),
         dependencies,

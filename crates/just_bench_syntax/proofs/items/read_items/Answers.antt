@@ -13,11 +13,11 @@ returns-in-Ok-clause-proper c =
 pub returns-in-Ok-clause-told : goal.returns-in-Ok-clause-told
 returns-in-Ok-clause-told c =
     let read = ap (λ t. told t c.add_lines.new.reading) (sym c.in-Ok.is) ∙ c.in_ok-add_lines.ensures in
-    found_told c.args.path.now c.args.text.now c.args.all.now c.finished.result c.requires.lines
+    found_told c.args.path.now c.args.text.now c.finished.result
     (c.finished.ensures ∙ read_all c.args.path.now c.args.text.now c.args.all.now c.unread-reading.result (Ok c.add_lines.new.reading) c.requires.lines c.unread-reading.ensures read)
 
 pub returns-clause-told : goal.returns-clause-told
 returns-clause-told c =
     let read = ap (λ t. told t c.add_lines.new.reading) (sym c.in-Err.is) ∙ c.in_ok-add_lines.ensures in
-    found_told c.args.path.now c.args.text.now c.args.all.now (Err c.in-Err.number) c.requires.lines
-    (read_all c.args.path.now c.args.text.now c.args.all.now c.unread-reading.result (Err c.in-Err.number) c.requires.lines c.unread-reading.ensures read)
+    found_told c.args.path.now c.args.text.now (Err c.in-Err.at)
+    (read_all c.args.path.now c.args.text.now c.args.all.now c.unread-reading.result (Err c.in-Err.at) c.requires.lines c.unread-reading.ensures read)

@@ -6,5 +6,5 @@ use Rattle.just_bench_syntax.proofs.recipe.give_all.Given as goal
 abbrev pub invariant-loop-place : goal.invariant-loop-place
 invariant-loop-place l = record {
   count : length l.parameters.items ≡ length l.initial.parameters.items;
-  given : l.parameters.items ≡ half (with_options l.options) l.initial.parameters.items l.place;
+  given : l.parameters.items ≡ half (with_options l.spoken) l.initial.parameters.items l.place;
 }

@@ -1,4 +1,4 @@
-use Rattle.std.proofs.Common.{◌≡◌, ◌∙◌, sym, length, false, true}
+use Rattle.std.proofs.Common.{◌≡◌, ◌∙◌, sym, length, false}
 use Rattle.std.specs.Prelude.{◌==◌}
 use Rattle.just_bench_syntax.proofs.Interpreters.{said_cut, said_nothing, said_whole}
 use Rattle.just_bench_syntax.proofs.shebangs.said.Goals as goal

@@ -1,4 +1,3 @@
-use Rattle.std.proofs.Common.{◌≡◌, ◌∙◌, sym}
 use Rattle.just_bench_syntax.proofs.Interpreters.{shebang_none, shebang_some}
 use Rattle.just_bench_syntax.proofs.shebangs.shebang.Goals as goal
 
