@@ -40,7 +40,10 @@ pub mod layers {
         Shebang, Sigil, Signal, SourceError, StringLiteral, Subcommand, Switch, Syntax, Token,
         UnresolvedDependency, UnstableFeature, Verbosity, Warning, WriteFailed, joined,
     };
-    pub use just_run_layers::{Context, Entry, EnvironmentPair, Evaluation, Groups, Held, Host};
+    pub use just_run_layers::{
+        CommandCall, Context, Entry, EnvironmentChange, EnvironmentPair, Evaluation, Executor,
+        Groups, Held, Host, Positional, RunAnswer, ScriptCall, ShellCall, Status,
+    };
 }
 
 /// Files: how one came in, and all that there are, under their paths.

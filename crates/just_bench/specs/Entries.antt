@@ -16,9 +16,10 @@ group_text (text ∷ texts) = (codes " [" ++ text) ++ (further texts ++ codes "]
 abbrev pub groups_text : List (List Text) → Text
 groups_text = flat_map group_text
 
--- the path of a recipe that began, and the groups of its arguments
+-- the path of a recipe that began, and the groups of its arguments; nothing of other calls
 abbrev pub entry_line : Entry → Text
 entry_line (Begin path groups) = text_of path.components path.spaced ++ (groups_text groups ++ codes "\n")
+entry_line entry = []
 
 -- a line for each recipe that began
 abbrev pub entry_lines : List Entry → Text

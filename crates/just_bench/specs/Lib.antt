@@ -1,4 +1,8 @@
 pub mod Entries
 pub mod Promises
+pub mod Queue
 pub mod Ran
+pub mod Recorder
+pub mod Script
 pub mod StopWriter
+pub mod Turns

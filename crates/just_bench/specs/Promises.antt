@@ -2,9 +2,17 @@
 use Rattle.std.specs.Prelude.{List, Option}
 use Rattle.just_run_layers.specs.declared.host.Entry.{Entry}
 use Rattle.just_run_layers.specs.Evaluation.{Inquiry}
-use Rattle.just_run_layers.specs.Host.{Answer, Done}
-use Rattle.just_run_layers.specs.Steps.{Question, IsSteady, both}
+use Rattle.just_run_layers.specs.Host.{Answer}
+use Rattle.just_run_layers.specs.Steps.{Question, ToHost, ToEvaluator, IsSteady, both}
+use Rattle.just_bench_evaluation.specs.Answered.{plain_answer}
+use Rattle.just_bench.specs.Recorder.{answer_of}
+use Rattle.just_bench.specs.Script.{unscripted}
 
--- they promise that each question is done
+-- the answers where nothing is scripted, and those of the plain evaluation
+abbrev pub usual_answer : Question → Answer
+usual_answer (ToHost entry) = answer_of unscripted entry
+usual_answer (ToEvaluator inquiry) = plain_answer inquiry
+
+-- they promise the usual answer to each question
 abbrev pub EachIsPromised : (Inquiry → Option Answer) → (Entry → Option Answer) → Type 0
-EachIsPromised evaluator host = (questions : List Question) → IsSteady (both evaluator host) (λ question. Done) questions
+EachIsPromised evaluator host = (questions : List Question) → IsSteady (both evaluator host) usual_answer questions

@@ -9,11 +9,15 @@ use Rattle.just_parts.specs.declared.layers.config.Config.{Config}
 use Rattle.just_recipe.specs.declared.dependency.Dependency.{Dependency}
 use Rattle.just_recipe.specs.declared.recipe.Recipe.{Recipe}
 use Rattle.just_run_layers.specs.declared.host.Entry.{Entry}
-use Rattle.just_run_layers.specs.Host.{Done}
+use Rattle.just_run_layers.specs.Evaluation.{ScopeRequest}
 use Rattle.just_run_layers.specs.Steps.{kept_by}
 use Rattle.just_invoke.specs.Outcome.{IsOutcome}
 use Rattle.just_invoke.specs.Split.{Counts}
-use Rattle.just_bench_evaluation.specs.Constants.{evaluator}
+use Rattle.just_bench_evaluation.specs.Answered.{plain_answer}
+use Rattle.just_bench_values.specs.Constants.{evaluator}
+use Rattle.just_bench.specs.Recorder.{script_promises}
+use Rattle.just_bench.specs.Script.{unscripted}
+use Rattle.just_bench.specs.declared.script.Script.{Script}
 use Rattle.just_bench.specs.declared.program_error.ProgramError.{ProgramError}
 use Rattle.just_bench.specs.declared.program_error.ProgramError.TheVariants as program
 
@@ -21,16 +25,18 @@ use Rattle.just_bench.specs.declared.program_error.ProgramError.TheVariants as p
 abbrev pub plain_counts : Counts
 plain_counts = count_fault_of evaluator
 
--- Words are run over a root by the plain evaluation and a recorder, which promise that each question is done: the recorder kept these calls, and keeps those.
-abbrev pub IsPlainOutcome : Justfile → List (Recipe Dependency) → Config → List Text → List Entry → List Entry → Result Report Error → Type 0
-IsPlainOutcome root recipes config words old new result =
-    IsOutcome plain_counts root recipes words config (λ inquiry. Some Done) (λ entry. Some Done) (kept_by old []) (kept_by new []) result
+-- Words are run over a root by a plain evaluation that was asked nothing, which promises its answers, and a recorder, which promises what it does
+-- by its script: the recorder kept these calls, and keeps those; the evaluation keeps these questions for variables.
+abbrev pub IsPlainOutcome : Justfile → List (Recipe Dependency) → Config → List Text → Script → List Entry → List Entry → Result Report Error → Type 0
+IsPlainOutcome root recipes config words script old new result =
+    (requests : List ScopeRequest) ×
+    IsOutcome plain_counts root recipes words config (λ inquiry. Some (plain_answer inquiry)) (script_promises script) (kept_by old []) (kept_by new requests) result
 
--- What a recorder that was asked nothing is asked by a run, and what the run comes to.
+-- What a recorder without a script, which was asked nothing, is asked by a run, and what the run comes to.
 pub record Ran (root : Justfile) (recipes : List (Recipe Dependency)) (config : Config) (words : List Text) : Type 0 where
   pub entries : List Entry
   pub result : Result Report Error
-  pub outcome : IsPlainOutcome root recipes config words [] entries result
+  pub outcome : IsPlainOutcome root recipes config words unscripted [] entries result
 
 -- why a run is not told to be done: its error; or it is done, and its lines could not be written
 abbrev pub IsRunFault : Result Report Error → ProgramError → Type 0

@@ -39,14 +39,18 @@ fn write_groups<W: Write>(output: &mut W, groups: &[Sequence<Text>]) -> io::Resu
     Ok(())
 }
 
-// Writes the line of a recipe that began.
+// Writes the line of a recipe that began, and nothing of other calls.
 fn write_entry<W: Write>(output: &mut W, entry: &Entry) -> io::Result<()>
     ensures { OnOk result (Appends (W.contents output.old) (W.contents output.new) (entry_line entry.now)) }
 {
-    let Entry::Begin { path, groups } = entry;
-    write!(output, "{path}")?;
-    write_groups(output, groups.as_slice())?;
-    writeln!(output)
+    match entry {
+        Entry::Begin { path, groups } => {
+            write!(output, "{path}")?;
+            write_groups(output, groups.as_slice())?;
+            writeln!(output)
+        }
+        _ => Ok(()),
+    }
 }
 
 /// Writes a line for each recipe that began, and sees that all is written.

@@ -1,12 +1,36 @@
-//! Laws: calls that do nothing, whose contracts say what the grammar keeps.
+//! Laws: calls that do nothing, whose contracts say what the layers of the bench keep.
+ghost use Rattle.std.specs.Prelude.{◌≡◌, List, Some};
+ghost use Rattle.just_run_layers.specs.declared.host.Entry.{Entry};
+ghost use Rattle.just_run_layers.specs.Host.{Answer};
+ghost use Rattle.just_bench.specs.declared.script.Script.{Script};
 ghost use Rattle.just_bench.specs.Promises.{EachIsPromised};
+ghost use Rattle.just_bench.specs.Recorder.{Recording, answer_of, script_promises};
+ghost use Rattle.just_bench.specs.Script.{unscripted};
+ghost use Rattle.just_bench.specs.Turns.{AreCalled, AreScripted, IsRefusedNext};
 
 use crate::recorder::Recorder;
 use just_bench_evaluation::PlainEvaluation;
 use just_run_layers::{Evaluation, Host};
 
-/// The recorder and the plain evaluation promise that each question is done, whatever they were asked before. So each
-/// run of a bundle has promised answers. The call does nothing.
+/// A recorder of which no script is left and the plain evaluation promise the usual answer to each question, whatever they
+/// were asked before. So each run of a bundle has promised answers. The call does nothing.
 pub fn each_answer_is_promised(host: &Recorder, evaluation: &PlainEvaluation)
-    ensures { EachIsPromised (⟦<PlainEvaluation as Evaluation>⟧.promised evaluation.now) (⟦<Recorder as Host>⟧.promised host.now) }
+    ensures { host.now.script ≡ unscripted → EachIsPromised (⟦<PlainEvaluation as Evaluation>⟧.promised evaluation.now) (⟦<Recorder as Host>⟧.promised host.now) }
+{}
+
+/// What a script promises of a call is what it answers. The call does nothing.
+pub fn scripts_promise_their_answers()
+    ensures { (script : Script) (entry : Entry) (answer : Answer) → script_promises script entry ≡ Some answer → answer ≡ answer_of script entry }
+{}
+
+/// Calls of a recorder that are answered in turn are kept in order, and those of each kind are answered as its queue of the
+/// script has it, and by the usual answer after that. The call does nothing.
+pub fn scripts_are_answered_in_order()
+    ensures { (entries : List Entry) (old new : Recording) (answers : List Answer) → AreCalled entries old answers new → AreScripted old entries answers new }
+{}
+
+/// A recorder that is refused memory at a call is refused at the call of that number, whatever the calls before it were and
+/// however they were answered. The call does nothing.
+pub fn the_call_of_the_number_is_refused()
+    ensures { (script : Script) (entries : List Entry) → IsRefusedNext script entries }
 {}

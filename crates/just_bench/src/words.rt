@@ -25,15 +25,16 @@ pub fn run_words<'src>(
     words: &[&str],
 ) -> Result<Report, Error<'src>>
     requires { IsRooted root.now recipes.now }
-    ensures { IsPlainOutcome root.now recipes.now config.now (texts words.now) host.old host.new result }
+    ensures { IsPlainOutcome root.now recipes.now config.now (texts words.now) host.old.script host.old.entries host.new.entries result }
 {
     let mut writer = StopWriter::new(alloc, 0)?;
+    let mut evaluation = PlainEvaluation::new(alloc);
     root.run(
         alloc,
         config,
         recipes,
         &PlainSyntax::new(),
-        &mut PlainEvaluation,
+        &mut evaluation,
         host,
         &mut writer,
         words,

@@ -1,7 +1,7 @@
-pub mod Constants
-pub mod Counts
-pub mod Lookup
-pub mod Settings
-pub mod Sink
-pub mod Tasks
-pub mod Values
+pub mod Answered
+pub mod Dependency
+pub mod Environments
+pub mod Lines
+pub mod Parameters
+pub mod Refusals
+pub mod Sigils

@@ -1,18 +1,15 @@
-//! What expressions of the small grammar come to: values, which are lists of texts, and their evaluation as a layer.
+//! The evaluation that goes with the small grammar, as a layer: while compiling, and in runs.
 #![tactic(auto)]
 
-mod buffer;
-mod constants;
-mod counts;
-mod lookup;
+mod dependency;
+mod environments;
+mod expressions;
+mod lines;
+mod parameters;
 pub mod plain_evaluation;
-mod settings;
-mod sink;
-mod stack;
-mod tasks;
-mod values;
+mod refusals;
+mod requests;
+mod variables;
 
-pub use constants::constants_of;
 pub use plain_evaluation::PlainEvaluation;
-pub use settings::settings_of;
-pub use values::value_of;
+pub use requests::Asked;

@@ -29,7 +29,8 @@ fn compile<'src>(
     ensures ordered { IfOk result (λ c. IsOrdered c.justfile) }
     ensures root_ast { IfOk result (λ c. IsSome (get same_ast_key c.asts (root_ast_key c.root))) }
 {
-    Compiler::compile(alloc, config, syntax, &PlainEvaluation, sources, root)
+    let evaluation = PlainEvaluation::new(alloc);
+    Compiler::compile(alloc, config, syntax, &evaluation, sources, root)
 }
 
 // Adds what is asked of a compilation: what it has and what words do, what a variable of the root's module refers to and which

@@ -44,7 +44,8 @@ pub fn add_split<'src>(
 ) -> Result<(), AllocError>
     requires { IsRooted root.now recipes.now }
 {
-    match InvocationParser::parse_invocations(alloc, root, recipes, &PlainEvaluation, words) {
+    let evaluation = PlainEvaluation::new(alloc);
+    match InvocationParser::parse_invocations(alloc, root, recipes, &evaluation, words) {
         Ok(invocations) => add_invocations(text, invocations.as_slice()),
         Err(_) => Ok(()),
     }
@@ -57,7 +58,7 @@ fn add_groups(text: &mut String, groups: &Groups) -> Result<(), AllocError> {
     Ok(())
 }
 
-// Adds the line of the recipes that began.
+// Adds the line of the recipes that began; no other call is made yet.
 fn add_executed(text: &mut String, entries: &[Entry]) -> Result<(), AllocError> {
     text.push_str(if entries.is_empty() {
         "executed nothing"
@@ -65,10 +66,11 @@ fn add_executed(text: &mut String, entries: &[Entry]) -> Result<(), AllocError> 
         "executed"
     })?;
     for (place, entry) in entries.iter().enumerate() {
-        let Entry::Begin { path, groups } = entry;
-        text.push_str(before(place))?;
-        write!(text, "{path}")?;
-        add_groups(text, groups)?;
+        if let Entry::Begin { path, groups } = entry {
+            text.push_str(before(place))?;
+            write!(text, "{path}")?;
+            add_groups(text, groups)?;
+        }
     }
     text.push('\n')
 }

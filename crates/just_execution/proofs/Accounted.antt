@@ -2,6 +2,7 @@
 use Rattle.std.proofs.Common.{◌≡◌, ◌⊎◌, ℕ, zero, suc, ◌<◌, ◌≤◌, ◌^◌, true, false, List, [], ◌∷◌, ◌++◌, length, map, get_or, Option, Some, None, Result, Ok, Err, refl, sym, ◌∙◌, ap, subst, inl, inr, arith}
 use Rattle.std.specs.List.{All, slice_get}
 use Rattle.std.proofs.lemmas.Bool.{cases_Bool, cond-true, cond-false}
+use Rattle.std.proofs.lemmas.Grind.{flat_map-append}
 use Rattle.std.proofs.lemmas.List.{append-nil}
 use Rattle.std.proofs.lemmas.List.Elements.{All-head, All-tail, All-cons, All-weaker, All-map}
 use Rattle.just_graph.proofs.Members.{In, in_left, in_right}
@@ -12,7 +13,7 @@ use Rattle.just_errors.specs.declared.halt.Halt.TheVariants.{Memory, Exhausted, 
 use Rattle.just_run_layers.specs.declared.host.Entry.{Entry}
 use Rattle.just_run_layers.specs.declared.host.Entry.TheVariants.{Begin}
 use Rattle.just_recipe.specs.declared.recipe.Recipe.{Recipe}
-use Rattle.just_run_layers.specs.Host.{Answer, Executed, executed}
+use Rattle.just_run_layers.specs.Host.{Answer, Executed, executed, executed_by}
 use Rattle.just_run_layers.specs.declared.held.Held.{Held}
 use Rattle.just_run_layers.specs.Steps.{Kept, executed_in, Question, Steps, Give, and_then, Took}
 use Rattle.just_run_layers.proofs.StepLemmas.{took-gives, took-split}
@@ -299,8 +300,7 @@ follow-named recipes p ds old new r t = record {
 
 -- what was executed is what the entries say, one after another
 executed-append : (xs ys : List Entry) → executed (xs ++ ys) ≡ executed xs ++ executed ys
-executed-append [] ys = refl
-executed-append (Begin path groups ∷ xs) ys = ap (λ es. record { path = path; groups = groups } ∷ es) (executed-append xs ys)
+executed-append xs ys = flat_map-append executed_by xs ys
 
 abbrev IsExecuted : List Executed → Kept → Kept → Result (Unit {0}) Halt → Type 0
 IsExecuted es old new r = ((executed_in new ≡ executed_in old ++ es) × ((r ≡ Ok tt) ⊎ (r ≡ Err Memory))) ⊎ ((executed_in new ≡ executed_in old) × (r ≡ Err Memory))

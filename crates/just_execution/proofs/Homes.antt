@@ -18,7 +18,7 @@ use Rattle.just_recipe.specs.declared.dependency.Dependency.{Dependency}
 use Rattle.just_recipe.specs.declared.dependency.DependencyArgument.{DependencyArgument}
 use Rattle.just_recipe.specs.declared.recipe.Recipe.{Recipe}
 use Rattle.just_recipe.specs.Recipes.{IsOrdered}
-use Rattle.just_run_layers.specs.Evaluation.{Inquiry}
+use Rattle.just_run_layers.specs.Evaluation.{Inquiry, ScopeRequest}
 use Rattle.just_run_layers.specs.declared.held.Held.{Held}
 use Rattle.just_run_layers.specs.declared.host.Entry.{Entry}
 use Rattle.just_parts.specs.Evaluator.{values_of}
@@ -91,7 +91,7 @@ module _ (answers : SyntaxAnswers) (modules : Modules) (rs : List (Recipe Depend
           (all-callable (prior_dependencies rs t.pair.recipe) (part-needed (λ r. take r.priors r.dependencies) (λ r P h. All-take P r.priors r.dependencies h) rs t.pair.recipe)
           (below-more t.pair.recipe (length rs) _ (omega (arith, callable.place)) (priors-before rs t.pair ordered)))
 
-      pub followed-callable : (held : Held) (before later : List Inquiry) (ts : List Task) → AsksAlone e (follow_steps rs t held) before later (Ok ts) → All (IsCallable answers modules rs) ts
+      pub followed-callable : (held : Held) (before later : List ScopeRequest) (ts : List Task) → AsksAlone e (follow_steps rs t held) before later (Ok ts) → All (IsCallable answers modules rs) ts
       followed-callable held before later ts took =
           subst (All (IsCallable answers modules rs)) (took-gives (both e (λ entry. None)) (follow_steps rs t held) (kept_by [] before) (kept_by [] later) ts (took (λ entry. None) []))
           (all-callable (subsequent_dependencies rs t.pair.recipe) (part-needed (λ r. drop r.priors r.dependencies) (λ r P h. All-drop P r.priors r.dependencies h) rs t.pair.recipe)

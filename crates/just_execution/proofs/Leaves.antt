@@ -5,7 +5,7 @@ use Rattle.just_recipe.specs.declared.recipe.Recipe.{Recipe}
 use Rattle.just_recipe.specs.declared.dependency.Dependency.{Dependency}
 use Rattle.just_run_layers.specs.declared.held.Held.{Held}
 use Rattle.just_run_layers.specs.declared.host.Entry.{Entry}
-use Rattle.just_run_layers.specs.Evaluation.{Inquiry}
+use Rattle.just_run_layers.specs.Evaluation.{Inquiry, ScopeRequest}
 use Rattle.just_run_layers.specs.Host.{Answer}
 use Rattle.just_errors.specs.declared.halt.Halt.{Halt}
 use Rattle.just_errors.specs.declared.halt.Halt.TheVariants.{Memory}
@@ -58,7 +58,7 @@ pub asked-below : (scene : Scene) → IsOrdered scene.recipes → (e : Inquiry �
     Prepares e h scene t old new (Ok a) → AllBelow t.pair.recipe a.priors
 asked-below scene ordered e h t old new a took = (leaves-lower scene ordered).priors t a (took-gives (both e h) (ask_steps scene t) old new a took)
 
-pub followed-below : (scene : Scene) → IsOrdered scene.recipes → (e : Inquiry → Option Answer) (t : Task) (h : Held) (before later : List Inquiry) (ts : List Task) →
+pub followed-below : (scene : Scene) → IsOrdered scene.recipes → (e : Inquiry → Option Answer) (t : Task) (h : Held) (before later : List ScopeRequest) (ts : List Task) →
     AsksAlone e (follow_steps scene.recipes t h) before later (Ok ts) → AllBelow t.pair.recipe ts
 followed-below scene ordered e t h before later ts took =
     (leaves-lower scene ordered).subsequents t h ts (took-gives (both e (λ entry. None)) (follow_steps scene.recipes t h) (kept_by [] before) (kept_by [] later) ts (took (λ entry. None) []))

@@ -9,7 +9,7 @@ use Rattle.just_run_layers.specs.declared.held.Held.{Held}
 use Rattle.just_run_layers.specs.declared.host.Entry.{Entry}
 use Rattle.just_run_layers.specs.declared.host.Entry.TheVariants.{Begin}
 use Rattle.just_recipe.specs.declared.recipe.Recipe.{Recipe}
-use Rattle.just_run_layers.specs.Evaluation.{Inquiry}
+use Rattle.just_run_layers.specs.Evaluation.{Inquiry, ScopeRequest}
 use Rattle.just_run_layers.specs.Host.{Answer}
 use Rattle.just_run_layers.specs.Steps.{Kept, kept_by, Steps, Give, Fail, Asks, ToHost, Took, both}
 use Rattle.just_execution.specs.declared.running.Preparation.{Preparation}
@@ -67,7 +67,7 @@ prepared_of (Err e) = Err e
 abbrev pub Prepares : (Inquiry → Option Answer) → (Entry → Option Answer) → Scene → Task → Kept → Kept → Result Prepared Halt → Type 0
 Prepares evaluator host scene task old new result = Took (both evaluator host) (ask_steps scene task) old new result
 
-abbrev pub AsksAlone : (Inquiry → Option Answer) → Steps (List Task) → List Inquiry → List Inquiry → Result (List Task) Halt → Type 0
+abbrev pub AsksAlone : (Inquiry → Option Answer) → Steps (List Task) → List ScopeRequest → List ScopeRequest → Result (List Task) Halt → Type 0
 AsksAlone evaluator steps before later result =
     (host : Entry → Option Answer) (entries : List Entry) → Took (both evaluator host) steps (kept_by entries before) (kept_by entries later) result
 

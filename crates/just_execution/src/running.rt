@@ -63,8 +63,8 @@ fn ask<'src, S: Syntax, E: Evaluation, H: Host>(
     requires callable { IsCallable (S.answers scopes.now.syntax.now) scopes.now.modules recipes.now task.now }
     ensures keeps { KeepsPromises (E.promised _evaluation.old) (E.promised _evaluation.new) }
     ensures keeps_host { KeepsPromises (H.promised _host.old) (H.promised _host.new) }
-    ensures took { let first = kept_by (H.entries _host.old) (E.inquiries _evaluation.old) in
-        let last = kept_by (H.entries _host.new) (E.inquiries _evaluation.new) in
+    ensures took { let first = kept_by (H.entries _host.old) (E.requests _evaluation.old) in
+        let last = kept_by (H.entries _host.new) (E.requests _evaluation.new) in
         let scene = scene_of scopes.now.modules recipes.now in
         Prepares (E.promised _evaluation.old) (H.promised _host.old) scene task.now first last (prepared_of result) }
     ensures serves { let serves = IsServed (S.answers scopes.now.syntax.now) scopes.now.modules recipes.now task.now in
@@ -94,7 +94,7 @@ fn follow<'src, S: Syntax, E: Evaluation>(
     requires resolved { All IsResolved recipes.now }
     ensures keeps { KeepsPromises (E.promised _evaluation.old) (E.promised _evaluation.new) }
     ensures took { let took = AsksAlone (E.promised _evaluation.old) (follow_steps recipes.now task.now _held.now) in
-        took (E.inquiries _evaluation.old) (E.inquiries _evaluation.new) (items_of result) }
+        took (E.requests _evaluation.old) (E.requests _evaluation.new) (items_of result) }
 {
     let dependencies = subsequents_at(recipes, task.pair.recipe);
     Ok(name_all(alloc, recipes, dependencies)?)
@@ -116,8 +116,8 @@ fn execute<'src, S: Syntax, E: Evaluation, H: Host>(
     requires resolved { All IsResolved recipes.now }
     ensures keeps { KeepsPromises (E.promised _evaluation.old) (E.promised _evaluation.new) }
     ensures keeps_host { KeepsPromises (H.promised host.old) (H.promised host.new) }
-    ensures took { let first = kept_by (H.entries host.old) (E.inquiries _evaluation.old) in
-        let last = kept_by (H.entries host.new) (E.inquiries _evaluation.new) in
+    ensures took { let first = kept_by (H.entries host.old) (E.requests _evaluation.old) in
+        let last = kept_by (H.entries host.new) (E.requests _evaluation.new) in
         Executes (E.promised _evaluation.old) (H.promised host.old) recipes.now task.now _held.now first last result }
 {
     let recipe = recipe_at(recipes, task.pair.recipe);
@@ -141,8 +141,8 @@ fn call_task<'src, S: Syntax, E: Evaluation, H: Host>(
     requires sound { IsSoundIn (S.answers scopes.now.syntax.now) scopes.now.modules recipes.now run.old }
     ensures keeps { KeepsPromises (E.promised evaluation.old) (E.promised evaluation.new) }
     ensures keeps_host { KeepsPromises (H.promised host.old) (H.promised host.new) }
-    ensures goes { let first = kept_by (H.entries host.old) (E.inquiries evaluation.old) in
-        let last = kept_by (H.entries host.new) (E.inquiries evaluation.new) in
+    ensures goes { let first = kept_by (H.entries host.old) (E.requests evaluation.old) in
+        let last = kept_by (H.entries host.new) (E.requests evaluation.new) in
         let calls = Calls (E.promised evaluation.old) (H.promised host.old) (scene_of scopes.now.modules recipes.now) in
         calls task run.old first run.new last result }
     ensures sound { OnOk result (IsSoundIn (S.answers scopes.now.syntax.now) scopes.now.modules recipes.now run.new) }
@@ -177,8 +177,8 @@ fn run_block<'src, S: Syntax, E: Evaluation, H: Host>(
     requires sound { IsSoundIn (S.answers scopes.now.syntax.now) scopes.now.modules recipes.now run.old }
     ensures keeps { KeepsPromises (E.promised evaluation.old) (E.promised evaluation.new) }
     ensures keeps_host { KeepsPromises (H.promised host.old) (H.promised host.new) }
-    ensures goes { let first = kept_by (H.entries host.old) (E.inquiries evaluation.old) in
-        let last = kept_by (H.entries host.new) (E.inquiries evaluation.new) in
+    ensures goes { let first = kept_by (H.entries host.old) (E.requests evaluation.old) in
+        let last = kept_by (H.entries host.new) (E.requests evaluation.new) in
         let blocks = Blocks (E.promised evaluation.old) (H.promised host.old) (scene_of scopes.now.modules recipes.now) in
         blocks task held.entry run.old first run.new last result }
     ensures sound { OnOk result (IsSoundIn (S.answers scopes.now.syntax.now) scopes.now.modules recipes.now run.new) }
@@ -216,8 +216,8 @@ fn take<'src, S: Syntax, E: Evaluation, H: Host>(
     requires sound { IsSoundIn (S.answers scopes.now.syntax.now) scopes.now.modules recipes.now run.old }
     ensures keeps { KeepsPromises (E.promised evaluation.old) (E.promised evaluation.new) }
     ensures keeps_host { KeepsPromises (H.promised host.old) (H.promised host.new) }
-    ensures goes { let first = kept_by (H.entries host.old) (E.inquiries evaluation.old) in
-        let last = kept_by (H.entries host.new) (E.inquiries evaluation.new) in
+    ensures goes { let first = kept_by (H.entries host.old) (E.requests evaluation.old) in
+        let last = kept_by (H.entries host.new) (E.requests evaluation.new) in
         let leads = Leads (E.promised evaluation.old) (H.promised host.old) (scene_of scopes.now.modules recipes.now) in
         leads frame.entry run.old first run.new last result }
     ensures sound { OnOk result (IsSoundIn (S.answers scopes.now.syntax.now) scopes.now.modules recipes.now run.new) }
@@ -249,8 +249,8 @@ fn finish<'src, S: Syntax, E: Evaluation, H: Host>(
     requires sound { IsSoundIn (S.answers scopes.now.syntax.now) scopes.now.modules recipes.now run.old }
     ensures keeps { KeepsPromises (E.promised evaluation.old) (E.promised evaluation.new) }
     ensures keeps_host { KeepsPromises (H.promised host.old) (H.promised host.new) }
-    ensures took { let first = kept_by (H.entries host.old) (E.inquiries evaluation.old) in
-        let last = kept_by (H.entries host.new) (E.inquiries evaluation.new) in
+    ensures took { let first = kept_by (H.entries host.old) (E.requests evaluation.old) in
+        let last = kept_by (H.entries host.new) (E.requests evaluation.new) in
         let scene = scene_of scopes.now.modules recipes.now in
         Finishes (E.promised evaluation.old) (H.promised host.old) scene run.old first run.new last result }
 {
@@ -275,8 +275,8 @@ fn start<'src, S: Syntax, E: Evaluation, H: Host>(
     requires home { AreHome (S.answers scopes.now.syntax.now) scopes.now.modules recipes.now tasks.items }
     ensures keeps { KeepsPromises (E.promised evaluation.old) (E.promised evaluation.new) }
     ensures keeps_host { KeepsPromises (H.promised host.old) (H.promised host.new) }
-    ensures took { let first = kept_by (H.entries host.old) (E.inquiries evaluation.old) in
-        let last = kept_by (H.entries host.new) (E.inquiries evaluation.new) in
+    ensures took { let first = kept_by (H.entries host.old) (E.requests evaluation.old) in
+        let last = kept_by (H.entries host.new) (E.requests evaluation.new) in
         let scene = scene_of scopes.now.modules recipes.now in
         Starts (E.promised evaluation.old) (H.promised host.old) scene tasks.items first last result }
 {
@@ -313,15 +313,15 @@ pub fn run_tasks<'src, S: Syntax, E: Evaluation, H: Host>(
     requires home { AreHome (S.answers scopes.now.syntax.now) scopes.now.modules recipes.now tops.items }
     ensures keeps { KeepsPromises (E.promised evaluation.old) (E.promised evaluation.new) }
     ensures keeps_host { KeepsPromises (H.promised host.old) (H.promised host.new) }
-    ensures took { let first = kept_by (H.entries host.old) (E.inquiries evaluation.old) in
-        let last = kept_by (H.entries host.new) (E.inquiries evaluation.new) in
+    ensures took { let first = kept_by (H.entries host.old) (E.requests evaluation.old) in
+        let last = kept_by (H.entries host.new) (E.requests evaluation.new) in
         let scene = scene_of scopes.now.modules recipes.now in
         Starts (E.promised evaluation.old) (H.promised host.old) scene tops.items first last result }
-    ensures account { let first = kept_by (H.entries host.old) (E.inquiries evaluation.old) in
-        let last = kept_by (H.entries host.new) (E.inquiries evaluation.new) in
+    ensures account { let first = kept_by (H.entries host.old) (E.requests evaluation.old) in
+        let last = kept_by (H.entries host.new) (E.requests evaluation.new) in
         IsRun recipes.now tops.items first last result }
-    ensures expected { let first = kept_by (H.entries host.old) (E.inquiries evaluation.old) in
-        let last = kept_by (H.entries host.new) (E.inquiries evaluation.new) in
+    ensures expected { let first = kept_by (H.entries host.old) (E.requests evaluation.old) in
+        let last = kept_by (H.entries host.new) (E.requests evaluation.new) in
         let scene = scene_of scopes.now.modules recipes.now in
         IsAsExpected (E.promised evaluation.old) (H.promised host.old) scene tops.items first last result }
 {

@@ -55,15 +55,15 @@ pub trait Run<'src> {
         ensures keeps_host { KeepsPromises (H.promised host.old) (H.promised host.new) }
         // For every host.
         ensures outcome { let counts = count_fault_of (E.answers evaluation.old) in
-            let first = kept_by (H.entries host.old) (E.inquiries evaluation.old) in
-            let last = kept_by (H.entries host.new) (E.inquiries evaluation.new) in
+            let first = kept_by (H.entries host.old) (E.requests evaluation.old) in
+            let last = kept_by (H.entries host.new) (E.requests evaluation.new) in
             let outcome = IsOutcome counts (root self.now) recipes.now (texts words.now) config.now (E.promised evaluation.old) (H.promised host.old) in
             outcome first last result }
         // For promised answers.
         ensures expected { let counts = count_fault_of (E.answers evaluation.old) in
             let expected = IsExpected counts (root self.now) recipes.now (texts words.now) config.now (E.promised evaluation.old) (H.promised host.old) in
-            let first = kept_by (H.entries host.old) (E.inquiries evaluation.old) in
-            let last = kept_by (H.entries host.new) (E.inquiries evaluation.new) in
+            let first = kept_by (H.entries host.old) (E.requests evaluation.old) in
+            let last = kept_by (H.entries host.new) (E.requests evaluation.new) in
             expected first last result }
         // The writer is left as it was.
         ensures unwritten { W.written writer.new ≡ W.written writer.old }

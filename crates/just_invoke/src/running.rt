@@ -31,8 +31,8 @@ pub(crate) fn run_invocations<'src, S: Syntax, E: Evaluation, H: Host>(
     requires held { All (λ (i : Invocation). IsHeld recipes.now i.recipe.now) invocations.now }
     ensures keeps { KeepsPromises (E.promised evaluation.old) (E.promised evaluation.new) }
     ensures keeps_host { KeepsPromises (H.promised host.old) (H.promised host.new) }
-    ensures comes { let first = kept_by (H.entries host.old) (E.inquiries evaluation.old) in
-        let last = kept_by (H.entries host.new) (E.inquiries evaluation.new) in
+    ensures comes { let first = kept_by (H.entries host.old) (E.requests evaluation.old) in
+        let last = kept_by (H.entries host.new) (E.requests evaluation.new) in
         let alike = AreAlike (scene_of scopes.now.modules recipes.now) in
         ComesTo (E.promised evaluation.old) (H.promised host.old) alike recipes.now invocations.now first last result }
 {

@@ -24,9 +24,11 @@ fn bare_scope<'run, 'src>(
     ModuleScope {
         context: Context {
             config,
+            dotenv: &[],
             module_path: &module.module_path,
             working_directory: &module.working_directory,
             assignments: &module.assignments,
+            evaluation_order: module.evaluation_order.as_slice(),
             functions: &module.functions,
             overrides,
             settings: &module.settings,

@@ -1,13 +1,13 @@
 -- Steps after steps.
-use Rattle.std.proofs.Common.{◌≡◌, ◌⊎◌, List, [], ◌∷◌, Option, refl, sym, ◌++◌, ◌∙◌, ap, subst, inl, inr, append_assoc, Ok, Err}
+use Rattle.std.proofs.Common.{◌≡◌, ◌⊎◌, List, [], ◌∷◌, Option, Some, refl, sym, ◌++◌, ◌∙◌, ap, subst, inl, inr, append_assoc, Ok, Err}
 use Rattle.std.specs.Prelude.{Result, IsErrAnd}
 use Rattle.std.proofs.lemmas.List.{append-nil}
 use Rattle.just_errors.specs.declared.halt.Halt.{Halt}
 use Rattle.just_errors.specs.declared.halt.Halt.TheVariants.{Memory}
 use Rattle.just_run_layers.specs.declared.host.Entry.{Entry}
-use Rattle.just_run_layers.specs.Evaluation.{Inquiry}
-use Rattle.just_run_layers.specs.Host.{Answer, KeepsPromises}
-use Rattle.just_run_layers.specs.Steps.{Question, ToHost, ToEvaluator, both, Steps, Give, Fail, Asks, and_then, Gives, Kept, kept_by, after, after_all, Took, path, outcome, IsSteady, calls, inquiries_in, Follows}
+use Rattle.just_run_layers.specs.Evaluation.{Inquiry, ScopeRequest, requests_of, requested}
+use Rattle.just_run_layers.specs.Host.{Answer, Answers, KeepsPromises, kept}
+use Rattle.just_run_layers.specs.Steps.{Question, ToHost, ToEvaluator, both, Steps, Give, Fail, Asks, and_then, Gives, Kept, kept_by, after, after_all, Took, path, outcome, IsSteady, calls, requests_in, Follows}
 
 -- promises
 pub keeps-then : {Q : Type 0} (a b c : Q → Option Answer) → KeepsPromises a b → KeepsPromises b c → KeepsPromises a c
@@ -91,11 +91,11 @@ took-split {A} {B} p (Asks q g) next old new r (inr (a, l, t)) = elim (took-spli
 
 -- no questions, and one before others
 pub after-none : (old : Kept) → after_all [] old ≡ old
-after-none old = λ i. kept_by (append-nil old.entries i) (append-nil old.inquiries i)
+after-none old = λ i. kept_by (append-nil old.entries i) (append-nil old.requests i)
 
 after-one : (q : Question) (qs : List Question) (old : Kept) → after_all qs (after q old) ≡ after_all (q ∷ qs) old
-after-one (ToHost x) qs old = λ i. kept_by (append_assoc old.entries (x ∷ []) (calls qs) i) (old.inquiries ++ inquiries_in qs)
-after-one (ToEvaluator x) qs old = λ i. kept_by (old.entries ++ calls qs) (append_assoc old.inquiries (x ∷ []) (inquiries_in qs) i)
+after-one (ToHost x) qs old = λ i. kept_by (append_assoc old.entries (x ∷ []) (calls qs) i) (old.requests ++ requests_in qs)
+after-one (ToEvaluator x) qs old = λ i. kept_by (old.entries ++ calls qs) (append_assoc old.requests (requests_of x) (requests_in qs) i)
 
 -- steps under fixed answers
 follows-asked : {A : Type 0} (q : Question) (qs : List Question) (end : Result A Halt) (old new : Kept) (r : Result A Halt) → Follows qs end (after q old) new r → Follows (q ∷ qs) end old new r
@@ -126,3 +126,26 @@ took-gives p (Asks q g) old new x (inr (a, l, t)) = (a, took-gives p (g a) (afte
 pub exited : {A : Type 0} (r : Result A Halt) (e : Halt) → IsErrAnd r (λ y. y ≡ e) → r ≡ Err e
 exited (Ok x) e h = absurd h
 exited (Err y) e h = ap (λ z. Err z) h
+
+-- one question: one to the evaluator that is not kept, one for variables, and one to the host
+pub took-asked : {A : Type 0} (e : Inquiry → Option Answer) (h : Entry → Option Answer) (x : Inquiry) (g : Answer → Steps A) (a : Answer) (entries : List Entry) (before later : List ScopeRequest) (new : Kept) (r : Result A Halt) →
+    requests_of x ≡ [] → Answers (e x) (Some a) → later ≡ before → Took (both e h) (g a) (kept_by entries later) new r → Took (both e h) (Asks (ToEvaluator x) g) (kept_by entries before) new r
+took-asked e h x g a entries before later new r none l n t =
+    inr (a, (λ b m. l b a m refl), subst (λ rs. Took (both e h) (g a) (kept_by entries rs) new r) (n ∙ sym (append-nil before) ∙ ap (λ qs. before ++ qs) (sym none)) t)
+
+pub took-requested : {A : Type 0} (e : Inquiry → Option Answer) (h : Entry → Option Answer) (x : Inquiry) (g : Answer → Steps A) (a : Answer) (entries : List Entry) (before later : List ScopeRequest) (new : Kept) (r : Result A Halt) →
+    Answers (e x) (Some a) → later ≡ before ++ requested x (Some a) → Took (both e h) (g a) (kept_by entries later) new r → Took (both e h) (Asks (ToEvaluator x) g) (kept_by entries before) new r
+took-requested e h x g a entries before later new r l n t =
+    inr (a, (λ b m. l b a m refl), subst (λ rs. Took (both e h) (g a) (kept_by entries rs) new r) n t)
+
+pub took-called : {A : Type 0} (e : Inquiry → Option Answer) (h : Entry → Option Answer) (x : Entry) (g : Answer → Steps A) (a : Answer) (requests : List ScopeRequest) (before later : List Entry) (new : Kept) (r : Result A Halt) →
+    Answers (h x) (Some a) → later ≡ before ++ kept x (Some a) → Took (both e h) (g a) (kept_by later requests) new r → Took (both e h) (Asks (ToHost x) g) (kept_by before requests) new r
+took-called e h x g a requests before later new r l n t =
+    inr (a, (λ b m. l b a m refl), subst (λ es. Took (both e h) (g a) (kept_by es requests) new r) n t)
+
+-- a value that is given, and an end
+pub took-give : {A : Type 0} (p : Question → Option Answer) (old : Kept) (x : A) → Took p (Give x) old old (Ok x)
+took-give p old x = (refl, inl refl)
+
+pub took-fail : {A : Type 0} (p : Question → Option Answer) (old : Kept) (e : Halt) → Took {A = A} p (Fail e) old old (Err e)
+took-fail p old e = (refl, inl refl)

@@ -1,12 +1,29 @@
--- What a host is asked, and what it promises.
-use Rattle.std.specs.Prelude.{◌≡◌, ℕ, List, [], ◌∷◌, Option, Some, None, Result, Ok, Err}
+-- What a host is asked, and what is answered and promised.
+use Rattle.std.specs.Prelude.{◌≡◌, ℕ, List, [], ◌∷◌, Option, Some, None, Result, Ok, Err, flat_map}
+use Rattle.just_errors.specs.declared.refusal.Refusal.{Refusal}
+use Rattle.just_errors.specs.declared.refusal.Refusal.TheVariants as refusal
+use Rattle.just_names.specs.Texts.{Text}
 use Rattle.just_paths.specs.declared.modulepath.Modulepath.{Modulepath}
+use Rattle.just_ast_expressions.specs.declared.scope.Scope.{Scope}
+use Rattle.just_run_layers.specs.declared.environment.EnvironmentChange.{EnvironmentChange}
+use Rattle.just_run_layers.specs.declared.environment.EnvironmentPair.{EnvironmentPair}
+use Rattle.just_run_layers.specs.declared.held.Held.{Held}
 use Rattle.just_run_layers.specs.declared.host.Entry.{Entry}
 use Rattle.just_run_layers.specs.declared.host.Entry.TheVariants.{Begin}
+use Rattle.just_run_layers.specs.declared.run_answer.RunAnswer.{RunAnswer}
 
--- what is answered, where there is the memory: that it is done
+-- What is answered, where there is the memory: that it is done; a text; a value; a scope; what a task holds; pairs, or changes,
+-- of an environment; how a program ended; or a fault with its message.
 pub data Answer : Type 0 where
   Done : Answer
+  Given : Text → Answer
+  Valued : List Text → Answer
+  Scoped : Scope → Answer
+  Bound : Held → Answer
+  Paired : List EnvironmentPair → Answer
+  Changed : List EnvironmentChange → Answer
+  Ran : RunAnswer → Answer
+  Refused : Text → Answer
 
 -- no promise is taken away or changed
 abbrev pub KeepsPromises : {Q : Type 0} → (Q → Option Answer) → (Q → Option Answer) → Type 0
@@ -26,12 +43,46 @@ abbrev pub done_answer : {A E : Type 0} → Result A E → Option Answer
 done_answer (Ok x) = Some Done
 done_answer (Err e) = None
 
+-- that of a call by which a program ran
+abbrev pub run_answer : {E : Type 0} → Result RunAnswer E → Option Answer
+run_answer (Ok answer) = Some (Ran answer)
+run_answer (Err e) = None
+
+-- that of a call that may fault, which is an answer too
+abbrev pub answered : {A : Type 0} → (A → Answer) → Result A Refusal → Option Answer
+answered answer (Ok x) = Some (answer x)
+answered answer (Err refusal.Memory) = None
+answered answer (Err (refusal.Fault fault)) = Some (Refused fault.message)
+
+-- the answers as functions
+abbrev pub given : Text → Answer
+given text = Given text
+
+abbrev pub paired : List EnvironmentPair → Answer
+paired pairs = Paired pairs
+
+abbrev pub valued : List Text → Answer
+valued value = Valued value
+
+abbrev pub scoped : Scope → Answer
+scoped scope = Scoped scope
+
+abbrev pub bound_to : Held → Answer
+bound_to bound = Bound bound
+
+abbrev pub changed : List EnvironmentChange → Answer
+changed changes = Changed changes
+
 -- a recipe that was executed: its path, and the groups of its arguments
 pub record Executed : Type 0 where
   pub path : Modulepath
   pub groups : List (List (List ℕ))
 
+-- what an entry executes
+abbrev pub executed_by : Entry → List Executed
+executed_by (Begin path groups) = record { path = path; groups = groups } ∷ []
+executed_by entry = []
+
 -- the recipes that were executed, in order
 abbrev pub executed : List Entry → List Executed
-executed [] = []
-executed (Begin path groups ∷ entries) = record { path = path; groups = groups } ∷ executed entries
+executed entries = flat_map executed_by entries

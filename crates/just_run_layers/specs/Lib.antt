@@ -1,3 +1,5 @@
+pub mod Covering
 pub mod Evaluation
 pub mod Host
+pub mod LineTexts
 pub mod Steps

@@ -3,7 +3,7 @@ use Rattle.std.specs.Prelude.{◌≡◌, ◌⊎◌, List, [], ◌∷◌, ◌++�
 use Rattle.just_errors.specs.declared.halt.Halt.{Halt}
 use Rattle.just_errors.specs.declared.halt.Halt.TheVariants.{Memory, Exhausted}
 use Rattle.just_run_layers.specs.declared.host.Entry.{Entry}
-use Rattle.just_run_layers.specs.Evaluation.{Inquiry}
+use Rattle.just_run_layers.specs.Evaluation.{Inquiry, ScopeRequest, requests_of}
 use Rattle.just_run_layers.specs.Host.{Answer, Executed, executed}
 
 -- what is asked of the host or of the evaluator
@@ -37,19 +37,19 @@ Gives (Asks q k) y = (a : Answer) × Gives (k a) y
 -- What is kept of a run: what the host was asked, and for which variables the evaluator was asked, each in order.
 pub record Kept : Type 0 where
   pub entries : List Entry
-  pub inquiries : List Inquiry
+  pub requests : List ScopeRequest
 
-abbrev pub kept_by : List Entry → List Inquiry → Kept
-kept_by entries inquiries = record { entries = entries; inquiries = inquiries }
+abbrev pub kept_by : List Entry → List ScopeRequest → Kept
+kept_by entries requests = record { entries = entries; requests = requests }
 
 -- the recipes that were executed, in order
 abbrev pub executed_in : Kept → List Executed
 executed_in kept = executed kept.entries
 
--- a question is kept after what is kept
+-- a question is kept after what is kept: one to the evaluator where it is for variables
 abbrev pub after : Question → Kept → Kept
-after (ToHost entry) old = kept_by (old.entries ++ entry ∷ []) old.inquiries
-after (ToEvaluator inquiry) old = kept_by old.entries (old.inquiries ++ inquiry ∷ [])
+after (ToHost entry) old = kept_by (old.entries ++ entry ∷ []) old.requests
+after (ToEvaluator inquiry) old = kept_by old.entries (old.requests ++ requests_of inquiry)
 
 -- For every host: the steps were taken with some answers, which are those promised where there is a promise; the questions
 -- are kept, and the result is that of the steps. Or memory was refused, after a beginning of such steps.
@@ -76,20 +76,20 @@ abbrev pub IsSteady : (Question → Option Answer) → (Question → Answer) →
 IsSteady promised f [] = Unit {0}
 IsSteady promised f (q ∷ qs) = (promised q ≡ Some (f q)) × IsSteady promised f qs
 
--- what is kept of questions, those to the host and those to the evaluator
+-- what is kept of questions, those to the host and those for variables
 abbrev pub calls : List Question → List Entry
 calls [] = []
 calls (ToHost entry ∷ qs) = entry ∷ calls qs
 calls (ToEvaluator inquiry ∷ qs) = calls qs
 
-abbrev pub inquiries_in : List Question → List Inquiry
-inquiries_in [] = []
-inquiries_in (ToHost entry ∷ qs) = inquiries_in qs
-inquiries_in (ToEvaluator inquiry ∷ qs) = inquiry ∷ inquiries_in qs
+abbrev pub requests_in : List Question → List ScopeRequest
+requests_in [] = []
+requests_in (ToHost entry ∷ qs) = requests_in qs
+requests_in (ToEvaluator inquiry ∷ qs) = requests_of inquiry ++ requests_in qs
 
 -- they are kept after what is kept
 abbrev pub after_all : List Question → Kept → Kept
-after_all qs old = kept_by (old.entries ++ calls qs) (old.inquiries ++ inquiries_in qs)
+after_all qs old = kept_by (old.entries ++ calls qs) (old.requests ++ requests_in qs)
 
 -- some beginning of the questions was asked
 abbrev pub IsBeginning : List Question → Kept → Kept → Type 0

@@ -1,10 +1,10 @@
-//! What a task holds between the questions before its priors and its block.
+//! What the parameters of a recipe come to.
 use crate::environment::EnvironmentPair;
 use just_data::{Sequence, Text};
 use just_parts::layers::Scope;
 
-/// What asking for a task comes to beside its priors. It is held until the task's block, and used there alone: it can't
-/// be copied.
+/// What the parameters of a recipe come to, by the texts that it is given. A task holds it from the questions before its
+/// priors until its block, and it is used there alone: it can't be copied.
 #[derive(Drop)]
 pub struct Held<'src> {
     /// The values of the names that the recipe reads.

@@ -2,14 +2,18 @@
 //! holds between its questions and its block, and the steps of a run as its contracts see them.
 #![tactic(auto)]
 
+pub mod calls;
 pub mod context;
 pub mod environment;
 pub mod evaluation;
 pub mod held;
 pub mod host;
+pub mod run_answer;
 
+pub use calls::{CommandCall, Executor, Positional, ScriptCall, ShellCall};
 pub use context::Context;
-pub use environment::EnvironmentPair;
+pub use environment::{EnvironmentChange, EnvironmentPair};
 pub use evaluation::Evaluation;
 pub use held::Held;
 pub use host::{Entry, Groups, Host};
+pub use run_answer::{RunAnswer, Status};

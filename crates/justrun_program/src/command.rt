@@ -21,14 +21,9 @@ fn compile<'src>(
     requires { IsClean root.now }
     ensures { IfOk result (λ c. IsRooted c.justfile c.recipes) }
 {
-    Compiler::compile(
-        alloc,
-        config,
-        &PlainSyntax::new(),
-        &PlainEvaluation,
-        sources,
-        root,
-    )
+    let syntax = PlainSyntax::new();
+    let evaluation = PlainEvaluation::new(alloc);
+    Compiler::compile(alloc, config, &syntax, &evaluation, sources, root)
 }
 
 // Compiles the root of a source map, and runs the words.

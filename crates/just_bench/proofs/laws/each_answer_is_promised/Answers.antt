@@ -1,14 +1,10 @@
-use Rattle.std.proofs.Common.{List, [], ◌∷◌, Some, refl}
-use Rattle.just_run_layers.specs.Evaluation.{Inquiry}
-use Rattle.just_run_layers.specs.declared.host.Entry.{Entry}
-use Rattle.just_run_layers.specs.Host.{Done}
-use Rattle.just_run_layers.specs.Steps.{Question, ToHost, ToEvaluator, IsSteady, both}
+use Rattle.std.proofs.Common.{Some, sym, subst}
+use Rattle.just_bench.proofs.Scripted.{steady-all}
+use Rattle.just_bench.specs.declared.script.Script.{Script}
+use Rattle.just_bench.specs.Promises.{EachIsPromised}
+use Rattle.just_bench.specs.Recorder.{script_promises}
+use Rattle.just_bench_evaluation.specs.Answered.{plain_answer}
 use Rattle.just_bench.proofs.laws.each_answer_is_promised.Goals as goal
 
-each : (questions : List Question) → IsSteady (both (λ (inquiry : Inquiry). Some Done) (λ (entry : Entry). Some Done)) (λ question. Done) questions
-each [] = tt
-each (ToHost entry ∷ questions) = (refl, each questions)
-each (ToEvaluator inquiry ∷ questions) = (refl, each questions)
-
 pub returns : goal.returns
-returns c = each
+returns c = λ over. subst (λ (script : Script). EachIsPromised (λ inquiry. Some (plain_answer inquiry)) (script_promises script)) (sym over) steady-all

@@ -17,7 +17,7 @@ use Rattle.just_execution.proofs.running.call_task.Goals as goal
 
 pub returns-in_err-count_call-clause-goes : goal.returns-in_err-count_call-clause-goes
 returns-in_err-count_call-clause-goes g c =
-    let old : Kept = kept_by (g.H.Host.entries c.args.host.now) (g.E.Evaluation.inquiries c.args.evaluation.now) in
+    let old : Kept = kept_by (g.H.Host.entries c.args.host.now) (g.E.Evaluation.requests c.args.evaluation.now) in
     let p : Question → Option Answer = both (g.E.Evaluation.promised c.args.evaluation.now) (g.H.Host.promised c.args.host.now) in
     let lower = leaves-lower (scene_of c.args.scopes.now.modules c.args.recipes.now) c.requires.ordered in
     goes-err p _ _ old old c.in_err-count_call.field-0.0 c.from_residual.result (search rules)
@@ -25,7 +25,7 @@ returns-in_err-count_call-clause-goes g c =
 
 pub returns-then-contains-clause-goes : goal.returns-then-contains-clause-goes
 returns-then-contains-clause-goes g c = λ new r t.
-    let old : Kept = kept_by (g.H.Host.entries c.args.host.now) (g.E.Evaluation.inquiries c.args.evaluation.now) in
+    let old : Kept = kept_by (g.H.Host.entries c.args.host.now) (g.E.Evaluation.requests c.args.evaluation.now) in
     let p : Question → Option Answer = both (g.E.Evaluation.promised c.args.evaluation.now) (g.H.Host.promised c.args.host.now) in
     let lower = leaves-lower (scene_of c.args.scopes.now.modules c.args.recipes.now) c.requires.ordered in
     known-took (leaves_of (scene_of c.args.scopes.now.modules c.args.recipes.now)) lower p c.args.run.now.frames.items c.args.task (state_of c.args.run.now) c.count_call.new.calls.items
@@ -39,7 +39,7 @@ returns-then-contains-clause-lighter g c = taken-lighter _ c.args.run.now.frames
 
 pub returns-in_err-held-clause-goes : goal.returns-in_err-held-clause-goes
 returns-in_err-held-clause-goes g c =
-    let old : Kept = kept_by (g.H.Host.entries c.args.host.now) (g.E.Evaluation.inquiries c.args.evaluation.now) in
+    let old : Kept = kept_by (g.H.Host.entries c.args.host.now) (g.E.Evaluation.requests c.args.evaluation.now) in
     let p : Question → Option Answer = both (g.E.Evaluation.promised c.args.evaluation.now) (g.H.Host.promised c.args.host.now) in
     let lower = leaves-lower (scene_of c.args.scopes.now.modules c.args.recipes.now) c.requires.ordered in
     goes-err p _ _ old _ c.in_err-held.field-0.0 c.from_residual-in_err-held.result (search rules)
@@ -48,7 +48,7 @@ returns-in_err-held-clause-goes g c =
 
 pub returns-in_err-push-clause-goes : goal.returns-in_err-push-clause-goes
 returns-in_err-push-clause-goes g c =
-    let old : Kept = kept_by (g.H.Host.entries c.args.host.now) (g.E.Evaluation.inquiries c.args.evaluation.now) in
+    let old : Kept = kept_by (g.H.Host.entries c.args.host.now) (g.E.Evaluation.requests c.args.evaluation.now) in
     let p : Question → Option Answer = both (g.E.Evaluation.promised c.args.evaluation.now) (g.H.Host.promised c.args.host.now) in
     let lower = leaves-lower (scene_of c.args.scopes.now.modules c.args.recipes.now) c.requires.ordered in
     goes-err p _ _ old _ _ c.from_residual-in_err-push.result (search rules)
@@ -57,7 +57,7 @@ returns-in_err-push-clause-goes g c =
 
 pub returns-in_err-push_calls-clause-goes : goal.returns-in_err-push_calls-clause-goes
 returns-in_err-push_calls-clause-goes g c =
-    let old : Kept = kept_by (g.H.Host.entries c.args.host.now) (g.E.Evaluation.inquiries c.args.evaluation.now) in
+    let old : Kept = kept_by (g.H.Host.entries c.args.host.now) (g.E.Evaluation.requests c.args.evaluation.now) in
     let p : Question → Option Answer = both (g.E.Evaluation.promised c.args.evaluation.now) (g.H.Host.promised c.args.host.now) in
     let lower = leaves-lower (scene_of c.args.scopes.now.modules c.args.recipes.now) c.requires.ordered in
     goes-err p _ _ old _ _ c.from_residual-in_err-push_calls.result (search rules)
@@ -66,7 +66,7 @@ returns-in_err-push_calls-clause-goes g c =
 
 pub returns-clause-goes : goal.returns-clause-goes
 returns-clause-goes g c = λ new r t.
-    let old : Kept = kept_by (g.H.Host.entries c.args.host.now) (g.E.Evaluation.inquiries c.args.evaluation.now) in
+    let old : Kept = kept_by (g.H.Host.entries c.args.host.now) (g.E.Evaluation.requests c.args.evaluation.now) in
     let p : Question → Option Answer = both (g.E.Evaluation.promised c.args.evaluation.now) (g.H.Host.promised c.args.host.now) in
     let lower = leaves-lower (scene_of c.args.scopes.now.modules c.args.recipes.now) c.requires.ordered in
     let xs : List Frame = c.args.run.now.frames.items in

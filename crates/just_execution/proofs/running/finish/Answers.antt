@@ -17,8 +17,8 @@ loop-frame-preserved g c =
     let p : Question → Option Answer = both (g.E.Evaluation.promised c.loop-frame.evaluation) (g.H.Host.promised c.loop-frame.host) in
     let q : Question → Option Answer = both (g.E.Evaluation.promised c.take.new.evaluation) (g.H.Host.promised c.take.new.host) in
     let L : Leaves = leaves_of (scene_of c.args.scopes.now.modules c.args.recipes.now) in
-    let old : Kept = kept_by (g.H.Host.entries c.loop-frame.host) (g.E.Evaluation.inquiries c.loop-frame.evaluation) in
-    let mid : Kept = kept_by (g.H.Host.entries c.take.new.host) (g.E.Evaluation.inquiries c.take.new.evaluation) in
+    let old : Kept = kept_by (g.H.Host.entries c.loop-frame.host) (g.E.Evaluation.requests c.loop-frame.evaluation) in
+    let mid : Kept = kept_by (g.H.Host.entries c.take.new.host) (g.E.Evaluation.requests c.take.new.evaluation) in
     let s : State = state_of c.loop-frame.run in
     record {
       keeps = keeps-then _ _ _ c.loop-frame.invariant.keeps c.take.ensures.keeps;
@@ -33,11 +33,11 @@ returns-in_err-take-clause-took g c =
     let p : Question → Option Answer = both (g.E.Evaluation.promised c.loop-frame.evaluation) (g.H.Host.promised c.loop-frame.host) in
     let first : Question → Option Answer = both (g.E.Evaluation.promised c.args.evaluation.now) (g.H.Host.promised c.args.host.now) in
     let L : Leaves = leaves_of (scene_of c.args.scopes.now.modules c.args.recipes.now) in
-    let old : Kept = kept_by (g.H.Host.entries c.loop-frame.host) (g.E.Evaluation.inquiries c.loop-frame.evaluation) in
-    let mid : Kept = kept_by (g.H.Host.entries c.take.new.host) (g.E.Evaluation.inquiries c.take.new.evaluation) in
+    let old : Kept = kept_by (g.H.Host.entries c.loop-frame.host) (g.E.Evaluation.requests c.loop-frame.evaluation) in
+    let mid : Kept = kept_by (g.H.Host.entries c.take.new.host) (g.E.Evaluation.requests c.take.new.evaluation) in
     let s : State = state_of c.loop-frame.run in
     let r : Result State Halt = Err c.in_err-take.field-0.0 in
-    ended-took first (left_of L c.args.run.now) (kept_by (g.H.Host.entries c.args.host.now) (g.E.Evaluation.inquiries c.args.evaluation.now)) mid c.in_err-take.field-0.0 (state_of c.take.new.run) c.from_residual.result (search rules)
+    ended-took first (left_of L c.args.run.now) (kept_by (g.H.Host.entries c.args.host.now) (g.E.Evaluation.requests c.args.evaluation.now)) mid c.in_err-take.field-0.0 (state_of c.take.new.run) c.from_residual.result (search rules)
     (c.loop-frame.invariant.rest mid r (subst (λ xs. Took p (left L xs s) old mid r) (sym {A = List Frame} c.in-Some.ensures.items) c.in_err-take.ensures.goes))
 
 pub returns-clause-took : goal.returns-clause-took
@@ -45,4 +45,10 @@ returns-clause-took g c =
     let p : Question → Option Answer = both (g.E.Evaluation.promised c.loop-frame.evaluation) (g.H.Host.promised c.loop-frame.host) in
     let L : Leaves = leaves_of (scene_of c.args.scopes.now.modules c.args.recipes.now) in
     let none : c.loop-frame.run.frames.items ≡ [] = search rules in
-    c.loop-frame.invariant.rest _ _ (none-took L p c.loop-frame.run.frames.items (state_of c.loop-frame.run) (kept_by (g.H.Host.entries c.loop-frame.host) (g.E.Evaluation.inquiries c.loop-frame.evaluation)) none)
+    c.loop-frame.invariant.rest _ _ (none-took L p c.loop-frame.run.frames.items (state_of c.loop-frame.run) (kept_by (g.H.Host.entries c.loop-frame.host) (g.E.Evaluation.requests c.loop-frame.evaluation)) none)
+
+pub returns-in_err-take-clause-keeps : goal.returns-in_err-take-clause-keeps
+returns-in_err-take-clause-keeps g c = keeps-then _ _ _ c.loop-frame.invariant.keeps c.in_err-take.ensures.keeps
+
+pub returns-in_err-take-clause-keeps_host : goal.returns-in_err-take-clause-keeps_host
+returns-in_err-take-clause-keeps_host g c = keeps-then _ _ _ c.loop-frame.invariant.keeps_host c.in_err-take.ensures.keeps_host

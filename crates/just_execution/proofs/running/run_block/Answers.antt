@@ -1,7 +1,7 @@
 use Rattle.std.proofs.Common.{List, Option, rules}
 use Rattle.just_run_layers.specs.Host.{Answer}
 use Rattle.just_run_layers.specs.Steps.{Kept, Question, both, kept_by}
-use Rattle.just_run_layers.proofs.StepLemmas.{keeps-both}
+use Rattle.just_run_layers.proofs.StepLemmas.{keeps-both, keeps-then}
 use Rattle.just_execution.specs.Frames.{left_of, state_of}
 use Rattle.just_execution.specs.Leaves.{leaves_of}
 use Rattle.just_execution.specs.declared.task.Task.{Task}
@@ -65,7 +65,7 @@ returns-clause-goes g c = λ new r t.
     let keeps = keeps-both _ _ _ _ c.execute.ensures.keeps c.execute.ensures.keeps_host in
     let L = leaves_of (scene_of c.args.scopes.now.modules c.args.recipes.now) in
     let entries = g.H.Host.entries c.execute.new.host in
-    let mid : Kept = kept_by entries (g.E.Evaluation.inquiries c.execute.new._evaluation) in
+    let mid : Kept = kept_by entries (g.E.Evaluation.requests c.execute.new._evaluation) in
     let ts : List Task = c.in_ok-subsequents.subsequents.items in
     followed-took L (leaves-lower (scene_of c.args.scopes.now.modules c.args.recipes.now) c.requires.ordered) p q keeps c.args.run.now.frames.items c.args.task c.args.held (state_of c.args.run.now) ts (left_of L c.open.new.self)
     (block-last L c.args.run.now c.args.task c.insert.new.self ts (left_of L c.open.new.self) c.in_ok-insert.ensures.ok (c.in_ok-open.ensures.left L)) _ mid _ new r
@@ -83,3 +83,15 @@ returns-clause-lighter g c =
     let ts : List Task = c.in_ok-subsequents.subsequents.items in
     let below = followed-below (scene_of c.args.scopes.now.modules c.args.recipes.now) c.requires.ordered (g.E.Evaluation.promised c.execute.new._evaluation) c.args.task c.args.held _ _ ts c.in_ok-subsequents.ensures.took in
     c.in_ok-open.ensures.lighter c.args.task c.args.held below
+
+pub returns-in_err-subsequents-clause-keeps : goal.returns-in_err-subsequents-clause-keeps
+returns-in_err-subsequents-clause-keeps g c = keeps-then _ _ _ c.execute.ensures.keeps c.in_err-subsequents.ensures.keeps
+
+pub returns-in_err-insert-clause-keeps : goal.returns-in_err-insert-clause-keeps
+returns-in_err-insert-clause-keeps g c = keeps-then _ _ _ c.execute.ensures.keeps c.in_ok-subsequents.ensures.keeps
+
+pub returns-in_err-open-clause-keeps : goal.returns-in_err-open-clause-keeps
+returns-in_err-open-clause-keeps g c = keeps-then _ _ _ c.execute.ensures.keeps c.in_ok-subsequents.ensures.keeps
+
+pub returns-clause-keeps : goal.returns-clause-keeps
+returns-clause-keeps g c = keeps-then _ _ _ c.execute.ensures.keeps c.in_ok-subsequents.ensures.keeps

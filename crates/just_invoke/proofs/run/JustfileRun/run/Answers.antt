@@ -115,7 +115,7 @@ returns-clause-outcome g c =
     went (count_fault_of (g.E.ConstantEvaluation.answers c.args.evaluation.now)) c.args.self.now c.args.recipes.now (texts c.args.words.now) c.args.config.now p q (map invoked_of c.in_ok-invocations.invocations.items) c.in_ok-invocations.ensures.split
     (λ yes. subst (λ n. n ≤ 1) (sym (length-map c.in_ok-invocations.invocations.items invoked_of)) (few yes)) c.in_ok-check_variables.ensures.ok _ _ c.run_invocations.result
     (in-fewer p q (AreAlike (scene_of c.in_ok-scopes.scopes.modules c.args.recipes.now)) (IsSceneOf c.args.self.now c.args.recipes.now) c.args.recipes.now _ _ _ _ (are-alike c.args.self.now c.in_ok-scopes.scopes.modules c.args.recipes.now c.in_ok-scopes.ensures.modules c.requires.placed)
-    (subst (λ is. ComesTo p q (AreAlike (scene_of c.in_ok-scopes.scopes.modules c.args.recipes.now)) c.args.recipes.now is (kept_by (g.H.Host.entries c.args.host.now) (g.E.Evaluation.inquiries c.args.evaluation.now)) (kept_by (g.H.Host.entries c.run_invocations.new.host) (g.E.Evaluation.inquiries c.run_invocations.new.evaluation)) c.run_invocations.result) c.as_slice-2.ensures.value c.run_invocations.ensures.comes))
+    (subst (λ is. ComesTo p q (AreAlike (scene_of c.in_ok-scopes.scopes.modules c.args.recipes.now)) c.args.recipes.now is (kept_by (g.H.Host.entries c.args.host.now) (g.E.Evaluation.requests c.args.evaluation.now)) (kept_by (g.H.Host.entries c.run_invocations.new.host) (g.E.Evaluation.requests c.run_invocations.new.evaluation)) c.run_invocations.result) c.as_slice-2.ensures.value c.run_invocations.ensures.comes))
 
 pub returns-clause-expected : goal.returns-clause-expected
 returns-clause-expected g c =
@@ -128,4 +128,4 @@ returns-clause-expected g c =
     went-expected (count_fault_of (g.E.ConstantEvaluation.answers c.args.evaluation.now)) c.args.self.now c.args.recipes.now (texts c.args.words.now) c.args.config.now p q (map invoked_of c.in_ok-invocations.invocations.items) c.in_ok-invocations.ensures.split
     (λ yes. subst (λ n. n ≤ 1) (sym (length-map c.in_ok-invocations.invocations.items invoked_of)) (few yes)) c.in_ok-check_variables.ensures.ok _ _ c.run_invocations.result
     (in-fewer p q (AreAlike (scene_of c.in_ok-scopes.scopes.modules c.args.recipes.now)) (IsSceneOf c.args.self.now c.args.recipes.now) c.args.recipes.now _ _ _ _ (are-alike c.args.self.now c.in_ok-scopes.scopes.modules c.args.recipes.now c.in_ok-scopes.ensures.modules c.requires.placed)
-    (subst (λ is. ComesTo p q (AreAlike (scene_of c.in_ok-scopes.scopes.modules c.args.recipes.now)) c.args.recipes.now is (kept_by (g.H.Host.entries c.args.host.now) (g.E.Evaluation.inquiries c.args.evaluation.now)) (kept_by (g.H.Host.entries c.run_invocations.new.host) (g.E.Evaluation.inquiries c.run_invocations.new.evaluation)) c.run_invocations.result) c.as_slice-2.ensures.value c.run_invocations.ensures.comes))
+    (subst (λ is. ComesTo p q (AreAlike (scene_of c.in_ok-scopes.scopes.modules c.args.recipes.now)) c.args.recipes.now is (kept_by (g.H.Host.entries c.args.host.now) (g.E.Evaluation.requests c.args.evaluation.now)) (kept_by (g.H.Host.entries c.run_invocations.new.host) (g.E.Evaluation.requests c.run_invocations.new.evaluation)) c.run_invocations.result) c.as_slice-2.ensures.value c.run_invocations.ensures.comes))

@@ -1,0 +1,22 @@
+-- Answers that are taken one by one.
+use Rattle.std.specs.Prelude.{ℕ, zero, suc, Bool, true, false, List, [], ◌∷◌}
+
+-- the next one, or the usual one where none is left
+abbrev pub next_or : {A : Type 0} → List A → A → A
+next_or [] usual = usual
+next_or (x ∷ xs) usual = x
+
+-- those after it
+abbrev pub rest : {A : Type 0} → List A → List A
+rest [] = []
+rest (x ∷ xs) = xs
+
+-- those that are left, after one is taken or none
+abbrev pub left_of : {A : Type 0} → Bool → List A → List A
+left_of true xs = rest xs
+left_of false xs = xs
+
+-- the first ones, and the usual one where none is left
+abbrev pub first_or : {A : Type 0} → ℕ → List A → A → List A
+first_or zero xs usual = []
+first_or (suc n) xs usual = next_or xs usual ∷ first_or n (rest xs) usual

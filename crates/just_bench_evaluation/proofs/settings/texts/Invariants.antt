@@ -1,8 +1,0 @@
-use Rattle.std.proofs.Common.{◌≡◌, take, map, Some}
-use Rattle.just_parts.specs.Evaluator.{functions_by_name, values_of}
-use Rattle.just_bench_evaluation.specs.Settings.{text_with}
-use Rattle.just_bench_evaluation.specs.Values.{all_of, value_of}
-use Rattle.just_bench_evaluation.proofs.settings.texts.Given as goal
-
-abbrev pub invariant-loop-expression : goal.invariant-loop-expression
-invariant-loop-expression l = all_of (map (text_with (value_of (functions_by_name l.functions) (values_of l.constants))) (take l.expression-index l.expressions)) ≡ Some l.texts

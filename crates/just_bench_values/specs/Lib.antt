@@ -1,0 +1,7 @@
+pub mod Constants
+pub mod Counts
+pub mod Lookup
+pub mod Settings
+pub mod Sink
+pub mod Tasks
+pub mod Values
