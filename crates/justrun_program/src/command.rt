@@ -5,8 +5,8 @@ ghost use Rattle.just_analyzer.specs.Words.{IsClean, IsRooted};
 use just_analyzer::layers::{Config, Error};
 use just_analyzer::{Compilation, Compiler, Sources, is_clean};
 use just_bench::{
-    PlainEvaluation, PlainSyntax, ProgramError, read_sources, read_text, run_and_write, tell,
-    tell_usage,
+    InputError, PlainEvaluation, PlainSyntax, ProgramError, read_sources, read_text, run_and_write,
+    tell, tell_usage,
 };
 use std::alloc::Global;
 use std::io::{Read, Write};
@@ -85,6 +85,20 @@ fn run_text<W: Write, E: Write>(
     }
 }
 
+// Tells that the root is no clean path, and answers the status.
+fn tell_root<E: Write>(errors: &mut E, root: &str) -> u8
+    ensures { result ≡ 1 }
+{
+    tell(errors, &ProgramError::NotClean(root))
+}
+
+// Tells why the input is no text, and answers the status.
+fn tell_input<E: Write>(errors: &mut E, error: InputError) -> u8
+    ensures { result ≡ 1 }
+{
+    tell(errors, &ProgramError::Input(error))
+}
+
 // Runs the words over the bundle that is read, and answers the status.
 fn run_input<R: Read, W: Write, E: Write>(
     alloc: Global,
@@ -98,11 +112,11 @@ fn run_input<R: Read, W: Write, E: Write>(
     ensures not_clean { (IsClean root.now → ⊥) → result ≡ 1 }
 {
     if !is_clean(root) {
-        return tell(errors, &ProgramError::NotClean(root));
+        return tell_root(errors, root);
     }
     match read_text(alloc, input) {
         Ok(text) => run_text(alloc, text.as_str(), root, words, output, errors),
-        Err(error) => tell(errors, &ProgramError::Input(error)),
+        Err(error) => tell_input(errors, error),
     }
 }
 
