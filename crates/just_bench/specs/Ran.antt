@@ -45,5 +45,5 @@ IsRunFault result program.Write = IsOk result
 IsRunFault result (program.NotClean root) = ⊥
 IsRunFault result (program.Input e) = ⊥
 IsRunFault result (program.Bundle e) = ⊥
-IsRunFault result (program.NoRoot e paths) = ⊥
+IsRunFault result (program.NoRoot root like) = ⊥
 IsRunFault result program.Memory = ⊥

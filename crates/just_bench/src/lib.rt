@@ -14,7 +14,7 @@ mod told;
 mod words;
 
 pub use entries::write_entries;
-pub use just_bench_bundle::{BundleError, InputError, read_sources, read_text};
+pub use just_bench_bundle::{BundleError, InputError, paths_like, read_sources, read_text};
 pub use just_bench_evaluation::PlainEvaluation;
 pub use just_bench_reading::{parse, root_source};
 pub use just_bench_syntax::PlainSyntax;

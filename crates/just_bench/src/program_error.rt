@@ -13,8 +13,11 @@ pub enum ProgramError<'src> {
     Input(InputError),
     /// The input is no bundle of files.
     Bundle(BundleError<'src>),
-    /// The root is not among the files, of which these have a path like it.
-    NoRoot(Error<'src>, Sequence<BorrowedText<'src>>),
+    /// The root is not among the files. Paths of these that are like it are told.
+    NoRoot {
+        root: &'src str,
+        like: Sequence<BorrowedText<'src>>,
+    },
     /// Compiling or running failed.
     Analyzer(Error<'src>),
     /// The output could not be written.
@@ -31,19 +34,20 @@ impl<'src> ProgramError<'src> {
             ProgramError::Input(InputError::Memory) | ProgramError::Bundle(BundleError::Memory) =>
                 "Memory",
             ProgramError::Input(_) | ProgramError::Bundle(_) => "Bundle",
-            ProgramError::NoRoot(error, _) | ProgramError::Analyzer(error) => error.name(),
+            ProgramError::NoRoot { .. } => "Load",
+            ProgramError::Analyzer(error) => error.name(),
             ProgramError::Write => "Write",
             ProgramError::Memory => "Memory",
         }
     }
 }
 
-// Writes paths in backquotes, with commas between them.
-fn write_paths<W: fmt::Write>(f: &mut fmt::Formatter<W>, paths: &[BorrowedText]) -> fmt::Result {
+// Writes which paths are like the one told, where there are any.
+fn write_like<W: fmt::Write>(f: &mut fmt::Formatter<W>, paths: &[BorrowedText]) -> fmt::Result {
     let Some((first, rest)) = paths.split_first() else {
         return Ok(());
     };
-    write!(f, "`{first}`")?;
+    write!(f, "; like it: `{first}`")?;
     for path in rest {
         write!(f, ", `{path}`")?;
     }
@@ -61,9 +65,9 @@ impl<'src> fmt::Display for ProgramError<'src> {
             }
             ProgramError::Input(error) => write!(f, "{error}"),
             ProgramError::Bundle(error) => write!(f, "{error}"),
-            ProgramError::NoRoot(error, like) => {
-                write!(f, "{error}, but the input has ")?;
-                write_paths(f, like.as_slice())
+            ProgramError::NoRoot { root, like } => {
+                write!(f, "Could not find the root `{root}` among the files")?;
+                write_like(f, like.as_slice())
             }
             ProgramError::Analyzer(error) => write!(f, "{error}"),
             ProgramError::Write => f.write_str("The output could not be written"),

@@ -96,6 +96,30 @@ fn program_answers_arguments_and_an_input(rt: HostRuntime) -> Result<(), Fail> {
 }
 
 #[test]
+fn paths_like_a_missing_root_are_told(rt: HostRuntime) -> Result<(), Fail> {
+    let alloc = rt.alloc();
+    let cases = [
+        (
+            b"--- /Justfile\n--- /justfile \n".as_slice(),
+            "; like it: `/Justfile`, `/justfile `",
+        ),
+        (b"--- /d/justfile\n".as_slice(), ""),
+    ];
+    for (input, like) in cases {
+        let mut input = input;
+        let mut output = Vec::new(alloc);
+        let mut errors = Vec::new(alloc);
+        let status = run(alloc, "/justfile a", &mut input, &mut output, &mut errors)?;
+        assert_eq!(rt; status, 1);
+        let line = format!(in alloc;
+            "justrun: Load: Could not find the root `/justfile` among the files{like}\n"
+        )?;
+        assert_eq!(rt; errors.as_slice(), line.as_bytes());
+    }
+    Ok(())
+}
+
+#[test]
 fn argument_that_is_no_text_is_usage(rt: HostRuntime) {
     let mut input = FIRST_RUN;
     let mut output = Vec::new(rt.alloc());

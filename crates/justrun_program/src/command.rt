@@ -1,17 +1,23 @@
 //! The program, over a reader and two writers.
-ghost use Rattle.std.specs.Prelude.{◌≡◌, ◌≢◌, ◌<◌, [], slice_get, IsNone, IfOk, IfSome};
-ghost use Rattle.just_analyzer.specs.Words.{IsClean, IsRooted};
+ghost use Rattle.std.specs.Prelude.{◌≡◌, ◌≢◌, ◌<◌, [], ◌∷◌, List, None, slice_get, IsNone, IsOk, IfErr, IfSome, OnOk};
+ghost use Rattle.std.specs.Io.KnownBytes.{Appends};
+ghost use Rattle.just_analyzer.specs.Words.{IsClean, IsRooted, texts};
+ghost use Rattle.just_names.specs.Texts.{Text};
+ghost use Rattle.just_loader.specs.Sources.{text_at};
+ghost use Rattle.just_bench.specs.Entries.{entry_lines};
+ghost use Rattle.just_bench.specs.Ran.{IsRunFault, Ran};
+ghost use Rattle.justrun_program.specs.Answers.{Comes, HasRun, IsDone, IsDoneOver, IsFault, IsFaultOver};
 
 use just_analyzer::layers::{Config, Error};
 use just_analyzer::{Compilation, Compiler, Sources, is_clean};
 use just_bench::{
-    InputError, PlainEvaluation, PlainSyntax, ProgramError, read_sources, read_text, run_and_write,
-    tell, tell_usage,
+    InputError, PlainEvaluation, PlainSyntax, ProgramError, paths_like, read_sources, read_text,
+    run_and_write, tell, tell_usage,
 };
 use std::alloc::Global;
 use std::io::{Read, Write};
 
-// Compiles the root of a bundle.
+// Compiles the file at a root.
 fn compile<'src>(
     alloc: Global,
     sources: &Sources<'src>,
@@ -19,34 +25,65 @@ fn compile<'src>(
     root: &str,
 ) -> Result<Compilation<'src>, Error<'src>>
     requires { IsClean root.now }
-    ensures { IfOk result (λ c. IsRooted c.justfile c.recipes) }
+    ensures { Comes sources.now config.now root.now result }
 {
     let syntax = PlainSyntax::new();
     let evaluation = PlainEvaluation::new(alloc);
     Compiler::compile(alloc, config, &syntax, &evaluation, sources, root)
 }
 
-// Compiles the root of a source map, and runs the words.
+// Tells that there is no file at a root, and which are like it.
+fn miss<'src>(alloc: Global, sources: &Sources<'src>, root: &'src str) -> ProgramError<'src>
+    requires { text_at sources.now root.now ≡ None }
+    ensures { (words : List Text) → IsFaultOver sources.now root.now words result }
+{
+    match paths_like(alloc, sources, root) {
+        Ok(like) => ProgramError::NoRoot { root, like },
+        Err(_) => ProgramError::Memory,
+    }
+}
+
+// Runs the words over what a root is compiled to.
+fn run_compiled<'src, W: Write>(
+    alloc: Global,
+    compilation: &Compilation<'src>,
+    config: &Config,
+    words: &[&str],
+    output: &mut W,
+) -> Result<(), ProgramError<'src>>
+    requires { IsRooted compilation.now.justfile compilation.now.recipes }
+    ensures done { let ran = Ran compilation.now.justfile compilation.now.recipes config.now (texts words.now) in
+        OnOk result ((r : ran) × IsOk r.result × Appends (W.contents output.old) (W.contents output.new) (entry_lines r.entries)) }
+    ensures fault { let ran = Ran compilation.now.justfile compilation.now.recipes config.now (texts words.now) in
+        IfErr result (λ e. (r : ran) × IsRunFault r.result e) }
+{
+    let Compilation {
+        justfile,
+        recipes,
+        overrides,
+        ..
+    } = compilation;
+    run_and_write(alloc, justfile, recipes, overrides, config, words, output)
+}
+
+// Compiles the file at a root, and runs the words.
 fn run_sources<'src, W: Write>(
     alloc: Global,
     sources: &Sources<'src>,
-    root: &str,
+    root: &'src str,
     words: &[&str],
     output: &mut W,
 ) -> Result<(), ProgramError<'src>>
     requires { IsClean root.now }
+    ensures done { OnOk result (IsDoneOver sources.now root.now (texts words.now) (W.contents output.old) (W.contents output.new)) }
+    ensures fault { IfErr result (IsFaultOver sources.now root.now (texts words.now)) }
 {
+    if sources.get(root).is_none() {
+        return Err(miss(alloc, sources, root));
+    }
     let config = Config::new(alloc);
     match compile(alloc, sources, &config, root) {
-        Ok(compilation) => {
-            let Compilation {
-                justfile,
-                recipes,
-                overrides,
-                ..
-            } = &compilation;
-            run_and_write(alloc, justfile, recipes, overrides, &config, words, output)
-        }
+        Ok(compilation) => run_compiled(alloc, &compilation, &config, words, output),
         Err(error) => Err(ProgramError::Analyzer(error)),
     }
 }
@@ -55,11 +92,13 @@ fn run_sources<'src, W: Write>(
 fn run_bundle<'src, W: Write>(
     alloc: Global,
     text: &'src str,
-    root: &str,
+    root: &'src str,
     words: &[&str],
     output: &mut W,
 ) -> Result<(), ProgramError<'src>>
     requires { IsClean root.now }
+    ensures done { OnOk result (IsDone text.now root.now (texts words.now) (W.contents output.old) (W.contents output.new)) }
+    ensures fault { IfErr result (IsFault text.now root.now (texts words.now)) }
 {
     match read_sources(alloc, text) {
         Ok(sources) => run_sources(alloc, &sources, root, words, output),
@@ -77,7 +116,9 @@ fn run_text<W: Write, E: Write>(
     errors: &mut E,
 ) -> u8
     requires { IsClean root.now }
-    ensures { result < 2 }
+    ensures status { result < 2 }
+    ensures done { result ≡ 0 → IsDone text.now root.now (texts words.now) (W.contents output.old) (W.contents output.new) }
+    ensures quiet { result ≡ 0 → errors.new ≡ errors.old }
 {
     match run_bundle(alloc, text, root, words, output) {
         Ok(()) => 0,
@@ -110,6 +151,8 @@ fn run_input<R: Read, W: Write, E: Write>(
 ) -> u8
     ensures status { result < 2 }
     ensures not_clean { (IsClean root.now → ⊥) → result ≡ 1 }
+    ensures done { result ≡ 0 → HasRun (root.now ∷ texts words.now) (R.remaining input.old) (W.contents output.old) (W.contents output.new) }
+    ensures quiet { result ≡ 0 → errors.new ≡ errors.old }
 {
     if !is_clean(root) {
         return tell_root(errors, root);
@@ -121,6 +164,11 @@ fn run_input<R: Read, W: Write, E: Write>(
 }
 
 /// Runs the program on the words after its name, or on none where one of them is not UTF-8, and answers its status.
+///
+/// The first word is the path of the root, and the input is a bundle of files. Status 0: the other words were run over the
+/// root, the output has a line for each recipe that began, and nothing was written to `errors`. Status 1: the input or the
+/// root cannot be read, compiling or the run failed, or the output could not be written; the error is told. Status 2: the
+/// program was not used well, which is told.
 pub fn program<R: Read, W: Write, E: Write>(
     alloc: Global,
     arguments: Option<&[&str]>,
@@ -132,6 +180,9 @@ pub fn program<R: Read, W: Write, E: Write>(
     ensures no_root { IfSome arguments.entry (λ words. words.now ≡ [] → result ≡ 2) }
     ensures root { IfSome arguments.entry (λ words. words.now ≢ [] → result < 2) }
     ensures not_clean { IfSome arguments.entry (λ words. IfSome (slice_get words.now 0) (λ root. (IsClean root.now → ⊥) → result ≡ 1)) }
+    ensures done { let written = λ words. HasRun words (R.remaining input.old) (W.contents output.old) (W.contents output.new) in
+        result ≡ 0 → IfSome arguments.entry (λ words. written (texts words.now)) }
+    ensures quiet { result ≡ 0 → errors.new ≡ errors.old }
 {
     let Some(arguments) = arguments else {
         return tell_usage(errors);

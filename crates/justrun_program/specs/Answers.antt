@@ -1,0 +1,60 @@
+-- What the program does with its input.
+use Rattle.std.specs.Prelude.{◌≡◌, ⊥, ℕ, List, [], ◌∷◌, Option, None, Result, Ok, Err, IfSome, IsOk}
+use Rattle.std.specs.Io.KnownBytes.{Appends}
+use Rattle.just_names.specs.Texts.{Text}
+use Rattle.just_paths.specs.Clean.{IsClean}
+use Rattle.just_errors.specs.declared.error.Error.{Error}
+use Rattle.just_parts.specs.declared.layers.config.Config.{Config}
+use Rattle.just_parts.specs.Layers.{IsByDefault}
+use Rattle.just_loader.specs.Reached.{world_of}
+use Rattle.just_loader.specs.Sources.{Files, text_at}
+use Rattle.just_compiler.specs.Compiled.{Compilation, Compiles}
+use Rattle.just_bench_syntax.specs.Answers.{answers}
+use Rattle.just_bench_values.specs.Constants.{evaluator}
+use Rattle.just_bench_bundle.specs.Bundle.{HoldsBundle, IsNoBundle}
+use Rattle.just_bench_bundle.specs.Near.{paths_like}
+use Rattle.just_bench.specs.Entries.{entry_lines}
+use Rattle.just_bench.specs.Ran.{IsRunFault, Ran}
+use Rattle.just_bench.specs.declared.program_error.ProgramError.{ProgramError}
+use Rattle.just_bench.specs.declared.program_error.ProgramError.TheVariants as program
+
+-- the plain layers compile the file at a root to this, or name this
+abbrev pub Comes : Files → Config → Text → Result Compilation Error → Type 0
+Comes files config root result = Compiles evaluator config.overrides (world_of files config (answers []) root) result
+
+-- Words are run over the file at a root, with nothing that a front asks for: it is compiled, and this is the run.
+pub record RunsOver (files : Files) (root : Text) (words : List Text) : Type 0 where
+  pub config : Config
+  pub plain : IsByDefault config
+  pub compilation : Compilation
+  pub compiled : Comes files config root (Ok compilation)
+  pub ran : Ran compilation.justfile compilation.recipes config words
+
+-- they ran, and what is written is a line for each recipe that began
+pub record IsDoneOver (files : Files) (root : Text) (words : List Text) (old new : Option (List ℕ)) : Type 0 where
+  pub run : RunsOver files root words
+  pub succeeded : IsOk run.ran.result
+  pub written : Appends old new (entry_lines run.ran.entries)
+
+-- why they are not done: there is no file at the root, and these are like it; it is not compiled; or the run tells it; or want of memory
+pub data IsFaultOver (files : Files) (root : Text) (words : List Text) : ProgramError → Type 0 where
+  missing : text_at files root ≡ None → IsFaultOver files root words (program.NoRoot root (paths_like files root))
+  uncompiled : (config : Config) (e : Error) → IsByDefault config → Comes files config root (Err e) → IsFaultOver files root words (program.Analyzer e)
+  ended : (run : RunsOver files root words) (e : ProgramError) → IsRunFault run.ran.result e → IsFaultOver files root words e
+  refused : IsFaultOver files root words program.Memory
+
+-- the text is a bundle of files, and the words ran over these
+pub record IsDone (text root : Text) (words : List Text) (old new : Option (List ℕ)) : Type 0 where
+  pub files : Files
+  pub bundle : HoldsBundle text files
+  pub done : IsDoneOver files root words old new
+
+-- why not: the text is no bundle, or they fail over its files
+pub data IsFault (text root : Text) (words : List Text) : ProgramError → Type 0 where
+  unbundled : (e : _) → IsNoBundle text e → IsFault text root words (program.Bundle e)
+  over : (files : Files) (e : ProgramError) → HoldsBundle text files → IsFaultOver files root words e → IsFault text root words e
+
+-- What success means: the first argument is a clean path, and the others were run over the bundle that was left to read, where that is known.
+abbrev pub HasRun : List Text → Option (List ℕ) → Option (List ℕ) → Option (List ℕ) → Type 0
+HasRun [] left old new = ⊥
+HasRun (root ∷ words) left old new = IsClean root × IfSome left (λ text. IsDone text root words old new)
