@@ -1,5 +1,7 @@
 pub mod Apart
+pub mod Columns
 pub mod Cuts
+pub mod Ending
 pub mod Each
 pub mod Forms
 pub mod Leads

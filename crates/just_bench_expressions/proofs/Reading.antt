@@ -16,7 +16,7 @@ pub record Reading (sums : Bool) (all : List Lexeme) (whole : Option Found) (at 
   pub is : whole ≡ read sums all at state (drop at all)
 
 -- at a lexeme
-front : (all : List Lexeme) (at : ℕ) (l : Lexeme) → at < length all → l ≡ get_or all at l → drop at all ≡ l ∷ drop (at + 1) all
+pub front : (all : List Lexeme) (at : ℕ) (l : Lexeme) → at < length all → l ≡ get_or all at l → drop at all ≡ l ∷ drop (at + 1) all
 front all at l within is = drop-cons all at l within ∙ ap (λ m. get_or all at l ∷ drop m all) (sym (add-one at)) ∙ ap (λ x. x ∷ drop (at + 1) all) (sym is)
 
 -- what is read on, where the lexeme stops the expression or not
@@ -72,7 +72,7 @@ read_within sums all at state (l ∷ rest) n h =
     (finished_within state at n (omega (arith, h)))
     (onward_within (step all at (at + 1) state l (calls rest)) (λ next. read sums all (at + 1) next rest) n (λ next. read_within sums all (at + 1) next rest n (omega (arith, h))))
 
-expression_within : (sums : Bool) (all : List Lexeme) (start : ℕ) → IfSome (expression sums all start) (λ f. f.end ≤ length all)
+pub expression_within : (sums : Bool) (all : List Lexeme) (start : ℕ) → IfSome (expression sums all start) (λ f. f.end ≤ length all)
 unfolding expression
 expression_within sums all start = elim (cases_lt (length all) start) [
   | inl h ↦ subst (λ rest. IfSome (read sums all start unread rest) (λ f. f.end ≤ length all)) (sym (drop_all start all (omega (arith, h)))) tt
@@ -122,7 +122,7 @@ unread_from sums all at [] = tt
 unread_from sums all at (l ∷ rest) =
     onward_from (step all at (at + 1) unread l (calls rest)) (λ next. read sums all (at + 1) next rest) (at + 1) (λ next. read_from sums all (at + 1) next rest)
 
-expression_from : (sums : Bool) (all : List Lexeme) (start : ℕ) → EndsFrom (start + 1) (expression sums all start)
+pub expression_from : (sums : Bool) (all : List Lexeme) (start : ℕ) → EndsFrom (start + 1) (expression sums all start)
 unfolding expression
 expression_from sums all start = unread_from sums all start (drop start all)
 

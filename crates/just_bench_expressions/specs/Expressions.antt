@@ -1,5 +1,5 @@
 -- Expressions, from lexemes on. A level is the expression as a whole, or what stands between two brackets in it.
-use Rattle.std.specs.Prelude.{ℕ, ◌+◌, Bool, true, false, not, ◌&&◌, if◌then◌else◌, List, [], ◌∷◌, ◌++◌, drop, slice_range, Option, Some, None, is_some}
+use Rattle.std.specs.Prelude.{◌≡◌, ℕ, ◌+◌, Bool, true, false, not, ◌&&◌, if◌then◌else◌, List, [], ◌∷◌, ◌++◌, drop, slice_range, Option, Some, None, is_some, Result, Ok, Err}
 use Rattle.std.specs.Option.{option_map}
 use Rattle.just_names.specs.Token.{lexeme}
 use Rattle.just_names.specs.declared.name.Name.{Name}
@@ -216,10 +216,39 @@ abbrev pub told : Bool → State → Option State
 told true state = Some state
 told false state = None
 
+-- where an expression ends that was read up to a place: there if it is whole, else reading stops there
+abbrev pub end_at : ℕ → Option Found → Result ℕ ℕ
+end_at at None = Err at
+end_at at (Some found) = Ok at
+
+-- where it ends after a lexeme, or stops at a place where that may not stand
+abbrev pub end_onward : ℕ → Option State → (State → Result ℕ ℕ) → Result ℕ ℕ
+end_onward at None more = Err at
+end_onward at (Some state) more = more state
+
+-- where it ends that is read on through the lexemes from a place on, or where reading stops: at the first lexeme that it does not go on with, or at the end
+abbrev pub end_from : Bool → List Lexeme → ℕ → State → List Lexeme → Result ℕ ℕ
+end_from sums all at state [] = end_at at (finished at state)
+end_from sums all at state (l ∷ rest) =
+    if stops sums state l.kind then end_at at (finished at state)
+    else end_onward at (step all at (at + 1) state l (calls rest)) (λ next. end_from sums all (at + 1) next rest)
+
+-- an end is where an expression ends, and there is none where there is no expression
+abbrev pub EndsWith : Option Found → Result ℕ ℕ → Type 0
+EndsWith (Some found) (Ok end) = found.end ≡ end
+EndsWith (Some found) (Err at) = ⊥
+EndsWith None (Ok end) = ⊥
+EndsWith None (Err at) = Unit {0}
+
 -- for the private functions: what was read up to a place, where no lexeme was out of place
-abbrev pub reached : Option ℕ → State → Option Found
-reached None state = None
-reached (Some at) state = finished at state
+abbrev pub reached : Result ℕ ℕ → State → Option Found
+reached (Err at) state = None
+reached (Ok at) state = finished at state
+
+-- for the private functions: where that ends
+abbrev pub ended : Result ℕ ℕ → State → Result ℕ ℕ
+ended (Err at) state = Err at
+ended (Ok at) state = end_at at (finished at state)
 
 -- nothing was read
 abbrev pub unread : State
@@ -228,3 +257,7 @@ unread = record { outer = []; elements = []; sum = None; start = 0; ready = read
 -- the expression that begins at a place, with its sum or without
 unfoldable pub expression : Bool → List Lexeme → ℕ → Option Found
 expression sums all at = read sums all at unread (drop at all)
+
+-- where the expression ends that begins at a place, or where reading it stops
+unfoldable pub expression_end : Bool → List Lexeme → ℕ → Result ℕ ℕ
+expression_end sums all at = end_from sums all at unread (drop at all)

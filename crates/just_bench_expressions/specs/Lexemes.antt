@@ -90,6 +90,20 @@ lexemes_from token at zero (b ∷ rest) =
 unfoldable pub lexemes : List ℕ → List ℕ → TextLine → ℕ → ℕ → Option (List Lexeme)
 lexemes path text line start end = lexemes_from (place path text line) start 0 (drop start (take end line.text))
 
+-- how many bytes lexemes take, and blanks and tabs between them, where so many bytes at the front belong to the lexeme before
+abbrev pub past : Option (Kind × ℕ) → (ℕ → ℕ) → ℕ
+past None others = 0
+past (Some found) others = others (found.1 - 1) + 1
+
+abbrev pub lexed_from : ℕ → List ℕ → ℕ
+lexed_from skip [] = 0
+lexed_from (suc skip) (b ∷ rest) = lexed_from skip rest + 1
+lexed_from zero (b ∷ rest) = if is_blank b then lexed_from 0 rest + 1 else past (first (b ∷ rest)) (λ more. lexed_from more rest)
+
+-- the column up to which the lexemes of a line go from one column to another: before the first byte with which no lexeme begins
+unfoldable pub lexed_to : TextLine → ℕ → ℕ → ℕ
+lexed_to line start end = start + lexed_from 0 (drop start (take end line.text))
+
 -- a quoted text
 abbrev pub is_quoted : Kind → Bool
 is_quoted kind.Quoted = true

@@ -447,30 +447,44 @@ fn finished<'src>(at: usize, state: State<'src>) -> Option<Found<'src>>
     Some(Found { made, end: at })
 }
 
-// Reads on from a place to where the expression ends, or answers that a lexeme may not stand where it does.
-#[tactic(auto, using(crate::proofs::Reading::reading_step, crate::proofs::Reading::reading_fails, crate::proofs::Reading::reading_stops, crate::proofs::Reading::reading_ends))]
+// Reads on from a place to where the expression ends, or answers the place of a lexeme that may not stand where it does.
+#[tactic(auto, using(crate::proofs::Reading::reading_step, crate::proofs::Reading::reading_fails, crate::proofs::Reading::reading_stops, crate::proofs::Reading::reading_ends, crate::proofs::Ending::ending_step, crate::proofs::Ending::ending_fails, crate::proofs::Ending::ending_stops, crate::proofs::Ending::ending_ends))]
 fn advance<'src>(
     spelling: &Spelling<'src>,
     start: usize,
     sums: bool,
     state: &mut State<'src>,
-) -> Result<Option<usize>, AllocError>
-    ensures { IfOk result (λ end. spec.reached end state.new ≡ spec.read sums spelling.now start state.old (drop start spelling.now)) }
+) -> Result<Result<usize, usize>, AllocError>
+    ensures is { IfOk result (λ end. spec.reached end state.new ≡ spec.read sums spelling.now start state.old (drop start spelling.now)) }
+    ensures end { IfOk result (λ end. spec.ended end state.new ≡ spec.end_from sums spelling.now start state.old (drop start spelling.now)) }
 {
     let lexemes = spelling.as_slice();
     let mut at = start;
     while at < lexemes.len() {
         let lexeme = &lexemes[at];
         if stops(sums, state, lexeme.kind) {
-            return Ok(Some(at));
+            return Ok(Ok(at));
         }
         let calls = begins_call(lexemes, at + 1);
         if !step(spelling, at, at + 1, state, lexeme, calls)? {
-            return Ok(None);
+            return Ok(Err(at));
         }
         at += 1;
     }
-    Ok(Some(at))
+    Ok(Ok(at))
+}
+
+// Nothing was read.
+fn unread<'src>(alloc: Global) -> State<'src>
+    ensures { result ≡ spec.unread }
+{
+    State {
+        outer: Stack::new(alloc),
+        elements: Sequence::new(alloc),
+        sum: None,
+        start: 0,
+        ready: Ready::Wants,
+    }
 }
 
 // The expression that begins at a place, with its sum or without.
@@ -482,16 +496,10 @@ fn read<'src>(
 ) -> Result<Option<Found<'src>>, AllocError>
     ensures { IfOk result (λ found. found ≡ spec.expression sums spelling.now start) }
 {
-    let mut state = State {
-        outer: Stack::new(spelling.alloc()),
-        elements: Sequence::new(spelling.alloc()),
-        sum: None,
-        start: 0,
-        ready: Ready::Wants,
-    };
+    let mut state = unread(spelling.alloc());
     match advance(spelling, start, sums, &mut state)? {
-        Some(end) => Ok(finished(end, state)),
-        None => Ok(None),
+        Ok(end) => Ok(finished(end, state)),
+        Err(_) => Ok(None),
     }
 }
 
@@ -518,4 +526,40 @@ pub fn read_operand<'src>(
     ensures after { IfOk result (λ found. IfSome found (λ f. start + 1 ≤ f.end)) }
 {
     read(spelling, start, false)
+}
+
+// Where the expression ends that begins at a place, or where reading it stops.
+#[tactic(auto, unfolding(crate::specs::Expressions::expression_end))]
+fn end_of<'src>(
+    spelling: &Spelling<'src>,
+    start: usize,
+    sums: bool,
+) -> Result<Result<usize, usize>, AllocError>
+    ensures { IfOk result (λ end. end ≡ spec.expression_end sums spelling.now start) }
+{
+    let mut state = unread(spelling.alloc());
+    let at = match advance(spelling, start, sums, &mut state)? {
+        Ok(at) => at,
+        Err(at) => return Ok(Err(at)),
+    };
+    match finished(at, state) {
+        Some(_) => Ok(Ok(at)),
+        None => Ok(Err(at)),
+    }
+}
+
+/// Where the expression ends that begins at a place among lexemes, with its sum or without: the place after it. The inner
+/// error is where reading stops: the place of the first lexeme that it does not go on with, or the end where it is not
+/// whole. The outer error is want of memory.
+pub fn expression_end<'src>(
+    spelling: &Spelling<'src>,
+    start: usize,
+    sums: bool,
+) -> Result<Result<usize, usize>, AllocError>
+    ensures is { IfOk result (λ end. end ≡ spec.expression_end sums spelling.now start) }
+    ensures agrees { IfOk result (spec.EndsWith (spec.expression sums spelling.now start)) }
+    ensures within { IfOk result (λ end. IfOk end (λ e. e ≤ length spelling.now)) }
+    ensures after { IfOk result (λ end. IfOk end (λ e. start + 1 ≤ e)) }
+{
+    end_of(spelling, start, sums)
 }

@@ -1,6 +1,7 @@
 //! The lexemes of a line, as parts of the whole text.
 ghost use Rattle.std.specs.Prelude.{◌≡◌, ◌≤◌, ◌<◌, ◌+◌, ◌-◌, length, slice_index, IfOk, IfSome};
 ghost use Rattle.std.specs.List.{All, prefix_len, position};
+ghost use Rattle.std.specs.Str.{IsCharBoundary};
 ghost use Rattle.just_names.specs.Identifier.{is_identifier_continue};
 ghost use Rattle.just_bench_expressions.specs.Lines.{IsLineOf};
 ghost use Rattle.just_bench_expressions.specs.Lexemes as spec;
@@ -201,4 +202,32 @@ pub fn lex<'src>(
         }
     }
     Ok(Some(found))
+}
+
+/// The column up to which the lexemes of a line go, from one column to another: that of the first byte with which no lexeme
+/// begins, or the other column.
+#[tactic(auto, unfolding(crate::specs::Lexemes::lexed_to), using(crate::proofs::Columns::lexed_blank, crate::proofs::Columns::lexed_stops, crate::proofs::Columns::lexed_past, crate::proofs::Columns::lexed_ends))]
+pub fn lexed_to<'src>(text: &'src str, line: &TextLine<'src>, start: usize, end: usize) -> usize
+    requires line { IsLineOf text.now line.now }
+    requires ordered { start ≤ end }
+    requires within { end ≤ length line.now.text }
+    requires starts { IsCharBoundary text.now (line.now.offset + start) }
+    ensures is { result ≡ spec.lexed_to line.now start end }
+    ensures onward { (start ≤ result) × (result ≤ end) }
+    ensures whole { IsCharBoundary text.now (line.now.offset + result) }
+{
+    let (bytes, _) = line.text.as_str().as_bytes().split_at(end);
+    let mut at = start;
+    while at < bytes.len() {
+        if is_blank(bytes[at]) {
+            at += 1;
+            continue;
+        }
+        let (_, rest) = bytes.split_at(at);
+        match first(rest) {
+            None => return at,
+            Some((_, size)) => at += size,
+        }
+    }
+    at
 }
