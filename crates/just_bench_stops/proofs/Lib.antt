@@ -1,0 +1,5 @@
+pub mod Fails
+pub mod Properties
+pub mod Seen
+pub mod Told
+pub mod Walks
