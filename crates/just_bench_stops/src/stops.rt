@@ -143,7 +143,7 @@ fn rest_of<'src>(path: &'src str, text: &'src str, line: &TextLine<'src>, at: us
 
 /// Where a line that is none of the grammar is told: the first lexeme that no kind of lines goes on with. Where no lexeme
 /// stands there it is the rest of the line, which is empty at its end. The error is want of memory.
-#[tactic(auto, unfolding(crate::specs::Stops::line_stop))]
+#[tactic(auto, unfolding(crate::specs::Stops::line_stop), using(crate::proofs::Starts::line_starts))]
 pub fn line_stop<'src>(
     alloc: Global,
     path: &'src str,
