@@ -62,8 +62,8 @@ fn closes_at<'src>(lexemes: &[Lexeme<'src>], at: usize) -> bool
     mark_at(lexemes, at, Kind::ParenClose) && ends_at(lexemes, at + 1)
 }
 
-// The attribute that this word is alone.
-fn bare<'src>(word: &str) -> Option<Attribute<'src>>
+/// The attribute that this word is alone.
+pub fn bare<'src>(word: &str) -> Option<Attribute<'src>>
     ensures { result ≡ spec.bare word.now }
 {
     match word {
@@ -76,9 +76,9 @@ fn bare<'src>(word: &str) -> Option<Attribute<'src>>
     }
 }
 
-// The one character that a text is.
+/// The one character that a text is.
 #[tactic(auto, using(crate::proofs::Chars::one_char, crate::proofs::Chars::more_chars))]
-fn only_char(text: &str) -> Option<char>
+pub fn only_char(text: &str) -> Option<char>
     ensures { result ≡ spec.only_char text.now }
 {
     let mut chars = text.chars();

@@ -57,8 +57,8 @@ pub fn after_part<'src>(lexemes: &[Lexeme<'src>], at: usize) -> Option<usize>
     }
 }
 
-// The setting of a name that is on or off, to this value.
-fn setting<'src>(name: &str, value: bool) -> Option<Setting<'src>>
+/// The setting of a name that is on or off, to this value.
+pub fn setting<'src>(name: &str, value: bool) -> Option<Setting<'src>>
     ensures { result ≡ spec.setting name.now value }
 {
     match name {

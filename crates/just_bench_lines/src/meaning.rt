@@ -79,15 +79,15 @@ pub struct Said<'src> {
     pub lists: Sequence<ListUse<'src>>,
 }
 
-// Whether the second of two lexemes is a `?` right after the first.
-fn is_optional<'src>(lexemes: &[Lexeme<'src>]) -> bool
+/// Whether the second of two lexemes is a `?` right after the first.
+pub fn is_optional<'src>(lexemes: &[Lexeme<'src>]) -> bool
     ensures { result ≡ spec.is_optional lexemes.now }
 {
     mark_at(lexemes, 1, Kind::Question) && adjoins(&lexemes[0], &lexemes[1])
 }
 
-// The place after the first word, and after a `?` that belongs to it.
-fn after_word(optional: bool) -> usize
+/// The place after the first word, and after a `?` that belongs to it.
+pub fn after_word(optional: bool) -> usize
     ensures { result ≡ spec.after_word optional }
 {
     if optional { 2 } else { 1 }

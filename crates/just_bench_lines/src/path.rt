@@ -11,8 +11,8 @@ use just_names::{Name, Namepath};
 use std::alloc::AllocError;
 use std::mem::replace;
 
-// Whether `::` stands at a place: two colons, the second right after the first.
-fn separated<'src>(lexemes: &[Lexeme<'src>], at: usize) -> bool
+/// Whether `::` stands at a place: two colons, the second right after the first.
+pub fn separated<'src>(lexemes: &[Lexeme<'src>], at: usize) -> bool
     ensures { result ≡ spec.separated lexemes.now at }
 {
     let Some(first) = lexemes.get(at) else {

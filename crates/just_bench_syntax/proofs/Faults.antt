@@ -1,7 +1,7 @@
 -- A fault is told at a part of a line of the text.
 use Rattle.std.proofs.Common.{suc, ◌≡◌, ℕ, ◌+◌, ◌<◌, sym, ◌∙◌, ap, refl, subst, List, [], ◌∷◌, ◌++◌, length, get_or, arith, Bool, true, false, Option, Some, None, Result, Ok, Err}
 use Rattle.std.specs.Prelude.{IfErr, IfSome, if◌then◌else◌}
-use Rattle.std.specs.List.{All}
+use Rattle.std.specs.List.{All, slice_get}
 use Rattle.std.proofs.lemmas.List.{get_or_default}
 use Rattle.std.proofs.lemmas.List.Elements.{All-nil, All-push}
 use Rattle.just_names.specs.Token.{Place}
@@ -12,6 +12,7 @@ use Rattle.just_ast_definitions.specs.declared.attribute.NamedAttribute.{NamedAt
 use Rattle.just_ast_expressions.specs.declared.expression.Expression.{Expression}
 use Rattle.just_ast_expressions.specs.declared.list_use.ListUse.{ListUse}
 use Rattle.just_bench_expressions.specs.declared.lines.TextLine.{TextLine}
+use Rattle.just_bench_expressions.specs.Lexemes.{place}
 use Rattle.just_bench_expressions.specs.Lines.{line_place, lines_of}
 use Rattle.just_bench_expressions.proofs.Cuts.{line_at_number}
 use Rattle.just_bench_lines.specs.declared.attributes.Options.{Options}
@@ -22,6 +23,8 @@ use Rattle.just_bench_lines.specs.declared.meaning.Meaning.{Meaning}
 use Rattle.just_bench_lines.specs.declared.meaning.Meaning.TheVariants as meaning
 use Rattle.just_bench_lines.specs.Body.{body_line, indent}
 use Rattle.just_bench_lines.specs.Meaning as said
+use Rattle.just_bench_stops.specs.Stops.{line_stop}
+use Rattle.just_bench_stops.proofs.Told.{IsPart, stop_part}
 use Rattle.just_bench_syntax.specs.declared.items.Items.{Items}
 use Rattle.just_bench_syntax.specs.declared.items.Reading.{Reading}
 use Rattle.just_bench_syntax.specs.declared.recipe.Spoken.{Spoken}
@@ -40,6 +43,20 @@ line_told path text line k within here =
       within = omega arith;
       is = ap (λ n. record { line = line.number; column = 0; offset = n; length = length line.text; path = path; src = text }) start;
     }
+
+-- a part of a line
+part_told : (path text : List ℕ) (line : TextLine) (k : ℕ) (token : Place) → k < length (lines_of text) → get_or (lines_of text) k line ≡ line → IsPart path text line token → IsInLine path text token
+part_told path text line k token within here part =
+    let same : line.number ≡ token.line = sym (ap (λ t. t.line) part.is) in
+    record {
+      line = line;
+      stands = subst (λ n. slice_get (lines_of text) n ≡ Some line) same (line_at_number text k line within here);
+      within = part.within;
+      is = part.is;
+    }
+
+stop_told : (path text : List ℕ) (line : TextLine) (k : ℕ) → k < length (lines_of text) → get_or (lines_of text) k line ≡ line → IsInLine path text (line_stop path text line)
+stop_told path text line k within here = part_told path text line k (line_stop path text line) within here (stop_part path text line)
 
 -- what would be told stands in a line
 module _ (path text : List ℕ) where
@@ -105,18 +122,18 @@ module _ (path text : List ℕ) where
   dropped_told line size r None here told = here
   dropped_told line size r (Some start) here told = body_told line size r (body_line path text line start) here told
 
-  meaning_told : (line : TextLine) (m : Meaning) (r : Reading) → Told (line_place path text line) → AreTold r → Goes (items.with_meaning path text line m r)
-  meaning_told line meaning.Bad r here told = here
-  meaning_told line meaning.Ignored r here told = told
-  meaning_told line meaning.Indented r here told = dropped_told line (indent line) r (items.dropped r.body line (indent line)) here told
-  meaning_told line (meaning.Marks m) r here told = record {
+  meaning_told : (line : TextLine) (m : Meaning) (r : Reading) → Told (line_stop path text line) → Told (line_place path text line) → AreTold r → Goes (items.with_meaning path text line m r)
+  meaning_told line meaning.Bad r stop here told = stop
+  meaning_told line meaning.Ignored r stop here told = told
+  meaning_told line meaning.Indented r stop here told = dropped_told line (indent line) r (items.dropped r.body line (indent line)) here told
+  meaning_told line (meaning.Marks m) r stop here told = record {
     first = first_told r.first (line_place path text line) told.first here;
     spoken = spoken_told r.spoken (line_place path text line) m.options told.spoken here;
   }
-  meaning_told line (meaning.Begins h) r here told = begun_told r (recipe.recipe h r.attributes r.spoken) (recipe_told h r.attributes r.spoken told.spoken)
-  meaning_told line (meaning.Declares d) r here told = module_told r d r.spoken refl told
-  meaning_told line (meaning.Aliases a) r here told = item_told r (items.alias_item a) r.first refl told
-  meaning_told line (meaning.States s) r here told = item_told r (items.item_of s) r.first refl told
+  meaning_told line (meaning.Begins h) r stop here told = begun_told r (recipe.recipe h r.attributes r.spoken) (recipe_told h r.attributes r.spoken told.spoken)
+  meaning_told line (meaning.Declares d) r stop here told = module_told r d r.spoken refl told
+  meaning_told line (meaning.Aliases a) r stop here told = item_told r (items.alias_item a) r.first refl told
+  meaning_told line (meaning.States s) r stop here told = item_told r (items.item_of s) r.first refl told
 
   onward_told : {B : Type 0} (P : Result B Place → Type 0) (r : Result Reading Place) (more : Reading → Result B Place) → Goes r → ((at : Place) → Told at → P (Err at)) → ((x : Reading) → AreTold x → P (more x))
       → P (items.onward r more)
@@ -127,19 +144,25 @@ module _ (path text : List ℕ) where
   uses_told lists (Ok r) told = record { first = told.first; spoken = told.spoken }
   uses_told lists (Err at) told = told
 
-  lines_told : (r : Reading) (ls : List TextLine) → All (λ (l : TextLine). Told (line_place path text l)) ls → AreTold r → Goes (items.with_lines path text r ls)
-  lines_told r [] all told = told
-  lines_told r (line ∷ rest) all told =
+  lines_told : (r : Reading) (ls : List TextLine) → All (λ (l : TextLine). Told (line_stop path text l)) ls → All (λ (l : TextLine). Told (line_place path text l)) ls → AreTold r
+      → Goes (items.with_lines path text r ls)
+  lines_told r [] stops all told = told
+  lines_told r (line ∷ rest) stops all told =
       onward_told Goes (items.with_said path text line (said.said path text line) r) (λ more. items.with_lines path text more rest)
       (uses_told (said.said path text line).lists (items.with_meaning path text line (said.said path text line).meaning r)
-      (meaning_told line (said.said path text line).meaning r (all 0 line (omega arith)) told))
+      (meaning_told line (said.said path text line).meaning r (stops 0 line (omega arith)) (all 0 line (omega arith)) told))
       (λ at here. here)
-      (λ more t. lines_told more rest (λ k d within. all (suc k) d (omega (arith, within))) t)
+      (λ more t. lines_told more rest (λ k d within. stops (suc k) d (omega (arith, within))) (λ k d within. all (suc k) d (omega (arith, within))) t)
 
   each_line : All (λ (l : TextLine). Told (line_place path text l)) (lines_of text)
   each_line k d within =
       let l = get_or (lines_of text) k d in
       line_told path text l k within (get_or_default (lines_of text) k l d within)
+
+  each_stop : All (λ (l : TextLine). Told (line_stop path text l)) (lines_of text)
+  each_stop k d within =
+      let l = get_or (lines_of text) k d in
+      stop_told path text l k within (get_or_default (lines_of text) k l d within)
 
   ends_told : (r : Reading) (first : Option Place) → IfSome first Told → IfErr (items.finished_by r first) Told
   ends_told r None told = tt
@@ -149,7 +172,7 @@ module _ (path text : List ℕ) where
   unfolding items.items_of
   fault_told =
       onward_told (λ (found : Result Items Place). IfErr found Told) (items.with_lines path text items.unread (lines_of text)) items.finished
-      (lines_told items.unread (lines_of text) each_line (record { first = tt; spoken = All-nil (λ (s : Spoken). Told s.at) }))
+      (lines_told items.unread (lines_of text) each_stop each_line (record { first = tt; spoken = All-nil (λ (s : Spoken). Told s.at) }))
       (λ at here. here)
       (λ r told. ends_told r r.first told.first)
 

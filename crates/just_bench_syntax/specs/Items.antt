@@ -30,6 +30,7 @@ use Rattle.just_bench_lines.specs.declared.meaning.Statement.{Statement}
 use Rattle.just_bench_lines.specs.declared.meaning.Statement.TheVariants as statements
 use Rattle.just_bench_lines.specs.Body.{body_line, indent}
 use Rattle.just_bench_lines.specs.Meaning.{said}
+use Rattle.just_bench_stops.specs.Stops.{line_stop}
 use Rattle.just_bench_syntax.specs.Recipe.{recipe}
 
 abbrev pub is_nil : {A : Type 0} → List A → Bool
@@ -139,7 +140,7 @@ with_body path text line reading = with_dropped path text line (indent line) rea
 
 -- after a line that means this
 abbrev pub with_meaning : List ℕ → List ℕ → TextLine → Meaning → Reading → Result Reading Place
-with_meaning path text line meaning.Bad reading = Err (line_place path text line)
+with_meaning path text line meaning.Bad reading = Err (line_stop path text line)
 with_meaning path text line meaning.Ignored reading = Ok reading
 with_meaning path text line meaning.Indented reading = with_body path text line reading
 with_meaning path text line (meaning.Marks mark) reading = Ok (with_mark reading (line_place path text line) mark)
@@ -178,6 +179,6 @@ finished_by reading (Some first) = Err first
 abbrev pub finished : Reading → Result Items Place
 finished reading = finished_by reading reading.first
 
--- the items of a text, or where it does not follow the grammar: at the line of an attribute that does not fit, or at another
+-- the items of a text, or where it does not follow the grammar: at the line of an attribute that does not fit, where reading of a line stops, or at a line of a body
 unfoldable pub items_of : List ℕ → List ℕ → Result Items Place
 items_of path text = onward (with_lines path text unread (lines_of text)) finished

@@ -17,6 +17,7 @@ use just_bench_lines::attributes::Mark;
 use just_bench_lines::body::{BodyLine, indent, read_body};
 use just_bench_lines::heading::Heading;
 use just_bench_lines::meaning::{Declaration, Meaning, Said, Statement, read_line};
+use just_bench_stops::stops::line_stop;
 use just_data::{BorrowedText, Sequence};
 use just_names::Token;
 use just_parts::layers::Item;
@@ -297,7 +298,7 @@ fn add_meaning<'src>(
     ensures { IfOk result (λ told. spec.told told reading.new ≡ spec.with_meaning path.now text.now line.now meaning.entry reading.old) }
 {
     match meaning {
-        Meaning::Bad => Ok(Err(line_token(path, text, line))),
+        Meaning::Bad => Ok(Err(line_stop(alloc, path, text, line)?)),
         Meaning::Ignored => Ok(Ok(())),
         Meaning::Indented => add_body(alloc, path, text, line, reading),
         Meaning::Marks(mark) => {
@@ -383,8 +384,8 @@ fn finished<'src>(reading: Reading<'src>) -> Result<Items<'src>, Token<'src>>
     })
 }
 
-/// The items of a text, without numbers, or where it does not follow the grammar: at an attribute that does not fit, or at
-/// another line. The error is want of memory.
+/// The items of a text, without numbers, or where it does not follow the grammar: at an attribute that does not fit, at
+/// what stands where reading of a line stops, or at a line of a body. The error is want of memory.
 #[tactic(auto, unfolding(crate::specs::Items::items_of))]
 pub fn read_items<'src>(
     alloc: Global,

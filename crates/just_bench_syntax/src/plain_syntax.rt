@@ -25,8 +25,9 @@ use std::alloc::{AllocError, Global};
 ///
 /// A line is an import, a module, a setting, an unexport, a variable, a function, an alias, an attribute, a recipe, or a
 /// line of a recipe's body; an empty line, and one that begins with `#`, is ignored. `docs/plain.md` has the table of
-/// lines. Where a text does not follow the grammar, the token of the fault is the whole of a line: the first that does not
-/// follow it, or that of the first attribute that does not fit the item after it.
+/// lines. Where a text does not follow the grammar, the token of the fault is what stands where reading of a line stops,
+/// the first that does not follow it, or the whole of a line: one of a body, or that of the first attribute that does not
+/// fit the item after it.
 #[derive(Clone, Copy)]
 pub struct PlainSyntax<'a> {
     pairs: &'a [(Keyword, Keyword)],

@@ -1,0 +1,14 @@
+-- Where reading stops in a part.
+use Rattle.std.proofs.Common.{◌≡◌, ℕ, ◌∙◌, ap, Result, Ok, Err}
+use Rattle.just_bench_stops.specs.declared.halt.Halt.{Halt}
+use Rattle.just_bench_stops.specs.declared.halt.Halt.TheVariants as halt
+use Rattle.just_bench_stops.specs.Marks.{Goes, goes_on}
+
+-- where a part stops, so does what follows it
+pub fails : (h : Halt) (it : Result ℕ ℕ) (more : ℕ → Result ℕ ℕ) → Goes (Err h) it → Goes (Err h) (goes_on it more)
+fails (halt.At at) it more is = ap (λ r. goes_on r more) is
+fails halt.Memory it more is = tt
+
+pub same_fault : (h : Halt) (it other : Result ℕ ℕ) → it ≡ other → Goes (Err h) it → Goes (Err h) other
+same_fault (halt.At at) it other same is = is ∙ same
+same_fault halt.Memory it other same is = tt

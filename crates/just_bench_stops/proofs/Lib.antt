@@ -1,0 +1,6 @@
+pub mod Fails
+pub mod Properties
+pub mod Seen
+pub mod Starts
+pub mod Told
+pub mod Walks

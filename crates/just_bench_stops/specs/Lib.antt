@@ -1,0 +1,6 @@
+pub mod Attributes
+pub mod Definitions
+pub mod Heading
+pub mod Marks
+pub mod Parts
+pub mod Stops

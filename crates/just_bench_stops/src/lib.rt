@@ -1,0 +1,10 @@
+//! Where reading of a line stops that does not follow the plain grammar.
+#![tactic(auto)]
+
+pub mod attributes;
+pub mod definitions;
+pub mod halt;
+pub mod heading;
+pub mod marks;
+pub mod parts;
+pub mod stops;
