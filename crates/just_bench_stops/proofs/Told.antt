@@ -28,7 +28,7 @@ if_some P false x y h k = k
 abbrev Fits : ℕ → Option (Kind × ℕ) → Type 0
 Fits n found = IfSome found (λ f. f.1 ≤ n)
 
-quoted_by : (rest : List ℕ) (o : Option ℕ) → o ≡ position is_quote rest → Fits (length rest + 1) (option_map {U = Kind × ℕ} (λ inside. (kind.Quoted, inside + 2)) o)
+quoted_by : (rest : List ℕ) (o : Option ℕ) → o ≡ position is_quote rest → Fits (suc (length rest)) (option_map {U = Kind × ℕ} (λ inside. (kind.Quoted, inside + 2)) o)
 quoted_by rest None is = tt
 quoted_by rest (Some n) is = let at = quote_found rest n is in omega (arith, at.0)
 
@@ -38,7 +38,7 @@ double_some b (c ∷ rest) =
     if_some (λ _. 0 < length (c ∷ rest)) (b == 58 && c == 61) (Some kind.Assign) (if b == 38 && c == 38 then Some kind.And else None) (omega arith)
     (if_some (λ _. 0 < length (c ∷ rest)) (b == 38 && c == 38) (Some kind.And) None (omega arith) tt)
 
-mark_fits : (n : ℕ) (double single : Option Kind) → IfSome double (λ _. 0 < n) → Fits (n + 1) (mark double single)
+mark_fits : (n : ℕ) (double single : Option Kind) → IfSome double (λ _. 0 < n) → Fits (suc n) (mark double single)
 mark_fits n (Some d) single h = omega (arith, h)
 mark_fits n None None h = tt
 mark_fits n None (Some s) h = omega arith

@@ -93,21 +93,23 @@ fn named_property<'src>(
     ensures is { spec.Sees result seen.new (spec.property_end_by spelling.now at seen.old word.now) }
     ensures further { IfOk result (GoesOn spelling.now at) }
 {
+    let lexemes = spelling.as_slice();
+    let after = at + 1;
     if word == "long" && !seen.long {
         seen.long = true;
-        return value(spelling.as_slice(), at + 1);
+        return value(lexemes, after);
     }
     if word == "short" && !seen.short {
         seen.short = true;
-        return letter(spelling, at + 1);
+        return letter(spelling, after);
     }
     if word == "flag" && !seen.flag {
         seen.flag = true;
-        return Ok(at + 1);
+        return Ok(after);
     }
     if word == "pattern" && !seen.pattern {
         seen.pattern = true;
-        return pattern(spelling, at + 1);
+        return pattern(spelling, after);
     }
     Err(Halt::At(at))
 }
