@@ -15,6 +15,7 @@ fn are_alike(path: &str, other: &str) -> bool
 
 /// The paths of the files that are like a path, in byte order: equal to it but for white space around them and the case
 /// of ASCII letters.
+#[tactic(auto, using(crate::proofs::Filtering::more, crate::proofs::Filtering::no_more))]
 pub fn paths_like<'src>(
     alloc: Global,
     sources: &Sources<'src>,
@@ -25,7 +26,7 @@ pub fn paths_like<'src>(
     let mut paths = Sequence::new(alloc);
     for other in sources.paths() {
         if are_alike(path, other) {
-            paths.push(BorrowedText::new(other))?;
+            paths.push(BorrowedText::new(*other))?;
         }
     }
     Ok(paths)
