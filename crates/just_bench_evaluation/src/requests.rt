@@ -11,6 +11,6 @@ pub struct Asked {
     pub path: Modulepath,
     /// The numbers of the variables that were asked for; none where all were.
     pub set: Option<Shared<HashSet<Number>>>,
-    /// The names that were bound, in the order in which the scope has them; no names where there was no answer but a fault.
+    /// The names that were bound, from the last to the first; no names where there was no answer but a fault.
     pub names: Sequence<Text>,
 }

@@ -2,6 +2,7 @@
 ghost use Rattle.std.specs.Prelude.{IfOk, IsSome};
 ghost use Rattle.std.specs.HashMap.{get};
 ghost use Rattle.just_analyzer.specs.Words.{IsClean, IsOrdered, IsRooted, root_ast_key, same_ast_key};
+ghost use Rattle.just_examples_values.specs.Bound.{IsInOrder, TellApart};
 
 use crate::find::answer_find;
 use just_analyzer::layers::{Config, Error};
@@ -9,11 +10,13 @@ use just_analyzer::{Compilation, Compiler, Sources, is_clean};
 use just_bench::{PlainEvaluation, PlainSyntax, read_sources};
 use just_examples_answers::compiled::add_compiled;
 use just_examples_answers::held::{add_justfile, add_recipes};
+use just_examples_answers::requests::add_requests;
 use just_examples_answers::variables::add_variable;
 use just_examples_answers::walks::add_walk;
 use just_examples_answers::{add_items, answer_text, read_pairs};
 use just_examples_format::asked::{Asked, read_asked};
 use just_examples_format::faults::add_fault;
+use just_examples_values::add_evaluation;
 use std::alloc::{AllocError, Global};
 
 // Compiles the file at a path.
@@ -27,6 +30,8 @@ fn compile<'src>(
     requires { IsClean root.now }
     ensures rooted { IfOk result (λ c. IsRooted c.justfile c.recipes) }
     ensures ordered { IfOk result (λ c. IsOrdered c.justfile) }
+    ensures in_order { IfOk result (λ c. IsInOrder c.justfile) }
+    ensures apart { IfOk result (λ c. TellApart c.justfile) }
     ensures root_ast { IfOk result (λ c. IsSome (get same_ast_key c.asts (root_ast_key c.root))) }
 {
     let evaluation = PlainEvaluation::new(alloc);
@@ -39,11 +44,14 @@ fn add_compilation(
     text: &mut String,
     alloc: Global,
     compilation: &Compilation,
+    syntax: &PlainSyntax,
     kind: &str,
     asked: &Asked,
 ) -> Result<(), AllocError>
     requires rooted { IsRooted compilation.now.justfile compilation.now.recipes }
     requires ordered { IsOrdered compilation.now.justfile }
+    requires in_order { IsInOrder compilation.now.justfile }
+    requires apart { TellApart compilation.now.justfile }
     requires root_ast { IsSome (get same_ast_key compilation.now.asts (root_ast_key compilation.now.root)) }
 {
     let Compilation {
@@ -64,6 +72,27 @@ fn add_compilation(
         | "Justfile::submodule"
         | "Resolution::resolve_recipe"
         | "Resolution::resolve_module" => add_walk(justfile, recipes, alloc, kind, word, text),
+        "Evaluation::assignments"
+        | "Evaluation::display"
+        | "Evaluation::environment"
+        | "Evaluation::line"
+        | "Evaluation::parameters"
+        | "Evaluation::string"
+        | "Evaluation::value" => {
+            let mut evaluation = PlainEvaluation::new(alloc);
+            add_evaluation(
+                justfile,
+                recipes,
+                overrides,
+                alloc,
+                syntax,
+                &mut evaluation,
+                kind,
+                asked,
+                text,
+            )?;
+            add_requests(evaluation.asked(), text)
+        }
         _ => add_recipes(justfile, recipes, kind, word, text),
     }
 }
@@ -83,7 +112,7 @@ fn add_sources(
     let pairs = read_pairs(alloc, asked.conflicts.as_str())?;
     let syntax = PlainSyntax::with_conflicts(pairs.as_slice());
     match compile(alloc, sources, &syntax, &asked.config, root) {
-        Ok(compilation) => add_compilation(text, alloc, &compilation, kind, asked),
+        Ok(compilation) => add_compilation(text, alloc, &compilation, &syntax, kind, asked),
         Err(error) => add_fault(text, &error),
     }
 }
@@ -111,6 +140,13 @@ pub fn answer(alloc: Global, bundle: &str, question: &str) -> Result<Option<Stri
         "just"
         | "variable"
         | "Compilation::root_ast"
+        | "Evaluation::assignments"
+        | "Evaluation::display"
+        | "Evaluation::environment"
+        | "Evaluation::line"
+        | "Evaluation::parameters"
+        | "Evaluation::string"
+        | "Evaluation::value"
         | "Justfile::name"
         | "Justfile::is_submodule"
         | "Justfile::recipe"
@@ -124,7 +160,9 @@ pub fn answer(alloc: Global, bundle: &str, question: &str) -> Result<Option<Stri
         | "Resolution::resolve_module" => Ok(Some(answer_compiled(alloc, bundle, kind, rest)?)),
         "find" => Ok(Some(answer_find(alloc, bundle, rest)?)),
         "parse" | "read" | "conflicts" => Ok(Some(answer_text(alloc, kind, rest)?)),
-        "copy" | "file" => just_examples_answers::answer(alloc, kind, rest),
+        "copy" | "file" | "Recorder::memory_at" | "Recorder::scripted" => {
+            just_examples_answers::answer(alloc, kind, rest)
+        }
         _ => just_examples_calls::answer(alloc, kind, rest),
     }
 }

@@ -1,6 +1,7 @@
 //! Answers, by the kind of a question.
 use crate::bundles::answer_file;
 use crate::copies::answer_copy;
+use crate::recorders::answer_recorder;
 use just_examples_format::written::unmarked;
 use std::alloc::{AllocError, Global};
 
@@ -10,6 +11,9 @@ pub fn answer(alloc: Global, kind: &str, rest: &str) -> Result<Option<String>, A
     match kind {
         "copy" => Ok(Some(answer_copy(alloc, text.as_str())?)),
         "file" => Ok(Some(answer_file(alloc, text.as_str())?)),
+        "Recorder::memory_at" | "Recorder::scripted" => {
+            Ok(Some(answer_recorder(alloc, kind, text.as_str())?))
+        }
         _ => Ok(None),
     }
 }

@@ -9,6 +9,8 @@ mod copies;
 pub mod held;
 mod items;
 mod readings;
+mod recorders;
+pub mod requests;
 mod runs;
 pub mod variables;
 pub mod walks;

@@ -1,0 +1,3 @@
+pub mod Binding
+pub mod Closed
+pub mod Covered
