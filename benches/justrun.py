@@ -105,8 +105,28 @@ def words(count):
 
 
 def words_of_one_parameter(count):
-    """One recipe with a variadic parameter, which takes all words. Of a recipe with such a parameter nothing is run yet."""
+    """One recipe with a variadic parameter, which takes all words."""
     return bundle("p *x:"), ["p", *(str(n) for n in range(count))]
+
+
+def defaults_in_a_chain(count):
+    """Each recipe has a parameter with a default, and depends on the next."""
+    return bundle(*(f"r{n} x='{n}': r{n + 1}" for n in range(count - 1)), f"r{count - 1} x='a':"), ["r0"]
+
+
+def arguments_in_a_chain(count):
+    """Each recipe hands its argument to the next."""
+    return bundle(*(f"r{n} x: (r{n + 1} x)" for n in range(count - 1)), f"r{count - 1} x:"), ["r0", "a"]
+
+
+def different_arguments(count):
+    """One recipe that depends many times on another, each time with a different argument."""
+    return bundle("d x:", "a: " + " ".join(f"(d '{n}')" for n in range(count))), ["a"]
+
+
+def star(count):
+    """A dependency with a star over a list of many texts."""
+    return bundle("set lists", "d x:", "a: *(d *[" + ", ".join(f"'{n}'" for n in range(count)) + "])"), ["a"]
 
 
 def options(count):
@@ -368,6 +388,10 @@ INPUTS = {
     "10,000 invocations": words(10_000),
     "100,000 invocations of one recipe": invocations(100_000),
     "10,000 words for one variadic parameter": words_of_one_parameter(10_000),
+    "100,000 recipes in a chain with a default each": defaults_in_a_chain(100_000),
+    "100,000 recipes in a chain that hand an argument on": arguments_in_a_chain(100_000),
+    "10,000 dependencies on one recipe with different arguments": different_arguments(10_000),
+    "star over 100,000 texts": star(100_000),
     "recipe with 1,000 options, each given": options(1_000),
     "cluster of 10,000 letters": cluster(10_000),
     "2,000 names of modules inside each other, as words and as a path": names_in_turn(2_000),

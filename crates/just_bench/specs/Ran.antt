@@ -12,6 +12,7 @@ use Rattle.just_run_layers.specs.declared.host.Entry.{Entry}
 use Rattle.just_run_layers.specs.Evaluation.{ScopeRequest}
 use Rattle.just_run_layers.specs.Steps.{kept_by}
 use Rattle.just_invoke.specs.Outcome.{IsOutcome}
+use Rattle.just_invoke.specs.Scopes.{Front}
 use Rattle.just_invoke.specs.Split.{Counts}
 use Rattle.just_bench_evaluation.specs.Answered.{plain_answer}
 use Rattle.just_bench_values.specs.Constants.{evaluator}
@@ -27,16 +28,16 @@ plain_counts = count_fault_of evaluator
 
 -- Words are run over a root by a plain evaluation that was asked nothing, which promises its answers, and a recorder, which promises what it does
 -- by its script: the recorder kept these calls, and keeps those; the evaluation keeps these questions for variables.
-abbrev pub IsPlainOutcome : Justfile → List (Recipe Dependency) → Config → List Text → Script → List Entry → List Entry → Result Report Error → Type 0
-IsPlainOutcome root recipes config words script old new result =
+abbrev pub IsPlainOutcome : Justfile → List (Recipe Dependency) → Config → Front → List Text → Script → List Entry → List Entry → Result Report Error → Type 0
+IsPlainOutcome root recipes config front words script old new result =
     (requests : List ScopeRequest) ×
-    IsOutcome plain_counts root recipes words config (λ inquiry. Some (plain_answer inquiry)) (script_promises script) (kept_by old []) (kept_by new requests) result
+    IsOutcome plain_counts root recipes words config front (λ inquiry. Some (plain_answer inquiry)) (script_promises script) (kept_by old []) (kept_by new requests) result
 
 -- What a recorder without a script, which was asked nothing, is asked by a run, and what the run comes to.
-pub record Ran (root : Justfile) (recipes : List (Recipe Dependency)) (config : Config) (words : List Text) : Type 0 where
+pub record Ran (root : Justfile) (recipes : List (Recipe Dependency)) (config : Config) (front : Front) (words : List Text) : Type 0 where
   pub entries : List Entry
   pub result : Result Report Error
-  pub outcome : IsPlainOutcome root recipes config words unscripted [] entries result
+  pub outcome : IsPlainOutcome root recipes config front words unscripted [] entries result
 
 -- why a run is not told to be done: its error; or it is done, and its lines could not be written
 abbrev pub IsRunFault : Result Report Error → ProgramError → Type 0

@@ -1,6 +1,7 @@
 //! The run of a compiled module over the layers of the bench.
 ghost use Rattle.just_justfile.specs.Closed.{IsRooted};
 ghost use Rattle.just_names.specs.Texts.{texts};
+ghost use Rattle.just_invoke.specs.Scopes.{front_of};
 ghost use Rattle.just_bench.specs.Ran.{IsPlainOutcome};
 
 use crate::recorder::Recorder;
@@ -25,7 +26,7 @@ pub fn run_words<'src>(
     words: &[&str],
 ) -> Result<Report, Error<'src>>
     requires { IsRooted root.now recipes.now }
-    ensures { IsPlainOutcome root.now recipes.now config.now (texts words.now) host.old.script host.old.entries host.new.entries result }
+    ensures { IsPlainOutcome root.now recipes.now config.now (front_of config.now overrides.now) (texts words.now) host.old.script host.old.entries host.new.entries result }
 {
     let mut writer = StopWriter::new(alloc, 0)?;
     let mut evaluation = PlainEvaluation::new(alloc);

@@ -20,16 +20,17 @@ use Rattle.just_run_layers.proofs.StepLemmas.{took-gives, took-split}
 use Rattle.just_execution.specs.declared.pair.Pair.{Pair}
 use Rattle.just_execution.specs.Account.{Asked, OnceTables, Empty, Asks, Runs, own, executions, AreIn, AreNamed, Complete, counts, HasAccount, Tells, of_recipe, at_path}
 use Rattle.just_execution.specs.Firsts.{has}
-use Rattle.just_execution.specs.Leaves.{ask_steps, begin_steps, hold_steps, prepare_steps, recipe_steps, leaves_of}
+use Rattle.just_execution.specs.Leaves.{ask_steps, begin_steps, follow_steps, recipe_steps, leaves_of}
 use Rattle.just_execution.specs.declared.task.Task.{Task}
-use Rattle.just_execution.specs.Pairs.{OnceTable, same_pair, task_of, prior_dependencies, subsequent_dependencies, AllBelow}
-use Rattle.just_recipes.specs.Places.{place_of}
+use Rattle.just_execution.specs.Pairs.{OnceTable, same_pair, prior_dependencies, subsequent_dependencies, AllBelow}
 use Rattle.just_recipe.specs.Recipes.{IsOrdered}
-use Rattle.just_execution.specs.Scene.{ModuleContents, Scene}
+use Rattle.just_execution.specs.Scene.{Scene}
 use Rattle.just_execution.specs.Walking.{Leaves, Prepared, State, counted, all_steps, opened, fresh_steps, block_steps, ran, ran_steps, visit_steps, walk_steps}
 use Rattle.just_execution.proofs.Joined.{with_priors, asks, join, still-new, add-zero, none-in, none-below}
-use Rattle.just_execution.proofs.Leaves.{ask-priors}
-use Rattle.just_execution.proofs.Places.{priors-before, subsequents-before, All-unmap}
+use Rattle.just_execution.proofs.Asked.{ask-named, ask-quiet, follow-named, follow-quiet}
+use Rattle.just_execution.proofs.Leaves.{named-below}
+use Rattle.just_execution.proofs.Places.{priors-before, subsequents-before}
+use Rattle.just_execution.proofs.Quiet.{executed-append, took-quiet}
 use Rattle.just_execution.proofs.Standing.{Stands, Walked, Accounts, IsFresh, Blocks, ok-is, ok-not, err-is, memory-not, gained-none, gave, broke, stands-then, stands-low, accounts-then, accounts-broke, count-split, full-here, stands-asked, stands-opened, fresh-of, fresh-broke, block-broke, block-none, block-ran, ask-broke, priors-broke, visit-broke, visit-ran}
 
 -- what steps for tasks keep: nothing is executed, and the tasks that they come to are what is named
@@ -55,14 +56,6 @@ pub record AreAccounted (recipes : List (Recipe Dependency)) (leaves : Leaves) (
   pub ask : (t : Task) (old new : Kept) (r : Result Prepared Halt) → Took p (leaves.ask t) old new r → GivesNamed priors_of recipes (prior_dependencies recipes t.pair.recipe) old new r
   pub follow : (t : Task) (h : Held) (old new : Kept) (r : Result (List Task) Halt) → Took p (leaves.follow t h) old new r → GivesNamed themselves recipes (subsequent_dependencies recipes t.pair.recipe) old new r
   pub execute : (t : Task) (h : Held) (old new : Kept) (r : Result (Unit {0}) Halt) → Took p (leaves.execute t h) old new r → GivesExecuted recipes t old new r
-
--- tasks that are named stand where what they are named by stands
-named-below : (recipes : List (Recipe Dependency)) (k : ℕ) (ds : List Dependency) (ts : List Task) → AllBelow k (map (task_of recipes) ds) → AreNamed recipes ds ts → AllBelow k ts
-named-below recipes k ds ts h n =
-    let low : ℕ → Type 0 = λ m. m < k in
-    let these : All (λ (d : Dependency). place_of recipes d.recipe.0 < k) ds = All-unmap (λ (t : Task). t.pair.recipe < k) (task_of recipes) ds h in
-    let places : All low (map (λ (d : Dependency). place_of recipes d.recipe.0) ds) = All-map low (λ (d : Dependency). place_of recipes d.recipe.0) ds these in
-    All-unmap low (λ (t : Task). t.pair.recipe) ts (subst (All low) (sym n.places) places)
 
 -- what the result says
 tells-of : (recipes : List (Recipe Dependency)) (tops : List Task) (old new : Kept) (r : Result (List ℕ) Halt) (u : OnceTables) → IsFresh recipes tops [] old new r u → Tells recipes tops u r
@@ -145,7 +138,7 @@ module _ (recipes : List (Recipe Dependency)) (leaves : Leaves) (p : Question �
               | inl (ss, next, given, second, last) ↦
                   let f : GivesNamed themselves recipes (subsequent_dependencies recipes t.pair.recipe) mid next (Ok ss) = leaf.follow t held mid next (Ok ss) second in
                   let named : AreNamed recipes (subsequent_dependencies recipes t.pair.recipe) ss = f.named ss refl in
-                  let low : AllBelow t.pair.recipe ss = named-below recipes t.pair.recipe (subsequent_dependencies recipes t.pair.recipe) ss (subsequents-before recipes t.pair ordered) named in
+                  let low : AllBelow t.pair.recipe ss = named-below recipes t.pair.recipe (subsequent_dependencies recipes t.pair.recipe) ss (subsequents-before recipes t.pair.recipe ordered) named in
                   let inside : AllBelow n ss = All-weaker (λ (q : Task). q.pair.recipe < t.pair.recipe) (λ (q : Task). q.pair.recipe < n) (λ q h. omega arith) ss low in
                   let (v, c) = fresh-at n walk ss calls next new r inside last in
                   (Runs t ps ss v Empty, block-ran recipes tops before done t ps ss calls old next new r v i m d named (f.still ∙ g) c)
@@ -175,7 +168,7 @@ module _ (recipes : List (Recipe Dependency)) (leaves : Leaves) (p : Question �
             let ps : List Task = x.priors in
             let f : GivesNamed priors_of recipes (prior_dependencies recipes t.pair.recipe) old mid (Ok x) = leaf.ask t old mid (Ok x) first in
             let named : AreNamed recipes (prior_dependencies recipes t.pair.recipe) ps = f.named x refl in
-            let low : AllBelow t.pair.recipe ps = named-below recipes t.pair.recipe (prior_dependencies recipes t.pair.recipe) ps (priors-before recipes t.pair ordered) named in
+            let low : AllBelow t.pair.recipe ps = named-below recipes t.pair.recipe (prior_dependencies recipes t.pair.recipe) ps (priors-before recipes t.pair.recipe ordered) named in
             let stands : Stands tops (before ++ with_priors t ps ∷ []) done t.pair.recipe (counted s) ps = stands-asked tops before done s t ps a in
             elim (took-split p (all_steps (walk_steps leaves n) (counted s) ps) (ran_steps leaves (walk_steps leaves n) t x.held) mid new r later) [
               | inl (now, next, given, second, last) ↦
@@ -247,60 +240,26 @@ module _ (recipes : List (Recipe Dependency)) (leaves : Leaves) (p : Question �
       let (u, a) = fresh-at n (walk-at n) tops [] old new r b took in
       (u, record { gained = a.gained; fits = a.fits }, tells-of recipes tops old new r u a)
 
--- the leaves of a scene: nothing is asked before the priors and the subsequents
-named-all : (recipes : List (Recipe Dependency)) (ds : List Dependency) → AreNamed recipes ds (map (task_of recipes) ds)
-named-all recipes ds = record {
-  places = places ds;
-  flags = All-map (λ (t : Task). t.dependency ≡ true) (task_of recipes) ds (λ i d l. refl);
-} where
-  places : (xs : List Dependency) → map (λ (t : Task). t.pair.recipe) (map (task_of recipes) xs) ≡ map (λ (d : Dependency). place_of recipes d.recipe.0) xs
-  places [] = refl
-  places (x ∷ xs) = ap (λ ns. place_of recipes x.recipe.0 ∷ ns) (places xs)
-
--- steps that end without a question keep what was kept, and no number is refused
-abbrev IsStill : {A : Type 0} → Kept → Kept → Result A Halt → Type 0
-IsStill old new r = (new ≡ old) × (r ≡ Err Exhausted → ⊥)
-
-given-still : {A : Type 0} (p : Question → Option Answer) (x : A) (old new : Kept) (r : Result A Halt) → Took p (Give x) old new r → IsStill old new r
-given-still p x old new r (n, inl h) = (n, λ k. ok-not r x Exhausted h k)
-given-still p x old new r (n, inr h) = (n, λ k. memory-not (err-is r Memory Exhausted h k))
-
-wanting-still : {A : Type 0} (old new : Kept) (r : Result A Halt) → (new ≡ old) × ((r ≡ Err Memory) ⊎ (r ≡ Err Memory)) → IsStill old new r
-wanting-still old new r (n, inl h) = (n, λ k. memory-not (err-is r Memory Exhausted h k))
-wanting-still old new r (n, inr h) = (n, λ k. memory-not (err-is r Memory Exhausted h k))
-
-hold-still : (p : Question → Option Answer) (ps : List Task) (o : Option ModuleContents) (old new : Kept) (r : Result Prepared Halt) → Took p (hold_steps ps o) old new r → IsStill old new r
-hold-still p ps None old new r t = wanting-still old new r t
-hold-still p ps (Some m) old new r t = given-still p _ old new r t
-
-prepare-still : (scene : Scene) (p : Question → Option Answer) (ps : List Task) (o : Option (Recipe Dependency)) (old new : Kept) (r : Result Prepared Halt) →
-    Took p (prepare_steps scene ps o) old new r → IsStill old new r
-prepare-still scene p ps None old new r t = wanting-still old new r t
-prepare-still scene p ps (Some recipe) old new r t = hold-still p ps (scene.modules recipe.module_path) old new r t
-
-ask-named : (scene : Scene) (p : Question → Option Answer) (t : Task) (old new : Kept) (r : Result Prepared Halt) →
+-- the leaves of a scene
+asked-named : (scene : Scene) (p : Question → Option Answer) (t : Task) (old new : Kept) (r : Result Prepared Halt) →
     Took p (ask_steps scene t) old new r → GivesNamed priors_of scene.recipes (prior_dependencies scene.recipes t.pair.recipe) old new r
-ask-named scene p t old new r took =
-    let still : IsStill old new r = prepare-still scene p _ (slice_get scene.recipes t.pair.recipe) old new r took in
-    let ds : List Dependency = prior_dependencies scene.recipes t.pair.recipe in
+asked-named scene p t old new r took =
+    let quiet = took-quiet p (ask_steps scene t) old new r (ask-quiet scene t) took in
     record {
-      still = ap executed_in still.0;
-      named = λ a h. subst (AreNamed scene.recipes ds) (ask-priors scene t a (took-gives p (ask_steps scene t) old new a (subst (Took p (ask_steps scene t) old new) h took)))
-          (named-all scene.recipes ds);
-      unfull = still.1;
+      still = quiet.0;
+      named = λ a h. ask-named scene t a (took-gives p (ask_steps scene t) old new a (subst (Took p (ask_steps scene t) old new) h took));
+      unfull = quiet.1;
     }
 
-follow-named : (recipes : List (Recipe Dependency)) (p : Question → Option Answer) (ds : List Dependency) (old new : Kept) (r : Result (List Task) Halt) →
-    Took p (Give (map (task_of recipes) ds)) old new r → GivesNamed themselves recipes ds old new r
-follow-named recipes p ds old new r t = record {
-  still = ap executed_in t.0;
-  named = λ ts h. subst (AreNamed recipes ds) (took-gives p (Give (map (task_of recipes) ds)) old new ts (subst (Took p (Give (map (task_of recipes) ds)) old new) h t)) (named-all recipes ds);
-  unfull = (given-still p (map (task_of recipes) ds) old new r t).1;
-}
-
--- what was executed is what the entries say, one after another
-executed-append : (xs ys : List Entry) → executed (xs ++ ys) ≡ executed xs ++ executed ys
-executed-append xs ys = flat_map-append executed_by xs ys
+followed-named : (scene : Scene) (p : Question → Option Answer) (t : Task) (held : Held) (old new : Kept) (r : Result (List Task) Halt) →
+    Took p (follow_steps scene t held) old new r → GivesNamed themselves scene.recipes (subsequent_dependencies scene.recipes t.pair.recipe) old new r
+followed-named scene p t held old new r took =
+    let quiet = took-quiet p (follow_steps scene t held) old new r (follow-quiet scene t held) took in
+    record {
+      still = quiet.0;
+      named = λ ts h. follow-named scene t held ts (took-gives p (follow_steps scene t held) old new ts (subst (Took p (follow_steps scene t held) old new) h took));
+      unfull = quiet.1;
+    }
 
 abbrev IsExecuted : List Executed → Kept → Kept → Result (Unit {0}) Halt → Type 0
 IsExecuted es old new r = ((executed_in new ≡ executed_in old ++ es) × ((r ≡ Ok tt) ⊎ (r ≡ Err Memory))) ⊎ ((executed_in new ≡ executed_in old) × (r ≡ Err Memory))
@@ -340,8 +299,8 @@ gives-executed recipes t old new r (inr h) = record {
 
 pub leaves-accounted : (scene : Scene) (p : Question → Option Answer) → AreAccounted scene.recipes (leaves_of scene) p
 leaves-accounted scene p = record {
-  ask = λ t old new r h. ask-named scene p t old new r h;
-  follow = λ t held old new r h. follow-named scene.recipes p (subsequent_dependencies scene.recipes t.pair.recipe) old new r h;
+  ask = λ t old new r h. asked-named scene p t old new r h;
+  follow = λ t held old new r h. followed-named scene p t held old new r h;
   execute = λ t held old new r h. gives-executed scene.recipes t old new r (recipe-executes p t (slice_get scene.recipes t.pair.recipe) old new r h);
 }
 

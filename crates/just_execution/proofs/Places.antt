@@ -6,11 +6,8 @@ use Rattle.std.proofs.lemmas.List.Elements.{All-head, All-tail, All-nil, All-con
 use Rattle.std.proofs.lemmas.List.{length_push}
 use Rattle.std.proofs.lemmas.Option.{slice_get-get_or}
 use Rattle.just_recipe.specs.declared.dependency.Dependency.{Dependency}
-use Rattle.just_ast_definitions.specs.declared.parameter.Parameter.{Parameter}
 use Rattle.just_recipe.specs.declared.recipe.Recipe.{Recipe}
-use Rattle.just_execution.specs.declared.pair.Pair.{Pair}
-use Rattle.just_execution.specs.declared.task.Task.{Task}
-use Rattle.just_execution.specs.Pairs.{at_place, empty_groups, pair_of, task_of, prior_dependencies, subsequent_dependencies, AllBelow}
+use Rattle.just_execution.specs.Pairs.{at_place, prior_dependencies, subsequent_dependencies}
 use Rattle.just_recipe.specs.Recipes.{numbers, needs, IsOrdered, AreOrderedAfter}
 use Rattle.just_recipes.specs.Places.{place_of}
 use Rattle.just_recipes.proofs.Places.{place-within}
@@ -56,20 +53,12 @@ needs-before rs k r ordered e =
     subst (λ m. All (λ (n : ℕ). (Contains (numbers rs) n) × (place_of rs n < m)) (needs r)) zero-more (ordered-needs [] rs k r ordered e) in
     All-unmap (λ (n : ℕ). (Contains (numbers rs) n) × (place_of rs n < k)) (λ (d : Dependency). d.recipe.0) r.dependencies h
 
-pub dependencies-below : (rs : List (Recipe Dependency)) (k : ℕ) (ds : List Dependency) → All (IsBefore rs k) ds → AllBelow k (map (task_of rs) ds)
-dependencies-below rs k ds h = All-map (λ (t : Task). t.pair.recipe < k) (task_of rs) ds (All-weaker (IsBefore rs k) (λ (d : Dependency). place_of rs d.recipe.0 < k) (λ d q. q.1) ds h)
-
 pub dependencies-held : (rs : List (Recipe Dependency)) (k : ℕ) (ds : List Dependency) → All (IsBefore rs k) ds → All (λ (d : Dependency). Contains (numbers rs) d.recipe.0) ds
 dependencies-held rs k ds h = All-weaker (IsBefore rs k) (λ (d : Dependency). Contains (numbers rs) d.recipe.0) (λ d q. q.0) ds h
 
 -- what is known of the recipe that is read at a place
 pub read-at : (inside rs : List (Recipe Dependency)) (k : ℕ) (r : Recipe Dependency) → inside ≡ rs → k < length rs → r ≡ get_or inside k r → slice_get rs k ≡ Some r
 read-at inside rs k r same h read = slice_get-get_or rs k r h ∙ ap Some (sym (read ∙ ap (λ xs. get_or xs k r) same))
-
-pub pair-made : (rs : List (Recipe Dependency)) (d : Dependency) (k : ℕ) (g : List (List (List ℕ))) (r : Recipe Dependency) → k ≡ place_of rs d.recipe.0 → slice_get rs k ≡ Some r → g ≡ map (λ (p : Parameter). []) r.parameters → record { recipe = k; groups = g } ≡ pair_of rs d
-pair-made rs d k g r e at h =
-    let same : g ≡ empty_groups rs (place_of rs d.recipe.0) = h ∙ sym (at-place (λ (r : Recipe Dependency). map (λ (p : Parameter). []) r.parameters) rs k r at) ∙ ap (empty_groups rs) e in
-    λ i. record { recipe = e i; groups = same i }
 
 -- what runs before a recipe, and what runs after it, stands before its place
 at-none : {A : Type 0} (f : Recipe Dependency → List A) (rs : List (Recipe Dependency)) (k : ℕ) → slice_get rs k ≡ None → at_place f rs k ≡ []
@@ -81,13 +70,11 @@ at-before : (part : Recipe Dependency → List Dependency) → ((r : Recipe Depe
 at-before part some rs k None ordered e = subst (All (IsBefore rs k)) (sym (at-none part rs k e)) (All-nil (IsBefore rs k))
 at-before part some rs k (Some r) ordered e = subst (All (IsBefore rs k)) (sym (at-place part rs k r e)) (some r (IsBefore rs k) (needs-before rs k r ordered e))
 
-pub priors-before : (rs : List (Recipe Dependency)) (p : Pair) → IsOrdered rs → AllBelow p.recipe (map (task_of rs) (prior_dependencies rs p.recipe))
-priors-before rs p ordered = dependencies-below rs p.recipe (prior_dependencies rs p.recipe)
-    (at-before (λ r. take r.priors r.dependencies) (λ r P h. All-take P r.priors r.dependencies h) rs p.recipe (slice_get rs p.recipe) ordered refl)
+pub priors-before : (rs : List (Recipe Dependency)) (k : ℕ) → IsOrdered rs → All (IsBefore rs k) (prior_dependencies rs k)
+priors-before rs k ordered = at-before (λ r. take r.priors r.dependencies) (λ r P h. All-take P r.priors r.dependencies h) rs k (slice_get rs k) ordered refl
 
-pub subsequents-before : (rs : List (Recipe Dependency)) (p : Pair) → IsOrdered rs → AllBelow p.recipe (map (task_of rs) (subsequent_dependencies rs p.recipe))
-subsequents-before rs p ordered = dependencies-below rs p.recipe (subsequent_dependencies rs p.recipe)
-    (at-before (λ r. drop r.priors r.dependencies) (λ r P h. All-drop P r.priors r.dependencies h) rs p.recipe (slice_get rs p.recipe) ordered refl)
+pub subsequents-before : (rs : List (Recipe Dependency)) (k : ℕ) → IsOrdered rs → All (IsBefore rs k) (subsequent_dependencies rs k)
+subsequents-before rs k ordered = at-before (λ r. drop r.priors r.dependencies) (λ r P h. All-drop P r.priors r.dependencies h) rs k (slice_get rs k) ordered refl
 
 pub OnOk-map : {A E P Q : Type 0} (r : Result A E) → (P → Q) → OnOk r P → OnOk r Q
 OnOk-map (Ok a) f h = f h

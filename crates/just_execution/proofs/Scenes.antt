@@ -5,13 +5,13 @@ use Rattle.just_errors.specs.declared.halt.Halt.{Halt}
 use Rattle.just_errors.specs.Halts.{without}
 use Rattle.just_recipe.specs.declared.dependency.Dependency.{Dependency}
 use Rattle.just_recipe.specs.declared.recipe.Recipe.{Recipe}
+use Rattle.just_run_layers.specs.declared.held.Held.{Held}
 use Rattle.just_run_layers.specs.declared.host.Entry.{Entry}
 use Rattle.just_run_layers.specs.Evaluation.{Inquiry}
 use Rattle.just_run_layers.specs.Host.{Answer}
 use Rattle.just_run_layers.specs.Steps.{Follows, IsSteady, Kept, Question, Took, both, outcome, path}
 use Rattle.just_paths.specs.declared.modulepath.Modulepath.{Modulepath}
-use Rattle.just_execution.specs.Leaves.{ask_steps, execute_steps, follow_steps, hold_steps, leaves_of, prepare_steps}
-use Rattle.just_execution.specs.Pairs.{priors}
+use Rattle.just_execution.specs.Leaves.{after_steps, ask_in, ask_steps, execute_steps, follow_in, follow_steps, leaves_of, prepare_steps}
 use Rattle.just_execution.specs.Reports.{IsAsExpected, Starts, calls_in}
 use Rattle.just_execution.specs.Run.{IsEven, run_steps}
 use Rattle.just_execution.specs.Scene.{AreAlike, ModuleContents, Scene}
@@ -27,16 +27,25 @@ scene recipes modules = record { recipes = recipes; modules = modules }
 -- what is asked in modules that are the same for each recipe
 module _ (recipes : List (Recipe Dependency)) (ms ns : Option Modulepath → Option ModuleContents)
     (agree : All (λ (r : Recipe Dependency). ms r.module_path ≡ ns r.module_path) recipes) where
-  same-prepared : (t : Task) (o : Option (Recipe Dependency)) → slice_get recipes t.pair.recipe ≡ o →
-      prepare_steps (scene recipes ms) (priors recipes t) o ≡ prepare_steps (scene recipes ns) (priors recipes t) o
+  agree-at : (k : ℕ) (r : Recipe Dependency) → slice_get recipes k ≡ Some r → ms r.module_path ≡ ns r.module_path
+  agree-at k r at = All-got (λ (r : Recipe Dependency). ms r.module_path ≡ ns r.module_path) recipes k r agree at
+
+  same-prepared : (t : Task) (o : Option (Recipe Dependency)) → slice_get recipes t.pair.recipe ≡ o → prepare_steps (scene recipes ms) t o ≡ prepare_steps (scene recipes ns) t o
   same-prepared t None at = refl
-  same-prepared t (Some r) at = ap (hold_steps (priors recipes t)) (All-got (λ (r : Recipe Dependency). ms r.module_path ≡ ns r.module_path) recipes t.pair.recipe r agree at)
+  same-prepared t (Some r) at = ap (ask_in recipes t r) (agree-at t.pair.recipe r at)
 
   same-asked : (t : Task) → ask_steps (scene recipes ms) t ≡ ask_steps (scene recipes ns) t
   same-asked t = same-prepared t (slice_get recipes t.pair.recipe) refl
 
+  same-after : (t : Task) (h : Held) (o : Option (Recipe Dependency)) → slice_get recipes t.pair.recipe ≡ o → after_steps (scene recipes ms) t h o ≡ after_steps (scene recipes ns) t h o
+  same-after t h None at = refl
+  same-after t h (Some r) at = ap (follow_in recipes t h r) (agree-at t.pair.recipe r at)
+
+  same-followed : (t : Task) (h : Held) → follow_steps (scene recipes ms) t h ≡ follow_steps (scene recipes ns) t h
+  same-followed t h = same-after t h (slice_get recipes t.pair.recipe) refl
+
   same-parts : leaves_of (scene recipes ms) ≡ leaves_of (scene recipes ns)
-  same-parts = λ i. record { ask = λ t. same-asked t i; execute = execute_steps recipes; follow = follow_steps recipes }
+  same-parts = λ i. record { ask = λ t. same-asked t i; execute = execute_steps recipes; follow = λ t h. same-followed t h i }
 
 pub same-leaves : (first second : Scene) → AreAlike first second → leaves_of first ≡ leaves_of second
 same-leaves first second alike = same-parts first.recipes first.modules second.modules alike.modules ∙ ap (λ rs. leaves_of (scene rs second.modules)) alike.recipes

@@ -1,9 +1,10 @@
 -- What happened in a run: a tree of once tables.
 use Rattle.std.specs.Prelude.{◌≡◌, ◌≤◌, ◌^◌, ℕ, ◌+◌, true, false, List, [], ◌∷◌, ◌++◌, length, map, flat_map, ◌⊎◌, Option, Some, None, Result, Ok, Err}
-use Rattle.std.specs.List.{All, slice_get}
+use Rattle.std.specs.List.{All, position, slice_get}
 use Rattle.just_graph.specs.Members.{In}
 use Rattle.just_paths.specs.declared.modulepath.Modulepath.{Modulepath}
 use Rattle.just_run_layers.specs.Steps.{Kept, executed_in}
+use Rattle.just_recipe.specs.Starred.{has_star}
 use Rattle.just_recipe.specs.declared.dependency.Dependency.{Dependency}
 use Rattle.just_errors.specs.declared.halt.Halt.{Halt}
 use Rattle.just_errors.specs.declared.halt.Halt.TheVariants.{Memory, Exhausted, Failed}
@@ -62,10 +63,15 @@ known tops asked = tops ++ flat_map (λ (a : Asked). a.priors) asked
 abbrev pub pairs_asked : List Asked → List Pair
 pairs_asked asked = map (λ (a : Asked). a.task.pair) asked
 
--- tasks of the recipes that dependencies name, in order, each as a dependency
-pub record AreNamed (recipes : List (Recipe Dependency)) (dependencies : List Dependency) (ts : List Task) : Type 0 where
-  pub places : map (λ (t : Task). t.pair.recipe) ts ≡ map (λ (d : Dependency). place_of recipes d.recipe.0) dependencies
-  pub flags : All (λ (t : Task). t.dependency ≡ true) ts
+-- tasks that a dependency stands for: of the recipe that it names, each as a dependency, and one where it has no star
+pub record StandFor (recipes : List (Recipe Dependency)) (d : Dependency) (ts : List Task) : Type 0 where
+  pub named : All (λ (t : Task). (t.pair.recipe ≡ place_of recipes d.recipe.0) × (t.dependency ≡ true)) ts
+  pub once : position has_star d.arguments ≡ None → length ts ≡ 1
+
+-- tasks of the recipes that dependencies name, in order
+abbrev pub AreNamed : List (Recipe Dependency) → List Dependency → List Task → Type 0
+AreNamed recipes [] ts = ts ≡ []
+AreNamed recipes (d ∷ ds) ts = (these : List Task) × (others : List Task) × (ts ≡ these ++ others) × StandFor recipes d these × AreNamed recipes ds others
 
 -- a task asked in a table with these tops, where some were asked: it is a top or a prior of one of these, and its pair was not asked;
 -- its priors are what its recipe names, or asking for them was the last that happened

@@ -1,14 +1,13 @@
 -- Where recipes run: the modules of a run, and what is bound in them.
 use Rattle.std.proofs.Common.{BuildHasherDefault, FoldHasher}
-use Rattle.std.specs.Prelude.{◌≡◌, ◌<◌, ℕ, List, [], ◌∷◌, length, Option, None, Some, IsSome}
+use Rattle.std.specs.Prelude.{◌≡◌, ◌<◌, ℕ, true, List, [], ◌∷◌, length, Option, None, Some, IsSome}
 use Rattle.std.specs.HashMap.{HashMap, get}
 use Rattle.std.specs.List.{All, slice_get}
 use Rattle.just_ast_expressions.specs.declared.scope.Scope.{Scope}
 use Rattle.just_names.specs.Texts.{Text}
-use Rattle.just_parts.specs.Evaluator.{Values, values_of}
-use Rattle.just_parts.specs.Known.{Known, sources}
-use Rattle.just_parts.specs.Reading.{Reads}
-use Rattle.just_parts.specs.Scopes.{Scoped, scopes_of}
+use Rattle.just_parts.specs.Evaluator.{values_of}
+use Rattle.just_parts.specs.Known.{Known}
+use Rattle.just_parts.specs.Scopes.{Scoped, is_parameter, scopes_of}
 use Rattle.just_parts.specs.Syntax.{SyntaxAnswers}
 use Rattle.just_paths.specs.contracts.modulepath.ModulepathPartialEq.TheImpl as path_eq
 use Rattle.just_paths.specs.declared.modulepath.Modulepath.{Modulepath}
@@ -16,6 +15,7 @@ use Rattle.just_recipe.specs.Grouping.{joined}
 use Rattle.just_recipe.specs.declared.dependency.Dependency.{Dependency}
 use Rattle.just_recipe.specs.declared.dependency.DependencyArgument.{DependencyArgument}
 use Rattle.just_recipe.specs.declared.recipe.Recipe.{Recipe}
+use Rattle.just_run_layers.specs.Covering.{Covers, module_of}
 use Rattle.just_run_layers.specs.declared.held.Held.{Held}
 use Rattle.just_execution.specs.declared.scopes.ModuleScope.{ModuleScope}
 use Rattle.just_execution.specs.declared.task.Task.{Task}
@@ -33,14 +33,13 @@ module_at modules (Some path) = get path_eq.ghosts.eq modules path
 abbrev pub arguments_of : Dependency → List DependencyArgument
 arguments_of d = joined d.arguments
 
--- what a recipe reads in a scope has a value
-abbrev pub HasValues : Known → Values → Scoped → Type 0
-HasValues known values s = (name : Text) → Reads known s.hidden s.expression name → IsSome (values name)
+-- what an expression in its scope reads is bound among some values
+abbrev pub IsRead : Known → Scope → Scoped → Type 0
+IsRead known scope s = Covers known s.hidden scope s.expression
 
 -- whatever a recipe of a module reads is bound in a scope
 abbrev pub IsBound : SyntaxAnswers → ModuleScope → Recipe Dependency → Scope → Type 0
-IsBound answers m r scope =
-    All (HasValues (sources m.context.assignments.now m.context.functions.now) (values_of scope)) (scopes_of arguments_of answers m.context.settings.now r)
+IsBound answers m r scope = All (IsRead (module_of m.context) scope) (scopes_of arguments_of answers m.context.settings.now r)
 
 -- a module is that of a recipe: it has the recipe's path, and what the recipe reads is bound among its values
 pub record IsHomeOf (answers : SyntaxAnswers) (m : ModuleScope) (r : Recipe Dependency) : Type 0 where
@@ -66,15 +65,21 @@ pub record IsCallable (answers : SyntaxAnswers) (modules : Modules) (recipes : L
 abbrev pub IsHomeAt : SyntaxAnswers → ModuleScope → List (Recipe Dependency) → ℕ → Type 0
 IsHomeAt answers m recipes place = (recipe : Recipe Dependency) → slice_get recipes place ≡ Some recipe → IsHomeOf answers m recipe
 
--- what is held serves the recipe at a place in a module: what the recipe reads is bound in it
-abbrev pub ServesAt : SyntaxAnswers → ModuleScope → List (Recipe Dependency) → ℕ → Held → Type 0
-ServesAt answers m recipes place h = (recipe : Recipe Dependency) → slice_get recipes place ≡ Some recipe → IsBound answers m recipe h.scope
+-- what is held serves a recipe in a module: what the recipe reads is bound in it, and each of the recipe's parameters has a value
+pub record ServesIn (answers : SyntaxAnswers) (m : ModuleScope) (r : Recipe Dependency) (h : Held) : Type 0 where
+  pub bound : IsBound answers m r h.scope
+  pub named : (name : Text) → is_parameter r.parameters name ≡ true → IsSome (values_of h.scope name)
 
 -- it serves a task: in the module of the task's recipe
 abbrev pub IsServed : SyntaxAnswers → Modules → List (Recipe Dependency) → Task → Held → Type 0
 IsServed answers modules recipes t h =
-    (m : ModuleScope) (recipe : Recipe Dependency) → slice_get recipes t.pair.recipe ≡ Some recipe → module_at modules recipe.module_path ≡ Some m → IsBound answers m recipe h.scope
+    (m : ModuleScope) (recipe : Recipe Dependency) → slice_get recipes t.pair.recipe ≡ Some recipe → module_at modules recipe.module_path ≡ Some m → ServesIn answers m recipe h
 
--- the module of a recipe is under its path among those of a run
+-- it serves the recipe at a place in a module
+abbrev pub ServesAt : SyntaxAnswers → ModuleScope → List (Recipe Dependency) → ℕ → Held → Type 0
+ServesAt answers m recipes place h = (recipe : Recipe Dependency) → slice_get recipes place ≡ Some recipe → ServesIn answers m recipe h
+
+-- the module of a recipe is under its path among those of a run, and has no variables
 abbrev pub IsAmong : Modules → Recipe Dependency → Type 0
-IsAmong modules r = (m : ModuleScope) × (module_at modules r.module_path ≡ Some m) × (r.module_path ≡ Some m.context.module_path.now)
+IsAmong modules r =
+    (m : ModuleScope) × (module_at modules r.module_path ≡ Some m) × (r.module_path ≡ Some m.context.module_path.now) × (m.context.assignments.now ≡ [])

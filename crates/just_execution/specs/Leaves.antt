@@ -1,39 +1,51 @@
 -- What is asked of one task of a scene.
-use Rattle.std.specs.Prelude.{ℕ, List, [], Option, Some, None, Result, Ok, Err}
+use Rattle.std.specs.Prelude.{◌≡◌, ℕ, Bool, true, false, List, [], take, drop, Option, Some, None, Result, Ok, Err}
 use Rattle.std.specs.List.{slice_get}
 use Rattle.just_paths.specs.declared.modulepath.Modulepath.{Modulepath}
 use Rattle.just_recipe.specs.declared.dependency.Dependency.{Dependency}
 use Rattle.just_errors.specs.declared.halt.Halt.{Halt}
 use Rattle.just_errors.specs.declared.halt.Halt.TheVariants.{Memory}
+use Rattle.just_names.specs.Token.{lexeme}
 use Rattle.just_run_layers.specs.declared.held.Held.{Held}
 use Rattle.just_run_layers.specs.declared.host.Entry.{Entry}
 use Rattle.just_run_layers.specs.declared.host.Entry.TheVariants.{Begin}
 use Rattle.just_recipe.specs.declared.recipe.Recipe.{Recipe}
-use Rattle.just_run_layers.specs.Evaluation.{Inquiry, ScopeRequest}
-use Rattle.just_run_layers.specs.Host.{Answer}
-use Rattle.just_run_layers.specs.Steps.{Kept, kept_by, Steps, Give, Fail, Asks, ToHost, Took, both}
-use Rattle.just_execution.specs.declared.running.Preparation.{Preparation}
+use Rattle.just_run_layers.specs.Evaluation.{Inquiry, Parameters, ScopeRequest, Surroundings, Value}
+use Rattle.just_run_layers.specs.Host.{Answer, Bound, Refused}
+use Rattle.just_run_layers.specs.Steps.{Kept, kept_by, Question, Steps, Give, Fail, Asks, ToHost, ToEvaluator, and_then, Took, both}
+use Rattle.just_execution.specs.Arguments.{dependencies_steps, unevaluated}
+use Rattle.just_execution.specs.declared.asking.Preparation.{Preparation}
 use Rattle.just_execution.specs.declared.task.Task.{Task}
-use Rattle.just_execution.specs.Pairs.{priors, subsequents}
 use Rattle.just_execution.specs.Scene.{ModuleContents, Scene}
 use Rattle.just_execution.specs.Walking.{Leaves, Prepared}
 
--- what a task of a module holds: the module's values, no texts for a shell, and no environment
-abbrev pub held_of : ModuleContents → Held
-held_of m = record { scope = m.scope; positional = []; environment = [] }
+-- what is held for a task: what its recipe's parameters come to, by the texts of its groups
+abbrev pub bound_answered : Answer → Steps Held
+bound_answered (Bound h) = Give h
+bound_answered (Refused message) = Fail (unevaluated message)
+bound_answered _ = Fail Memory
 
--- what asking comes to, with these priors: in a module, for a recipe; a recipe or a module that is not there does not come up
-abbrev pub hold_steps : List Task → Option ModuleContents → Steps Prepared
-hold_steps priors None = Fail Memory
-hold_steps priors (Some m) = Give (record { held = held_of m; priors = priors })
+abbrev pub parameters_steps : Recipe Dependency → Task → ModuleContents → Steps Held
+parameters_steps r t m = Asks (ToEvaluator (Parameters m.context m.scope t.pair.groups t.dependency r.parameters (lexeme r.name.token))) bound_answered
 
-abbrev pub prepare_steps : Scene → List Task → Option (Recipe Dependency) → Steps Prepared
-prepare_steps scene priors None = Fail Memory
-prepare_steps scene priors (Some recipe) = hold_steps priors (scene.modules recipe.module_path)
+-- what the arguments of a task's dependencies are evaluated in: in its module, among the values that it holds
+abbrev pub surrounded : ModuleContents → Task → Held → Surroundings
+surrounded m t h = record { context = m.context; scope = h.scope; is_dependency = t.dependency; environment = [] }
 
--- before its priors nothing is asked: they are given, with what is held for the block
+-- in a module, before the priors of a task: its parameters, and then the arguments of the priors; a recipe or a module that is not there does not come up
+abbrev pub prior_steps : List (Recipe Dependency) → Task → Recipe Dependency → ModuleContents → Held → Steps Prepared
+prior_steps recipes t r m h = and_then (dependencies_steps recipes (surrounded m t h) (take r.priors r.dependencies)) (λ ps. Give (record { held = h; priors = ps }))
+
+abbrev pub ask_in : List (Recipe Dependency) → Task → Recipe Dependency → Option ModuleContents → Steps Prepared
+ask_in recipes t r None = Fail Memory
+ask_in recipes t r (Some m) = and_then (parameters_steps r t m) (prior_steps recipes t r m)
+
+abbrev pub prepare_steps : Scene → Task → Option (Recipe Dependency) → Steps Prepared
+prepare_steps scene t None = Fail Memory
+prepare_steps scene t (Some r) = ask_in scene.recipes t r (scene.modules r.module_path)
+
 abbrev pub ask_steps : Scene → Task → Steps Prepared
-ask_steps scene t = prepare_steps scene (priors scene.recipes t) (slice_get scene.recipes t.pair.recipe)
+ask_steps scene t = prepare_steps scene t (slice_get scene.recipes t.pair.recipe)
 
 -- a recipe begins at its path
 abbrev pub begin_steps : List (List (List ℕ)) → Option Modulepath → Steps (Unit {0})
@@ -48,12 +60,30 @@ recipe_steps t (Some recipe) = begin_steps t.pair.groups recipe.recipe_path
 abbrev pub execute_steps : List (Recipe Dependency) → Task → Held → Steps (Unit {0})
 execute_steps recipes t h = recipe_steps t (slice_get recipes t.pair.recipe)
 
--- before its subsequents nothing is asked, whatever it holds
-abbrev pub follow_steps : List (Recipe Dependency) → Task → Held → Steps (List Task)
-follow_steps recipes t h = Give (subsequents recipes t)
+-- after its body: the arguments of its subsequents, among the values that it holds
+abbrev pub follow_in : List (Recipe Dependency) → Task → Held → Recipe Dependency → Option ModuleContents → Steps (List Task)
+follow_in recipes t h r None = Fail Memory
+follow_in recipes t h r (Some m) = dependencies_steps recipes (surrounded m t h) (drop r.priors r.dependencies)
+
+abbrev pub after_steps : Scene → Task → Held → Option (Recipe Dependency) → Steps (List Task)
+after_steps scene t h None = Fail Memory
+after_steps scene t h (Some r) = follow_in scene.recipes t h r (scene.modules r.module_path)
+
+abbrev pub follow_steps : Scene → Task → Held → Steps (List Task)
+follow_steps scene t h = after_steps scene t h (slice_get scene.recipes t.pair.recipe)
 
 abbrev pub leaves_of : Scene → Leaves
-leaves_of scene = record { ask = ask_steps scene; execute = execute_steps scene.recipes; follow = follow_steps scene.recipes }
+leaves_of scene = record { ask = ask_steps scene; execute = execute_steps scene.recipes; follow = follow_steps scene }
+
+-- a question as it is asked for a recipe that runs as a dependency, or for one that does not
+abbrev pub called : Bool → Inquiry → Inquiry
+called flag (Parameters context scope groups dependency parameters recipe) = Parameters context scope groups flag parameters recipe
+called flag (Value s e) = Value (record { context = s.context; scope = s.scope; is_dependency = flag; environment = s.environment }) e
+called flag inquiry = inquiry
+
+-- the evaluator answers alike whether or not a recipe runs as a dependency
+abbrev pub IsAlike : (Question → Answer) → Type 0
+IsAlike f = (inquiry : Inquiry) → f (ToEvaluator (called true inquiry)) ≡ f (ToEvaluator (called false inquiry))
 
 -- for the private functions: what asking came to
 abbrev pub prepared : Preparation → Prepared
@@ -63,11 +93,11 @@ abbrev pub prepared_of : Result Preparation Halt → Result Prepared Halt
 prepared_of (Ok p) = Ok (prepared p)
 prepared_of (Err e) = Err e
 
--- the questions before the priors; those before the subsequents, which ask the host nothing, whatever it has kept; and the body
+-- the questions before the priors; questions of which the host is asked none, whatever it has kept; and the body
 abbrev pub Prepares : (Inquiry → Option Answer) → (Entry → Option Answer) → Scene → Task → Kept → Kept → Result Prepared Halt → Type 0
 Prepares evaluator host scene task old new result = Took (both evaluator host) (ask_steps scene task) old new result
 
-abbrev pub AsksAlone : (Inquiry → Option Answer) → Steps (List Task) → List ScopeRequest → List ScopeRequest → Result (List Task) Halt → Type 0
+abbrev pub AsksAlone : {A : Type 0} → (Inquiry → Option Answer) → Steps A → List ScopeRequest → List ScopeRequest → Result A Halt → Type 0
 AsksAlone evaluator steps before later result =
     (host : Entry → Option Answer) (entries : List Entry) → Took (both evaluator host) steps (kept_by entries before) (kept_by entries later) result
 

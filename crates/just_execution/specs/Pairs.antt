@@ -1,4 +1,4 @@
--- The tasks that recipes name: those that run before a task, and those that run after it.
+-- Pairs and tasks, and the dependencies of recipes: those that run before one, and those that run after it.
 use Rattle.std.specs.Prelude.{ℕ, zero, suc, ◌==◌, ◌&&◌, ◌||◌, ◌<◌, Bool, true, false, List, [], ◌∷◌, map, take, drop, nat_eq}
 use Rattle.std.specs.List.{All}
 use Rattle.std.specs.Cmp.Lexicographic.{pointwise}
@@ -7,7 +7,6 @@ use Rattle.just_recipe.specs.declared.recipe.Recipe.{Recipe}
 use Rattle.just_execution.specs.declared.pair.Pair.{Pair}
 use Rattle.just_execution.specs.declared.task.Task.{Task}
 use Rattle.just_execution.specs.Firsts.{has}
-use Rattle.just_recipes.specs.Places.{place_of}
 
 -- whether two pairs have one recipe and the same texts
 abbrev pub same_pair : Pair → Pair → Bool
@@ -43,14 +42,6 @@ at_place f [] k = []
 at_place f (r ∷ rs) zero = f r
 at_place f (r ∷ rs) (suc k) = at_place f rs k
 
--- one empty group for each parameter of the recipe at a place
-abbrev pub empty_groups : List (Recipe Dependency) → ℕ → List (List (List ℕ))
-empty_groups recipes place = at_place (λ r. map (λ _. []) r.parameters) recipes place
-
--- the pair of a dependency
-abbrev pub pair_of : List (Recipe Dependency) → Dependency → Pair
-pair_of recipes d = record { recipe = place_of recipes d.recipe.0; groups = empty_groups recipes (place_of recipes d.recipe.0) }
-
 -- what the recipe at a place depends on
 abbrev pub needed : List (Recipe Dependency) → ℕ → List Dependency
 needed recipes place = at_place (λ r. r.dependencies) recipes place
@@ -62,18 +53,6 @@ prior_dependencies recipes place = at_place (λ r. take r.priors r.dependencies)
 -- the dependencies that run after the recipe at a place
 abbrev pub subsequent_dependencies : List (Recipe Dependency) → ℕ → List Dependency
 subsequent_dependencies recipes place = at_place (λ r. drop r.priors r.dependencies) recipes place
-
--- the task of a dependency
-abbrev pub task_of : List (Recipe Dependency) → Dependency → Task
-task_of recipes d = task true (pair_of recipes d)
-
--- the tasks that run before a task
-abbrev pub priors : List (Recipe Dependency) → Task → List Task
-priors recipes t = map (task_of recipes) (prior_dependencies recipes t.pair.recipe)
-
--- the tasks that run after a task
-abbrev pub subsequents : List (Recipe Dependency) → Task → List Task
-subsequents recipes t = map (task_of recipes) (subsequent_dependencies recipes t.pair.recipe)
 
 -- each task's recipe stands below the place
 abbrev pub AllBelow : ℕ → List Task → Type 0

@@ -1,24 +1,18 @@
 -- What a run stands in, as a value.
 use Rattle.std.specs.Prelude.{◌≡◌, List, Option, Some, None}
 use Rattle.std.specs.List.{All}
-use Rattle.just_ast_definitions.specs.declared.assignment.Assignment.{Assignment}
-use Rattle.just_ast_definitions.specs.declared.function_definition.FunctionDefinition.{FunctionDefinition}
 use Rattle.just_ast_expressions.specs.declared.scope.Scope.{Scope}
-use Rattle.just_ast_expressions.specs.declared.settings.Settings.{Settings}
-use Rattle.just_names.specs.Texts.{Text}
-use Rattle.just_names.specs.declared.name.Name.{Name}
 use Rattle.just_paths.specs.declared.modulepath.Modulepath.{Modulepath}
 use Rattle.just_recipe.specs.declared.dependency.Dependency.{Dependency}
 use Rattle.just_recipe.specs.declared.recipe.Recipe.{Recipe}
+use Rattle.just_run_layers.specs.Evaluation as evaluation
+use Rattle.just_run_layers.specs.Evaluation.{ContextContents}
 use Rattle.just_execution.specs.Homes.{Modules, module_at}
 use Rattle.just_execution.specs.declared.scopes.ModuleScope.{ModuleScope}
 
--- what recipes run by in a module: its settings, its variables and functions, the variables that are kept out of the environment, and the values
+-- what recipes run by in a module: what it hands to the layers, and the values of its variables
 pub record ModuleContents : Type 0 where
-  pub settings : Settings
-  pub assignments : List (Text × Assignment)
-  pub functions : List (Text × FunctionDefinition)
-  pub unexports : List Name
+  pub context : ContextContents
   pub scope : Scope
 
 -- the recipes of a run, and its modules, each by its path
@@ -33,13 +27,7 @@ pub record AreAlike (first second : Scene) : Type 0 where
 
 -- for the private functions: the scene of recipes in the modules of a run
 abbrev pub contents_of : ModuleScope → ModuleContents
-contents_of m = record {
-  settings = m.context.settings.now;
-  assignments = m.context.assignments.now;
-  functions = m.context.functions.now;
-  unexports = m.context.unexports.now;
-  scope = m.scope;
-}
+contents_of m = record { context = evaluation.contents_of m.context; scope = m.scope }
 
 abbrev pub contents_found : Option ModuleScope → Option ModuleContents
 contents_found None = None

@@ -1,11 +1,9 @@
 -- Which recipes a run leads to, and which of them cannot be run yet.
 use Rattle.std.specs.Prelude.{◌≡◌, ◌<◌, ℕ, Bool, true, false, not, ◌||◌, List, [], ◌∷◌, length, map, Some}
-use Rattle.std.specs.List.{All, list_any, slice_get, Contains}
+use Rattle.std.specs.List.{All, slice_get, Contains}
 use Rattle.just_graph.specs.Steps.{Reached}
-use Rattle.just_ast_definitions.specs.Parameter.{is_name}
 use Rattle.just_names.specs.Token.{lexeme}
 use Rattle.just_recipe.specs.declared.dependency.Dependency.{Dependency}
-use Rattle.just_recipe.specs.declared.dependency.DependencyArgument.{DependencyArgument}
 use Rattle.just_recipe.specs.declared.recipe.Recipe.{Recipe}
 use Rattle.just_execution.specs.declared.task.Task.{Task}
 use Rattle.just_execution.specs.Pairs.{needed}
@@ -36,14 +34,9 @@ abbrev pub is_empty : {A : Type 0} → List A → Bool
 is_empty [] = true
 is_empty (x ∷ xs) = false
 
--- it is given arguments
-abbrev pub gives_arguments : Dependency → Bool
-gives_arguments d = list_any (λ (g : List DependencyArgument). not (is_empty g)) d.arguments
-
--- it has an attribute or a line, a parameter of it is more than a name, or a dependency is given arguments
+-- it has an attribute or a line
 abbrev pub is_unready : Recipe Dependency → Bool
-is_unready recipe =
-    not (is_empty recipe.attributes) || (not (is_empty recipe.body) || (list_any (λ p. not (is_name p)) recipe.parameters || list_any gives_arguments recipe.dependencies))
+is_unready recipe = not (is_empty recipe.attributes) || not (is_empty recipe.body)
 
 -- it is the name of a recipe that they lead to and that cannot be run yet
 abbrev pub IsUnready : List (Recipe Dependency) → List Task → List ℕ → Type 0

@@ -7,7 +7,7 @@ ghost use Rattle.just_run_layers.specs.Host.{Answer};
 ghost use Rattle.just_run_layers.specs.Steps.{Question, Follows};
 ghost use Rattle.just_execution.specs.declared.task.Task.{Task};
 ghost use Rattle.just_execution.specs.Expansion.{Block};
-ghost use Rattle.just_execution.specs.Leaves.{leaves_of};
+ghost use Rattle.just_execution.specs.Leaves.{IsAlike, leaves_of};
 ghost use Rattle.just_execution.specs.Pairs.{AllBelow};
 ghost use Rattle.just_recipe.specs.Recipes.{IsOrdered};
 ghost use Rattle.just_execution.specs.Reports.{IsEnough, IsFirstAsked, IsOne};
@@ -19,9 +19,10 @@ pub fn enough_fuel()
     ensures { (scene : Scene) (n : ℕ) → IsOrdered scene.recipes → length scene.recipes ≤ n → IsEnough scene n }
 {}
 
-/// The priors of the recipes of a scene do not hang on how a task is called.
+/// Where the evaluator answers alike whether or not a recipe runs as a dependency, the priors do not hang on how a task is
+/// called.
 pub fn priors_are_even()
-    ensures { (scene : Scene) (f : Question → Answer) (n : ℕ) (tops : List Task) → IsEven (leaves_of scene) f n tops }
+    ensures { (scene : Scene) (f : Question → Answer) (n : ℕ) (tops : List Task) → IsAlike f → IsEven (leaves_of scene) f n tops }
 {}
 
 /// Two runs that follow the same expected run, neither of which was refused memory or a number, are one.

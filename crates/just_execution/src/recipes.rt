@@ -1,10 +1,10 @@
 //! What a run reads of the recipes of a compilation, by their places.
-ghost use Rattle.std.specs.Prelude.{◌≡◌, ◌<◌, length, map, slice_get, Some};
+ghost use Rattle.std.specs.Prelude.{◌≡◌, ◌<◌, length, slice_get, Some};
 ghost use Rattle.std.specs.List.{All, Contains};
 ghost use Rattle.just_recipe.specs.declared.dependency.Dependency.{Dependency};
 ghost use Rattle.just_recipe.specs.Recipes.{numbers, IsResolved};
 ghost use Rattle.just_recipes.specs.Places.{place_of};
-ghost use Rattle.just_execution.specs.Pairs.{task_of, needed, prior_dependencies, subsequent_dependencies, AllBelow};
+ghost use Rattle.just_execution.specs.Pairs.{needed, prior_dependencies, subsequent_dependencies};
 
 use just_parts::layers::Number;
 use just_parts::{Dependency, Recipe};
@@ -41,7 +41,6 @@ pub(crate) fn priors_at<'a, 'src>(
     requires resolved { All IsResolved recipes.now }
     ensures is { result.now ≡ prior_dependencies recipes.now place }
     ensures held { All (λ (d : Dependency). Contains (numbers recipes.now) d.recipe.0) result.now }
-    ensures below { AllBelow place (map (task_of recipes.now) result.now) }
 {
     recipes.are_ordered();
     recipes.as_slice()[place].priors()
@@ -56,7 +55,6 @@ pub(crate) fn subsequents_at<'a, 'src>(
     requires resolved { All IsResolved recipes.now }
     ensures is { result.now ≡ subsequent_dependencies recipes.now place }
     ensures held { All (λ (d : Dependency). Contains (numbers recipes.now) d.recipe.0) result.now }
-    ensures below { AllBelow place (map (task_of recipes.now) result.now) }
 {
     recipes.are_ordered();
     recipes.as_slice()[place].subsequents()

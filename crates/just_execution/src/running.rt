@@ -1,103 +1,32 @@
 //! The run of tasks: each pair once under a table, after its priors.
-ghost use Rattle.std.specs.Prelude.{◌≡◌, ◌<◌, IfOk, OnOk, length};
+ghost use Rattle.std.specs.Prelude.{◌<◌, OnOk, length};
 ghost use Rattle.std.specs.List.{All};
 ghost use Rattle.just_run_layers.specs.Host.{KeepsPromises};
 ghost use Rattle.just_run_layers.specs.Steps.{kept_by};
-ghost use Rattle.just_execution.specs.Frames.{Blocks, Calls, Finishes, IsLighter, IsOpenIn, IsSoundIn, Leads, items_of};
+ghost use Rattle.just_execution.specs.Frames.{Blocks, Calls, Finishes, IsLighter, IsOpenIn, IsSoundIn, Leads};
 ghost use Rattle.just_execution.specs.Homes.{AreHome, IsCallable, IsHomeAt, IsServed, ServesAt};
-ghost use Rattle.just_execution.specs.Leaves.{AsksAlone, Executes, Prepares, follow_steps, held_of, prepared_of};
+ghost use Rattle.just_execution.specs.Leaves.{Executes};
 ghost use Rattle.just_execution.specs.Pairs.{AllBelow};
 ghost use Rattle.just_recipe.specs.Recipes.{IsOrdered, IsResolved};
 ghost use Rattle.just_execution.specs.Reports.{IsAsExpected, IsRun, Starts};
-ghost use Rattle.just_execution.specs.Scene.{contents_of, scene_of};
+ghost use Rattle.just_execution.specs.Scene.{scene_of};
 
+use crate::asking::{Preparation, ask, follow};
 use crate::course::{Course, count_call, push_calls};
 use crate::frame::Frame;
-use crate::naming::name_all;
-use crate::recipes::{priors_at, recipe_at, subsequents_at};
+use crate::recipes::recipe_at;
 use crate::scopes::{ModuleScope, Scopes, module_of};
 use crate::task::Task;
-use just_data::Sequence;
 use just_parts::layers::{Halt, Syntax};
 use just_recipes::Recipes;
 use just_run_layers::{Evaluation, Held, Host};
-use std::alloc::{AllocError, Global};
+use std::alloc::Global;
 
 /// How often a recipe was called under each once table, in the order of opening.
 #[derive(Drop)]
 pub struct Report {
     /// One count for each once table: a call counts also where the recipe ran already.
     pub calls: Vec<u64>,
-}
-
-/// What asking for a task comes to.
-#[derive(Drop)]
-struct Preparation<'src> {
-    /// What is held for its block.
-    held: Held<'src>,
-    /// Its priors.
-    priors: Vec<Task>,
-}
-
-// What a task of a module holds: the module's values, no texts for a shell, and no environment.
-fn hold<'src>(alloc: Global, home: &ModuleScope<'_, 'src>) -> Result<Held<'src>, AllocError>
-    ensures { IfOk result (λ held. held ≡ held_of (contents_of home.now)) }
-{
-    Ok(Held {
-        scope: home.scope.clone()?,
-        positional: Sequence::new(alloc),
-        environment: Sequence::new(alloc),
-    })
-}
-
-// The priors of a task, and what is held for its block; nothing is asked for them yet.
-fn ask<'src, S: Syntax, E: Evaluation, H: Host>(
-    alloc: Global,
-    recipes: &Recipes<'src>,
-    scopes: &Scopes<'_, 'src, S>,
-    _evaluation: &mut E,
-    _host: &mut H,
-    task: &Task,
-) -> Result<Preparation<'src>, Halt<'src>>
-    requires resolved { All IsResolved recipes.now }
-    requires callable { IsCallable (S.answers scopes.now.syntax.now) scopes.now.modules recipes.now task.now }
-    ensures keeps { KeepsPromises (E.promised _evaluation.old) (E.promised _evaluation.new) }
-    ensures keeps_host { KeepsPromises (H.promised _host.old) (H.promised _host.new) }
-    ensures took { let first = kept_by (H.entries _host.old) (E.requests _evaluation.old) in
-        let last = kept_by (H.entries _host.new) (E.requests _evaluation.new) in
-        let scene = scene_of scopes.now.modules recipes.now in
-        Prepares (E.promised _evaluation.old) (H.promised _host.old) scene task.now first last (prepared_of result) }
-    ensures serves { let serves = IsServed (S.answers scopes.now.syntax.now) scopes.now.modules recipes.now task.now in
-        IfOk result (λ preparation. serves preparation.held) }
-{
-    let recipe = recipe_at(recipes, task.pair.recipe);
-    let home = module_of(scopes, recipe);
-    let held = hold(alloc, home)?;
-    let dependencies = priors_at(recipes, task.pair.recipe);
-    let priors = name_all(alloc, recipes, dependencies)?;
-    Ok(Preparation { held, priors })
-}
-
-// The subsequents of a task, by what it holds; nothing is asked for them yet.
-fn follow<'src, S: Syntax, E: Evaluation>(
-    alloc: Global,
-    recipes: &Recipes<'src>,
-    _syntax: &S,
-    _module: &ModuleScope<'_, 'src>,
-    _evaluation: &mut E,
-    task: &Task,
-    _held: &Held<'src>,
-) -> Result<Vec<Task>, Halt<'src>>
-    requires place { task.now.pair.recipe < length recipes.now }
-    requires home { IsHomeAt (S.answers _syntax.now) _module.now recipes.now task.now.pair.recipe }
-    requires serves { ServesAt (S.answers _syntax.now) _module.now recipes.now task.now.pair.recipe _held.now }
-    requires resolved { All IsResolved recipes.now }
-    ensures keeps { KeepsPromises (E.promised _evaluation.old) (E.promised _evaluation.new) }
-    ensures took { let took = AsksAlone (E.promised _evaluation.old) (follow_steps recipes.now task.now _held.now) in
-        took (E.requests _evaluation.old) (E.requests _evaluation.new) (items_of result) }
-{
-    let dependencies = subsequents_at(recipes, task.pair.recipe);
-    Ok(name_all(alloc, recipes, dependencies)?)
 }
 
 // The beginning of a task, by what it holds; it has no body yet.
@@ -186,15 +115,7 @@ fn run_block<'src, S: Syntax, E: Evaluation, H: Host>(
 {
     let home = module_of(scopes, recipe_at(recipes, task.pair.recipe));
     execute(recipes, scopes.syntax, home, evaluation, host, &task, &held)?;
-    let subsequents = follow(
-        alloc,
-        recipes,
-        scopes.syntax,
-        home,
-        evaluation,
-        &task,
-        &held,
-    )?;
+    let subsequents = follow(alloc, recipes, scopes, evaluation, &task, &held)?;
     run.current.table.insert(task.pair)?;
     run.open(alloc, subsequents)?;
     Ok(())

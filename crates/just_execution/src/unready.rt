@@ -1,16 +1,13 @@
-ghost use Rattle.std.specs.Prelude.{◌≡◌, ◌<◌, length, not, IfOk, IfSome, IfNone};
-ghost use Rattle.std.specs.List.{list_any};
+ghost use Rattle.std.specs.Prelude.{◌≡◌, ◌<◌, length, IfOk, IfSome, IfNone};
 ghost use Rattle.just_graph.specs.Building.{EachRow};
-ghost use Rattle.just_ast_definitions.specs.Parameter.{is_name};
 ghost use Rattle.just_execution.specs.Pairs.{AllBelow};
-ghost use Rattle.just_execution.specs.Unready.{IsRow, places, gives_arguments, is_unready, IsUnready, AreReady};
+ghost use Rattle.just_execution.specs.Unready.{IsRow, places, is_unready, IsUnready, AreReady};
 
 use crate::recipes::{dependencies_at, place_in, recipe_at};
 use crate::task::Task;
 use just_data::BorrowedText;
 use just_graph::reach;
-use just_parts::layers::Parameter;
-use just_parts::{Dependency, Recipe};
+use just_parts::Recipe;
 use just_recipes::Recipes;
 use std::alloc::{AllocError, Global};
 
@@ -49,39 +46,11 @@ fn places_of(alloc: Global, tasks: &[Task]) -> Result<Vec<usize>, AllocError>
     Ok(places)
 }
 
-// Whether one of them is more than a name.
-fn has_more(parameters: &[Parameter]) -> bool
-    ensures { result ≡ list_any (λ p. not (is_name p)) parameters.now }
-{
-    parameters.iter().any(|parameter| !parameter.is_name())
-}
-
-// Whether it is given arguments.
-fn gives_arguments(dependency: &Dependency) -> bool
-    ensures { result ≡ gives_arguments dependency.now }
-{
-    dependency
-        .arguments
-        .as_slice()
-        .iter()
-        .any(|group| !group.is_empty())
-}
-
-// Whether one of them is given arguments.
-fn have_arguments(dependencies: &[Dependency]) -> bool
-    ensures { result ≡ list_any gives_arguments dependencies.now }
-{
-    dependencies.iter().any(gives_arguments)
-}
-
-// Whether it has an attribute or a line, a parameter of it is more than a name, or a dependency is given arguments.
+// Whether it has an attribute or a line.
 fn is_unready(recipe: &Recipe) -> bool
     ensures { result ≡ is_unready recipe.now }
 {
-    if !recipe.attributes.is_empty() || !recipe.body.is_empty() {
-        return true;
-    }
-    has_more(recipe.parameters.as_slice()) || have_arguments(recipe.dependencies.as_slice())
+    !recipe.attributes.is_empty() || !recipe.body.is_empty()
 }
 
 /// The name of a recipe that tasks lead to and that cannot be run yet, if there is one. Each task is that of a recipe

@@ -9,7 +9,7 @@ use Rattle.just_justfile.specs.Closed.{AreClosed, StandsIn}
 use Rattle.just_justfile.specs.Walks.{inner_along}
 use Rattle.just_justfile.specs.declared.justfile.Justfile.{Justfile, out-Justfile}
 use Rattle.just_justfile.proofs.Returning.{IsBelow, stands_by}
-use Rattle.just_invoke.specs.Scopes.{HaveOwnPaths, IsSceneOf, bare_contents}
+use Rattle.just_invoke.specs.Scopes.{Front, HaveOwnPaths, IsSceneOf, bare_contents}
 
 dropped : {A : Type 0} (front rest : List A) → drop (length front) (front ++ rest) ≡ rest
 dropped [] rest = refl
@@ -35,16 +35,16 @@ own_paths recipes root closed i j here there same =
     one-module (at_path root (out-Justfile j).module_path) i j (sym (ap (at_path root) same) ∙ found_at recipes root i closed here) (found_at recipes root j closed there)
 
 -- and there is a scene of the root
-abbrev bare_found : Option Justfile → Option ModuleContents
-bare_found None = None
-bare_found (Some j) = Some (bare_contents j)
+abbrev bare_found : Front → Option Justfile → Option ModuleContents
+bare_found front None = None
+bare_found front (Some j) = Some (bare_contents front j)
 
-abbrev contents_under : Justfile → Option Modulepath → Option ModuleContents
-contents_under root None = None
-contents_under root (Some path) = bare_found (at_path root path)
+abbrev contents_under : Front → Justfile → Option Modulepath → Option ModuleContents
+contents_under front root None = None
+contents_under front root (Some path) = bare_found front (at_path root path)
 
-pub scene_there : (recipes : List (Recipe Dependency)) (root : Justfile) → AreClosed recipes root → (scene : Scene) × IsSceneOf root recipes scene
-scene_there recipes root closed = (
-  record { recipes = recipes; modules = contents_under root },
-  record { held = refl; modules = λ j stands. ap bare_found (found_at recipes root j closed stands) },
+pub scene_there : (front : Front) (recipes : List (Recipe Dependency)) (root : Justfile) → AreClosed recipes root → (scene : Scene) × IsSceneOf front root recipes scene
+scene_there front recipes root closed = (
+  record { recipes = recipes; modules = contents_under front root },
+  record { held = refl; modules = λ j stands. ap (bare_found front) (found_at recipes root j closed stands) },
 )

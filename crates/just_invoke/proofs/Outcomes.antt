@@ -26,19 +26,19 @@ use Rattle.just_justfile.specs.declared.justfile.Justfile.{Justfile}
 use Rattle.just_invoke.specs.Cause as cause
 use Rattle.just_invoke.specs.Going.{RunsIn, TasksComeTo, IsHindered}
 use Rattle.just_invoke.specs.Outcome.{tops, Refuses, fault, excess, variables, not_yet, memory, MayRun, IsOutcome, refused, ran}
-use Rattle.just_invoke.specs.Scopes.{IsSceneOf}
+use Rattle.just_invoke.specs.Scopes.{Front, IsSceneOf}
 use Rattle.just_invoke.specs.Split.{Counts, Invoked, IsSplit, IsFault}
 use Rattle.just_invoke.specs.Variables.{SomeVariable, IsHeldBack}
 use Rattle.just_invoke.proofs.Faults.{split_no_fault}
 use Rattle.just_invoke.proofs.Unique.{split_once}
 
 -- what is expected where these are invoked
-abbrev IsSo : (Inquiry → Option Answer) → (Entry → Option Answer) → Justfile → List (Recipe Dependency) → List Invoked → Kept → Kept → Result Report Error → Type 0
-IsSo evaluator host root recipes invoked old new result =
+abbrev IsSo : Front → (Inquiry → Option Answer) → (Entry → Option Answer) → Justfile → List (Recipe Dependency) → List Invoked → Kept → Kept → Result Report Error → Type 0
+IsSo front evaluator host root recipes invoked old new result =
     (ended : Result Report Halt) × (result ≡ come_to ended)
-    × ((scene : Scene) → IsSceneOf root recipes scene → IsAsExpected evaluator host scene (tops recipes invoked) old new ended)
+    × ((scene : Scene) → IsSceneOf front root recipes scene → IsAsExpected evaluator host scene (tops recipes invoked) old new ended)
 
-module _ (counts : Counts) (root : Justfile) (recipes : List (Recipe Dependency)) (words : List (List ℕ)) (config : Config) where
+module _ (counts : Counts) (root : Justfile) (recipes : List (Recipe Dependency)) (words : List (List ℕ)) (config : Config) (front : Front) where
   -- words that are not read
   unread : (e : Error) → cause.IsOfWords e → IfSome (cause.cause_of e) (IsFault counts root recipes words) → Refuses counts root recipes words config.one e
   unread (Invocation e) x h = fault (Invocation e) (cause.cause_of_fault e) refl h
@@ -49,12 +49,12 @@ module _ (counts : Counts) (root : Justfile) (recipes : List (Recipe Dependency)
   unread Exhausted x h = absurd x
 
   -- they are not expected to run
-  out : (p : Inquiry → Option Answer) (q : Entry → Option Answer) (invoked : List Invoked) (old : Kept) → IsSo p q root recipes invoked old old (Err Memory)
+  out : (p : Inquiry → Option Answer) (q : Entry → Option Answer) (invoked : List Invoked) (old : Kept) → IsSo front p q root recipes invoked old old (Err Memory)
   out p q invoked old = (Err halt.Memory, refl, λ scene fits f steady even. inr (inl refl, ([], _, refl, sym (after-none old))))
 
   -- nor are words that have a fault
   unread-expected : (e : Error) → cause.IsOfWords e → IfSome (cause.cause_of e) (IsFault counts root recipes words) → (p : Inquiry → Option Answer) (q : Entry → Option Answer) (invoked : List Invoked) → IsSplit counts root recipes words invoked →
-      (old : Kept) → IsSo p q root recipes invoked old old (Err e)
+      (old : Kept) → IsSo front p q root recipes invoked old old (Err e)
   unread-expected (Invocation e) x h p q invoked split old = absurd (split_no_fault counts root recipes words invoked (cause.cause_of_fault e) split h)
   unread-expected Memory x h p q invoked split old = out p q invoked old
   unread-expected (Load e) x h p q invoked split old = absurd x
@@ -68,12 +68,12 @@ module _ (counts : Counts) (root : Justfile) (recipes : List (Recipe Dependency)
   answered (Err y) e h = ap (λ y. Err y) h
 
   pub unread-outcome : (e : Error) → cause.IsOfWords e → IfSome (cause.cause_of e) (IsFault counts root recipes words) → (r : Result Report Error) → IsErrAnd r (λ y. y ≡ e) → (p : Inquiry → Option Answer) (q : Entry → Option Answer) (old : Kept) →
-      IsOutcome counts root recipes words config p q old old r
+      IsOutcome counts root recipes words config front p q old old r
   unread-outcome e x h r is p q old = refused e (answered r e is) (unread e x h) refl
 
   pub unread-so : (e : Error) → cause.IsOfWords e → IfSome (cause.cause_of e) (IsFault counts root recipes words) → (r : Result Report Error) → IsErrAnd r (λ y. y ≡ e) → (p : Inquiry → Option Answer) (q : Entry → Option Answer) (old : Kept) →
-      (invoked : List Invoked) → MayRun counts root recipes words config.one invoked → IsSo p q root recipes invoked old old r
-  unread-so e x h r is p q old invoked may = subst (λ r. IsSo p q root recipes invoked old old r) (sym (answered r e is)) (unread-expected e x h p q invoked may.split old)
+      (invoked : List Invoked) → MayRun counts root recipes words config.one invoked → IsSo front p q root recipes invoked old old r
+  unread-so e x h r is p q old invoked may = subst (λ r. IsSo front p q root recipes invoked old old r) (sym (answered r e is)) (unread-expected e x h p q invoked may.split old)
 
   -- what leads to a recipe that cannot be run is not ready
   not-ready : (invoked : List Invoked) (name : List ℕ) → IsUnready recipes (tops recipes invoked) name → AreReady recipes (tops recipes invoked) → ⊥
@@ -88,16 +88,16 @@ module _ (counts : Counts) (root : Justfile) (recipes : List (Recipe Dependency)
         (variables first rest (subst (IsSplit counts root recipes words) are split) (subst (λ invoked. config.one ≡ true → length invoked ≤ 1) are few) has)
 
     pub held-outcome : (e : Error) → IsHeldBack root invoked e → (r : Result Report Error) → IsErrAnd r (λ y. y ≡ e) → (p : Inquiry → Option Answer) (q : Entry → Option Answer) →
-        IsOutcome counts root recipes words config p q old old r
+        IsOutcome counts root recipes words config front p q old old r
     held-outcome e held r is p q = refused e (answered r e is) (held-back e held) refl
 
-    held-expected : (e : Error) → IsHeldBack root invoked e → (p : Inquiry → Option Answer) (q : Entry → Option Answer) (others : List Invoked) → MayRun counts root recipes words config.one others → IsSo p q root recipes others old old (Err e)
-    held-expected e (inl is) p q others may = subst (λ e. IsSo p q root recipes others old old (Err e)) (sym is) (out p q others old)
+    held-expected : (e : Error) → IsHeldBack root invoked e → (p : Inquiry → Option Answer) (q : Entry → Option Answer) (others : List Invoked) → MayRun counts root recipes words config.one others → IsSo front p q root recipes others old old (Err e)
+    held-expected e (inl is) p q others may = subst (λ e. IsSo front p q root recipes others old old (Err e)) (sym is) (out p q others old)
     held-expected e (inr (first, rest, are, is, has)) p q others may = absurd (may.plain has)
 
     pub held-so : (e : Error) → IsHeldBack root invoked e → (r : Result Report Error) → IsErrAnd r (λ y. y ≡ e) → (p : Inquiry → Option Answer) (q : Entry → Option Answer) (others : List Invoked) →
-        MayRun counts root recipes words config.one others → IsSo p q root recipes others old old r
-    held-so e held r is p q others may = subst (λ r. IsSo p q root recipes others old old r) (sym (answered r e is)) (held-expected e held p q others may)
+        MayRun counts root recipes words config.one others → IsSo front p q root recipes others old old r
+    held-so e held r is p q others may = subst (λ r. IsSo front p q root recipes others old old r) (sym (answered r e is)) (held-expected e held p q others may)
 
   module _ (p : Inquiry → Option Answer) (q : Entry → Option Answer) (invoked : List Invoked) (split : IsSplit counts root recipes words invoked) (few : config.one ≡ true → length invoked ≤ 1) (plain : SomeVariable root → ⊥)
       (old new : Kept) (result : Result Report Error) where
@@ -105,23 +105,23 @@ module _ (counts : Counts) (root : Justfile) (recipes : List (Recipe Dependency)
     stopped e (inl is) = subst (Refuses counts root recipes words config.one) (sym is) memory
     stopped e (inr (name, is, unready)) = subst (Refuses counts root recipes words config.one) (sym is) (not_yet name invoked split few unready)
 
-    pub went : TasksComeTo p q (IsSceneOf root recipes) recipes (tops recipes invoked) old new result → IsOutcome counts root recipes words config p q old new result
+    pub went : TasksComeTo p q (IsSceneOf front root recipes) recipes (tops recipes invoked) old new result → IsOutcome counts root recipes words config front p q old new result
     went (inl (e, is, stops, same)) = refused e is (stopped e stops) same
     went (inr (ready, ended, is, run, runs)) = ran invoked ended (record { split = split; few = few; plain = plain; ready = ready }) is run (λ scene fits. (runs scene fits).taken)
 
-    stopped-expected : (e : Error) → IsHindered recipes (tops recipes invoked) e → AreReady recipes (tops recipes invoked) → result ≡ Err e → new ≡ old → IsSo p q root recipes invoked old new result
+    stopped-expected : (e : Error) → IsHindered recipes (tops recipes invoked) e → AreReady recipes (tops recipes invoked) → result ≡ Err e → new ≡ old → IsSo front p q root recipes invoked old new result
     stopped-expected e (inl is) ready answer same =
-        subst (λ r. IsSo p q root recipes invoked old new r) (sym (answer ∙ ap (λ e. Err e) is)) (subst (λ n. IsSo p q root recipes invoked old n (Err Memory)) (sym same) (out p q invoked old))
+        subst (λ r. IsSo front p q root recipes invoked old new r) (sym (answer ∙ ap (λ e. Err e) is)) (subst (λ n. IsSo front p q root recipes invoked old n (Err Memory)) (sym same) (out p q invoked old))
     stopped-expected e (inr (name, is, unready)) ready answer same = absurd (not-ready invoked name unready ready)
 
-    went-so : AreReady recipes (tops recipes invoked) → TasksComeTo p q (IsSceneOf root recipes) recipes (tops recipes invoked) old new result → IsSo p q root recipes invoked old new result
+    went-so : AreReady recipes (tops recipes invoked) → TasksComeTo p q (IsSceneOf front root recipes) recipes (tops recipes invoked) old new result → IsSo front p q root recipes invoked old new result
     went-so ready (inl (e, is, stops, same)) = stopped-expected e stops ready is same
     went-so ready (inr (all, ended, is, run, runs)) = (ended, is, λ scene fits. (runs scene fits).expected)
 
-    pub went-expected : TasksComeTo p q (IsSceneOf root recipes) recipes (tops recipes invoked) old new result → (others : List Invoked) → MayRun counts root recipes words config.one others → IsSo p q root recipes others old new result
+    pub went-expected : TasksComeTo p q (IsSceneOf front root recipes) recipes (tops recipes invoked) old new result → (others : List Invoked) → MayRun counts root recipes words config.one others → IsSo front p q root recipes others old new result
     went-expected goes others may =
         let same : invoked ≡ others = split_once counts root recipes words invoked others split may.split in
-        subst (λ is. IsSo p q root recipes is old new result) same (went-so (subst (λ is. AreReady recipes (tops recipes is)) (sym same) may.ready) goes)
+        subst (λ is. IsSo front p q root recipes is old new result) same (went-so (subst (λ is. AreReady recipes (tops recipes is)) (sym same) may.ready) goes)
 
   -- several invocations where one alone is allowed
   module _ (invoked : List Invoked) (split : IsSplit counts root recipes words invoked) (alone : config.one ≡ true) (n : ℕ) (count : n ≡ length invoked) (several : 1 < n) where

@@ -23,7 +23,7 @@ use Rattle.just_invoke.specs.declared.invocation.Invocation as parsed
 use Rattle.just_justfile.specs.declared.justfile.Justfile.{Justfile}
 use Rattle.just_invoke.specs.Cause.{Cause, cause_of}
 use Rattle.just_justfile.specs.Closed.{name_of}
-use Rattle.just_invoke.specs.Scopes.{IsSceneOf}
+use Rattle.just_invoke.specs.Scopes.{Front, IsSceneOf}
 use Rattle.just_invoke.specs.Split.{Counts, Invoked, invoked_of, IsSplit, IsFault}
 use Rattle.just_invoke.specs.Variables.{SomeVariable}
 
@@ -59,17 +59,17 @@ pub record MayRun (counts : Counts) (root : Justfile) (recipes : List (Recipe De
   pub ready : AreReady recipes (tops recipes invoked)
 
 -- The words are refused, and what is kept is as it was; or they may be run, and are: the steps of the run were taken, in each scene of the root.
-pub data IsOutcome (counts : Counts) (root : Justfile) (recipes : List (Recipe Dependency)) (words : List (List ℕ)) (config : Config)
+pub data IsOutcome (counts : Counts) (root : Justfile) (recipes : List (Recipe Dependency)) (words : List (List ℕ)) (config : Config) (front : Front)
     (evaluator : Inquiry → Option Answer) (host : Entry → Option Answer) (old new : Kept) (result : Result Report Error) : Type 0 where
-  refused : (e : Error) → result ≡ Err e → Refuses counts root recipes words config.one e → new ≡ old → IsOutcome counts root recipes words config evaluator host old new result
+  refused : (e : Error) → result ≡ Err e → Refuses counts root recipes words config.one e → new ≡ old → IsOutcome counts root recipes words config front evaluator host old new result
   ran : (invoked : List Invoked) (ended : Result Report Halt) → MayRun counts root recipes words config.one invoked → result ≡ come_to ended →
       IsRun recipes (tops recipes invoked) old new ended →
-      ((scene : Scene) → IsSceneOf root recipes scene → Starts evaluator host scene (tops recipes invoked) old new ended) →
-      IsOutcome counts root recipes words config evaluator host old new result
+      ((scene : Scene) → IsSceneOf front root recipes scene → Starts evaluator host scene (tops recipes invoked) old new ended) →
+      IsOutcome counts root recipes words config front evaluator host old new result
 
 -- for promised answers: words that may be run are, as is expected in each scene of the root
-abbrev pub IsExpected : Counts → Justfile → List (Recipe Dependency) → List (List ℕ) → Config → (Inquiry → Option Answer) → (Entry → Option Answer) → Kept → Kept → Result Report Error → Type 0
-IsExpected counts root recipes words config evaluator host old new result =
+abbrev pub IsExpected : Counts → Justfile → List (Recipe Dependency) → List (List ℕ) → Config → Front → (Inquiry → Option Answer) → (Entry → Option Answer) → Kept → Kept → Result Report Error → Type 0
+IsExpected counts root recipes words config front evaluator host old new result =
     (invoked : List Invoked) → MayRun counts root recipes words config.one invoked →
     (ended : Result Report Halt) × (result ≡ come_to ended)
-    × ((scene : Scene) → IsSceneOf root recipes scene → IsAsExpected evaluator host scene (tops recipes invoked) old new ended)
+    × ((scene : Scene) → IsSceneOf front root recipes scene → IsAsExpected evaluator host scene (tops recipes invoked) old new ended)

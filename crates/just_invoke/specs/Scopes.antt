@@ -1,7 +1,14 @@
 -- The modules of a run, and the scenes that they are.
-use Rattle.std.specs.Prelude.{◌≡◌, ◌↔◌, List, [], Some}
+use Rattle.std.proofs.Common.{BuildHasherDefault, FoldHasher}
+use Rattle.std.specs.Prelude.{◌≡◌, ◌↔◌, List, [], Option, Some}
+use Rattle.std.specs.HashMap.{HashMap, get}
 use Rattle.std.specs.List.{Contains}
 use Rattle.just_ast_expressions.specs.declared.scope.Scope.{Scope}
+use Rattle.just_names.specs.Texts.{Text}
+use Rattle.just_names.specs.declared.number.Number.{Number}
+use Rattle.just_parts.specs.Needs.{same_number}
+use Rattle.just_parts.specs.declared.layers.config.Config.{Config}
+use Rattle.just_run_layers.specs.Evaluation.{ConfigContents, ContextContents, config_contents, contents_of}
 use Rattle.just_recipe.specs.declared.dependency.Dependency.{Dependency}
 use Rattle.just_recipe.specs.declared.recipe.Recipe.{Recipe}
 use Rattle.just_execution.specs.Homes.{Modules, module_at}
@@ -14,20 +21,36 @@ use Rattle.just_justfile.specs.declared.justfile.Justfile.{Justfile, out-Justfil
 abbrev pub no_values : Scope
 no_values = record { bindings = [] }
 
--- what the recipes of a module run by: what the module has, and the values that it has
-abbrev pub bare_contents : Justfile → ModuleContents
-bare_contents j = record {
-  settings = (out-Justfile j).settings;
+-- what a run hands to the layers of each module beside what the module has: what its front asks for, and the values that override variables
+pub record Front : Type 0 where
+  pub config : ConfigContents
+  pub overrides : Number → Option Text
+
+abbrev pub front_of : Config → HashMap Number Text (BuildHasherDefault FoldHasher) → Front
+front_of config overrides = record { config = config_contents config; overrides = get same_number overrides }
+
+-- what the recipes of a module run by: what the module has, and the values that it has; no dotenv pairs are read yet
+abbrev pub bare_context : Front → Justfile → ContextContents
+bare_context front j = record {
+  config = front.config;
+  dotenv = [];
+  module_path = (out-Justfile j).module_path;
+  working_directory = (out-Justfile j).working_directory;
   assignments = (out-Justfile j).assignments;
+  evaluation_order = (out-Justfile j).evaluation_order;
   functions = (out-Justfile j).functions;
+  overrides = front.overrides;
+  settings = (out-Justfile j).settings;
   unexports = (out-Justfile j).unexports;
-  scope = no_values;
 }
 
+abbrev pub bare_contents : Front → Justfile → ModuleContents
+bare_contents front j = record { context = bare_context front j; scope = no_values }
+
 -- A scene of the root and these recipes: under the path of each module that stands in the root, it has what that module's recipes run by.
-pub record IsSceneOf (root : Justfile) (recipes : List (Recipe Dependency)) (scene : Scene) : Type 0 where
+pub record IsSceneOf (front : Front) (root : Justfile) (recipes : List (Recipe Dependency)) (scene : Scene) : Type 0 where
   pub held : scene.recipes ≡ recipes
-  pub modules : (j : Justfile) → StandsIn root j → scene.modules (Some (out-Justfile j).module_path) ≡ Some (bare_contents j)
+  pub modules : (j : Justfile) → StandsIn root j → scene.modules (Some (out-Justfile j).module_path) ≡ Some (bare_contents front j)
 
 -- for the private functions: these are the modules that stand in the root
 abbrev pub AreModulesIn : Justfile → List Justfile → Type 0
@@ -38,21 +61,16 @@ abbrev pub HaveOwnPaths : Justfile → Type 0
 HaveOwnPaths root = (i j : Justfile) → StandsIn root i → StandsIn root j → (out-Justfile i).module_path ≡ (out-Justfile j).module_path → i ≡ j
 
 -- what a module hands to the layers is what it has, and so are its values
-pub record IsScopeOf (j : Justfile) (m : ModuleScope) : Type 0 where
-  pub path : m.context.module_path.now ≡ (out-Justfile j).module_path
-  pub folder : m.context.working_directory.now ≡ (out-Justfile j).working_directory
-  pub assignments : m.context.assignments.now ≡ (out-Justfile j).assignments
-  pub functions : m.context.functions.now ≡ (out-Justfile j).functions
-  pub settings : m.context.settings.now ≡ (out-Justfile j).settings
-  pub unexports : m.context.unexports.now ≡ (out-Justfile j).unexports
+pub record IsScopeOf (front : Front) (j : Justfile) (m : ModuleScope) : Type 0 where
+  pub context : contents_of m.context ≡ bare_context front j
   pub values : m.scope ≡ no_values
 
 -- under the path of a module is what it hands to the layers
-pub record HasScope (modules : Modules) (j : Justfile) : Type 0 where
+pub record HasScope (front : Front) (modules : Modules) (j : Justfile) : Type 0 where
   pub scope : ModuleScope
   pub there : module_at modules (Some (out-Justfile j).module_path) ≡ Some scope
-  pub own : IsScopeOf j scope
+  pub own : IsScopeOf front j scope
 
 -- so of each module that stands in the root
-abbrev pub HasScopes : Justfile → Modules → Type 0
-HasScopes root modules = (j : Justfile) → StandsIn root j → HasScope modules j
+abbrev pub HasScopes : Front → Justfile → Modules → Type 0
+HasScopes front root modules = (j : Justfile) → StandsIn root j → HasScope front modules j

@@ -7,7 +7,7 @@ ghost use Rattle.just_invoke.specs.Cause.{Cause};
 ghost use Rattle.just_tail.specs.Words.{Words};
 ghost use Rattle.just_execution.specs.Scene.{Scene};
 ghost use Rattle.just_justfile.specs.Closed.{AreClosed, Held, IsHeld};
-ghost use Rattle.just_invoke.specs.Scopes.{IsSceneOf};
+ghost use Rattle.just_invoke.specs.Scopes.{Front, IsSceneOf};
 ghost use Rattle.just_invoke.specs.Split.{Counts, Invoked, Invokes, IsSplit, IsFault};
 ghost use Rattle.just_justfile.specs.declared.justfile.Justfile.{Justfile};
 
@@ -59,5 +59,5 @@ pub fn stays_steady()
 
 /// Where the root and the modules below it are closed, there is a scene of the root and its recipes.
 pub fn has_a_scene()
-    ensures { (root : Justfile) (recipes : Held) → AreClosed recipes root → (scene : Scene) × IsSceneOf root recipes scene }
+    ensures { (front : Front) (root : Justfile) (recipes : Held) → AreClosed recipes root → (scene : Scene) × IsSceneOf front root recipes scene }
 {}

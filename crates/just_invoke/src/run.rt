@@ -23,6 +23,7 @@ pub trait Run<'src> {
     ghost use Rattle.just_names.specs.Texts.{texts};
     ghost use Rattle.just_justfile.specs.Closed.{IsRooted};
     ghost use Rattle.just_invoke.specs.Outcome.{IsExpected, IsOutcome};
+    ghost use Rattle.just_invoke.specs.Scopes.{front_of};
 
     /// The module that is run.
     ghost root: { Self → Justfile };
@@ -33,10 +34,11 @@ pub trait Run<'src> {
     /// it was.
     ///
     /// `NotYet` comes where the module or one in it has a variable, with the name of the first recipe that the words mean,
-    /// and where they lead to a recipe with a line, an attribute, a parameter that is more than a name or a dependency with
-    /// arguments, with that recipe's name. It comes after `ExcessInvocations`.
+    /// and where they lead to a recipe with a line or an attribute, with that recipe's name. It comes after
+    /// `ExcessInvocations`. `Evaluate` comes where the evaluation has no value of a parameter or of an argument of a
+    /// dependency.
     ///
-    /// The evaluation is asked of the counts of arguments alone, and the writer nothing yet.
+    /// The writer is asked nothing yet.
     fn run<S: Syntax, E: Evaluation, H: Host, W: Output>(
         &self,
         alloc: Global,
@@ -57,11 +59,13 @@ pub trait Run<'src> {
         ensures outcome { let counts = count_fault_of (E.answers evaluation.old) in
             let first = kept_by (H.entries host.old) (E.requests evaluation.old) in
             let last = kept_by (H.entries host.new) (E.requests evaluation.new) in
-            let outcome = IsOutcome counts (root self.now) recipes.now (texts words.now) config.now (E.promised evaluation.old) (H.promised host.old) in
+            let front = front_of config.now overrides.now in
+            let outcome = IsOutcome counts (root self.now) recipes.now (texts words.now) config.now front (E.promised evaluation.old) (H.promised host.old) in
             outcome first last result }
         // For promised answers.
         ensures expected { let counts = count_fault_of (E.answers evaluation.old) in
-            let expected = IsExpected counts (root self.now) recipes.now (texts words.now) config.now (E.promised evaluation.old) (H.promised host.old) in
+            let front = front_of config.now overrides.now in
+            let expected = IsExpected counts (root self.now) recipes.now (texts words.now) config.now front (E.promised evaluation.old) (H.promised host.old) in
             let first = kept_by (H.entries host.old) (E.requests evaluation.old) in
             let last = kept_by (H.entries host.new) (E.requests evaluation.new) in
             expected first last result }

@@ -19,10 +19,6 @@ pub execute-requires-clause-serves : goal.execute-requires-clause-serves
 execute-requires-clause-serves g c =
     serves-at (g.S.Syntax.answers c.args.scopes.now.syntax.now) c.args.scopes.now.modules c.args.recipes.now c.args.task c.args.held c.module_of-home.result.now c.recipe_at.result.now c.recipe_at.ensures c.module_of-home.ensures.there c.requires.served
 
-pub follow-requires-clause-serves : goal.follow-requires-clause-serves
-follow-requires-clause-serves g c =
-    serves-at (g.S.Syntax.answers c.args.scopes.now.syntax.now) c.args.scopes.now.modules c.args.recipes.now c.args.task c.args.held c.module_of-home.result.now c.recipe_at.result.now c.recipe_at.ensures c.module_of-home.ensures.there c.requires.served
-
 pub returns-in_err-execute-clause-goes : goal.returns-in_err-execute-clause-goes
 returns-in_err-execute-clause-goes g c =
     let p : Question → Option Answer = both (g.E.Evaluation.promised c.args.evaluation.now) (g.H.Host.promised c.args.host.now) in

@@ -1,0 +1,86 @@
+-- Where the evaluator answers alike, the priors of a task do not hang on how it is called.
+use Rattle.std.proofs.Common.{◌≡◌, Bool, true, false, ℕ, zero, suc, List, [], ◌∷◌, ◌++◌, take, Option, Some, None, Result, Ok, Err, refl, sym, ◌∙◌, ap}
+use Rattle.std.specs.List.{slice_get}
+use Rattle.just_errors.specs.declared.halt.Halt.{Halt}
+use Rattle.just_names.specs.Token.{lexeme}
+use Rattle.just_recipe.specs.declared.dependency.Dependency.{Dependency}
+use Rattle.just_recipe.specs.declared.dependency.DependencyArgument.{DependencyArgument}
+use Rattle.just_recipe.specs.declared.recipe.Recipe.{Recipe}
+use Rattle.just_run_layers.specs.declared.held.Held.{Held}
+use Rattle.just_run_layers.specs.Evaluation.{Parameters, Surroundings, Value}
+use Rattle.just_run_layers.specs.Host.{Answer}
+use Rattle.just_run_layers.specs.Steps.{Question, ToEvaluator, Steps, Give, Fail, Asks, and_then, outcome}
+use Rattle.just_execution.specs.Arguments.{argument_steps, dependencies_steps, dependency_steps, gathered, group_steps, groups_steps, tasks_with, texts_given, texts_steps, valued_answered}
+use Rattle.just_execution.specs.Expansion.{Part, Ask, Block}
+use Rattle.just_execution.specs.Leaves.{IsAlike, ask_in, ask_steps, bound_answered, leaves_of, prepare_steps, prior_steps, surrounded}
+use Rattle.just_execution.specs.Pairs.{task}
+use Rattle.just_execution.specs.Run.{Each, IsEven, IsEvenPart, parts, priors_in, subsequents_by}
+use Rattle.just_execution.specs.Scene.{ModuleContents, Scene}
+use Rattle.just_execution.specs.Walking.{Prepared}
+use Rattle.just_execution.specs.declared.pair.Pair.{Pair}
+use Rattle.just_execution.specs.declared.task.Task.{Task}
+
+module _ (f : Question → Answer) where
+  abbrev on_success : {A B : Type 0} → Result A Halt → (A → Result B Halt) → Result B Halt
+  on_success (Ok x) k = k x
+  on_success (Err e) k = Err e
+
+  outcome-then : {A B : Type 0} (s : Steps A) (k : A → Steps B) → outcome f (and_then s k) ≡ on_success (outcome f s) (λ x. outcome f (k x))
+  outcome-then (Give x) k = refl
+  outcome-then (Fail e) k = refl
+  outcome-then (Asks q g) k = outcome-then (g (f q)) k
+
+  same-then : {A B : Type 0} (s u : Steps A) (k l : A → Steps B) → outcome f s ≡ outcome f u → ((x : A) → outcome f (k x) ≡ outcome f (l x)) → outcome f (and_then s k) ≡ outcome f (and_then u l)
+  same-then s u k l e h = outcome-then s k ∙ (λ i. on_success (e i) (λ x. h x i)) ∙ sym (outcome-then u l)
+
+  same-gathered : {A B : Type 0} (s u : A → Steps (List B)) → ((x : A) → outcome f (s x) ≡ outcome f (u x)) → (xs : List A) → outcome f (gathered s xs) ≡ outcome f (gathered u xs)
+  same-gathered s u h [] = refl
+  same-gathered s u h (x ∷ xs) = same-then (s x) (u x) (λ ys. and_then (gathered s xs) (λ more. Give (ys ++ more))) (λ ys. and_then (gathered u xs) (λ more. Give (ys ++ more))) (h x)
+      (λ ys. same-then (gathered s xs) (gathered u xs) (λ more. Give (ys ++ more)) (λ more. Give (ys ++ more)) (same-gathered s u h xs) (λ more. refl))
+
+  module _ (alike : IsAlike f) where
+    module _ (recipes : List (Recipe Dependency)) (p : Pair) (m : ModuleContents) (h : Held) where
+      abbrev as_one : Bool → Surroundings
+      as_one flag = surrounded m (task flag p) h
+
+      argument-even : (a : DependencyArgument) → outcome f (argument_steps (as_one true) a) ≡ outcome f (argument_steps (as_one false) a)
+      argument-even a = ap (λ answer. outcome f (and_then (valued_answered answer) (λ value. Give (texts_given m.context.settings.lists value)))) (alike (Value (as_one true) a.expression))
+
+      group-even : (arguments : List DependencyArgument) → outcome f (group_steps (as_one true) arguments) ≡ outcome f (group_steps (as_one false) arguments)
+      group-even arguments = same-then (texts_steps (as_one true) arguments) (texts_steps (as_one false) arguments) (λ texts. Give (texts ∷ [])) (λ texts. Give (texts ∷ []))
+          (same-gathered (argument_steps (as_one true)) (argument_steps (as_one false)) argument-even arguments) (λ texts. refl)
+
+      dependency-even : (d : Dependency) → outcome f (dependency_steps recipes (as_one true) d) ≡ outcome f (dependency_steps recipes (as_one false) d)
+      dependency-even d = same-then (groups_steps (as_one true) d.arguments) (groups_steps (as_one false) d.arguments) (λ groups. Give (tasks_with recipes d groups)) (λ groups. Give (tasks_with recipes d groups))
+          (same-gathered (group_steps (as_one true)) (group_steps (as_one false)) group-even d.arguments) (λ groups. refl)
+
+      priors-even : (r : Recipe Dependency) → outcome f (prior_steps recipes (task true p) r m h) ≡ outcome f (prior_steps recipes (task false p) r m h)
+      priors-even r = same-then (dependencies_steps recipes (as_one true) (take r.priors r.dependencies)) (dependencies_steps recipes (as_one false) (take r.priors r.dependencies))
+          (λ ps. Give (record { held = h; priors = ps })) (λ ps. Give (record { held = h; priors = ps }))
+          (same-gathered (dependency_steps recipes (as_one true)) (dependency_steps recipes (as_one false)) dependency-even (take r.priors r.dependencies)) (λ ps. refl)
+
+    module _ (scene : Scene) (p : Pair) where
+      abbrev asked : Recipe Dependency → ModuleContents → Bool → Question
+      asked r m flag = ToEvaluator (Parameters m.context m.scope p.groups flag r.parameters (lexeme r.name.token))
+
+      ask_in-even : (r : Recipe Dependency) (o : Option ModuleContents) → outcome f (ask_in scene.recipes (task true p) r o) ≡ outcome f (ask_in scene.recipes (task false p) r o)
+      ask_in-even r None = refl
+      ask_in-even r (Some m) = same-then (bound_answered (f (asked r m true))) (bound_answered (f (asked r m false))) (prior_steps scene.recipes (task true p) r m) (prior_steps scene.recipes (task false p) r m)
+          (ap (λ answer. outcome f (bound_answered answer)) (alike (Parameters m.context m.scope p.groups true r.parameters (lexeme r.name.token))))
+          (λ h. priors-even scene.recipes p m h r)
+
+      prepare-even : (o : Option (Recipe Dependency)) → outcome f (prepare_steps scene (task true p) o) ≡ outcome f (prepare_steps scene (task false p) o)
+      prepare-even None = refl
+      prepare-even (Some r) = ask_in-even r (scene.modules r.module_path)
+
+      ask-even : outcome f (ask_steps scene (task true p)) ≡ outcome f (ask_steps scene (task false p))
+      ask-even = prepare-even (slice_get scene.recipes p.recipe)
+
+    parts-even : (scene : Scene) (run : List Task → Type 0) → ((ts : List Task) → run ts) → (xs : List (Part Task)) → Each (IsEvenPart (leaves_of scene) f run) xs
+    parts-even scene run h [] = tt
+    parts-even scene run h (Ask t ∷ xs) = (ap priors_in (ask-even scene t.pair), parts-even scene run h xs)
+    parts-even scene run h (Block t ∷ xs) = (h (subsequents_by (leaves_of scene) f t), parts-even scene run h xs)
+
+    pub leaves-even : (scene : Scene) (n : ℕ) (tops : List Task) → IsEven (leaves_of scene) f n tops
+    leaves-even scene zero tops = tt
+    leaves-even scene (suc n) tops = parts-even scene (IsEven (leaves_of scene) f n) (leaves-even scene n) (parts (leaves_of scene) f (suc n) tops)
