@@ -10,6 +10,7 @@ use Rattle.just_errors.specs.declared.halt.Halt.TheVariants.{Failed}
 use Rattle.just_errors.specs.declared.run_error.RunError.TheVariants.{Evaluate}
 use Rattle.just_names.specs.Token.{lexeme}
 use Rattle.just_ast_expressions.specs.declared.expression.Expression.{Expression}
+use Rattle.just_ast_definitions.specs.declared.parameter.Parameter.{Parameter}
 use Rattle.just_recipe.specs.Starred.{has_star}
 use Rattle.just_recipe.specs.declared.dependency.Dependency.{Dependency}
 use Rattle.just_recipe.specs.declared.dependency.DependencyArgument.{DependencyArgument}
@@ -187,14 +188,20 @@ module _ (e : Inquiry → Option Answer) (before later : List ScopeRequest) (sti
     value-refused fault o is a = λ host entries. took-asked e host (Value s x) valued_answered (Refused fault.message) entries before later (kept_by entries later) (Err (Failed (Evaluate fault))) refl (subst (Answers (e (Value s x))) is a) still (refl, inl refl)
 
   module _ (r : Recipe Dependency) (t : Task) (m : ModuleContents) where
-    abbrev question : Inquiry
-    question = Parameters m.context m.scope t.pair.groups t.dependency r.parameters (lexeme r.name.token)
+    abbrev question : List Parameter → Text → Inquiry
+    question ps name = Parameters m.context m.scope t.pair.groups t.dependency ps name
 
-    pub parameters-given : (h : Held) → Answers (e question) (Some (Bound h)) → AsksAlone e (parameters_steps r t m) before later (Ok h)
-    parameters-given h a = λ host entries. took-asked e host question bound_answered (Bound h) entries before later (kept_by entries later) (Ok h) refl a still (refl, inl refl)
+    module _ (ps : List Parameter) (name : Text) (are : ps ≡ r.parameters) (is : name ≡ lexeme r.name.token) where
+      same-question : question ps name ≡ question r.parameters (lexeme r.name.token)
+      same-question = λ i. question (are i) (is i)
 
-    pub parameters-refused : (fault : Fault) (o : Option Answer) → o ≡ Some (Refused fault.message) → Answers (e question) o → AsksAlone e (parameters_steps r t m) before later (Err (Failed (Evaluate fault)))
-    parameters-refused fault o is a = λ host entries. took-asked e host question bound_answered (Refused fault.message) entries before later (kept_by entries later) (Err (Failed (Evaluate fault))) refl (subst (Answers (e question)) is a) still (refl, inl refl)
+      pub parameters-given : (h : Held) → Answers (e (question ps name)) (Some (Bound h)) → AsksAlone e (parameters_steps r t m) before later (Ok h)
+      parameters-given h a = λ host entries. took-asked e host (question r.parameters (lexeme r.name.token)) bound_answered (Bound h) entries before later (kept_by entries later) (Ok h) refl
+          (subst (λ q. Answers (e q) (Some (Bound h))) same-question a) still (refl, inl refl)
+
+      pub parameters-refused : (fault : Fault) (o : Option Answer) → o ≡ Some (Refused fault.message) → Answers (e (question ps name)) o → AsksAlone e (parameters_steps r t m) before later (Err (Failed (Evaluate fault)))
+      parameters-refused fault o told a = λ host entries. took-asked e host (question r.parameters (lexeme r.name.token)) bound_answered (Refused fault.message) entries before later (kept_by entries later) (Err (Failed (Evaluate fault))) refl
+          (subst (λ q. Answers (e q) (Some (Refused fault.message))) same-question (subst (Answers (e (question ps name))) told a)) still (refl, inl refl)
 
 -- the texts of the group at a place
 pub group-there : (groups : List (List Text)) (k : ℕ) (g : List Text) → slice_get groups k ≡ Some g → g ≡ get_or groups k []

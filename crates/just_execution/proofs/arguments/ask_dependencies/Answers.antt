@@ -1,4 +1,4 @@
-use Rattle.std.proofs.Common.{◌≡◌, ◌++◌, ◌+◌, List, Ok, Err, sym, ap, subst, ◌∙◌, arith, rules}
+use Rattle.std.proofs.Common.{◌≡◌, ◌++◌, ◌+◌, List, [], Ok, Err, sym, ap, subst, ◌∙◌, arith, rules}
 use Rattle.std.specs.List.{Contains}
 use Rattle.just_errors.specs.declared.halt.Halt.TheVariants.{Memory}
 use Rattle.just_recipe.specs.Recipes.{numbers}
@@ -17,9 +17,10 @@ use Rattle.just_execution.proofs.arguments.ask_dependencies.Goals as goal
 pub loop-dependency-init : goal.loop-dependency-init
 loop-dependency-init g c =
     let step = dependency_steps c.args.recipes.now (surrounded (contents_of c.args.home.now) c.args.task.now c.args.held.now) in
+    let none : c.new-tasks.result.items ≡ [] = search rules in
     record {
       keeps = keeps-self (g.E.Evaluation.promised c.args.evaluation.now);
-      rest = gathered-start step c.args.dependencies.now (g.E.Evaluation.promised c.args.evaluation.now) (g.E.Evaluation.requests c.args.evaluation.now);
+      rest = subst (λ (tasks : List Task). Continues step c.args.dependencies.now (g.E.Evaluation.promised c.args.evaluation.now) (g.E.Evaluation.requests c.args.evaluation.now) (g.E.Evaluation.promised c.args.evaluation.now) (g.E.Evaluation.requests c.args.evaluation.now) tasks 0) (sym none) (gathered-start step c.args.dependencies.now (g.E.Evaluation.promised c.args.evaluation.now) (g.E.Evaluation.requests c.args.evaluation.now));
     }
 
 pub ask_groups-requires : goal.ask_groups-requires

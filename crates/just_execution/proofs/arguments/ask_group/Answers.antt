@@ -13,9 +13,10 @@ use Rattle.just_execution.proofs.arguments.ask_group.Goals as goal
 pub loop-argument-init : goal.loop-argument-init
 loop-argument-init g c =
     let step = argument_steps (surroundings c.args.context.now c.args.scope.now c.args.is_dependency []) in
+    let none : c.new-texts.result ≡ [] = search rules in
     record {
       keeps = keeps-self (g.E.Evaluation.promised c.args.evaluation.now);
-      rest = gathered-start step c.args.arguments.now (g.E.Evaluation.promised c.args.evaluation.now) (g.E.Evaluation.requests c.args.evaluation.now);
+      rest = subst (λ (texts : List Text). Continues step c.args.arguments.now (g.E.Evaluation.promised c.args.evaluation.now) (g.E.Evaluation.requests c.args.evaluation.now) (g.E.Evaluation.promised c.args.evaluation.now) (g.E.Evaluation.requests c.args.evaluation.now) texts 0) (sym none) (gathered-start step c.args.arguments.now (g.E.Evaluation.promised c.args.evaluation.now) (g.E.Evaluation.requests c.args.evaluation.now));
     }
 
 pub ask_argument-requires : goal.ask_argument-requires

@@ -14,9 +14,10 @@ use Rattle.just_execution.proofs.arguments.ask_groups.Goals as goal
 pub loop-group-init : goal.loop-group-init
 loop-group-init g c =
     let step = group_steps (surroundings c.args.context.now c.args.scope.now c.args.is_dependency []) in
+    let none : c.new-groups.result ≡ [] = search rules in
     record {
       keeps = keeps-self (g.E.Evaluation.promised c.args.evaluation.now);
-      rest = gathered-start step c.args.given.now (g.E.Evaluation.promised c.args.evaluation.now) (g.E.Evaluation.requests c.args.evaluation.now);
+      rest = subst (λ (groups : List (List Text)). Continues step c.args.given.now (g.E.Evaluation.promised c.args.evaluation.now) (g.E.Evaluation.requests c.args.evaluation.now) (g.E.Evaluation.promised c.args.evaluation.now) (g.E.Evaluation.requests c.args.evaluation.now) groups 0) (sym none) (gathered-start step c.args.given.now (g.E.Evaluation.promised c.args.evaluation.now) (g.E.Evaluation.requests c.args.evaluation.now));
     }
 
 pub ask_group-requires : goal.ask_group-requires
