@@ -1,0 +1,5 @@
+pub mod AttributeLemmas
+pub mod GroupLemmas
+pub mod ShellLemmas
+pub mod StepEnds
+pub mod TextLemmas
