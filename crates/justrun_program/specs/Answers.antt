@@ -1,5 +1,6 @@
 -- What the program does with its input.
-use Rattle.std.specs.Prelude.{◌≡◌, ⊥, ℕ, List, [], ◌∷◌, Option, None, Result, Ok, Err, IfSome, IsOk}
+use Rattle.std.specs.Prelude.{◌≡◌, ℕ, List, [], ◌∷◌, Option, None, Result, Ok, Err, IfSome, IsOk}
+use Rattle.std.specs.Borrow.{Bor}
 use Rattle.std.specs.Io.KnownBytes.{Appends}
 use Rattle.just_names.specs.Texts.{Text}
 use Rattle.just_paths.specs.Clean.{IsClean}
@@ -9,6 +10,7 @@ use Rattle.just_parts.specs.Layers.{IsByDefault}
 use Rattle.just_loader.specs.Reached.{world_of}
 use Rattle.just_loader.specs.Sources.{Files, text_at}
 use Rattle.just_compiler.specs.Compiled.{Compilation, Compiles}
+use Rattle.just_invoke.specs.Scopes.{front_of}
 use Rattle.just_bench_syntax.specs.Answers.{answers}
 use Rattle.just_bench_values.specs.Constants.{evaluator}
 use Rattle.just_bench_bundle.specs.Bundle.{HoldsBundle, IsNoBundle}
@@ -28,7 +30,7 @@ pub record RunsOver (files : Files) (root : Text) (words : List Text) : Type 0 w
   pub plain : IsByDefault config
   pub compilation : Compilation
   pub compiled : Comes files config root (Ok compilation)
-  pub ran : Ran compilation.justfile compilation.recipes config words
+  pub ran : Ran compilation.justfile compilation.recipes config (front_of config compilation.overrides) words
 
 -- they ran, and what is written is a line for each recipe that began
 pub record IsDoneOver (files : Files) (root : Text) (words : List Text) (old new : Option (List ℕ)) : Type 0 where
@@ -38,7 +40,7 @@ pub record IsDoneOver (files : Files) (root : Text) (words : List Text) (old new
 
 -- why they are not done: there is no file at the root, and these are like it; it is not compiled; or the run tells it; or want of memory
 pub data IsFaultOver (files : Files) (root : Text) (words : List Text) : ProgramError → Type 0 where
-  missing : text_at files root ≡ None → IsFaultOver files root words (program.NoRoot root (paths_like files root))
+  missing : (told : Bor Text) → told.now ≡ root → text_at files root ≡ None → IsFaultOver files root words (program.NoRoot told (paths_like files root))
   uncompiled : (config : Config) (e : Error) → IsByDefault config → Comes files config root (Err e) → IsFaultOver files root words (program.Analyzer e)
   ended : (run : RunsOver files root words) (e : ProgramError) → IsRunFault run.ran.result e → IsFaultOver files root words e
   refused : IsFaultOver files root words program.Memory

@@ -4,6 +4,7 @@ ghost use Rattle.std.specs.Io.KnownBytes.{Appends};
 ghost use Rattle.just_analyzer.specs.Words.{IsClean, IsRooted, texts};
 ghost use Rattle.just_names.specs.Texts.{Text};
 ghost use Rattle.just_loader.specs.Sources.{text_at};
+ghost use Rattle.just_invoke.specs.Scopes.{front_of};
 ghost use Rattle.just_bench.specs.Entries.{entry_lines};
 ghost use Rattle.just_bench.specs.Ran.{IsRunFault, Ran};
 ghost use Rattle.justrun_program.specs.Answers.{Comes, HasRun, IsDone, IsDoneOver, IsFault, IsFaultOver};
@@ -52,9 +53,11 @@ fn run_compiled<'src, W: Write>(
     output: &mut W,
 ) -> Result<(), ProgramError<'src>>
     requires { IsRooted compilation.now.justfile compilation.now.recipes }
-    ensures done { let ran = Ran compilation.now.justfile compilation.now.recipes config.now (texts words.now) in
+    ensures done { let front = front_of config.now compilation.now.overrides in
+        let ran = Ran compilation.now.justfile compilation.now.recipes config.now front (texts words.now) in
         OnOk result ((r : ran) × IsOk r.result × Appends (W.contents output.old) (W.contents output.new) (entry_lines r.entries)) }
-    ensures fault { let ran = Ran compilation.now.justfile compilation.now.recipes config.now (texts words.now) in
+    ensures fault { let front = front_of config.now compilation.now.overrides in
+        let ran = Ran compilation.now.justfile compilation.now.recipes config.now front (texts words.now) in
         IfErr result (λ e. (r : ran) × IsRunFault r.result e) }
 {
     let Compilation {
@@ -180,8 +183,7 @@ pub fn program<R: Read, W: Write, E: Write>(
     ensures no_root { IfSome arguments.entry (λ words. words.now ≡ [] → result ≡ 2) }
     ensures root { IfSome arguments.entry (λ words. words.now ≢ [] → result < 2) }
     ensures not_clean { IfSome arguments.entry (λ words. IfSome (slice_get words.now 0) (λ root. (IsClean root.now → ⊥) → result ≡ 1)) }
-    ensures done { let written = λ words. HasRun words (R.remaining input.old) (W.contents output.old) (W.contents output.new) in
-        result ≡ 0 → IfSome arguments.entry (λ words. written (texts words.now)) }
+    ensures done { result ≡ 0 → IfSome arguments.entry (λ all. HasRun (texts all.now) (R.remaining input.old) (W.contents output.old) (W.contents output.new)) }
     ensures quiet { result ≡ 0 → errors.new ≡ errors.old }
 {
     let Some(arguments) = arguments else {
