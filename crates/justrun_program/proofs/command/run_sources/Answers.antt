@@ -8,8 +8,8 @@ returns-in-Ok-clause-done g c =
     on_ok_weaker c.run_compiled.result
     (λ d. record {
       run = record { config = c.new-config.result; plain = c.new-config.ensures; compilation = c.in-Ok.compilation; compiled = c.in-Ok.ensures; ran = d.0 };
-      succeeded = d.1.0;
-      written = d.1.1;
+      succeeded = d.1;
+      written = d.2;
     })
     c.run_compiled.ensures.done
 
