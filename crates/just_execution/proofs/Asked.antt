@@ -1,7 +1,7 @@
 -- What is asked of one task: what it comes to, and that it executes nothing.
-use Rattle.std.proofs.Common.{◌≡◌, ◌<◌, true, ℕ, zero, suc, List, [], ◌∷◌, ◌++◌, length, map, take, drop, get_or, Option, Some, None, Ok, Err, refl, sym, ◌∙◌, ap, subst, inl}
+use Rattle.std.proofs.Common.{◌≡◌, ◌<◌, true, ℕ, zero, suc, List, [], ◌∷◌, ◌++◌, length, map, take, drop, get_or, set, Option, Some, None, Ok, Err, refl, sym, ◌∙◌, ap, subst, inl}
 use Rattle.std.specs.List.{All, position, slice_get}
-use Rattle.std.proofs.lemmas.List.{length-map}
+use Rattle.std.proofs.lemmas.List.{length-map, set-set}
 use Rattle.std.proofs.lemmas.List.Elements.{All-head, All-tail, All-nil, All-cons, All-append, All-weaker, All-map}
 use Rattle.just_names.specs.Texts.{Text}
 use Rattle.just_errors.specs.declared.fault.Fault.{Fault}
@@ -22,7 +22,7 @@ use Rattle.just_run_layers.specs.Host.{Answer, Answers, Done, Given, Valued, Sco
 use Rattle.just_run_layers.specs.Steps.{Steps, Give, and_then, Gives, kept_by}
 use Rattle.just_run_layers.proofs.StepLemmas.{took-asked}
 use Rattle.just_execution.specs.Account.{AreNamed, StandFor}
-use Rattle.just_execution.specs.Arguments.{argument_steps, dependencies_steps, dependency_steps, gathered, group_steps, groups_steps, spread, task_at, tasks_with, texts_given, texts_steps, unevaluated, value_steps, valued_answered}
+use Rattle.just_execution.specs.Arguments.{argument_steps, dependencies_steps, dependency_steps, gathered, group_steps, groups_steps, spread, task_at, tasks_with, texts_given, texts_steps, unevaluated, value_steps, valued_answered, with_text}
 use Rattle.just_execution.specs.Leaves.{AsksAlone, after_steps, ask_in, ask_steps, bound_answered, follow_in, follow_steps, parameters_steps, prepare_steps, prior_steps, surrounded}
 use Rattle.just_execution.specs.Pairs.{at_place, prior_dependencies, subsequent_dependencies}
 use Rattle.just_execution.specs.Scene.{ModuleContents, Scene}
@@ -213,3 +213,19 @@ pub group-past : (groups : List (List Text)) (k : ℕ) → slice_get groups k �
 group-past [] k e = refl
 group-past (x ∷ groups) zero e = cc
 group-past (x ∷ groups) (suc k) e = group-past groups k e
+
+-- a text alone at a place, whatever was there
+pub spread-rest : (groups : List (List Text)) (k : ℕ) (texts : List Text) → map (with_text (set groups k []) k) texts ≡ map (with_text groups k) texts
+spread-rest groups k [] = refl
+spread-rest groups k (t ∷ texts) = ap (λ g. g ∷ map (with_text (set groups k []) k) texts) (set-set groups k [] (t ∷ [])) ∙ ap (λ gs. with_text groups k t ∷ gs) (spread-rest groups k texts)
+
+-- the tasks that the texts of a starred group give, when they are taken out of it
+pub tasks-spread : (place : ℕ) (recipes : List (Recipe Dependency)) (d : Dependency) (groups rest : List (List Text)) (star : ℕ) (texts : List Text)
+    → place ≡ place_of recipes d.recipe.0 → position has_star d.arguments ≡ Some star → rest ≡ set groups star [] → texts ≡ get_or groups star []
+    → map (task_at place) (map (with_text rest star) texts) ≡ tasks_with recipes d groups
+tasks-spread place recipes d groups rest star texts p s r t =
+    ap (λ (n : ℕ). map (task_at n) (map (with_text rest star) texts)) p
+    ∙ ap (λ (gs : List (List Text)). map (task_at (place_of recipes d.recipe.0)) (map (with_text gs star) texts)) r
+    ∙ ap (λ (ts : List Text). map (task_at (place_of recipes d.recipe.0)) (map (with_text (set groups star []) star) ts)) t
+    ∙ ap (λ (own : List (List (List Text))). map (task_at (place_of recipes d.recipe.0)) own) (spread-rest groups star (get_or groups star []))
+    ∙ ap (λ (o : Option ℕ). map (task_at (place_of recipes d.recipe.0)) (spread o groups)) (sym s)

@@ -1,12 +1,12 @@
 //! The arguments of dependencies: the texts that they are evaluated to, and the tasks that these give.
-ghost use Rattle.std.specs.Prelude.{◌≡◌, ◌++◌, [], get_or, map, Some, IfOk, OnOk};
+ghost use Rattle.std.specs.Prelude.{◌≡◌, ◌++◌, [], get_or, map, set, IfOk, OnOk};
 ghost use Rattle.std.specs.List.{All, Contains};
 ghost use Rattle.just_recipe.specs.declared.dependency.Dependency.{Dependency};
 ghost use Rattle.just_recipe.specs.Recipes.{numbers};
 ghost use Rattle.just_run_layers.specs.Covering.{IsCovered, module_of};
 ghost use Rattle.just_run_layers.specs.Evaluation.{surroundings};
 ghost use Rattle.just_run_layers.specs.Host.{KeepsPromises};
-ghost use Rattle.just_execution.specs.Arguments.{AreGiven, AreReadable, IsGivenIn, IsReadable, argument_steps, dependencies_steps, groups_steps, spread, task_at, tasks_with, texts_given, texts_steps, value_steps, with_text};
+ghost use Rattle.just_execution.specs.Arguments.{AreGiven, AreReadable, IsGivenIn, IsReadable, argument_steps, dependencies_steps, groups_steps, task_at, tasks_with, texts_given, texts_steps, value_steps, with_text};
 ghost use Rattle.just_execution.specs.Frames.{items_of};
 ghost use Rattle.just_execution.specs.Leaves.{AsksAlone, surrounded};
 ghost use Rattle.just_execution.specs.Scene.{contents_of};
@@ -22,6 +22,7 @@ use just_parts::layers::{DependencyArgument, Expression, Halt, RunError, Scope, 
 use just_recipes::Recipes;
 use just_run_layers::{Context, Evaluation, Groups, Held};
 use std::alloc::{AllocError, Global};
+use std::mem::replace;
 
 // The value of an expression.
 fn ask_value<'src, E: Evaluation>(
@@ -158,27 +159,30 @@ fn task_at(recipe: usize, groups: Groups) -> Task
     }
 }
 
-// The texts of the group at a place, and none past the last.
-fn texts_at<'a>(groups: &'a Groups, place: usize) -> &'a [Text]
-    ensures { result.now ≡ get_or groups.now place [] }
+// Groups without the texts of the group at a place, and these texts.
+fn take_texts(alloc: Global, groups: Groups, place: usize) -> (Groups, Sequence<Text>)
+    ensures rest { result.0 ≡ set groups place [] }
+    ensures texts { result.1 ≡ get_or groups place [] }
 {
-    match groups.get(place) {
-        Some(group) => group.as_slice(),
-        None => &[],
+    let mut rest = groups.into_vec();
+    if place < rest.len() {
+        let texts = replace(&mut rest[place], Sequence::new(alloc));
+        return (Sequence::from_vec(rest), texts);
     }
+    (Sequence::from_vec(rest), Sequence::new(alloc))
 }
 
-// Puts a task of the recipe at a place after others for each text of the group that is starred, with that text alone in it.
+// Puts a task of the recipe at a place after others for each of some texts, with that text alone in the group at `star`.
 fn push_each(
     alloc: Global,
     recipe: usize,
     groups: &Groups,
     star: usize,
+    texts: &[Text],
     tasks: &mut Vec<Task>,
 ) -> Result<(), AllocError>
-    ensures { OnOk result (tasks.new.items ≡ tasks.old.items ++ map (task_at recipe) (spread (Some star) groups.now)) }
+    ensures { OnOk result (tasks.new.items ≡ tasks.old.items ++ map (task_at recipe) (map (with_text groups.now star) texts.now)) }
 {
-    let texts = texts_at(groups, star);
     for text in texts {
         let groups = with_text(alloc, groups, star, text)?;
         tasks.push(task_at(recipe, groups))?;
@@ -199,7 +203,8 @@ fn push_tasks(
 {
     let recipe = place_in(recipes, dependency.recipe);
     if let Some(star) = dependency.star() {
-        return push_each(alloc, recipe, &groups, star, tasks);
+        let (rest, texts) = take_texts(alloc, groups, star);
+        return push_each(alloc, recipe, &rest, star, texts.as_slice(), tasks);
     }
     tasks.push(task_at(recipe, groups))?;
     Ok(())
