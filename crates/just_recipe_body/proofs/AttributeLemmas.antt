@@ -1,0 +1,56 @@
+-- What attributes say is among what is bound; the steps before the lines, by cases.
+use Rattle.std.proofs.Common.{◌≡◌, Bool, true, false, List, [], ◌∷◌, ◌++◌, Option, None, Some, refl, sym, ◌∙◌, ap, subst, All, cond}
+use Rattle.std.specs.Prelude.{flat_map}
+use Rattle.std.proofs.lemmas.List.Elements.{All-head}
+use Rattle.std.specs.Option.{option_or}
+use Rattle.std.proofs.lemmas.Bool.{cond-true, cond-false}
+use Rattle.just_ast_definitions.specs.declared.attribute.Attribute.{Attribute}
+use Rattle.just_ast_definitions.specs.declared.attribute.Attribute.TheVariants as attribute
+use Rattle.just_ast_definitions.specs.declared.attribute.NamedAttribute.{NamedAttribute}
+use Rattle.just_ast_expressions.specs.declared.expression.Expression.{Expression}
+use Rattle.just_names.specs.Texts.{Text}
+use Rattle.just_parts.specs.Scopes.{attribute_expressions}
+use Rattle.just_run_layers.specs.Steps.{Give, Steps, and_then}
+use Rattle.just_recipe_body.specs.Attributes.{changes_directory, directory_in, directory_of, timestamp_in, timestamp_of}
+use Rattle.just_recipe_body.specs.Body.{BodyContents, directory_steps, joined_steps}
+use Rattle.just_recipe_body.proofs.AllLemmas.{all-left, all-right}
+
+module _ (P : Expression → Type 0) where
+  -- the first of two, or the second
+  pick : {A : Type 0} (first second : Option A) (x : A) (Q : Type 0) → (first ≡ Some x → Q) → (second ≡ Some x → Q) → option_or first second ≡ Some x → Q
+  pick None second x Q h k q = k q
+  pick (Some y) second x Q h k q = h q
+
+  directory-said : (a : Attribute Expression) (e : Expression) → directory_in a ≡ Some e → All P (attribute_expressions a) → P e
+  directory-said (attribute.WorkingDirectory x) e q h = let same : x ≡ e = cc in subst P same (All-head P x [] h)
+  directory-said _ e q h = absurd (cc)
+
+  timestamp-said : (a : Attribute Expression) (e : Expression) → timestamp_in a ≡ Some (Some e) → All P (attribute_expressions a) → P e
+  timestamp-said (attribute.Timestamp (Some x)) e q h = let same : x ≡ e = cc in subst P same (All-head P x [] h)
+  timestamp-said (attribute.Timestamp None) e q h = absurd (cc)
+  timestamp-said _ e q h = absurd (cc)
+
+  pub directory-bound : (attributes : List (NamedAttribute Expression)) (e : Expression) → directory_of attributes ≡ Some e →
+      All P (flat_map (λ (named : NamedAttribute Expression). attribute_expressions named.attribute) attributes) → P e
+  directory-bound [] e q h = absurd (cc)
+  directory-bound (named ∷ rest) e q h =
+      let more : List Expression = flat_map (λ (named : NamedAttribute Expression). attribute_expressions named.attribute) rest in
+      pick (directory_in named.attribute) (directory_of rest) e (P e)
+      (λ k. directory-said named.attribute e k (all-left P (attribute_expressions named.attribute) more h))
+      (λ k. directory-bound rest e k (all-right P (attribute_expressions named.attribute) more h)) q
+
+  pub timestamp-bound : (attributes : List (NamedAttribute Expression)) (e : Expression) → timestamp_of attributes ≡ Some (Some e) →
+      All P (flat_map (λ (named : NamedAttribute Expression). attribute_expressions named.attribute) attributes) → P e
+  timestamp-bound [] e q h = absurd (cc)
+  timestamp-bound (named ∷ rest) e q h =
+      let more : List Expression = flat_map (λ (named : NamedAttribute Expression). attribute_expressions named.attribute) rest in
+      pick (timestamp_in named.attribute) (timestamp_of rest) (Some e) (P e)
+      (λ k. timestamp-said named.attribute e k (all-left P (attribute_expressions named.attribute) more h))
+      (λ k. timestamp-bound rest e k (all-right P (attribute_expressions named.attribute) more h)) q
+
+-- the steps for the folder
+pub directory-changed : (b : BodyContents) (o : Option Expression) → changes_directory b.recipe b.context.settings ≡ true → directory_of b.recipe.attributes ≡ o → directory_steps b ≡ joined_steps b o
+directory-changed b o h e = cond-true (changes_directory b.recipe b.context.settings) (joined_steps b (directory_of b.recipe.attributes)) (Give None) h ∙ ap (joined_steps b) e
+
+pub directory-kept : (b : BodyContents) → changes_directory b.recipe b.context.settings ≡ false → directory_steps b ≡ Give None
+directory-kept b h = cond-false (changes_directory b.recipe b.context.settings) (joined_steps b (directory_of b.recipe.attributes)) (Give None) h

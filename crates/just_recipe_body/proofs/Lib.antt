@@ -1,0 +1,3 @@
+pub mod AllLemmas
+pub mod AttributeLemmas
+pub mod StepEnds

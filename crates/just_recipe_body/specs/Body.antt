@@ -1,0 +1,157 @@
+-- What a body runs by, and what each kind of body asks.
+use Rattle.std.specs.Prelude.{ℕ, Bool, true, false, cond, List, [], ◌∷◌, ◌++◌, map, codes, Option, Some, None, Result, Ok, Err}
+use Rattle.std.specs.Option.{unwrap_or}
+use Rattle.std.specs.Path.{path_join}
+use Rattle.just_ast_definitions.specs.declared.line.Line.{Line}
+use Rattle.just_ast_expressions.specs.declared.expression.Expression.{Expression}
+use Rattle.just_ast_expressions.specs.declared.scope.Scope.{Scope}
+use Rattle.just_errors.specs.declared.halt.Halt.TheVariants.{Memory, Failed}
+use Rattle.just_errors.specs.declared.run_error.RunError.{RunError}
+use Rattle.just_errors.specs.declared.run_error.RunError.TheVariants as run
+use Rattle.just_names.specs.Name.{text_of_name}
+use Rattle.just_names.specs.Texts.{Text}
+use Rattle.just_parts.specs.Syntax.{SyntaxAnswers}
+use Rattle.just_parts.specs.declared.layers.config.Verbosity.{Verbosity}
+use Rattle.just_parts.specs.declared.layers.config.Verbosity.TheVariants as verbosity
+use Rattle.just_recipe.specs.declared.dependency.Dependency.{Dependency}
+use Rattle.just_recipe.specs.declared.recipe.Recipe.{Recipe}
+use Rattle.just_run_layers.specs.declared.environment.EnvironmentChange.{EnvironmentChange}
+use Rattle.just_run_layers.specs.declared.environment.EnvironmentPair.{EnvironmentPair}
+use Rattle.just_run_layers.specs.declared.host.Entry.TheVariants.{Show, Timestamp}
+use Rattle.just_run_layers.specs.Evaluation.{ContextContents, Environment, LineOf, StringOf, Surroundings}
+use Rattle.just_run_layers.specs.Evaluation as evaluation
+use Rattle.just_run_layers.specs.Host.{Answer, Changed, Given, Refused}
+use Rattle.just_run_layers.specs.Steps.{Asks, Fail, Give, Steps, ToEvaluator, ToHost, and_then}
+use Rattle.just_recipe_body.specs.Attributes.{changes_directory, directory_of, timestamp_of}
+use Rattle.just_recipe_body.specs.declared.body.Body.{Body}
+use Rattle.just_recipe_body.specs.declared.body.Preparation.{Preparation}
+
+-- What a body runs by: the grammar, what its module hands to the layers, its recipe, the values of its names, whether it is a dependency, and what its parameters put into the environment and hand to programs.
+pub record BodyContents : Type 0 where
+  pub syntax : SyntaxAnswers
+  pub context : ContextContents
+  pub recipe : Recipe Dependency
+  pub scope : Scope
+  pub is_dependency : Bool
+  pub environment : List EnvironmentPair
+  pub positional : List Text
+
+-- for the private functions: the same of what is lent
+abbrev pub contents_of : {S : Type 0} → SyntaxAnswers → Body S → BodyContents
+contents_of syntax body = record {
+  syntax = syntax;
+  context = evaluation.contents_of body.context.now;
+  recipe = body.recipe.now;
+  scope = body.scope.now;
+  is_dependency = body.is_dependency;
+  environment = body.environment.now;
+  positional = body.positional.now;
+}
+
+-- where its expressions and lines are evaluated
+abbrev pub around : BodyContents → Surroundings
+around b = record { context = b.context; scope = b.scope; is_dependency = b.is_dependency; environment = b.environment }
+
+-- the name of its recipe
+abbrev pub name_of : BodyContents → Text
+name_of b = text_of_name b.recipe.name
+
+-- a text, or what its fault is told by; an answer of another kind does not come up
+abbrev pub unevaluated : Text → RunError
+unevaluated message = run.Evaluate (record { message = message })
+
+abbrev pub untimed : Text → RunError
+untimed message = run.DatetimeFormat (record { message = message })
+
+abbrev pub text_or : (Text → RunError) → Answer → Steps Text
+text_or fault (Given text) = Give text
+text_or fault (Refused message) = Fail (Failed (fault message))
+text_or fault _ = Fail Memory
+
+-- the text of an expression, and that of a line
+abbrev pub string_steps : BodyContents → Expression → Steps Text
+string_steps b expression = Asks (ToEvaluator (StringOf (around b) expression)) (text_or unevaluated)
+
+abbrev pub line_steps : BodyContents → Line → Bool → Steps Text
+line_steps b line continued = Asks (ToEvaluator (LineOf (around b) line continued)) (text_or unevaluated)
+
+-- the folder of its module: for the root that of the configuration, where there is one
+abbrev pub folder_of : List Text → Option Text → Text → Text
+folder_of [] (Some configured) own = configured
+folder_of _ _ own = own
+
+abbrev pub folder : BodyContents → Text
+folder b = folder_of b.context.module_path.components b.context.config.working_directory b.context.working_directory
+
+-- the folder that it runs in, where it changes to one: that of the module, or the one to which the text of an attribute leads from there
+abbrev pub joined_steps : BodyContents → Option Expression → Steps (Option Text)
+joined_steps b None = Give (Some (folder b))
+joined_steps b (Some expression) = and_then (string_steps b expression) (λ text. Give (Some (path_join (folder b) text)))
+
+abbrev pub directory_steps : BodyContents → Steps (Option Text)
+directory_steps b = cond (changes_directory b.recipe b.context.settings) (joined_steps b (directory_of b.recipe.attributes)) (Give None)
+
+-- the format of the time, where it is shown: that of an attribute, or else that of the configuration
+abbrev pub configured_format : BodyContents → Text
+configured_format b = unwrap_or b.context.config.timestamp_format (codes "%H:%M:%S")
+
+abbrev pub said_format_steps : BodyContents → Option (Option Expression) → Steps (Option Text)
+said_format_steps b (Some (Some expression)) = and_then (string_steps b expression) (λ text. Give (Some text))
+said_format_steps b (Some None) = Give (Some (configured_format b))
+said_format_steps b None = Give (cond b.context.config.timestamp (Some (configured_format b)) None)
+
+abbrev pub format_steps : BodyContents → Steps (Option Text)
+format_steps b = said_format_steps b (timestamp_of b.recipe.attributes)
+
+-- both, one after the other
+abbrev pub prepared : Option Text → Option Text → Preparation
+prepared directory format = record { working_directory = directory; timestamp_format = format }
+
+abbrev pub prepare_steps : BodyContents → Steps Preparation
+prepare_steps b = and_then (directory_steps b) (λ directory. and_then (format_steps b) (λ format. Give (prepared directory format)))
+
+-- the time, where there is a format
+abbrev pub telling_steps : Text → Steps Text
+telling_steps format = Asks (ToHost (Timestamp format)) (text_or untimed)
+
+abbrev pub time_steps : Option Text → Steps (Option Text)
+time_steps None = Give None
+time_steps (Some format) = and_then (telling_steps format) (λ time. Give (Some time))
+
+-- a text behind the time
+abbrev pub stamped : Text → Text → Text
+stamped time text = codes "[" ++ (time ++ (codes "] " ++ text))
+
+-- a line is shown
+abbrev pub show_steps : Text → Steps (Unit {0})
+show_steps line = Asks (ToHost (Show line)) (λ answer. Give tt)
+
+-- what programs have in their environment: what the layer says, and over it what the parameters put there
+abbrev pub changes_or : Answer → Steps (List EnvironmentChange)
+changes_or (Changed changes) = Give changes
+changes_or (Refused message) = Fail (Failed (unevaluated message))
+changes_or _ = Fail Memory
+
+abbrev pub environment_steps : BodyContents → Steps (List EnvironmentChange)
+environment_steps b = Asks (ToEvaluator (Environment b.context.dotenv b.scope b.context.settings b.context.unexports)) changes_or
+
+abbrev pub change_of : EnvironmentPair → EnvironmentChange
+change_of pair = record { name = pair.name; value = Some pair.value }
+
+abbrev pub with_pairs : List EnvironmentChange → List EnvironmentPair → List EnvironmentChange
+with_pairs changes pairs = changes ++ map change_of pairs
+
+-- much is shown, nothing is shown, or all is
+abbrev pub is_loquacious : Verbosity → Bool
+is_loquacious verbosity.Loquacious = true
+is_loquacious verbosity.Grandiloquent = true
+is_loquacious _ = false
+
+abbrev pub is_mute : Verbosity → Bool
+is_mute verbosity.Quiet = true
+is_mute _ = false
+
+-- what a result comes to
+abbrev pub given : {A : Type 0} → Result A RunError → Steps A
+given (Ok x) = Give x
+given (Err e) = Fail (Failed e)

@@ -1,0 +1,4 @@
+pub mod Attributes
+pub mod Body
+pub mod Judging
+pub mod Taking

@@ -1,6 +1,0 @@
-use Rattle.std.proofs.Common.{length}
-use Rattle.just_recipe_run.proofs.TextLemmas.{plain-boundary}
-use Rattle.just_recipe_run.proofs.lines.command_said.Goals as goal
-
-pub range_from-command-requires : goal.range_from-command-requires
-range_from-command-requires c = λ _. plain-boundary (length c.args.sigils.now) c.args.text.now c.utf8.text c.requires

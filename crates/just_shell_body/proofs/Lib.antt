@@ -1,0 +1,3 @@
+pub mod GroupLemmas
+pub mod ShellLemmas
+pub mod TextLemmas
