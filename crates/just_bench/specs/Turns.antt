@@ -40,6 +40,10 @@ pub record AreScripted (old : Recording) (entries : List Entry) (answers : List 
   pub dotenvs : answers_among is_dotenv entries answers ≡ map (told paired) (first_or (count_of is_dotenv entries) old.script.dotenvs (Ok []))
   pub timestamps : answers_among is_timestamp entries answers ≡ map (told given) (first_or (count_of is_timestamp entries) old.script.timestamps (Ok (codes "T")))
 
+-- calls that are made in turn are so
+abbrev pub AreAnsweredInOrder : List Entry → Recording → Recording → List Answer → Type 0
+AreAnsweredInOrder entries old new answers = AreCalled entries old answers new → AreScripted old entries answers new
+
 -- These calls are made in turn, and this becomes of each: an answer, or none for want of memory.
 abbrev pub AreMade : List Entry → Recording → List (Option Answer) → Recording → Type 0
 AreMade [] old [] new = new ≡ old

@@ -26,7 +26,9 @@ pub fn run_words<'src>(
     words: &[&str],
 ) -> Result<Report, Error<'src>>
     requires { IsRooted root.now recipes.now }
-    ensures { IsPlainOutcome root.now recipes.now config.now (front_of config.now overrides.now) (texts words.now) host.old.script host.old.entries host.new.entries result }
+    ensures { let front = front_of config.now overrides.now in
+        let outcome = IsPlainOutcome root.now recipes.now config.now front (texts words.now) host.old.script in
+        outcome host.old.entries host.new.entries result }
 {
     let mut writer = StopWriter::new(alloc, 0)?;
     let mut evaluation = PlainEvaluation::new(alloc);

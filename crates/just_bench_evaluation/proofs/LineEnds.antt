@@ -18,7 +18,7 @@ use Rattle.just_ast_expressions.specs.declared.expression.Expression.{Expression
 use Rattle.just_bench_evaluation.specs.Lines.{fragment_text, fragments_text}
 use Rattle.just_bench_evaluation.specs.Refusals.{Gives}
 use Rattle.just_bench_values.specs.Values.{Outcome}
-use Rattle.just_bench_evaluation.specs.Sigils.{back, begun, front, leading, same, sigil_of, text_of}
+use Rattle.just_bench_syntax.specs.Sigils.{back, begun, front, leading, same, sigil_of, text_of}
 
 -- a text begins plainly with fewer bytes too, and with one more before it
 plain_none : (text : Text) → BeginsPlain 0 text

@@ -4,4 +4,3 @@ pub mod Environments
 pub mod Lines
 pub mod Parameters
 pub mod Refusals
-pub mod Sigils

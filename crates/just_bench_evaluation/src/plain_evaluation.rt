@@ -52,7 +52,7 @@ impl Evaluation for PlainEvaluation {
     ghost use Rattle.std.specs.Prelude.{Some, map};
     ghost use Rattle.just_bench_evaluation.specs.Answered.{plain_answer, request_of};
     ghost use Rattle.just_bench_evaluation.specs.Lines.{displayed};
-    ghost use Rattle.just_bench_evaluation.specs.Sigils as grammar;
+    ghost use Rattle.just_bench_syntax.specs.Sigils as grammar;
 
     ghost requests = { λ evaluation. map request_of evaluation.asked.items };
 

@@ -51,8 +51,9 @@ pub fn evaluate_in<'a, 'src>(
     locals: Locals<'a, 'src>,
     expression: &Expression<'src>,
 ) -> Result<Sequence<Text>, Error<'src>>
-    ensures { let value = spec.value_with 64 (functions_by_name (functions_in functions.entry)) (constant_values constants.entry) (local_values locals.entry) expression.now in
-        Tells value (IsPlaceIn (functions_in functions.entry) expression.now) result }
+    ensures { let among = functions_in functions.entry in
+        let value = spec.value_with 64 (functions_by_name among) (constant_values constants.entry) (local_values locals.entry) expression.now in
+        Tells value (IsPlaceIn among expression.now) result }
 {
     let among = Among {
         functions,

@@ -11,8 +11,9 @@ use Rattle.just_ast_expressions.specs.declared.expression.Expression.{Expression
 use Rattle.just_names.specs.Texts.{Text}
 use Rattle.just_parts.specs.Scopes.{attribute_expressions}
 use Rattle.just_run_layers.specs.Steps.{Give, Steps, and_then}
-use Rattle.just_recipe_body.specs.Attributes.{changes_directory, directory_in, directory_of, timestamp_in, timestamp_of}
+use Rattle.just_recipe_body.specs.Attributes.{changes_directory, directory_in, directory_of, first_said, timestamp_in, timestamp_of}
 use Rattle.just_recipe_body.specs.Body.{BodyContents, directory_steps, joined_steps}
+use Rattle.just_recipe_body.specs.Confirmation.{confirmation_in}
 use Rattle.just_recipe_body.proofs.AllLemmas.{all-left, all-right}
 
 module _ (P : Expression → Type 0) where
@@ -30,23 +31,33 @@ module _ (P : Expression → Type 0) where
   timestamp-said (attribute.Timestamp None) e q h = absurd (cc)
   timestamp-said _ e q h = absurd (cc)
 
+  confirmation-said : (a : Attribute Expression) (e : Expression) → confirmation_in a ≡ Some (Some e) → All P (attribute_expressions a) → P e
+  confirmation-said (attribute.Confirm (Some x)) e q h = let same : x ≡ e = cc in subst P same (All-head P x [] h)
+  confirmation-said (attribute.Confirm None) e q h = absurd (cc)
+  confirmation-said _ e q h = absurd (cc)
+
+  -- what an attribute says is bound, wherever it stands among others
+  said-bound : {A : Type 0} (said : Attribute Expression → Option A) (x : A) (e : Expression) →
+      ((a : Attribute Expression) → said a ≡ Some x → All P (attribute_expressions a) → P e) → (attributes : List (NamedAttribute Expression)) → first_said said attributes ≡ Some x →
+      All P (flat_map (λ (named : NamedAttribute Expression). attribute_expressions named.attribute) attributes) → P e
+  said-bound said x e one [] q h = absurd (cc)
+  said-bound said x e one (named ∷ rest) q h =
+      let more : List Expression = flat_map (λ (named : NamedAttribute Expression). attribute_expressions named.attribute) rest in
+      pick (said named.attribute) (first_said said rest) x (P e)
+      (λ k. one named.attribute k (all-left P (attribute_expressions named.attribute) more h))
+      (λ k. said-bound said x e one rest k (all-right P (attribute_expressions named.attribute) more h)) q
+
   pub directory-bound : (attributes : List (NamedAttribute Expression)) (e : Expression) → directory_of attributes ≡ Some e →
       All P (flat_map (λ (named : NamedAttribute Expression). attribute_expressions named.attribute) attributes) → P e
-  directory-bound [] e q h = absurd (cc)
-  directory-bound (named ∷ rest) e q h =
-      let more : List Expression = flat_map (λ (named : NamedAttribute Expression). attribute_expressions named.attribute) rest in
-      pick (directory_in named.attribute) (directory_of rest) e (P e)
-      (λ k. directory-said named.attribute e k (all-left P (attribute_expressions named.attribute) more h))
-      (λ k. directory-bound rest e k (all-right P (attribute_expressions named.attribute) more h)) q
+  directory-bound attributes e q h = said-bound directory_in e e (λ a k l. directory-said a e k l) attributes q h
 
   pub timestamp-bound : (attributes : List (NamedAttribute Expression)) (e : Expression) → timestamp_of attributes ≡ Some (Some e) →
       All P (flat_map (λ (named : NamedAttribute Expression). attribute_expressions named.attribute) attributes) → P e
-  timestamp-bound [] e q h = absurd (cc)
-  timestamp-bound (named ∷ rest) e q h =
-      let more : List Expression = flat_map (λ (named : NamedAttribute Expression). attribute_expressions named.attribute) rest in
-      pick (timestamp_in named.attribute) (timestamp_of rest) (Some e) (P e)
-      (λ k. timestamp-said named.attribute e k (all-left P (attribute_expressions named.attribute) more h))
-      (λ k. timestamp-bound rest e k (all-right P (attribute_expressions named.attribute) more h)) q
+  timestamp-bound attributes e q h = said-bound timestamp_in (Some e) e (λ a k l. timestamp-said a e k l) attributes q h
+
+  pub confirmation-bound : (attributes : List (NamedAttribute Expression)) (e : Expression) → first_said confirmation_in attributes ≡ Some (Some e) →
+      All P (flat_map (λ (named : NamedAttribute Expression). attribute_expressions named.attribute) attributes) → P e
+  confirmation-bound attributes e q h = said-bound confirmation_in (Some e) e (λ a k l. confirmation-said a e k l) attributes q h
 
 -- the steps for the folder
 pub directory-changed : (b : BodyContents) (o : Option Expression) → changes_directory b.recipe b.context.settings ≡ true → directory_of b.recipe.attributes ≡ o → directory_steps b ≡ joined_steps b o

@@ -1,4 +1,5 @@
 pub mod Attributes
 pub mod Body
+pub mod Confirmation
 pub mod Judging
 pub mod Taking

@@ -63,8 +63,8 @@ pub fn is_mute(verbosity: Verbosity) -> bool
     matches!(verbosity, Verbosity::Quiet)
 }
 
-// The text of an expression.
-fn ask_string<'a, 'run, 'src, S: Syntax, E: Evaluation>(
+/// The text of an expression.
+pub fn ask_string<'a, 'run, 'src, S: Syntax, E: Evaluation>(
     alloc: Global,
     body: &Body<'a, 'run, 'src, S>,
     expression: &Expression<'src>,
@@ -249,11 +249,7 @@ pub fn ask_time<'src, H: Host>(
 pub fn stamped(alloc: Global, time: &str, text: &str) -> Result<Text, AllocError>
     ensures { IfOk result (λ made. made ≡ spec.stamped time.now text.now) }
 {
-    let mut line = String::from_str(alloc, "[")?;
-    line.push_str(time)?;
-    line.push_str("] ")?;
-    line.push_str(text)?;
-    Text::from_string(line)
+    Text::from_string(format!(in alloc; "[{time}] {text}")?)
 }
 
 /// What the layer says of the environment.

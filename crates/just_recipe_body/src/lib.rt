@@ -3,4 +3,5 @@
 
 pub mod attributes;
 pub mod body;
+pub mod confirmation;
 pub mod judging;

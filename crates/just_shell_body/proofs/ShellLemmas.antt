@@ -58,11 +58,10 @@ module _ (p : Question → Option Answer) (b : BodyContents) where
       (subst (λ ls. Took p (and_then (text_steps b false [] ls) next) old new r) e t))
 
   -- the first group, and the others; and no more
-  pub one-group : (prep : Preparation) (lines group others : List Line) (n : ℕ) (old new : Kept) (r : Result (Unit {0}) Halt) →
-      groups b.syntax b.context.settings lines ≡ take n lines ∷ groups b.syntax b.context.settings (drop n lines) → group ≡ take n lines → others ≡ drop n lines →
+  pub one-group : (prep : Preparation) (lines group others : List Line) (old new : Kept) (r : Result (Unit {0}) Halt) →
+      groups b.syntax b.context.settings lines ≡ group ∷ groups b.syntax b.context.settings others →
       Took p (and_then (group_steps b prep group) (unless_ended (lines_steps b prep others))) old new r → Took p (lines_steps b prep lines) old new r
-  one-group prep lines group others n old new r e f o t =
-      subst (λ gs. Took p (groups_steps b prep gs) old new r) (ap (λ g. g ∷ groups b.syntax b.context.settings others) f ∙ ap (λ ls. take n lines ∷ groups b.syntax b.context.settings ls) o ∙ sym e) t
+  one-group prep lines group others old new r e t = subst (λ gs. Took p (groups_steps b prep gs) old new r) (sym e) t
 
   pub no-groups : (prep : Preparation) (lines : List Line) (old : Kept) → length lines ≡ 0 → Took p (lines_steps b prep lines) old old (Ok tt)
   no-groups prep [] old h = took-give p old tt

@@ -1,5 +1,8 @@
 //! A shell body: the lines of a recipe go to a shell, group by group.
 #![tactic(auto)]
 
-pub mod lines;
-pub mod shell;
+mod body;
+mod lines;
+mod shell;
+
+pub use body::run_shell;

@@ -183,7 +183,9 @@ pub fn program<R: Read, W: Write, E: Write>(
     ensures no_root { IfSome arguments.entry (λ words. words.now ≡ [] → result ≡ 2) }
     ensures root { IfSome arguments.entry (λ words. words.now ≢ [] → result < 2) }
     ensures not_clean { IfSome arguments.entry (λ words. IfSome (slice_get words.now 0) (λ root. (IsClean root.now → ⊥) → result ≡ 1)) }
-    ensures done { result ≡ 0 → IfSome arguments.entry (λ all. HasRun (texts all.now) (R.remaining input.old) (W.contents output.old) (W.contents output.new)) }
+    ensures done { let read = R.remaining input.old in
+        let wrote = W.contents output.new in
+        result ≡ 0 → IfSome arguments.entry (λ all. HasRun (texts all.now) read (W.contents output.old) wrote) }
     ensures quiet { result ≡ 0 → errors.new ≡ errors.old }
 {
     let Some(arguments) = arguments else {

@@ -1,0 +1,37 @@
+-- The run of one recipe: what is shown before its body, and the body.
+use Rattle.std.specs.Prelude.{Bool, cond, codes, ◌++◌, Option, Some, None}
+use Rattle.just_names.specs.Name.{texts_of_path}
+use Rattle.just_names.specs.Texts.{Text, text_of}
+use Rattle.just_paths.specs.declared.modulepath.Modulepath.{Modulepath}
+use Rattle.just_recipe.specs.Script.{is_script}
+use Rattle.just_run_layers.specs.Steps.{Give, Steps, and_then}
+use Rattle.just_recipe_body.specs.Body.{BodyContents, is_loquacious, show_steps}
+use Rattle.just_shell_body.specs.ShellBody.{shell_steps}
+use Rattle.just_script_body.specs.ScriptBody.{script_steps}
+
+-- that a recipe runs, as it is shown where much is
+abbrev pub running : Modulepath → Text
+running path = codes "===> running recipe `" ++ (text_of path.components path.spaced ++ codes "`...")
+
+abbrev pub running_steps : Bool → Option Modulepath → Steps (Unit {0})
+running_steps loquacious None = Give tt
+running_steps loquacious (Some path) = cond loquacious (show_steps (running path)) (Give tt)
+
+-- what a recipe is for, as it is shown where that is asked for
+abbrev pub explained : Text → Text
+explained doc = codes "#### " ++ doc
+
+abbrev pub explained_steps : Bool → Option Text → Steps (Unit {0})
+explained_steps explain None = Give tt
+explained_steps explain (Some doc) = cond explain (show_steps (explained doc)) (Give tt)
+
+-- the body, a script or lines for a shell
+abbrev pub body_steps : BodyContents → Steps (Unit {0})
+body_steps b = cond (is_script b.recipe b.context.settings) (script_steps b) (shell_steps b)
+
+-- A recipe runs: it is shown that it does, and what it is for, where that is asked for; and then its body runs.
+abbrev pub explain_steps : BodyContents → Steps (Unit {0})
+explain_steps b = and_then (explained_steps b.context.config.explain b.recipe.doc) (λ _. body_steps b)
+
+abbrev pub recipe_steps : BodyContents → Steps (Unit {0})
+recipe_steps b = and_then (running_steps (is_loquacious b.context.config.verbosity) b.recipe.recipe_path) (λ _. explain_steps b)
