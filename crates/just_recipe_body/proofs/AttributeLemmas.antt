@@ -1,5 +1,5 @@
 -- What attributes say is among what is bound; the steps before the lines, by cases.
-use Rattle.std.proofs.Common.{◌≡◌, Bool, true, false, List, [], ◌∷◌, ◌++◌, Option, None, Some, refl, sym, ◌∙◌, ap, subst, All, cond}
+use Rattle.std.proofs.Common.{◌≡◌, true, false, List, [], ◌∷◌, Option, None, Some, ◌∙◌, ap, subst, All}
 use Rattle.std.specs.Prelude.{flat_map}
 use Rattle.std.proofs.lemmas.List.Elements.{All-head}
 use Rattle.std.specs.Option.{option_or}
@@ -8,9 +8,8 @@ use Rattle.just_ast_definitions.specs.declared.attribute.Attribute.{Attribute}
 use Rattle.just_ast_definitions.specs.declared.attribute.Attribute.TheVariants as attribute
 use Rattle.just_ast_definitions.specs.declared.attribute.NamedAttribute.{NamedAttribute}
 use Rattle.just_ast_expressions.specs.declared.expression.Expression.{Expression}
-use Rattle.just_names.specs.Texts.{Text}
 use Rattle.just_parts.specs.Scopes.{attribute_expressions}
-use Rattle.just_run_layers.specs.Steps.{Give, Steps, and_then}
+use Rattle.just_run_layers.specs.Steps.{Give}
 use Rattle.just_recipe_body.specs.Attributes.{changes_directory, directory_in, directory_of, first_said, timestamp_in, timestamp_of}
 use Rattle.just_recipe_body.specs.Body.{BodyContents, directory_steps, joined_steps}
 use Rattle.just_recipe_body.specs.Confirmation.{confirmation_in}

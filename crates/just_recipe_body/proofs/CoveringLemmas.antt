@@ -5,7 +5,6 @@ use Rattle.std.proofs.lemmas.List.Elements.{All-cons, All-nil}
 use Rattle.just_ast_definitions.specs.declared.line.Fragment.{Fragment}
 use Rattle.just_ast_definitions.specs.declared.line.Fragment.TheVariants as fragment
 use Rattle.just_ast_definitions.specs.declared.line.Line.{Line}
-use Rattle.just_ast_expressions.specs.declared.expression.Expression.{Expression}
 use Rattle.just_ast_expressions.specs.declared.scope.Scope.{Scope}
 use Rattle.just_ast_expressions.specs.declared.settings.Settings.{Settings}
 use Rattle.just_parts.specs.Known.{Known}

@@ -1,3 +1,4 @@
 pub mod AllLemmas
 pub mod AttributeLemmas
+pub mod CoveringLemmas
 pub mod StepEnds

@@ -1,5 +1,5 @@
 -- What a body runs by, and what each kind of body asks.
-use Rattle.std.specs.Prelude.{ℕ, Bool, true, false, cond, List, [], ◌∷◌, ◌++◌, map, codes, Option, Some, None, Result, Ok, Err}
+use Rattle.std.specs.Prelude.{Bool, true, false, cond, List, [], ◌++◌, map, codes, Option, Some, None, Result, Ok, Err}
 use Rattle.std.specs.Option.{unwrap_or}
 use Rattle.std.specs.Path.{path_join}
 use Rattle.just_ast_definitions.specs.declared.line.Line.{Line}

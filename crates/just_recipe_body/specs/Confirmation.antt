@@ -1,5 +1,5 @@
 -- Whether a recipe may run: what is asked where it wants confirmation.
-use Rattle.std.specs.Prelude.{Bool, true, false, ◌||◌, codes, List, [], ◌∷◌, ◌++◌, Option, Some, None}
+use Rattle.std.specs.Prelude.{Bool, true, ◌||◌, codes, ◌++◌, Option, Some, None}
 use Rattle.std.specs.Str.{str_eq_ignore_ascii_case, trim}
 use Rattle.just_ast_definitions.specs.declared.attribute.Attribute.{Attribute}
 use Rattle.just_ast_definitions.specs.declared.attribute.Attribute.TheVariants as attribute

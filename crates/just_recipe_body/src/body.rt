@@ -7,7 +7,7 @@ ghost use Rattle.std.specs.List.{All};
 ghost use Rattle.just_run_layers.specs.Host.{KeepsPromises};
 ghost use Rattle.just_run_layers.specs.LineTexts.{BeginsPlain, EndsWithBackslash};
 ghost use Rattle.just_recipe_body.specs.Body as spec;
-ghost use Rattle.just_shell_body.specs.Lines.{IsLineCovered};
+ghost use Rattle.just_recipe_body.specs.Covering.{IsLineCovered};
 ghost use Rattle.just_recipe_body.specs.Taking.{AsksEvaluator, AsksHost};
 
 use crate::attributes::{changes_directory, directory_of, timestamp_of};
@@ -141,8 +141,8 @@ fn join(alloc: Global, folder: &str, path: &str) -> Result<Text, AllocError>
     Text::from_string(joined.into_string())
 }
 
-// The folder that it runs in; none where it is not changed.
-fn ask_directory<'a, 'run, 'src, S: Syntax, E: Evaluation>(
+/// The folder that it runs in; none where it is not changed.
+pub fn ask_directory<'a, 'run, 'src, S: Syntax, E: Evaluation>(
     alloc: Global,
     body: &Body<'a, 'run, 'src, S>,
     evaluation: &mut E,
@@ -177,8 +177,8 @@ fn configured_format<'a, 'run, 'src, S: Syntax>(
     }
 }
 
-// The format of the time; none where the time is not shown.
-fn ask_format<'a, 'run, 'src, S: Syntax, E: Evaluation>(
+/// The format of the time; none where the time is not shown.
+pub fn ask_format<'a, 'run, 'src, S: Syntax, E: Evaluation>(
     alloc: Global,
     body: &Body<'a, 'run, 'src, S>,
     evaluation: &mut E,

@@ -6,7 +6,7 @@ ghost use Rattle.just_run_layers.specs.LineTexts.{AgreesWith};
 ghost use Rattle.just_run_layers.specs.Steps.{Took, both, kept_by};
 ghost use Rattle.just_recipe_body.specs.Body.{contents_of};
 ghost use Rattle.just_recipe_body.specs.Taking.{AsksHost};
-ghost use Rattle.just_shell_body.specs.Lines.{IsBodyCovered};
+ghost use Rattle.just_recipe_body.specs.Covering.{IsBodyCovered};
 ghost use Rattle.just_recipe_run.specs.RecipeRun as spec;
 
 use just_data::Text;

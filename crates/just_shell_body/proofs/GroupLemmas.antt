@@ -1,46 +1,26 @@
 -- The groups of lines, and what is bound for each.
-use Rattle.std.proofs.Common.{◌≡◌, ℕ, Bool, true, false, List, [], ◌∷◌, ◌++◌, Option, take, drop, length, refl, sym, ◌∙◌, ap, subst, arith, All, cond}
-use Rattle.std.specs.Prelude.{Result, flat_map, if◌then◌else◌, Ok}
+use Rattle.std.proofs.Common.{◌≡◌, Bool, true, false, List, [], ◌∷◌, ◌++◌, refl, subst, All, cond}
+use Rattle.std.specs.Prelude.{flat_map, if◌then◌else◌}
 use Rattle.std.proofs.lemmas.List.Elements.{All-append, All-cons, All-head, All-nil, All-tail}
-use Rattle.just_ast_definitions.specs.declared.line.Fragment.{Fragment}
-use Rattle.just_ast_definitions.specs.declared.line.Fragment.TheVariants as fragment
 use Rattle.just_ast_definitions.specs.declared.line.Line.{Line}
-use Rattle.just_ast_expressions.specs.declared.expression.Expression.{Expression}
 use Rattle.just_ast_expressions.specs.declared.scope.Scope.{Scope}
 use Rattle.just_ast_expressions.specs.declared.settings.Settings.{Settings}
 use Rattle.just_parts.specs.Groups.{ends_group}
 use Rattle.just_parts.specs.Known.{Known}
 use Rattle.just_parts.specs.Scopes.{attribute_expressions, line_expressions, lines_read, of_attributes, read_lines}
-use Rattle.just_parts.specs.Scopes as scopes
 use Rattle.just_parts.specs.Syntax.{SyntaxAnswers}
 use Rattle.just_run_layers.specs.Covering.{IsCovered}
-use Rattle.just_run_layers.specs.Covering as covering
 use Rattle.just_recipe.specs.Script.{is_script}
 use Rattle.just_recipe.specs.declared.recipe.Recipe.{Recipe}
 use Rattle.just_recipe_body.proofs.AllLemmas.{all-left, all-right}
-use Rattle.just_shell_body.specs.Lines.{AreGroupsCovered, IsBodyCovered, IsGroupCovered, IsLineCovered, groups_after, is_none, is_skipped}
+use Rattle.just_recipe_body.proofs.CoveringLemmas.{lines-covered}
+use Rattle.just_recipe_body.specs.Covering.{IsBodyCovered, IsLineCovered}
+use Rattle.just_shell_body.specs.Lines.{AreGroupsCovered, IsGroupCovered, groups_after, is_none, is_skipped}
 
 module _ {A : Type 0} (P : A → Type 0) where
   all-cond : (b : Bool) (xs ys : List A) → (b ≡ true → All P xs) → (b ≡ false → All P ys) → All P (cond b xs ys)
   all-cond true xs ys h k = h refl
   all-cond false xs ys h k = k refl
-
--- the expressions of a line are told by two words
-same-fragment : (f : Fragment) → scopes.fragment_expressions f ≡ covering.fragment_expressions f
-same-fragment (fragment.Text token) = refl
-same-fragment (fragment.Interpolation e) = refl
-
-same-fragments : (fs : List Fragment) → flat_map scopes.fragment_expressions fs ≡ flat_map covering.fragment_expressions fs
-same-fragments [] = refl
-same-fragments (f ∷ fs) = λ i. same-fragment f i ++ same-fragments fs i
-
-module _ (known : Known) (scope : Scope) where
-  pub lines-covered : (ls : List Line) → All (IsCovered known scope) (flat_map line_expressions ls) → All (IsLineCovered known scope) ls
-  lines-covered [] h = All-nil (IsLineCovered known scope)
-  lines-covered (l ∷ ls) h =
-      All-cons (IsLineCovered known scope) l ls
-      (subst (All (IsCovered known scope)) (same-fragments l.fragments) (all-left (IsCovered known scope) (line_expressions l) (flat_map line_expressions ls) h))
-      (lines-covered ls (all-right (IsCovered known scope) (line_expressions l) (flat_map line_expressions ls) h))
 
 module _ (syntax : SyntaxAnswers) (settings : Settings) (known : Known) (scope : Scope) where
   -- lines that are read, cut into groups

@@ -1,6 +1,6 @@
 -- The steps of a shell body, by cases.
-use Rattle.std.proofs.Common.{◌≡◌, ◌++◌, ℕ, Bool, true, false, List, [], ◌∷◌, Option, None, Some, Ok, refl, sym, ◌∙◌, ap, subst, arith, length, take, drop, cond, All}
-use Rattle.std.specs.Prelude.{Result, ◌&&◌}
+use Rattle.std.proofs.Common.{◌≡◌, ◌++◌, true, false, List, [], ◌∷◌, Option, None, Some, Ok, sym, subst, arith, length, All}
+use Rattle.std.specs.Prelude.{Result}
 use Rattle.std.proofs.lemmas.Bool.{cond-true, cond-false}
 use Rattle.just_ast_definitions.specs.declared.line.Line.{Line}
 use Rattle.just_ast_expressions.specs.declared.scope.Scope.{Scope}
@@ -17,7 +17,8 @@ use Rattle.just_run_layers.specs.Host.{Answer, Answers, Done, kept}
 use Rattle.just_run_layers.specs.Steps.{Give, Kept, Question, Steps, Took, and_then, both, kept_by}
 use Rattle.just_run_layers.proofs.StepLemmas.{took-called, took-give}
 use Rattle.just_recipe_body.specs.Body.{BodyContents, show_steps}
-use Rattle.just_shell_body.specs.Lines.{BeginsGroup, IsGroupCovered, IsLineCovered, command_of, group_command_steps, groups, is_skipped, text_steps}
+use Rattle.just_recipe_body.specs.Covering.{IsLineCovered}
+use Rattle.just_shell_body.specs.Lines.{BeginsGroup, IsGroupCovered, command_of, group_command_steps, groups, is_skipped, text_steps}
 use Rattle.just_shell_body.specs.ShellBody.{call_steps, group_steps, groups_steps, is_shown, lines_steps, show_command_steps, shown_command, unless_dry_steps, unless_ended}
 use Rattle.just_recipe_body.specs.declared.body.Preparation.{Preparation}
 use Rattle.just_recipe_body.specs.declared.judging.Next.{Next}

@@ -1,5 +1,5 @@
 -- The lines of a shell body: the groups that a shell is handed as one command each.
-use Rattle.std.specs.Prelude.{◌≡◌, ℕ, ◌-◌, Bool, true, false, ◌&&◌, cond, List, [], ◌∷◌, ◌++◌, drop, take, length, flat_map, Option, Some, None}
+use Rattle.std.specs.Prelude.{◌≡◌, ℕ, ◌-◌, Bool, true, false, ◌&&◌, cond, List, [], ◌∷◌, ◌++◌, drop, take, length, Option, Some, None}
 use Rattle.std.specs.List.{All}
 use Rattle.just_ast_definitions.specs.declared.line.Line.{Line}
 use Rattle.just_ast_expressions.specs.declared.scope.Scope.{Scope}
@@ -8,14 +8,11 @@ use Rattle.just_ast_expressions.specs.declared.sigil.Sigil.{Sigil}
 use Rattle.just_names.specs.Texts.{Text}
 use Rattle.just_parts.specs.Groups.{ends_group}
 use Rattle.just_parts.specs.Known.{Known}
-use Rattle.just_parts.specs.Scopes.{attribute_expressions, line_expressions, lines_read, of_attributes}
 use Rattle.just_parts.specs.Syntax.{SyntaxAnswers}
-use Rattle.just_recipe.specs.declared.recipe.Recipe.{Recipe}
-use Rattle.just_run_layers.specs.Covering.{IsCovered}
-use Rattle.just_run_layers.specs.Covering as covering
 use Rattle.just_run_layers.specs.LineTexts.{BeginsPlain}
 use Rattle.just_run_layers.specs.Steps.{Give, Steps, and_then}
 use Rattle.just_recipe_body.specs.Body.{BodyContents, line_steps}
+use Rattle.just_recipe_body.specs.Covering.{IsLineCovered}
 use Rattle.just_recipe_body.specs.Judging.{marks_of, number_from_one}
 use Rattle.just_shell_body.specs.declared.lines.GroupCommand.{GroupCommand}
 
@@ -70,15 +67,7 @@ group_command_steps b (line ∷ lines) =
     cond (is_skipped b.syntax b.context.settings line) (Give None)
     (and_then (text_steps b false [] (line ∷ lines)) (λ text. Give (command_of (b.syntax.sigils line b.context.settings) line lines text)))
 
--- Whatever the attributes of a recipe and the lines that are read have is bound in a scope, under the settings of its module.
-abbrev pub IsBodyCovered : {D : Type 0} → SyntaxAnswers → Settings → Known → Scope → Recipe D → Type 0
-IsBodyCovered syntax settings known scope r =
-    All (IsCovered known scope) (of_attributes attribute_expressions r ++ flat_map line_expressions (lines_read syntax settings r))
-
--- for the private functions: what lines read is bound, and what those of a group do that is not skipped
-abbrev pub IsLineCovered : Known → Scope → Line → Type 0
-IsLineCovered known scope line = All (IsCovered known scope) (covering.line_expressions line)
-
+-- for the private functions: what the lines of a group read is bound where it is not skipped
 abbrev pub IsGroupCovered : SyntaxAnswers → Settings → Known → Scope → List Line → Type 0
 IsGroupCovered syntax settings known scope [] = Unit {0}
 IsGroupCovered syntax settings known scope (line ∷ lines) = is_skipped syntax settings line ≡ false → All (IsLineCovered known scope) (line ∷ lines)

@@ -1,7 +1,6 @@
 //! A whole shell body: its groups of lines, one after another.
-ghost use Rattle.std.specs.Prelude.{◌≡◌, ◌<◌, ◌∷◌, length, List};
+ghost use Rattle.std.specs.Prelude.{◌≡◌, ◌<◌, ◌≤◌, ◌+◌, ◌∷◌, drop, length};
 ghost use Rattle.std.specs.List.{All};
-ghost use Rattle.just_ast_definitions.specs.declared.line.Line.{Line};
 ghost use Rattle.just_parts.specs.Scopes.{attribute_expressions, of_attributes};
 ghost use Rattle.just_run_layers.specs.Covering.{IsCovered, module_of};
 ghost use Rattle.just_run_layers.specs.Host.{KeepsPromises};
@@ -21,44 +20,50 @@ use just_recipe_body::judging::Next;
 use just_run_layers::{Evaluation, Host};
 use std::alloc::Global;
 
-// The first group of some lines, and the lines after it.
-fn first_group<'l, 'a, 'run, 'src, S: Syntax>(
+// The first group of the lines from a place on.
+fn group_at<'l, 'a, 'run, 'src, S: Syntax>(
     body: &Body<'a, 'run, 'src, S>,
     lines: &'l [Line<'src>],
-) -> (&'l [Line<'src>], &'l [Line<'src>])
-    requires { 0 < length lines.now }
+    at: usize,
+) -> &'l [Line<'src>]
+    requires { at < length lines.now }
     ensures first { let cut = groups (S.answers body.now.syntax.now) body.now.context.now.settings.now in
-        cut lines.now ≡ result.0.now ∷ cut result.1.now }
-    ensures fewer { length result.1.now < length lines.now }
+        cut (drop at lines.now) ≡ result.now ∷ cut (drop (at + length result.now) lines.now) }
+    ensures some { 0 < length result.now }
+    ensures within { at + length result.now ≤ length lines.now }
 {
-    lines.split_at(group_length(lines, body.syntax, body.context.settings))
+    let (_, rest) = lines.split_at(at);
+    let (group, _) = rest.split_at(group_length(rest, body.syntax, body.context.settings));
+    group
 }
 
 // Runs the groups of lines one after another, until one ends the recipe.
 fn run_groups<'a, 'run, 'src, S: Syntax, E: Evaluation, H: Host>(
     alloc: Global,
     body: &Body<'a, 'run, 'src, S>,
+    lines: &[Line<'src>],
     preparation: &Preparation,
     evaluation: &mut E,
     host: &mut H,
 ) -> Result<(), Halt<'src>>
     requires same { AgreesWith E.sigils E.continues (S.answers body.now.syntax.now) }
     requires covered { let covered = AreGroupsCovered (S.answers body.now.syntax.now) body.now.context.now.settings.now in
-        covered (module_of body.now.context.now) body.now.scope.now body.now.recipe.now.body }
+        covered (module_of body.now.context.now) body.now.scope.now lines.now }
     ensures keeps { KeepsPromises (E.promised evaluation.old) (E.promised evaluation.new) }
     ensures keeps_host { KeepsPromises (H.promised host.old) (H.promised host.new) }
     ensures took { let first = kept_by (H.entries host.old) (E.requests evaluation.old) in
         let last = kept_by (H.entries host.new) (E.requests evaluation.new) in
-        let steps = spec.lines_steps (contents_of (S.answers body.now.syntax.now) body.now) preparation.now body.now.recipe.now.body in
+        let steps = spec.lines_steps (contents_of (S.answers body.now.syntax.now) body.now) preparation.now lines.now in
         Took (both (E.promised evaluation.old) (H.promised host.old)) steps first last result }
 {
-    let mut rest = body.recipe.body.as_slice();
-    while !rest.is_empty() {
-        let (group, after) = first_group(body, rest);
+    let mut at = 0;
+    while at < lines.len() {
+        let group = group_at(body, lines, at);
         match run_group(alloc, body, group, preparation, evaluation, host)? {
-            Next::Onward => rest = after,
             Next::Ended => return Ok(()),
+            Next::Onward => {}
         }
+        at += group.len();
     }
     Ok(())
 }
@@ -83,5 +88,6 @@ pub fn run_shell<'a, 'run, 'src, S: Syntax, E: Evaluation, H: Host>(
         Took (both (E.promised evaluation.old) (H.promised host.old)) steps first last result }
 {
     let preparation = prepare(alloc, body, evaluation)?;
-    run_groups(alloc, body, &preparation, evaluation, host)
+    let lines = body.recipe.body.as_slice();
+    run_groups(alloc, body, lines, &preparation, evaluation, host)
 }

@@ -6,8 +6,9 @@ ghost use Rattle.just_run_layers.specs.Covering.{module_of};
 ghost use Rattle.just_run_layers.specs.Host.{KeepsPromises};
 ghost use Rattle.just_run_layers.specs.LineTexts.{AgreesWith, BeginsPlain, EndsWithBackslash};
 ghost use Rattle.just_recipe_body.specs.Body.{contents_of};
+ghost use Rattle.just_recipe_body.specs.Covering.{IsLineCovered};
 ghost use Rattle.just_shell_body.specs.Lines as spec;
-ghost use Rattle.just_shell_body.specs.Lines.{BeginsGroup, IsGroupCovered, IsLineCovered};
+ghost use Rattle.just_shell_body.specs.Lines.{BeginsGroup, IsGroupCovered};
 ghost use Rattle.just_recipe_body.specs.Taking.{AsksEvaluator};
 
 use just_ast_definitions::Line;

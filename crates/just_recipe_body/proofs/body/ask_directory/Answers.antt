@@ -7,7 +7,7 @@ use Rattle.just_run_layers.specs.Host.{Answer}
 use Rattle.just_run_layers.specs.Steps.{Give, Kept, Question, Steps, Took, both, kept_by}
 use Rattle.just_run_layers.proofs.StepLemmas.{keeps-self, keeps-both, took-then, took-give}
 use Rattle.just_recipe_body.specs.Attributes.{directory_of}
-use Rattle.just_recipe_body.specs.Body.{BodyContents, contents_of, directory_steps, folder, string_steps}
+use Rattle.just_recipe_body.specs.Body.{BodyContents, contents_of, folder, string_steps}
 use Rattle.just_recipe_body.proofs.AttributeLemmas.{directory-bound, directory-changed}
 use Rattle.just_recipe_body.proofs.StepEnds.{took-exit, took-gone}
 use Rattle.just_recipe_body.proofs.body.ask_directory.Goals as goal

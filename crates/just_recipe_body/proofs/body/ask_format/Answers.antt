@@ -1,4 +1,4 @@
-use Rattle.std.proofs.Common.{◌≡◌, Option, Some, Ok, sym, ◌∙◌, ap, subst, refl}
+use Rattle.std.proofs.Common.{◌≡◌, Option, Some, Ok, sym, ◌∙◌, ap, subst}
 use Rattle.just_ast_expressions.specs.declared.expression.Expression.{Expression}
 use Rattle.just_names.specs.Texts.{Text}
 use Rattle.just_run_layers.specs.Covering.{IsCovered, module_of}

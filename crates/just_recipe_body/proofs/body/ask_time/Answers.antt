@@ -1,4 +1,4 @@
-use Rattle.std.proofs.Common.{◌≡◌, Option, Some, Ok, sym, ap, subst}
+use Rattle.std.proofs.Common.{Option, Some, Ok, sym, subst}
 use Rattle.just_names.specs.Texts.{Text}
 use Rattle.just_run_layers.specs.Host.{Answer}
 use Rattle.just_run_layers.specs.Steps.{Give, Kept, Question, Steps, Took, both, kept_by}

@@ -1,4 +1,4 @@
-use Rattle.std.proofs.Common.{List, length}
+use Rattle.std.proofs.Common.{length, drop, ◌-◌}
 use Rattle.std.specs.Prelude.{Result}
 use Rattle.just_errors.specs.declared.halt.Halt.{Halt}
 use Rattle.just_run_layers.specs.Covering.{module_of}
@@ -9,15 +9,15 @@ use Rattle.just_shell_body.specs.Lines.{AreGroupsCovered}
 use Rattle.just_shell_body.specs.ShellBody.{lines_steps}
 use Rattle.just_shell_body.proofs.body.run_groups.Given as goal
 
-abbrev pub decreases-loop : goal.decreases-loop
-decreases-loop g l = length l.rest
+abbrev pub decreases-loop-at : goal.decreases-loop-at
+decreases-loop-at g l = length l.lines - l.at
 
-abbrev pub invariant-loop : goal.invariant-loop
-invariant-loop g l = record {
+abbrev pub invariant-loop-at : goal.invariant-loop-at
+invariant-loop-at g l = record {
   keeps : KeepsPromises (g.E.Evaluation.promised l.initial.evaluation) (g.E.Evaluation.promised l.evaluation);
   keeps_host : KeepsPromises (g.H.Host.promised l.initial.host) (g.H.Host.promised l.host);
-  covered : AreGroupsCovered (g.S.Syntax.answers l.body.syntax.now) l.body.context.now.settings.now (module_of l.body.context.now) l.body.scope.now l.rest;
+  covered : AreGroupsCovered (g.S.Syntax.answers l.body.syntax.now) l.body.context.now.settings.now (module_of l.body.context.now) l.body.scope.now (drop l.at l.lines);
   rest : (new : Kept) (r : Result (Unit {0}) Halt) →
-      Took (both (g.E.Evaluation.promised l.evaluation) (g.H.Host.promised l.host)) (lines_steps (contents_of (g.S.Syntax.answers l.body.syntax.now) l.body) l.preparation l.rest) (kept_by (g.H.Host.entries l.host) (g.E.Evaluation.requests l.evaluation)) new r →
-      Took (both (g.E.Evaluation.promised l.initial.evaluation) (g.H.Host.promised l.initial.host)) (lines_steps (contents_of (g.S.Syntax.answers l.body.syntax.now) l.body) l.preparation l.body.recipe.now.body) (kept_by (g.H.Host.entries l.initial.host) (g.E.Evaluation.requests l.initial.evaluation)) new r;
+      Took (both (g.E.Evaluation.promised l.evaluation) (g.H.Host.promised l.host)) (lines_steps (contents_of (g.S.Syntax.answers l.body.syntax.now) l.body) l.preparation (drop l.at l.lines)) (kept_by (g.H.Host.entries l.host) (g.E.Evaluation.requests l.evaluation)) new r →
+      Took (both (g.E.Evaluation.promised l.initial.evaluation) (g.H.Host.promised l.initial.host)) (lines_steps (contents_of (g.S.Syntax.answers l.body.syntax.now) l.body) l.preparation l.lines) (kept_by (g.H.Host.entries l.initial.host) (g.E.Evaluation.requests l.initial.evaluation)) new r;
 }

@@ -1,14 +1,12 @@
-use Rattle.std.proofs.Common.{◌≡◌, List, [], ◌∷◌, Option, Ok, false, true, sym, ap, subst, ◌∙◌, refl, length, drop}
+use Rattle.std.proofs.Common.{List, [], Option, false, sym, ◌∙◌, refl}
 use Rattle.just_ast_definitions.specs.declared.line.Line.{Line}
-use Rattle.just_ast_expressions.specs.declared.sigil.Sigil.{Sigil}
 use Rattle.just_names.specs.Texts.{Text}
 use Rattle.just_run_layers.specs.Covering.{module_of}
 use Rattle.just_run_layers.specs.Host.{Answer}
-use Rattle.just_run_layers.specs.LineTexts.{BeginsPlain}
 use Rattle.just_run_layers.specs.Steps.{Give, Question, Steps, both, kept_by}
 use Rattle.just_run_layers.proofs.StepLemmas.{keeps-self, keeps-both, took-then, took-give}
 use Rattle.just_recipe_body.specs.Body.{BodyContents, contents_of}
-use Rattle.just_shell_body.specs.Lines.{command_of, is_skipped, text_steps}
+use Rattle.just_shell_body.specs.Lines.{command_of, text_steps}
 use Rattle.just_shell_body.specs.declared.lines.GroupCommand.{GroupCommand}
 use Rattle.just_shell_body.proofs.ShellLemmas.{begins-first, group-bound, of-group, of-skipped}
 use Rattle.just_recipe_body.proofs.StepEnds.{took-exit, took-gone}

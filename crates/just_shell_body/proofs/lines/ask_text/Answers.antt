@@ -4,11 +4,11 @@ use Rattle.just_names.specs.Texts.{Text}
 use Rattle.just_parts.specs.Syntax.{SyntaxAnswers}
 use Rattle.just_run_layers.specs.Host.{Answer}
 use Rattle.just_run_layers.specs.Steps.{Give, Question, both, kept_by}
-use Rattle.just_run_layers.proofs.StepLemmas.{keeps-then, keeps-self, keeps-both, took-then, took-give, took-out}
+use Rattle.just_run_layers.proofs.StepLemmas.{keeps-then, keeps-self, keeps-both, took-then, took-give}
 use Rattle.just_recipe_body.specs.Body.{BodyContents, contents_of, line_steps}
 use Rattle.just_shell_body.specs.Lines.{BeginsGroup, trimmed}
 use Rattle.just_recipe_body.proofs.StepEnds.{took-exit, took-gone}
-use Rattle.just_shell_body.proofs.TextLemmas.{begins-on, begins-all, part-begins, one-line, no-lines}
+use Rattle.just_shell_body.proofs.TextLemmas.{begins-on, part-begins, one-line, no-lines}
 use Rattle.just_shell_body.proofs.lines.ask_text.Goals as goal
 
 pub returns-in_err-part-clause-keeps : goal.returns-in_err-part-clause-keeps

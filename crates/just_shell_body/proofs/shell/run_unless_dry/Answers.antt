@@ -1,6 +1,6 @@
-use Rattle.std.proofs.Common.{◌≡◌, Option, sym, ap, ◌∙◌, subst, refl}
+use Rattle.std.proofs.Common.{Option, refl}
 use Rattle.just_run_layers.specs.Host.{Answer}
-use Rattle.just_run_layers.specs.Steps.{Question, Steps, Took, both, kept_by}
+use Rattle.just_run_layers.specs.Steps.{Question, Steps, both}
 use Rattle.just_run_layers.proofs.StepLemmas.{keeps-self, keeps-both, took-then}
 use Rattle.just_run_layers.specs.declared.environment.EnvironmentChange.{EnvironmentChange}
 use Rattle.std.proofs.Common.{List}

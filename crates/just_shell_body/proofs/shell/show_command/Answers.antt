@@ -1,8 +1,6 @@
-use Rattle.std.proofs.Common.{◌≡◌, Option, sym, ◌∙◌, ap, subst, refl, false, true, Ok}
-use Rattle.just_run_layers.specs.Host.{Answer}
-use Rattle.just_run_layers.specs.Steps.{Question, Took, both, kept_by}
-use Rattle.just_recipe_body.specs.Body.{BodyContents, contents_of, show_steps}
-use Rattle.just_shell_body.specs.ShellBody.{shown_command}
+use Rattle.std.proofs.Common.{sym, refl}
+use Rattle.just_run_layers.specs.Steps.{both}
+use Rattle.just_recipe_body.specs.Body.{BodyContents, contents_of}
 use Rattle.just_shell_body.proofs.ShellLemmas.{not-shown, of-shown, is-told}
 use Rattle.just_recipe_body.proofs.StepEnds.{took-gone}
 use Rattle.just_shell_body.proofs.shell.show_command.Goals as goal
