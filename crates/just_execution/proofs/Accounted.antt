@@ -6,6 +6,7 @@ use Rattle.std.proofs.lemmas.Grind.{flat_map-append}
 use Rattle.std.proofs.lemmas.List.{append-nil}
 use Rattle.std.proofs.lemmas.List.Elements.{All-head, All-tail, All-cons, All-weaker, All-map}
 use Rattle.just_graph.proofs.Members.{In, in_left, in_right}
+use Rattle.just_parts.specs.Syntax.{SyntaxAnswers}
 use Rattle.just_paths.specs.declared.modulepath.Modulepath.{Modulepath}
 use Rattle.just_recipe.specs.declared.dependency.Dependency.{Dependency}
 use Rattle.just_errors.specs.declared.halt.Halt.{Halt}
@@ -15,22 +16,23 @@ use Rattle.just_run_layers.specs.declared.host.Entry.TheVariants.{Begin}
 use Rattle.just_recipe.specs.declared.recipe.Recipe.{Recipe}
 use Rattle.just_run_layers.specs.Host.{Answer, Executed, executed, executed_by}
 use Rattle.just_run_layers.specs.declared.held.Held.{Held}
-use Rattle.just_run_layers.specs.Steps.{Kept, executed_in, Question, Steps, Give, and_then, Took}
+use Rattle.just_run_layers.specs.Steps.{Kept, executed_in, Question, ToHost, Steps, Give, and_then, Took, after}
 use Rattle.just_run_layers.proofs.StepLemmas.{took-gives, took-split}
 use Rattle.just_execution.specs.declared.pair.Pair.{Pair}
 use Rattle.just_execution.specs.Account.{Asked, OnceTables, Empty, Asks, Runs, own, executions, AreIn, AreNamed, Complete, counts, HasAccount, Tells, of_recipe, at_path}
 use Rattle.just_execution.specs.Firsts.{has}
-use Rattle.just_execution.specs.Leaves.{ask_steps, begin_steps, follow_steps, recipe_steps, leaves_of}
+use Rattle.just_execution.specs.Leaves.{ask_steps, begin_steps, body_of, execute_at, follow_steps, leaves_of, run_in}
 use Rattle.just_execution.specs.declared.task.Task.{Task}
 use Rattle.just_execution.specs.Pairs.{OnceTable, same_pair, prior_dependencies, subsequent_dependencies, AllBelow}
 use Rattle.just_recipe.specs.Recipes.{IsOrdered}
-use Rattle.just_execution.specs.Scene.{Scene}
+use Rattle.just_execution.specs.Scene.{ModuleContents, Scene}
 use Rattle.just_execution.specs.Walking.{Leaves, Prepared, State, counted, all_steps, opened, fresh_steps, block_steps, ran, ran_steps, visit_steps, walk_steps}
 use Rattle.just_execution.proofs.Joined.{with_priors, asks, join, still-new, add-zero, none-in, none-below}
 use Rattle.just_execution.proofs.Asked.{ask-named, ask-quiet, follow-named, follow-quiet}
 use Rattle.just_execution.proofs.Leaves.{named-below}
 use Rattle.just_execution.proofs.Places.{priors-before, subsequents-before}
-use Rattle.just_execution.proofs.Quiet.{executed-append, took-quiet}
+use Rattle.just_execution.proofs.Quiet.{Quiet, executed-append, took-quiet}
+use Rattle.just_execution.proofs.QuietRecipes.{recipe-quiet}
 use Rattle.just_execution.proofs.Standing.{Stands, Walked, Accounts, IsFresh, Blocks, ok-is, ok-not, err-is, memory-not, gained-none, gave, broke, stands-then, stands-low, accounts-then, accounts-broke, count-split, full-here, stands-asked, stands-opened, fresh-of, fresh-broke, block-broke, block-none, block-ran, ask-broke, priors-broke, visit-broke, visit-ran}
 
 -- what steps for tasks keep: nothing is executed, and the tasks that they come to are what is named
@@ -262,35 +264,35 @@ followed-named scene p t held old new r took =
     }
 
 abbrev IsExecuted : List Executed → Kept → Kept → Result (Unit {0}) Halt → Type 0
-IsExecuted es old new r = ((executed_in new ≡ executed_in old ++ es) × ((r ≡ Ok tt) ⊎ (r ≡ Err Memory))) ⊎ ((executed_in new ≡ executed_in old) × (r ≡ Err Memory))
+IsExecuted es old new r = ((executed_in new ≡ executed_in old ++ es) × (r ≡ Err Exhausted → ⊥)) ⊎ ((executed_in new ≡ executed_in old) × (r ≡ Err Memory))
 
-no-execution : (old new : Kept) → new ≡ old → executed_in new ≡ executed_in old ++ []
-no-execution old new h = ap executed_in h ∙ sym (append-nil (executed_in old))
+-- where what follows is quiet, a recipe that began was executed, and nothing else
+ran-on : (p : Question → Option Answer) (s : Steps (Unit {0})) (es : List Executed) (old mid new : Kept) (r : Result (Unit {0}) Halt) → Quiet s → executed_in mid ≡ executed_in old ++ es → Took p s mid new r → IsExecuted es old new r
+ran-on p s es old mid new r q h took = let quiet = took-quiet p s mid new r q took in inl (quiet.0 ∙ h, quiet.1)
 
-begin-executes : (p : Question → Option Answer) (groups : List (List (List ℕ))) (o : Option Modulepath) (old new : Kept) (r : Result (Unit {0}) Halt) →
-    Took p (begin_steps groups o) old new r → IsExecuted (at_path groups o) old new r
-begin-executes p groups None old new r t = inl (no-execution old new t.0, t.1)
-begin-executes p groups (Some path) old new r (inl t) = inr (ap executed_in t.0, t.1)
-begin-executes p groups (Some path) old new r (inr t) = inl (ap executed_in t.2.0 ∙ executed-append old.entries (Begin path groups ∷ []), t.2.1)
+begin-executes : (p : Question → Option Answer) (groups : List (List (List ℕ))) (o : Option Modulepath) (s : Steps (Unit {0})) (old new : Kept) (r : Result (Unit {0}) Halt) → Quiet s →
+    Took p (and_then (begin_steps groups o) (λ _. s)) old new r → IsExecuted (at_path groups o) old new r
+begin-executes p groups None s old new r q took = ran-on p s [] old old new r q (sym (append-nil (executed_in old))) took
+begin-executes p groups (Some path) s old new r q (inl t) = inr (ap executed_in t.0, t.1)
+begin-executes p groups (Some path) s old new r q (inr t) =
+    ran-on p s (at_path groups (Some path)) old (after (ToHost (Begin path groups)) old) new r q (executed-append old.entries (Begin path groups ∷ [])) t.2
 
-recipe-executes : (p : Question → Option Answer) (t : Task) (o : Option (Recipe Dependency)) (old new : Kept) (r : Result (Unit {0}) Halt) → Took p (recipe_steps t o) old new r →
+run-quiet : (syntax : SyntaxAnswers) (t : Task) (h : Held) (r : Recipe Dependency) (o : Option ModuleContents) → Quiet (run_in syntax t h r o)
+run-quiet syntax t h r None = memory-not
+run-quiet syntax t h r (Some m) = recipe-quiet (body_of syntax t r m h)
+
+recipe-executes : (scene : Scene) (p : Question → Option Answer) (t : Task) (h : Held) (o : Option (Recipe Dependency)) (old new : Kept) (r : Result (Unit {0}) Halt) → Took p (execute_at scene t h o) old new r →
     IsExecuted (of_recipe t o) old new r
-recipe-executes p t None old new r h = inl (no-execution old new h.0, h.1)
-recipe-executes p t (Some recipe) old new r h = begin-executes p t.pair.groups recipe.recipe_path old new r h
+recipe-executes scene p t h None old new r took = ran-on p (Give tt) [] old old new r tt (sym (append-nil (executed_in old))) took
+recipe-executes scene p t h (Some recipe) old new r took =
+    begin-executes p t.pair.groups recipe.recipe_path (run_in scene.syntax t h recipe (scene.modules recipe.module_path)) old new r (run-quiet scene.syntax t h recipe (scene.modules recipe.module_path)) took
 
 gives-executed : (recipes : List (Recipe Dependency)) (t : Task) (old new : Kept) (r : Result (Unit {0}) Halt) →
     IsExecuted (of_recipe t (slice_get recipes t.pair.recipe)) old new r → GivesExecuted recipes t old new r
 gives-executed recipes t old new r (inl h) =
     let one : executed_in old ++ of_recipe t (slice_get recipes t.pair.recipe) ≡ executed_in old ++ executions recipes (t ∷ []) =
     ap (λ x. executed_in old ++ x) (sym (append-nil (of_recipe t (slice_get recipes t.pair.recipe)))) in
-    record {
-      whole = λ x k. h.0 ∙ one;
-      broken = λ e k. inl (h.0 ∙ one);
-      unfull = λ k. elim (h.1) [
-        | inl j ↦ absurd (ok-not r tt Exhausted j k)
-        | inr j ↦ absurd (memory-not (err-is r Memory Exhausted j k))
-      ];
-    }
+    record { whole = λ x k. h.0 ∙ one; broken = λ e k. inl (h.0 ∙ one); unfull = h.1 }
 gives-executed recipes t old new r (inr h) = record {
   whole = λ x k. absurd (ok-not r x Memory k h.1);
   broken = λ e k. inr h.0;
@@ -301,7 +303,7 @@ pub leaves-accounted : (scene : Scene) (p : Question → Option Answer) → AreA
 leaves-accounted scene p = record {
   ask = λ t old new r h. asked-named scene p t old new r h;
   follow = λ t held old new r h. followed-named scene p t held old new r h;
-  execute = λ t held old new r h. gives-executed scene.recipes t old new r (recipe-executes p t (slice_get scene.recipes t.pair.recipe) old new r h);
+  execute = λ t held old new r h. gives-executed scene.recipes t old new r (recipe-executes scene p t held (slice_get scene.recipes t.pair.recipe) old new r h);
 }
 
 -- The account of a run of a scene, for every host.

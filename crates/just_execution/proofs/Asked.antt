@@ -23,7 +23,7 @@ use Rattle.just_run_layers.specs.Steps.{Steps, Give, and_then, Gives, kept_by}
 use Rattle.just_run_layers.proofs.StepLemmas.{took-asked}
 use Rattle.just_execution.specs.Account.{AreNamed, StandFor}
 use Rattle.just_execution.specs.Arguments.{argument_steps, dependencies_steps, dependency_steps, gathered, group_steps, groups_steps, spread, task_at, tasks_with, texts_given, texts_steps, unevaluated, value_steps, valued_answered, with_text}
-use Rattle.just_execution.specs.Leaves.{AsksAlone, after_steps, ask_in, ask_steps, bound_answered, follow_in, follow_steps, parameters_steps, prepare_steps, prior_steps, surrounded}
+use Rattle.just_execution.specs.Leaves.{AsksAlone, after_steps, ask_in, ask_steps, bound_answered, consent_by, consent_steps, follow_in, follow_steps, held_steps, parameters_steps, prepare_steps, prior_steps, surrounded}
 use Rattle.just_execution.specs.Pairs.{at_place, prior_dependencies, subsequent_dependencies}
 use Rattle.just_execution.specs.Scene.{ModuleContents, Scene}
 use Rattle.just_execution.specs.Walking.{Prepared}
@@ -31,6 +31,7 @@ use Rattle.just_execution.specs.declared.task.Task.{Task}
 use Rattle.just_execution.proofs.Gathered.{alone-map, alone-stop, gives-split}
 use Rattle.just_execution.proofs.Places.{at-place}
 use Rattle.just_execution.proofs.Quiet.{Quiet, failed-not, quiet-gathered, quiet-then}
+use Rattle.just_execution.proofs.QuietRecipes.{consent-quiet}
 use Rattle.just_execution.proofs.Standing.{memory-not}
 
 -- nothing is executed
@@ -70,13 +71,14 @@ module _ (recipes : List (Recipe Dependency)) (s : Surroundings) where
   dependencies-quiet ds = quiet-gathered (dependency_steps recipes s) dependency-quiet ds
 
 module _ (scene : Scene) (t : Task) where
-  ask_in-quiet : (r : Recipe Dependency) (o : Option ModuleContents) → Quiet (ask_in scene.recipes t r o)
+  ask_in-quiet : (r : Recipe Dependency) (o : Option ModuleContents) → Quiet (ask_in scene.syntax scene.recipes t r o)
   ask_in-quiet r None = memory-not
   ask_in-quiet r (Some m) = (
     refl,
-    λ answer. quiet-then (bound_answered answer) (prior_steps scene.recipes t r m) (bound-quiet answer)
-        (λ h. quiet-then (dependencies_steps scene.recipes (surrounded m t h) (take r.priors r.dependencies)) (λ ps. Give (record { held = h; priors = ps }))
-        (dependencies-quiet scene.recipes (surrounded m t h) (take r.priors r.dependencies)) (λ ps. tt)),
+    λ answer. quiet-then (bound_answered answer) (held_steps scene.syntax scene.recipes t r m) (bound-quiet answer)
+        (λ h. quiet-then (consent_steps (consent_by scene.syntax t r m h)) (λ _. prior_steps scene.recipes t r m h) (consent-quiet (consent_by scene.syntax t r m h))
+        (λ _. quiet-then (dependencies_steps scene.recipes (surrounded m t h) (take r.priors r.dependencies)) (λ ps. Give (record { held = h; priors = ps }))
+        (dependencies-quiet scene.recipes (surrounded m t h) (take r.priors r.dependencies)) (λ ps. tt))),
   )
 
   prepare-quiet : (o : Option (Recipe Dependency)) → Quiet (prepare_steps scene t o)
@@ -130,9 +132,12 @@ module _ (scene : Scene) (t : Task) where
       let x = gives-split (dependencies_steps scene.recipes (surrounded m t h) ds) (λ ps. Give (record { held = h; priors = ps })) a g in
       subst (AreNamed scene.recipes ds) (ap (λ (a : Prepared). a.priors) x.2) (dependencies-named scene.recipes (surrounded m t h) ds x.0 x.1)
 
-  ask_in-named : (r : Recipe Dependency) (o : Option ModuleContents) (a : Prepared) → Gives (ask_in scene.recipes t r o) a → AreNamed scene.recipes (take r.priors r.dependencies) a.priors
+  held-named : (r : Recipe Dependency) (m : ModuleContents) (h : Held) (a : Prepared) → Gives (held_steps scene.syntax scene.recipes t r m h) a → AreNamed scene.recipes (take r.priors r.dependencies) a.priors
+  held-named r m h a g = let x = gives-split (consent_steps (consent_by scene.syntax t r m h)) (λ _. prior_steps scene.recipes t r m h) a g in prior-named r m h a x.2
+
+  ask_in-named : (r : Recipe Dependency) (o : Option ModuleContents) (a : Prepared) → Gives (ask_in scene.syntax scene.recipes t r o) a → AreNamed scene.recipes (take r.priors r.dependencies) a.priors
   ask_in-named r None a g = absurd g
-  ask_in-named r (Some m) a g = let x = gives-split (parameters_steps r t m) (prior_steps scene.recipes t r m) a g in prior-named r m x.0 a x.2
+  ask_in-named r (Some m) a g = let x = gives-split (parameters_steps r t m) (held_steps scene.syntax scene.recipes t r m) a g in held-named r m x.0 a x.2
 
   prepare-named : (o : Option (Recipe Dependency)) → slice_get scene.recipes t.pair.recipe ≡ o → (a : Prepared) → Gives (prepare_steps scene t o) a → AreNamed scene.recipes (prior_dependencies scene.recipes t.pair.recipe) a.priors
   prepare-named None at a g = absurd g

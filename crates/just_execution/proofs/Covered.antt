@@ -3,7 +3,7 @@ use Rattle.std.proofs.Common.{◌≡◌, Bool, true, false, ◌||◌, List, [], 
 use Rattle.std.specs.Prelude.{IfSome, flat_map, option_to_list, if◌then◌else◌}
 use Rattle.std.specs.List.{All, list_any}
 use Rattle.std.specs.Str.{bytes_eq}
-use Rattle.std.proofs.lemmas.List.Elements.{All-cons, All-head, All-nil, All-tail, All-weaker}
+use Rattle.std.proofs.lemmas.List.Elements.{All-append, All-cons, All-head, All-nil, All-tail, All-weaker}
 use Rattle.std.proofs.lemmas.List.Folds.{list_any-append}
 use Rattle.just_names.specs.Name.{text_of_name}
 use Rattle.just_names.specs.Texts.{Text}
@@ -19,28 +19,21 @@ use Rattle.just_recipe.specs.declared.dependency.DependencyArgument.{DependencyA
 use Rattle.just_recipe.specs.declared.recipe.Recipe.{Recipe}
 use Rattle.just_run_layers.specs.Covering.{AreCovered, BindsParameters, Covers, IsCovered, hidden_after, module_of}
 use Rattle.just_run_layers.specs.declared.held.Held.{Held}
+use Rattle.just_recipe_body.specs.Covering.{IsBodyCovered}
+use Rattle.just_recipe_body.proofs.AllLemmas.{all-left, all-right}
 use Rattle.just_execution.specs.Arguments.{AreReadable, IsGivenIn, IsReadable}
 use Rattle.just_execution.specs.Homes.{IsBound, IsRead, ServesIn, arguments_of}
 use Rattle.just_execution.specs.declared.scopes.ModuleScope.{ModuleScope}
 use Rattle.just_execution.proofs.Places.{All-unmap}
 
--- what holds of each element of two lists, one after the other
-All-front : {X : Type 0} (P : X → Type 0) (xs ys : List X) → All P (xs ++ ys) → All P xs
-All-front P [] ys h = All-nil P
-All-front P (x ∷ xs) ys h = All-cons P x xs (All-head P x (xs ++ ys) h) (All-front P xs ys (All-tail P x (xs ++ ys) h))
-
-All-back : {X : Type 0} (P : X → Type 0) (xs ys : List X) → All P (xs ++ ys) → All P ys
-All-back P [] ys h = h
-All-back P (x ∷ xs) ys h = All-back P xs ys (All-tail P x (xs ++ ys) h)
-
--- and of several
+-- what holds of each element of several lists
 All-parts : {X Y : Type 0} (P : X → Type 0) (f : Y → List X) (ys : List Y) → All P (flat_map f ys) → All (λ y. All P (f y)) ys
 All-parts P f [] h = All-nil (λ y. All P (f y))
-All-parts P f (y ∷ ys) h = All-cons (λ y. All P (f y)) y ys (All-front P (f y) (flat_map f ys) h) (All-parts P f ys (All-back P (f y) (flat_map f ys) h))
+All-parts P f (y ∷ ys) h = All-cons (λ y. All P (f y)) y ys (all-left P (f y) (flat_map f ys) h) (All-parts P f ys (all-right P (f y) (flat_map f ys) h))
 
 All-joined : {X : Type 0} (P : X → Type 0) (groups : List (List X)) → All P (joined groups) → All (All P) groups
 All-joined P [] h = All-nil (All P)
-All-joined P (g ∷ groups) h = All-cons (All P) g groups (All-front P g (joined groups) h) (All-joined P groups (All-back P g (joined groups) h))
+All-joined P (g ∷ groups) h = All-cons (All P) g groups (all-left P g (joined groups) h) (All-joined P groups (all-right P g (joined groups) h))
 
 -- the names that are hidden after one more parameter
 hidden-more : (before : List Parameter) (p : Parameter) → hidden_after (is_parameter before) p ≡ is_parameter (before ++ p ∷ [])
@@ -68,11 +61,11 @@ module _ (m : Known) (scope : Scope) where
   covered-after before [] h = tt
   covered-after before (p ∷ ps) h =
       let own : List Scoped = map (scoped (is_parameter before)) (option_to_list p.default ++ option_to_list p.value) in
-      let here : All (IsRead m scope) own = All-front (IsRead m scope) own (parameter_scopes (before ++ p ∷ []) ps) h in (
+      let here : All (IsRead m scope) own = all-left (IsRead m scope) own (parameter_scopes (before ++ p ∷ []) ps) h in (
         one-covered (is_parameter before) p.default (option_to_list p.value) here,
         (
           last-covered (is_parameter before) p.value (rest-covered (is_parameter before) p.default (option_to_list p.value) here),
-          subst (λ hidden. AreCovered m scope hidden ps) (sym (hidden-more before p)) (covered-after (before ++ p ∷ []) ps (All-back (IsRead m scope) own (parameter_scopes (before ++ p ∷ []) ps) h)),
+          subst (λ hidden. AreCovered m scope hidden ps) (sym (hidden-more before p)) (covered-after (before ++ p ∷ []) ps (all-right (IsRead m scope) own (parameter_scopes (before ++ p ∷ []) ps) h)),
         ),
       )
 
@@ -87,7 +80,7 @@ module _ (answers : SyntaxAnswers) (m : ModuleScope) (r : Recipe Dependency) whe
   pub parameters-covered : IsBound answers m r m.scope → AreCovered (module_of m.context) m.scope none_hidden r.parameters
   parameters-covered bound =
       let read = IsRead (module_of m.context) m.scope in
-      covered-after (module_of m.context) m.scope [] r.parameters (All-front read (parameter_scopes [] r.parameters) inner (All-back read compiled (parameter_scopes [] r.parameters ++ inner) bound))
+      covered-after (module_of m.context) m.scope [] r.parameters (all-left read (parameter_scopes [] r.parameters) inner (all-right read compiled (parameter_scopes [] r.parameters ++ inner) bound))
 
   -- what its parameters come to serves it
   or-true : (a b : Bool) → b ≡ true → (a || b) ≡ true
@@ -119,7 +112,7 @@ module _ (answers : SyntaxAnswers) (m : ModuleScope) (r : Recipe Dependency) whe
 
     inner-read : All (λ (e : Expression). read (scoped (is_parameter r.parameters) e)) (inner_expressions arguments_of answers m.context.settings.now r)
     inner-read = All-unmap read (scoped (is_parameter r.parameters)) (inner_expressions arguments_of answers m.context.settings.now r)
-        (All-back read (parameter_scopes [] r.parameters) inner (All-back read compiled (parameter_scopes [] r.parameters ++ inner) serves.bound))
+        (all-right read (parameter_scopes [] r.parameters) inner (all-right read compiled (parameter_scopes [] r.parameters ++ inner) serves.bound))
 
     abbrev reads_in : Expression → Type 0
     reads_in e = read (scoped (is_parameter r.parameters) e)
@@ -133,5 +126,13 @@ module _ (answers : SyntaxAnswers) (m : ModuleScope) (r : Recipe Dependency) whe
     pub arguments-given : All (IsGivenIn (module_of m.context) h.scope) r.dependencies
     arguments-given =
         All-weaker (λ (d : Dependency). All reads_in (given_by d)) (IsGivenIn (module_of m.context) h.scope) one-given r.dependencies
-        (All-parts reads_in given_by r.dependencies (All-back reads_in lines_of (flat_map given_by r.dependencies)
-        (All-back reads_in (of_attributes attribute_expressions r) (lines_of ++ flat_map given_by r.dependencies) inner-read)))
+        (All-parts reads_in given_by r.dependencies (all-right reads_in lines_of (flat_map given_by r.dependencies)
+        (all-right reads_in (of_attributes attribute_expressions r) (lines_of ++ flat_map given_by r.dependencies) inner-read)))
+
+    -- and what its body reads
+    pub body-covered : IsBodyCovered answers m.context.settings.now (module_of m.context) h.scope r
+    body-covered =
+        let attributes : List Expression = of_attributes attribute_expressions r in
+        let given : List Expression = flat_map given_by r.dependencies in
+        All-weaker reads_in (IsCovered (module_of m.context) h.scope) covered-by (attributes ++ lines_of)
+        (All-append reads_in attributes lines_of (all-left reads_in attributes (lines_of ++ given) inner-read) (all-left reads_in lines_of given (all-right reads_in attributes (lines_of ++ given) inner-read)))

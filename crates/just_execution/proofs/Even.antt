@@ -1,5 +1,5 @@
 -- Where the evaluator answers alike, the priors of a task do not hang on how it is called.
-use Rattle.std.proofs.Common.{◌≡◌, Bool, true, false, ℕ, zero, suc, List, [], ◌∷◌, ◌++◌, take, Option, Some, None, Result, Ok, Err, refl, sym, ◌∙◌, ap}
+use Rattle.std.proofs.Common.{◌≡◌, Bool, true, false, ℕ, zero, suc, List, [], ◌∷◌, ◌++◌, take, Option, Some, None, Result, Ok, Err, refl, sym, ◌∙◌, ap, cond}
 use Rattle.std.specs.List.{slice_get}
 use Rattle.just_errors.specs.declared.halt.Halt.{Halt}
 use Rattle.just_names.specs.Token.{lexeme}
@@ -7,12 +7,17 @@ use Rattle.just_recipe.specs.declared.dependency.Dependency.{Dependency}
 use Rattle.just_recipe.specs.declared.dependency.DependencyArgument.{DependencyArgument}
 use Rattle.just_recipe.specs.declared.recipe.Recipe.{Recipe}
 use Rattle.just_run_layers.specs.declared.held.Held.{Held}
-use Rattle.just_run_layers.specs.Evaluation.{Parameters, Surroundings, Value}
+use Rattle.just_run_layers.specs.Evaluation.{Parameters, StringOf, Surroundings, Value}
 use Rattle.just_run_layers.specs.Host.{Answer}
 use Rattle.just_run_layers.specs.Steps.{Question, ToEvaluator, Steps, Give, Fail, Asks, and_then, outcome}
+use Rattle.just_parts.specs.Syntax.{SyntaxAnswers}
+use Rattle.just_ast_expressions.specs.declared.expression.Expression.{Expression}
+use Rattle.just_recipe_body.specs.Attributes.{first_said}
+use Rattle.just_recipe_body.specs.Body.{BodyContents, around, name_of, string_steps, text_or, unevaluated}
+use Rattle.just_recipe_body.specs.Confirmation.{confirm_by, confirm_steps, confirmation_in, prompt_steps, said_prompt}
 use Rattle.just_execution.specs.Arguments.{argument_steps, dependencies_steps, dependency_steps, gathered, group_steps, groups_steps, tasks_with, texts_given, texts_steps, valued_answered}
 use Rattle.just_execution.specs.Expansion.{Part, Ask, Block}
-use Rattle.just_execution.specs.Leaves.{IsAlike, ask_in, ask_steps, bound_answered, leaves_of, prepare_steps, prior_steps, surrounded}
+use Rattle.just_execution.specs.Leaves.{IsAlike, ask_in, ask_steps, bound_answered, consent_by, consent_steps, consented, held_steps, leaves_of, prepare_steps, prior_steps, surrounded}
 use Rattle.just_execution.specs.Pairs.{task}
 use Rattle.just_execution.specs.Run.{Each, IsEven, IsEvenPart, parts, priors_in, subsequents_by}
 use Rattle.just_execution.specs.Scene.{ModuleContents, Scene}
@@ -59,15 +64,40 @@ module _ (f : Question → Answer) where
           (λ ps. Give (record { held = h; priors = ps })) (λ ps. Give (record { held = h; priors = ps }))
           (same-gathered (dependency_steps recipes (as_one true)) (dependency_steps recipes (as_one false)) dependency-even (take r.priors r.dependencies)) (λ ps. refl)
 
+    -- and so does its confirmation
+    module _ (syntax : SyntaxAnswers) (p : Pair) (r : Recipe Dependency) (m : ModuleContents) (h : Held) where
+      abbrev by : Bool → BodyContents
+      by flag = consent_by syntax (task flag p) r m h
+
+      prompt-even : (e : Expression) → outcome f (string_steps (by true) e) ≡ outcome f (string_steps (by false) e)
+      prompt-even e = ap (λ answer. outcome f (text_or unevaluated answer)) (alike (StringOf (around (by true)) e))
+
+      confirmed-even : (o : Option (Option Expression)) → outcome f (confirm_by (by true) o) ≡ outcome f (confirm_by (by false) o)
+      confirmed-even None = refl
+      confirmed-even (Some None) = refl
+      confirmed-even (Some (Some e)) = same-then (string_steps (by true) e) (string_steps (by false) e) (λ text. prompt_steps (said_prompt text)) (λ text. prompt_steps (said_prompt text)) (prompt-even e) (λ text. refl)
+
+      asked-even : (yes : Bool) → outcome f (cond yes (Give tt) (and_then (confirm_steps (by true)) (consented (name_of (by true))))) ≡ outcome f (cond yes (Give tt) (and_then (confirm_steps (by false)) (consented (name_of (by false)))))
+      asked-even true = refl
+      asked-even false = same-then (confirm_steps (by true)) (confirm_steps (by false)) (consented (name_of (by true))) (consented (name_of (by false)))
+          (confirmed-even (first_said confirmation_in r.attributes)) (λ yes. refl)
+
+      consent-even : outcome f (consent_steps (by true)) ≡ outcome f (consent_steps (by false))
+      consent-even = asked-even m.context.config.yes
+
+      held-even : (recipes : List (Recipe Dependency)) → outcome f (held_steps syntax recipes (task true p) r m h) ≡ outcome f (held_steps syntax recipes (task false p) r m h)
+      held-even recipes = same-then (consent_steps (by true)) (consent_steps (by false)) (λ _. prior_steps recipes (task true p) r m h) (λ _. prior_steps recipes (task false p) r m h)
+          consent-even (λ _. priors-even recipes p m h r)
+
     module _ (scene : Scene) (p : Pair) where
       abbrev asked : Recipe Dependency → ModuleContents → Bool → Question
       asked r m flag = ToEvaluator (Parameters m.context m.scope p.groups flag r.parameters (lexeme r.name.token))
 
-      ask_in-even : (r : Recipe Dependency) (o : Option ModuleContents) → outcome f (ask_in scene.recipes (task true p) r o) ≡ outcome f (ask_in scene.recipes (task false p) r o)
+      ask_in-even : (r : Recipe Dependency) (o : Option ModuleContents) → outcome f (ask_in scene.syntax scene.recipes (task true p) r o) ≡ outcome f (ask_in scene.syntax scene.recipes (task false p) r o)
       ask_in-even r None = refl
-      ask_in-even r (Some m) = same-then (bound_answered (f (asked r m true))) (bound_answered (f (asked r m false))) (prior_steps scene.recipes (task true p) r m) (prior_steps scene.recipes (task false p) r m)
+      ask_in-even r (Some m) = same-then (bound_answered (f (asked r m true))) (bound_answered (f (asked r m false))) (held_steps scene.syntax scene.recipes (task true p) r m) (held_steps scene.syntax scene.recipes (task false p) r m)
           (ap (λ answer. outcome f (bound_answered answer)) (alike (Parameters m.context m.scope p.groups true r.parameters (lexeme r.name.token))))
-          (λ h. priors-even scene.recipes p m h r)
+          (λ h. held-even scene.syntax p r m h scene.recipes)
 
       prepare-even : (o : Option (Recipe Dependency)) → outcome f (prepare_steps scene (task true p) o) ≡ outcome f (prepare_steps scene (task false p) o)
       prepare-even None = refl

@@ -15,7 +15,7 @@ use Rattle.just_run_layers.specs.Host.{Answer}
 use Rattle.just_run_layers.specs.Steps.{both, Kept, kept_by}
 use Rattle.just_run_layers.proofs.StepLemmas.{took-gives}
 use Rattle.just_execution.specs.Account.{AreNamed}
-use Rattle.just_execution.specs.Homes.{AreHome, IsAmong, IsBound, IsCallable, IsHome, IsServed, Modules, ServesAt, ServesIn, module_at}
+use Rattle.just_execution.specs.Homes.{AreHome, IsAmong, IsBound, IsCallable, IsHome, IsServed, Modules, ServesIn, module_at}
 use Rattle.just_execution.specs.Leaves.{AsksAlone, Prepares, ask_steps, follow_steps}
 use Rattle.just_execution.specs.Pairs.{AllBelow, at_place, needed, prior_dependencies, subsequent_dependencies}
 use Rattle.just_recipes.specs.Places.{place_of}
@@ -72,23 +72,23 @@ module _ (answers : SyntaxAnswers) (modules : Modules) (rs : List (Recipe Depend
 
     -- the tasks that it was asked for
     module _ (ordered : IsOrdered rs) (e : Inquiry → Option Answer) where
-      pub asked-callable : (h : Entry → Option Answer) (old new : Kept) (a : Prepared) → Prepares e h (scene_of modules rs) t old new (Ok a) → All (IsCallable answers modules rs) a.priors
+      pub asked-callable : (h : Entry → Option Answer) (old new : Kept) (a : Prepared) → Prepares e h (scene_of answers modules rs) t old new (Ok a) → All (IsCallable answers modules rs) a.priors
       asked-callable h old new a took =
           named-callable (prior_dependencies rs t.pair.recipe) (part-needed (λ r. take r.priors r.dependencies) (λ r P h. All-take P r.priors r.dependencies h) rs t.pair.recipe)
-          (priors-before rs t.pair.recipe ordered) a.priors (ask-named (scene_of modules rs) t a (took-gives (both e h) (ask_steps (scene_of modules rs) t) old new a took))
+          (priors-before rs t.pair.recipe ordered) a.priors (ask-named (scene_of answers modules rs) t a (took-gives (both e h) (ask_steps (scene_of answers modules rs) t) old new a took))
 
-      pub followed-callable : (held : Held) (before later : List ScopeRequest) (ts : List Task) → AsksAlone e (follow_steps (scene_of modules rs) t held) before later (Ok ts) → All (IsCallable answers modules rs) ts
+      pub followed-callable : (held : Held) (before later : List ScopeRequest) (ts : List Task) → AsksAlone e (follow_steps (scene_of answers modules rs) t held) before later (Ok ts) → All (IsCallable answers modules rs) ts
       followed-callable held before later ts took =
           named-callable (subsequent_dependencies rs t.pair.recipe) (part-needed (λ r. drop r.priors r.dependencies) (λ r P h. All-drop P r.priors r.dependencies h) rs t.pair.recipe)
           (subsequents-before rs t.pair.recipe ordered) ts
-          (follow-named (scene_of modules rs) t held ts (took-gives (both e (λ entry. None)) (follow_steps (scene_of modules rs) t held) (kept_by [] before) (kept_by [] later) ts (took (λ entry. None) [])))
+          (follow-named (scene_of answers modules rs) t held ts (took-gives (both e (λ entry. None)) (follow_steps (scene_of answers modules rs) t held) (kept_by [] before) (kept_by [] later) ts (took (λ entry. None) [])))
 
 -- what serves a task in its module serves it wherever it runs, and the other way round
 one-value : {A : Type 0} (o : Option A) (x y : A) → o ≡ Some x → o ≡ Some y → x ≡ y
 one-value o x y h k = cc
 
-pub contents-there : (modules : Modules) (rs : List (Recipe Dependency)) (r : Recipe Dependency) (m : ModuleScope) → module_at modules r.module_path ≡ Some m → (scene_of modules rs).modules r.module_path ≡ Some (contents_of m)
-contents-there modules rs r m there = ap contents_found there
+pub contents-there : (answers : SyntaxAnswers) (modules : Modules) (rs : List (Recipe Dependency)) (r : Recipe Dependency) (m : ModuleScope) → module_at modules r.module_path ≡ Some m → (scene_of answers modules rs).modules r.module_path ≡ Some (contents_of m)
+contents-there answers modules rs r m there = ap contents_found there
 
 module _ (answers : SyntaxAnswers) (modules : Modules) (rs : List (Recipe Dependency)) (t : Task) (h : Held) (m : ModuleScope) (r : Recipe Dependency) (at : slice_get rs t.pair.recipe ≡ Some r)
     (there : module_at modules r.module_path ≡ Some m) where
@@ -100,10 +100,6 @@ module _ (answers : SyntaxAnswers) (modules : Modules) (rs : List (Recipe Depend
 
   pub serves-in : IsServed answers modules rs t h → ServesIn answers m r h
   serves-in served = served m r at there
-
-  pub serves-at : IsServed answers modules rs t h → ServesAt answers m rs t.pair.recipe h
-  serves-at served = λ s here.
-      served m s here (subst (λ (r : Recipe Dependency). module_at modules r.module_path ≡ Some m) (one-value (slice_get rs t.pair.recipe) r s at here) there)
 
 -- what holds of all holds of each that is found at a place
 pub All-got : {A : Type 0} (P : A → Type 0) (xs : List A) (k : ℕ) (x : A) → All P xs → slice_get xs k ≡ Some x → P x

@@ -10,14 +10,15 @@ use Rattle.just_run_layers.specs.declared.held.Held.{Held}
 use Rattle.just_run_layers.specs.declared.host.Entry.{Entry}
 use Rattle.just_run_layers.specs.Evaluation.{Inquiry, ScopeRequest}
 use Rattle.just_run_layers.specs.Host.{Answer, KeepsPromises}
-use Rattle.just_run_layers.specs.Steps.{Steps, Give, Took, and_then, both, kept_by}
+use Rattle.just_run_layers.specs.Steps.{Kept, Steps, Give, Took, and_then, both, kept_by}
+use Rattle.just_run_layers.proofs.StepLemmas.{keeps-both, keeps-self, took-stop, took-then}
 use Rattle.just_execution.specs.Arguments.{dependencies_steps}
-use Rattle.just_execution.specs.Leaves.{AsksAlone, Prepares, follow_steps, parameters_steps, prior_steps, surrounded}
+use Rattle.just_execution.specs.Leaves.{AsksAlone, Prepares, consent_by, consent_steps, follow_steps, held_steps, parameters_steps, prior_steps, surrounded}
 use Rattle.just_execution.specs.Pairs.{prior_dependencies, subsequent_dependencies}
 use Rattle.just_execution.specs.Scene.{ModuleContents, Scene}
 use Rattle.just_execution.specs.Walking.{Prepared}
 use Rattle.just_execution.specs.declared.task.Task.{Task}
-use Rattle.just_execution.proofs.Gathered.{alone-give, alone-stop, alone-then}
+use Rattle.just_execution.proofs.Gathered.{alone-map, alone-stop}
 use Rattle.just_execution.proofs.Leaves.{ask-is, follow-is}
 use Rattle.just_execution.proofs.Places.{at-place}
 
@@ -35,28 +36,43 @@ pub subsequents-all : (P : Dependency → Type 0) (r : Recipe Dependency) (ds : 
 subsequents-all P r ds is h = subst (All P) (sym is) (All-drop P r.priors r.dependencies h)
 
 module _ (scene : Scene) (t : Task) (r : Recipe Dependency) (m : ModuleContents) (at : slice_get scene.recipes t.pair.recipe ≡ Some r) (there : scene.modules r.module_path ≡ Some m) where
-  -- the questions before the priors: the parameters fail; the arguments fail; or neither does
+  -- the questions before the priors: the parameters fail; the task is not confirmed; the arguments fail; or none does
   module _ (e : Inquiry → Option Answer) (h : Entry → Option Answer) (entries : List Entry) (before : List ScopeRequest) where
-    asked : (later : List ScopeRequest) (result : Result Prepared Halt) → AsksAlone e (and_then (parameters_steps r t m) (prior_steps scene.recipes t r m)) before later result →
-        Prepares e h scene t (kept_by entries before) (kept_by entries later) result
-    asked later result took = subst (λ (s : Steps Prepared). Took (both e h) s (kept_by entries before) (kept_by entries later) result) (sym (ask-is scene t r m at there)) (took h entries)
+    asked : (new : Kept) (result : Result Prepared Halt) → Took (both e h) (and_then (parameters_steps r t m) (held_steps scene.syntax scene.recipes t r m)) (kept_by entries before) new result →
+        Prepares e h scene t (kept_by entries before) new result
+    asked new result took = subst (λ (s : Steps Prepared). Took (both e h) s (kept_by entries before) new result) (sym (ask-is scene t r m at there)) took
 
     pub parameters-failed : (later : List ScopeRequest) (f : Halt) → AsksAlone e (parameters_steps r t m) before later (Err f) → Prepares e h scene t (kept_by entries before) (kept_by entries later) (Err f)
-    parameters-failed later f took = asked later (Err f) (alone-stop e (parameters_steps r t m) (prior_steps scene.recipes t r m) before later f took)
+    parameters-failed later f took = asked (kept_by entries later) (Err f) (took-stop (both e h) (parameters_steps r t m) (held_steps scene.syntax scene.recipes t r m) (kept_by entries before) (kept_by entries later) f (took h entries))
 
-    module _ (d : Inquiry → Option Answer) (keeps : KeepsPromises e d) (now later : List ScopeRequest) (x : Held) (first : AsksAlone e (parameters_steps r t m) before now (Ok x)) (ds : List Dependency) (are : ds ≡ take r.priors r.dependencies) where
-      second : (result : Result (List Task) Halt) → AsksAlone d (dependencies_steps scene.recipes (surrounded m t x) ds) now later result → AsksAlone d (dependencies_steps scene.recipes (surrounded m t x) (take r.priors r.dependencies)) now later result
-      second result took = subst (λ (ds : List Dependency). AsksAlone d (dependencies_steps scene.recipes (surrounded m t x) ds) now later result) are took
+    module _ (d : Inquiry → Option Answer) (keeps : KeepsPromises e d) (now : List ScopeRequest) (x : Held) (first : AsksAlone e (parameters_steps r t m) before now (Ok x)) where
+      abbrev consent : Steps (Unit {0})
+      consent = consent_steps (consent_by scene.syntax t r m x)
 
-      pub priors-failed : (f : Halt) → AsksAlone d (dependencies_steps scene.recipes (surrounded m t x) ds) now later (Err f) → Prepares e h scene t (kept_by entries before) (kept_by entries later) (Err f)
-      priors-failed f took = asked later (Err f) (alone-then e d keeps (parameters_steps r t m) (prior_steps scene.recipes t r m) before now later x (Err f) first
-          (alone-stop d (dependencies_steps scene.recipes (surrounded m t x) (take r.priors r.dependencies)) (λ ps. Give (record { held = x; priors = ps })) now later f (second (Err f) took)))
+      after-parameters : (new : Kept) (result : Result Prepared Halt) → Took (both d h) (held_steps scene.syntax scene.recipes t r m x) (kept_by entries now) new result → Prepares e h scene t (kept_by entries before) new result
+      after-parameters new result took = asked new result
+          (took-then (both e h) (both d h) (keeps-both e d h h keeps (keeps-self h)) (parameters_steps r t m) (held_steps scene.syntax scene.recipes t r m) (kept_by entries before) (kept_by entries now) new x result (first h entries) took)
 
-      pub priors-given : (o : Inquiry → Option Answer) → KeepsPromises d o → (ps : List Task) → AsksAlone d (dependencies_steps scene.recipes (surrounded m t x) ds) now later (Ok ps) →
-          Prepares e h scene t (kept_by entries before) (kept_by entries later) (Ok (record { held = x; priors = ps }))
-      priors-given o kept ps took = asked later (Ok (record { held = x; priors = ps })) (alone-then e d keeps (parameters_steps r t m) (prior_steps scene.recipes t r m) before now later x (Ok (record { held = x; priors = ps })) first
-          (alone-then d o kept (dependencies_steps scene.recipes (surrounded m t x) (take r.priors r.dependencies)) (λ ps. Give (record { held = x; priors = ps })) now later later ps (Ok (record { held = x; priors = ps })) (second (Ok ps) took)
-          (alone-give o (record { held = x; priors = ps }) (record { held = x; priors = ps }) later refl)))
+      pub consent-failed : (new : Kept) (f : Halt) → Took (both d h) consent (kept_by entries now) new (Err f) → Prepares e h scene t (kept_by entries before) new (Err f)
+      consent-failed new f took = after-parameters new (Err f) (took-stop (both d h) consent (λ _. prior_steps scene.recipes t r m x) (kept_by entries now) new f took)
+
+      module _ (o : Inquiry → Option Answer) (g : Entry → Option Answer) (kept : KeepsPromises d o) (also : KeepsPromises h g) (told : List Entry) (then later : List ScopeRequest)
+          (second : Took (both d h) consent (kept_by entries now) (kept_by told then) (Ok tt)) (ds : List Dependency) (are : ds ≡ take r.priors r.dependencies) where
+        after-consent : (new : Kept) (result : Result Prepared Halt) → Took (both o g) (prior_steps scene.recipes t r m x) (kept_by told then) new result → Prepares e h scene t (kept_by entries before) new result
+        after-consent new result took = after-parameters new result
+            (took-then (both d h) (both o g) (keeps-both d o h g kept also) consent (λ _. prior_steps scene.recipes t r m x) (kept_by entries now) (kept_by told then) new tt result second took)
+
+        third : (result : Result (List Task) Halt) → AsksAlone o (dependencies_steps scene.recipes (surrounded m t x) ds) then later result → AsksAlone o (dependencies_steps scene.recipes (surrounded m t x) (take r.priors r.dependencies)) then later result
+        third result took = subst (λ (ds : List Dependency). AsksAlone o (dependencies_steps scene.recipes (surrounded m t x) ds) then later result) are took
+
+        pub priors-failed : (f : Halt) → AsksAlone o (dependencies_steps scene.recipes (surrounded m t x) ds) then later (Err f) → Prepares e h scene t (kept_by entries before) (kept_by told later) (Err f)
+        priors-failed f took = after-consent (kept_by told later) (Err f)
+            (alone-stop o (dependencies_steps scene.recipes (surrounded m t x) (take r.priors r.dependencies)) (λ ps. Give (record { held = x; priors = ps })) then later f (third (Err f) took) g told)
+
+        pub priors-given : (ps : List Task) → AsksAlone o (dependencies_steps scene.recipes (surrounded m t x) ds) then later (Ok ps) →
+            Prepares e h scene t (kept_by entries before) (kept_by told later) (Ok (record { held = x; priors = ps }))
+        priors-given ps took = after-consent (kept_by told later) (Ok (record { held = x; priors = ps }))
+            (alone-map o (dependencies_steps scene.recipes (surrounded m t x) (take r.priors r.dependencies)) (λ ps. record { held = x; priors = ps }) then later ps (third (Ok ps) took) g told)
 
   -- the questions after the body
   pub followed-as : (e : Inquiry → Option Answer) (x : Held) (before later : List ScopeRequest) (ds : List Dependency) → ds ≡ drop r.priors r.dependencies → (result : Result (List Task) Halt) →

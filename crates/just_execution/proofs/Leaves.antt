@@ -13,7 +13,7 @@ use Rattle.just_errors.specs.declared.halt.Halt.{Halt}
 use Rattle.just_run_layers.specs.Steps.{Kept, Steps, Took, and_then, both, kept_by}
 use Rattle.just_run_layers.proofs.StepLemmas.{took-gives}
 use Rattle.just_execution.specs.Account.{AreNamed}
-use Rattle.just_execution.specs.Leaves.{AsksAlone, Prepares, ask_in, ask_steps, follow_in, follow_steps, after_steps, leaves_of, parameters_steps, prepare_steps, prior_steps}
+use Rattle.just_execution.specs.Leaves.{AsksAlone, Prepares, ask_in, ask_steps, follow_in, follow_steps, after_steps, held_steps, leaves_of, parameters_steps, prepare_steps}
 use Rattle.just_execution.specs.Lower.{IsLower}
 use Rattle.just_execution.specs.declared.task.Task.{Task}
 use Rattle.just_execution.specs.Pairs.{AllBelow, prior_dependencies, subsequent_dependencies}
@@ -25,8 +25,8 @@ use Rattle.just_execution.proofs.Places.{IsBefore, priors-before, subsequents-be
 
 -- where the recipe of a task and its module are there, this is what is asked
 module _ (scene : Scene) (t : Task) (r : Recipe Dependency) (m : ModuleContents) (at : slice_get scene.recipes t.pair.recipe ≡ Some r) (there : scene.modules r.module_path ≡ Some m) where
-  pub ask-is : ask_steps scene t ≡ and_then (parameters_steps r t m) (prior_steps scene.recipes t r m)
-  ask-is = ap (prepare_steps scene t) at ∙ ap (ask_in scene.recipes t r) there
+  pub ask-is : ask_steps scene t ≡ and_then (parameters_steps r t m) (held_steps scene.syntax scene.recipes t r m)
+  ask-is = ap (prepare_steps scene t) at ∙ ap (ask_in scene.syntax scene.recipes t r) there
 
   pub follow-is : (h : Held) → follow_steps scene t h ≡ follow_in scene.recipes t h r (Some m)
   follow-is h = ap (after_steps scene t h) at ∙ ap (follow_in scene.recipes t h r) there

@@ -16,6 +16,9 @@ pub mod Leaves
 pub mod Pairs
 pub mod Places
 pub mod Quiet
+pub mod QuietBodies
+pub mod QuietRecipes
+pub mod QuietScripts
 pub mod Ranks
 pub mod Reaching
 pub mod Runs

@@ -9,9 +9,10 @@ use Rattle.just_run_layers.specs.declared.held.Held.{Held}
 use Rattle.just_run_layers.specs.declared.host.Entry.{Entry}
 use Rattle.just_run_layers.specs.Evaluation.{Inquiry}
 use Rattle.just_run_layers.specs.Host.{Answer}
-use Rattle.just_run_layers.specs.Steps.{Follows, IsSteady, Kept, Question, Took, both, outcome, path}
+use Rattle.just_run_layers.specs.Steps.{Follows, and_then, IsSteady, Kept, Question, Took, both, outcome, path}
+use Rattle.just_parts.specs.Syntax.{SyntaxAnswers}
 use Rattle.just_paths.specs.declared.modulepath.Modulepath.{Modulepath}
-use Rattle.just_execution.specs.Leaves.{after_steps, ask_in, ask_steps, execute_steps, follow_in, follow_steps, leaves_of, prepare_steps}
+use Rattle.just_execution.specs.Leaves.{after_steps, ask_in, ask_steps, begin_steps, execute_at, execute_steps, follow_in, follow_steps, leaves_of, prepare_steps, run_in}
 use Rattle.just_execution.specs.Reports.{IsAsExpected, Starts, calls_in}
 use Rattle.just_execution.specs.Run.{IsEven, run_steps}
 use Rattle.just_execution.specs.Scene.{AreAlike, ModuleContents, Scene}
@@ -20,35 +21,45 @@ use Rattle.just_execution.specs.declared.running.Report.{Report}
 use Rattle.just_execution.specs.declared.task.Task.{Task}
 use Rattle.just_execution.proofs.Homes.{All-got}
 
--- these recipes in these modules
-abbrev scene : List (Recipe Dependency) → (Option Modulepath → Option ModuleContents) → Scene
-scene recipes modules = record { recipes = recipes; modules = modules }
+-- these recipes in these modules, under a grammar
+abbrev scene : SyntaxAnswers → List (Recipe Dependency) → (Option Modulepath → Option ModuleContents) → Scene
+scene syntax recipes modules = record { syntax = syntax; recipes = recipes; modules = modules }
 
 -- what is asked in modules that are the same for each recipe
-module _ (recipes : List (Recipe Dependency)) (ms ns : Option Modulepath → Option ModuleContents)
+module _ (syntax : SyntaxAnswers) (recipes : List (Recipe Dependency)) (ms ns : Option Modulepath → Option ModuleContents)
     (agree : All (λ (r : Recipe Dependency). ms r.module_path ≡ ns r.module_path) recipes) where
   agree-at : (k : ℕ) (r : Recipe Dependency) → slice_get recipes k ≡ Some r → ms r.module_path ≡ ns r.module_path
   agree-at k r at = All-got (λ (r : Recipe Dependency). ms r.module_path ≡ ns r.module_path) recipes k r agree at
 
-  same-prepared : (t : Task) (o : Option (Recipe Dependency)) → slice_get recipes t.pair.recipe ≡ o → prepare_steps (scene recipes ms) t o ≡ prepare_steps (scene recipes ns) t o
+  same-prepared : (t : Task) (o : Option (Recipe Dependency)) → slice_get recipes t.pair.recipe ≡ o → prepare_steps (scene syntax recipes ms) t o ≡ prepare_steps (scene syntax recipes ns) t o
   same-prepared t None at = refl
-  same-prepared t (Some r) at = ap (ask_in recipes t r) (agree-at t.pair.recipe r at)
+  same-prepared t (Some r) at = ap (ask_in syntax recipes t r) (agree-at t.pair.recipe r at)
 
-  same-asked : (t : Task) → ask_steps (scene recipes ms) t ≡ ask_steps (scene recipes ns) t
+  same-asked : (t : Task) → ask_steps (scene syntax recipes ms) t ≡ ask_steps (scene syntax recipes ns) t
   same-asked t = same-prepared t (slice_get recipes t.pair.recipe) refl
 
-  same-after : (t : Task) (h : Held) (o : Option (Recipe Dependency)) → slice_get recipes t.pair.recipe ≡ o → after_steps (scene recipes ms) t h o ≡ after_steps (scene recipes ns) t h o
+  same-after : (t : Task) (h : Held) (o : Option (Recipe Dependency)) → slice_get recipes t.pair.recipe ≡ o → after_steps (scene syntax recipes ms) t h o ≡ after_steps (scene syntax recipes ns) t h o
   same-after t h None at = refl
   same-after t h (Some r) at = ap (follow_in recipes t h r) (agree-at t.pair.recipe r at)
 
-  same-followed : (t : Task) (h : Held) → follow_steps (scene recipes ms) t h ≡ follow_steps (scene recipes ns) t h
+  same-followed : (t : Task) (h : Held) → follow_steps (scene syntax recipes ms) t h ≡ follow_steps (scene syntax recipes ns) t h
   same-followed t h = same-after t h (slice_get recipes t.pair.recipe) refl
 
-  same-parts : leaves_of (scene recipes ms) ≡ leaves_of (scene recipes ns)
-  same-parts = λ i. record { ask = λ t. same-asked t i; execute = execute_steps recipes; follow = λ t h. same-followed t h i }
+  same-executed-at : (t : Task) (h : Held) (o : Option (Recipe Dependency)) → slice_get recipes t.pair.recipe ≡ o → execute_at (scene syntax recipes ms) t h o ≡ execute_at (scene syntax recipes ns) t h o
+  same-executed-at t h None at = refl
+  same-executed-at t h (Some r) at = ap (λ o. and_then (begin_steps t.pair.groups r.recipe_path) (λ _. run_in syntax t h r o)) (agree-at t.pair.recipe r at)
+
+  same-executed : (t : Task) (h : Held) → execute_steps (scene syntax recipes ms) t h ≡ execute_steps (scene syntax recipes ns) t h
+  same-executed t h = same-executed-at t h (slice_get recipes t.pair.recipe) refl
+
+  same-parts : leaves_of (scene syntax recipes ms) ≡ leaves_of (scene syntax recipes ns)
+  same-parts = λ i. record { ask = λ t. same-asked t i; execute = λ t h. same-executed t h i; follow = λ t h. same-followed t h i }
 
 pub same-leaves : (first second : Scene) → AreAlike first second → leaves_of first ≡ leaves_of second
-same-leaves first second alike = same-parts first.recipes first.modules second.modules alike.modules ∙ ap (λ rs. leaves_of (scene rs second.modules)) alike.recipes
+same-leaves first second alike =
+    same-parts first.syntax first.recipes first.modules second.modules alike.modules
+    ∙ ap (λ (syntax : SyntaxAnswers). leaves_of (scene syntax first.recipes second.modules)) alike.syntax
+    ∙ ap (λ rs. leaves_of (scene second.syntax rs second.modules)) alike.recipes
 
 -- so a run in one of them is one in the other
 module _ (e : Inquiry → Option Answer) (h : Entry → Option Answer) (tops : List Task) (old new : Kept) (r : Result Report Halt) where

@@ -61,10 +61,6 @@ pub record IsCallable (answers : SyntaxAnswers) (modules : Modules) (recipes : L
   pub place : t.pair.recipe < length recipes
   pub home : AreHome answers modules recipes (t ∷ [])
 
--- a module is that of the recipe at a place
-abbrev pub IsHomeAt : SyntaxAnswers → ModuleScope → List (Recipe Dependency) → ℕ → Type 0
-IsHomeAt answers m recipes place = (recipe : Recipe Dependency) → slice_get recipes place ≡ Some recipe → IsHomeOf answers m recipe
-
 -- what is held serves a recipe in a module: what the recipe reads is bound in it, and each of the recipe's parameters has a value
 pub record ServesIn (answers : SyntaxAnswers) (m : ModuleScope) (r : Recipe Dependency) (h : Held) : Type 0 where
   pub bound : IsBound answers m r h.scope
@@ -74,10 +70,6 @@ pub record ServesIn (answers : SyntaxAnswers) (m : ModuleScope) (r : Recipe Depe
 abbrev pub IsServed : SyntaxAnswers → Modules → List (Recipe Dependency) → Task → Held → Type 0
 IsServed answers modules recipes t h =
     (m : ModuleScope) (recipe : Recipe Dependency) → slice_get recipes t.pair.recipe ≡ Some recipe → module_at modules recipe.module_path ≡ Some m → ServesIn answers m recipe h
-
--- it serves the recipe at a place in a module
-abbrev pub ServesAt : SyntaxAnswers → ModuleScope → List (Recipe Dependency) → ℕ → Held → Type 0
-ServesAt answers m recipes place h = (recipe : Recipe Dependency) → slice_get recipes place ≡ Some recipe → ServesIn answers m recipe h
 
 -- the module of a recipe is under its path among those of a run, and has no variables
 abbrev pub IsAmong : Modules → Recipe Dependency → Type 0

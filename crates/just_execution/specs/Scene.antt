@@ -2,6 +2,7 @@
 use Rattle.std.specs.Prelude.{◌≡◌, List, Option, Some, None}
 use Rattle.std.specs.List.{All}
 use Rattle.just_ast_expressions.specs.declared.scope.Scope.{Scope}
+use Rattle.just_parts.specs.Syntax.{SyntaxAnswers}
 use Rattle.just_paths.specs.declared.modulepath.Modulepath.{Modulepath}
 use Rattle.just_recipe.specs.declared.dependency.Dependency.{Dependency}
 use Rattle.just_recipe.specs.declared.recipe.Recipe.{Recipe}
@@ -15,17 +16,19 @@ pub record ModuleContents : Type 0 where
   pub context : ContextContents
   pub scope : Scope
 
--- the recipes of a run, and its modules, each by its path
+-- the grammar of a run, its recipes, and its modules, each by its path
 pub record Scene : Type 0 where
+  pub syntax : SyntaxAnswers
   pub recipes : List (Recipe Dependency)
   pub modules : Option Modulepath → Option ModuleContents
 
--- two scenes have the same recipes, and the same in the module of each recipe
+-- two scenes have the same grammar, the same recipes, and the same in the module of each recipe
 pub record AreAlike (first second : Scene) : Type 0 where
+  pub syntax : first.syntax ≡ second.syntax
   pub recipes : first.recipes ≡ second.recipes
   pub modules : All (λ (r : Recipe Dependency). first.modules r.module_path ≡ second.modules r.module_path) first.recipes
 
--- for the private functions: the scene of recipes in the modules of a run
+-- for the private functions: the scene of a grammar and of recipes in the modules of a run
 abbrev pub contents_of : ModuleScope → ModuleContents
 contents_of m = record { context = evaluation.contents_of m.context; scope = m.scope }
 
@@ -33,5 +36,5 @@ abbrev pub contents_found : Option ModuleScope → Option ModuleContents
 contents_found None = None
 contents_found (Some m) = Some (contents_of m)
 
-abbrev pub scene_of : Modules → List (Recipe Dependency) → Scene
-scene_of modules recipes = record { recipes = recipes; modules = λ path. contents_found (module_at modules path) }
+abbrev pub scene_of : SyntaxAnswers → Modules → List (Recipe Dependency) → Scene
+scene_of syntax modules recipes = record { syntax = syntax; recipes = recipes; modules = λ path. contents_found (module_at modules path) }

@@ -12,6 +12,7 @@ ghost use Rattle.just_execution.specs.Leaves.{AsksAlone, Prepares, follow_steps,
 ghost use Rattle.just_execution.specs.Scene.{contents_of, scene_of};
 
 use crate::arguments::ask_dependencies;
+use crate::consent::ask_consent;
 use crate::recipes::{priors_at, recipe_at, subsequents_at};
 use crate::scopes::{ModuleScope, Scopes, module_of};
 use crate::task::Task;
@@ -60,30 +61,31 @@ fn ask_parameters<'src, E: Evaluation>(
     }
 }
 
-/// The questions before the priors of a task: its parameters, and then the arguments of its priors. What is held for its
-/// block comes of them, and its priors.
+/// The questions before the priors of a task: its parameters, its confirmation, and then the arguments of its priors. What is
+/// held for its block comes of them, and its priors.
 pub fn ask<'src, S: Syntax, E: Evaluation, H: Host>(
     alloc: Global,
     recipes: &Recipes<'src>,
     scopes: &Scopes<'_, 'src, S>,
     evaluation: &mut E,
-    _host: &mut H,
+    host: &mut H,
     task: &Task,
 ) -> Result<Preparation<'src>, Halt<'src>>
     requires resolved { All IsResolved recipes.now }
     requires callable { IsCallable (S.answers scopes.now.syntax.now) scopes.now.modules recipes.now task.now }
     ensures keeps { KeepsPromises (E.promised evaluation.old) (E.promised evaluation.new) }
-    ensures keeps_host { KeepsPromises (H.promised _host.old) (H.promised _host.new) }
-    ensures took { let first = kept_by (H.entries _host.old) (E.requests evaluation.old) in
-        let last = kept_by (H.entries _host.new) (E.requests evaluation.new) in
-        let scene = scene_of scopes.now.modules recipes.now in
-        Prepares (E.promised evaluation.old) (H.promised _host.old) scene task.now first last (prepared_of result) }
+    ensures keepshost { KeepsPromises (H.promised host.old) (H.promised host.new) }
+    ensures took { let first = kept_by (H.entries host.old) (E.requests evaluation.old) in
+        let last = kept_by (H.entries host.new) (E.requests evaluation.new) in
+        let scene = scene_of (S.answers scopes.now.syntax.now) scopes.now.modules recipes.now in
+        Prepares (E.promised evaluation.old) (H.promised host.old) scene task.now first last (prepared_of result) }
     ensures serves { let serves = IsServed (S.answers scopes.now.syntax.now) scopes.now.modules recipes.now task.now in
         IfOk result (λ preparation. serves preparation.held) }
 {
     let recipe = recipe_at(recipes, task.pair.recipe);
     let home = module_of(scopes, recipe);
     let held = ask_parameters(alloc, recipe, home, evaluation, task)?;
+    ask_consent(alloc, scopes.syntax, home, recipe, evaluation, host, task, &held)?;
     let named = priors_at(recipes, task.pair.recipe);
     let priors = ask_dependencies(alloc, recipes, evaluation, home, task, &held, named)?;
     Ok(Preparation { held, priors })
@@ -102,7 +104,7 @@ pub fn follow<'src, S: Syntax, E: Evaluation>(
     requires callable { IsCallable (S.answers scopes.now.syntax.now) scopes.now.modules recipes.now task.now }
     requires served { IsServed (S.answers scopes.now.syntax.now) scopes.now.modules recipes.now task.now held.now }
     ensures keeps { KeepsPromises (E.promised evaluation.old) (E.promised evaluation.new) }
-    ensures took { let steps = follow_steps (scene_of scopes.now.modules recipes.now) task.now held.now in
+    ensures took { let steps = follow_steps (scene_of (S.answers scopes.now.syntax.now) scopes.now.modules recipes.now) task.now held.now in
         AsksAlone (E.promised evaluation.old) steps (E.requests evaluation.old) (E.requests evaluation.new) (items_of result) }
 {
     let home = module_of(scopes, recipe_at(recipes, task.pair.recipe));

@@ -2,9 +2,10 @@
 ghost use Rattle.std.specs.Prelude.{◌<◌, OnOk, length};
 ghost use Rattle.std.specs.List.{All};
 ghost use Rattle.just_run_layers.specs.Host.{KeepsPromises};
+ghost use Rattle.just_run_layers.specs.LineTexts.{AgreesWith};
 ghost use Rattle.just_run_layers.specs.Steps.{kept_by};
 ghost use Rattle.just_execution.specs.Frames.{Blocks, Calls, Finishes, IsLighter, IsOpenIn, IsSoundIn, Leads};
-ghost use Rattle.just_execution.specs.Homes.{AreHome, IsCallable, IsHomeAt, IsServed, ServesAt};
+ghost use Rattle.just_execution.specs.Homes.{AreHome, IsCallable, IsServed};
 ghost use Rattle.just_execution.specs.Leaves.{Executes};
 ghost use Rattle.just_execution.specs.Pairs.{AllBelow};
 ghost use Rattle.just_recipe.specs.Recipes.{IsOrdered, IsResolved};
@@ -15,9 +16,10 @@ use crate::asking::{Preparation, ask, follow};
 use crate::course::{Course, count_call, push_calls};
 use crate::frame::Frame;
 use crate::recipes::recipe_at;
-use crate::scopes::{ModuleScope, Scopes, module_of};
+use crate::scopes::{Scopes, module_of};
 use crate::task::Task;
 use just_parts::layers::{Halt, Syntax};
+use just_recipe_run::RunRecipe;
 use just_recipes::Recipes;
 use just_run_layers::{Evaluation, Held, Host};
 use std::alloc::Global;
@@ -29,29 +31,41 @@ pub struct Report {
     pub calls: Vec<u64>,
 }
 
-// The beginning of a task, by what it holds; it has no body yet.
+// Executes a task: its recipe begins at its path, and runs by what is held for it.
 fn execute<'src, S: Syntax, E: Evaluation, H: Host>(
+    alloc: Global,
     recipes: &Recipes<'src>,
-    _syntax: &S,
-    _module: &ModuleScope<'_, 'src>,
-    _evaluation: &mut E,
+    scopes: &Scopes<'_, 'src, S>,
+    evaluation: &mut E,
     host: &mut H,
     task: &Task,
-    _held: &Held<'src>,
+    held: &Held<'src>,
 ) -> Result<(), Halt<'src>>
-    requires place { task.now.pair.recipe < length recipes.now }
-    requires home { IsHomeAt (S.answers _syntax.now) _module.now recipes.now task.now.pair.recipe }
-    requires serves { ServesAt (S.answers _syntax.now) _module.now recipes.now task.now.pair.recipe _held.now }
+    requires same { AgreesWith E.sigils E.continues (S.answers scopes.now.syntax.now) }
     requires resolved { All IsResolved recipes.now }
-    ensures keeps { KeepsPromises (E.promised _evaluation.old) (E.promised _evaluation.new) }
+    requires callable { IsCallable (S.answers scopes.now.syntax.now) scopes.now.modules recipes.now task.now }
+    requires served { IsServed (S.answers scopes.now.syntax.now) scopes.now.modules recipes.now task.now held.now }
+    ensures keeps { KeepsPromises (E.promised evaluation.old) (E.promised evaluation.new) }
     ensures keeps_host { KeepsPromises (H.promised host.old) (H.promised host.new) }
-    ensures took { let first = kept_by (H.entries host.old) (E.requests _evaluation.old) in
-        let last = kept_by (H.entries host.new) (E.requests _evaluation.new) in
-        Executes (E.promised _evaluation.old) (H.promised host.old) recipes.now task.now _held.now first last result }
+    ensures took { let first = kept_by (H.entries host.old) (E.requests evaluation.old) in
+        let last = kept_by (H.entries host.new) (E.requests evaluation.new) in
+        let executes = Executes (E.promised evaluation.old) (H.promised host.old) (scene_of (S.answers scopes.now.syntax.now) scopes.now.modules recipes.now) in
+        executes task.now held.now first last result }
 {
     let recipe = recipe_at(recipes, task.pair.recipe);
+    let home = module_of(scopes, recipe);
     host.begin(recipe.recipe_path(), &task.pair.groups)?;
-    Ok(())
+    recipe.run(
+        alloc,
+        &home.context,
+        scopes.syntax,
+        evaluation,
+        host,
+        held.environment.as_slice(),
+        task.dependency,
+        &held.positional,
+        &held.scope,
+    )
 }
 
 // Calls a task: its priors are called next, and then its block with what is held for it, unless its pair ran.
@@ -72,7 +86,7 @@ fn call_task<'src, S: Syntax, E: Evaluation, H: Host>(
     ensures keeps_host { KeepsPromises (H.promised host.old) (H.promised host.new) }
     ensures goes { let first = kept_by (H.entries host.old) (E.requests evaluation.old) in
         let last = kept_by (H.entries host.new) (E.requests evaluation.new) in
-        let calls = Calls (E.promised evaluation.old) (H.promised host.old) (scene_of scopes.now.modules recipes.now) in
+        let calls = Calls (E.promised evaluation.old) (H.promised host.old) (scene_of (S.answers scopes.now.syntax.now) scopes.now.modules recipes.now) in
         calls task run.old first run.new last result }
     ensures sound { OnOk result (IsSoundIn (S.answers scopes.now.syntax.now) scopes.now.modules recipes.now run.new) }
     ensures lighter { OnOk result (IsLighter run.new.frames.items run.old.frames.items (Frame.Call task)) }
@@ -99,6 +113,7 @@ fn run_block<'src, S: Syntax, E: Evaluation, H: Host>(
     task: Task,
     held: Held<'src>,
 ) -> Result<(), Halt<'src>>
+    requires same { AgreesWith E.sigils E.continues (S.answers scopes.now.syntax.now) }
     requires ordered { IsOrdered recipes.now }
     requires resolved { All IsResolved recipes.now }
     requires callable { IsCallable (S.answers scopes.now.syntax.now) scopes.now.modules recipes.now task }
@@ -108,13 +123,12 @@ fn run_block<'src, S: Syntax, E: Evaluation, H: Host>(
     ensures keeps_host { KeepsPromises (H.promised host.old) (H.promised host.new) }
     ensures goes { let first = kept_by (H.entries host.old) (E.requests evaluation.old) in
         let last = kept_by (H.entries host.new) (E.requests evaluation.new) in
-        let blocks = Blocks (E.promised evaluation.old) (H.promised host.old) (scene_of scopes.now.modules recipes.now) in
+        let blocks = Blocks (E.promised evaluation.old) (H.promised host.old) (scene_of (S.answers scopes.now.syntax.now) scopes.now.modules recipes.now) in
         blocks task held.entry run.old first run.new last result }
     ensures sound { OnOk result (IsSoundIn (S.answers scopes.now.syntax.now) scopes.now.modules recipes.now run.new) }
     ensures lighter { OnOk result (IsLighter run.new.frames.items run.old.frames.items (Frame.Block task held.entry)) }
 {
-    let home = module_of(scopes, recipe_at(recipes, task.pair.recipe));
-    execute(recipes, scopes.syntax, home, evaluation, host, &task, &held)?;
+    execute(alloc, recipes, scopes, evaluation, host, &task, &held)?;
     let subsequents = follow(alloc, recipes, scopes, evaluation, &task, &held)?;
     run.current.table.insert(task.pair)?;
     run.open(alloc, subsequents)?;
@@ -131,6 +145,7 @@ fn take<'src, S: Syntax, E: Evaluation, H: Host>(
     run: &mut Course<'src>,
     frame: Frame<'src>,
 ) -> Result<(), Halt<'src>>
+    requires same { AgreesWith E.sigils E.continues (S.answers scopes.now.syntax.now) }
     requires ordered { IsOrdered recipes.now }
     requires resolved { All IsResolved recipes.now }
     requires there { IsOpenIn (S.answers scopes.now.syntax.now) scopes.now.modules recipes.now (length run.old.calls.items) frame }
@@ -139,7 +154,7 @@ fn take<'src, S: Syntax, E: Evaluation, H: Host>(
     ensures keeps_host { KeepsPromises (H.promised host.old) (H.promised host.new) }
     ensures goes { let first = kept_by (H.entries host.old) (E.requests evaluation.old) in
         let last = kept_by (H.entries host.new) (E.requests evaluation.new) in
-        let leads = Leads (E.promised evaluation.old) (H.promised host.old) (scene_of scopes.now.modules recipes.now) in
+        let leads = Leads (E.promised evaluation.old) (H.promised host.old) (scene_of (S.answers scopes.now.syntax.now) scopes.now.modules recipes.now) in
         leads frame.entry run.old first run.new last result }
     ensures sound { OnOk result (IsSoundIn (S.answers scopes.now.syntax.now) scopes.now.modules recipes.now run.new) }
     ensures lighter { OnOk result (IsLighter run.new.frames.items run.old.frames.items frame.entry) }
@@ -165,6 +180,7 @@ fn finish<'src, S: Syntax, E: Evaluation, H: Host>(
     host: &mut H,
     run: &mut Course<'src>,
 ) -> Result<(), Halt<'src>>
+    requires same { AgreesWith E.sigils E.continues (S.answers scopes.now.syntax.now) }
     requires ordered { IsOrdered recipes.now }
     requires resolved { All IsResolved recipes.now }
     requires sound { IsSoundIn (S.answers scopes.now.syntax.now) scopes.now.modules recipes.now run.old }
@@ -172,7 +188,7 @@ fn finish<'src, S: Syntax, E: Evaluation, H: Host>(
     ensures keeps_host { KeepsPromises (H.promised host.old) (H.promised host.new) }
     ensures took { let first = kept_by (H.entries host.old) (E.requests evaluation.old) in
         let last = kept_by (H.entries host.new) (E.requests evaluation.new) in
-        let scene = scene_of scopes.now.modules recipes.now in
+        let scene = scene_of (S.answers scopes.now.syntax.now) scopes.now.modules recipes.now in
         Finishes (E.promised evaluation.old) (H.promised host.old) scene run.old first run.new last result }
 {
     while let Some(frame) = run.frames.pop() {
@@ -190,6 +206,7 @@ fn start<'src, S: Syntax, E: Evaluation, H: Host>(
     host: &mut H,
     tasks: Vec<Task>,
 ) -> Result<Report, Halt<'src>>
+    requires same { AgreesWith E.sigils E.continues (S.answers scopes.now.syntax.now) }
     requires ordered { IsOrdered recipes.now }
     requires resolved { All IsResolved recipes.now }
     requires below { AllBelow (length recipes.now) tasks.items }
@@ -198,7 +215,7 @@ fn start<'src, S: Syntax, E: Evaluation, H: Host>(
     ensures keeps_host { KeepsPromises (H.promised host.old) (H.promised host.new) }
     ensures took { let first = kept_by (H.entries host.old) (E.requests evaluation.old) in
         let last = kept_by (H.entries host.new) (E.requests evaluation.new) in
-        let scene = scene_of scopes.now.modules recipes.now in
+        let scene = scene_of (S.answers scopes.now.syntax.now) scopes.now.modules recipes.now in
         Starts (E.promised evaluation.old) (H.promised host.old) scene tasks.items first last result }
 {
     if tasks.is_empty() {
@@ -229,6 +246,7 @@ pub fn run_tasks<'src, S: Syntax, E: Evaluation, H: Host>(
     host: &mut H,
     tops: Vec<Task>,
 ) -> Result<Report, Halt<'src>>
+    requires same { AgreesWith E.sigils E.continues (S.answers scopes.now.syntax.now) }
     requires resolved { All IsResolved recipes.now }
     requires below { AllBelow (length recipes.now) tops.items }
     requires home { AreHome (S.answers scopes.now.syntax.now) scopes.now.modules recipes.now tops.items }
@@ -236,14 +254,14 @@ pub fn run_tasks<'src, S: Syntax, E: Evaluation, H: Host>(
     ensures keeps_host { KeepsPromises (H.promised host.old) (H.promised host.new) }
     ensures took { let first = kept_by (H.entries host.old) (E.requests evaluation.old) in
         let last = kept_by (H.entries host.new) (E.requests evaluation.new) in
-        let scene = scene_of scopes.now.modules recipes.now in
+        let scene = scene_of (S.answers scopes.now.syntax.now) scopes.now.modules recipes.now in
         Starts (E.promised evaluation.old) (H.promised host.old) scene tops.items first last result }
     ensures account { let first = kept_by (H.entries host.old) (E.requests evaluation.old) in
         let last = kept_by (H.entries host.new) (E.requests evaluation.new) in
         IsRun recipes.now tops.items first last result }
     ensures expected { let first = kept_by (H.entries host.old) (E.requests evaluation.old) in
         let last = kept_by (H.entries host.new) (E.requests evaluation.new) in
-        let scene = scene_of scopes.now.modules recipes.now in
+        let scene = scene_of (S.answers scopes.now.syntax.now) scopes.now.modules recipes.now in
         IsAsExpected (E.promised evaluation.old) (H.promised host.old) scene tops.items first last result }
 {
     recipes.are_ordered();

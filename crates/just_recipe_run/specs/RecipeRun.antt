@@ -1,13 +1,30 @@
 -- The run of one recipe: what is shown before its body, and the body.
-use Rattle.std.specs.Prelude.{Bool, cond, codes, ◌++◌, Option, Some, None}
-use Rattle.just_names.specs.Name.{texts_of_path}
+use Rattle.std.specs.Prelude.{Bool, cond, codes, List, ◌++◌, Option, Some, None}
+use Rattle.just_ast_expressions.specs.declared.scope.Scope.{Scope}
 use Rattle.just_names.specs.Texts.{Text, text_of}
+use Rattle.just_parts.specs.Syntax.{SyntaxAnswers}
 use Rattle.just_paths.specs.declared.modulepath.Modulepath.{Modulepath}
 use Rattle.just_recipe.specs.Script.{is_script}
+use Rattle.just_recipe.specs.declared.dependency.Dependency.{Dependency}
+use Rattle.just_recipe.specs.declared.recipe.Recipe.{Recipe}
+use Rattle.just_run_layers.specs.declared.environment.EnvironmentPair.{EnvironmentPair}
+use Rattle.just_run_layers.specs.Evaluation.{ContextContents}
 use Rattle.just_run_layers.specs.Steps.{Give, Steps, and_then}
 use Rattle.just_recipe_body.specs.Body.{BodyContents, is_loquacious, show_steps}
 use Rattle.just_shell_body.specs.ShellBody.{shell_steps}
 use Rattle.just_script_body.specs.ScriptBody.{script_steps}
+
+-- what a body runs by, of what is handed over
+abbrev pub body_by : SyntaxAnswers → ContextContents → Recipe Dependency → List EnvironmentPair → Bool → List Text → Scope → BodyContents
+body_by syntax context r environment is_dependency positional scope = record {
+  syntax = syntax;
+  context = context;
+  recipe = r;
+  scope = scope;
+  is_dependency = is_dependency;
+  environment = environment;
+  positional = positional;
+}
 
 -- that a recipe runs, as it is shown where much is
 abbrev pub running : Modulepath → Text

@@ -1,5 +1,5 @@
 //! What is shown before a body, and the body.
-ghost use Rattle.std.specs.Prelude.{◌≡◌, IfOk, IsSome};
+ghost use Rattle.std.specs.Prelude.{◌≡◌, IfOk, IsSome, Some};
 ghost use Rattle.just_run_layers.specs.Covering.{module_of};
 ghost use Rattle.just_run_layers.specs.Host.{KeepsPromises};
 ghost use Rattle.just_run_layers.specs.LineTexts.{AgreesWith};
@@ -37,9 +37,11 @@ fn show_running<'src, H: Host>(
     ensures took { let steps = spec.running_steps loquacious (Some path.now) in
         AsksHost (H.promised host.old) steps (H.entries host.old) (H.entries host.new) result }
 {
-    if loquacious {
-        host.show(&running(alloc, path)?)?;
+    if !loquacious {
+        return Ok(());
     }
+    let line = running(alloc, path)?;
+    host.show(&line)?;
     Ok(())
 }
 
@@ -61,8 +63,61 @@ fn show_doc<'src, H: Host>(
     ensures took { let steps = spec.explained_steps explain doc.now in
         AsksHost (H.promised host.old) steps (H.entries host.old) (H.entries host.new) result }
 {
-    if let (true, Some(doc)) = (explain, doc) {
-        host.show(&explained(alloc, doc)?)?;
+    let Some(doc) = doc else {
+        return Ok(());
+    };
+    if !explain {
+        return Ok(());
     }
+    let line = explained(alloc, doc)?;
+    host.show(&line)?;
     Ok(())
+}
+
+// The body, a script or lines for a shell.
+fn run_body<'a, 'run, 'src, S: Syntax, E: Evaluation, H: Host>(
+    alloc: Global,
+    body: &Body<'a, 'run, 'src, S>,
+    evaluation: &mut E,
+    host: &mut H,
+) -> Result<(), Halt<'src>>
+    requires same { AgreesWith E.sigils E.continues (S.answers body.now.syntax.now) }
+    requires covered { let covered = IsBodyCovered (S.answers body.now.syntax.now) body.now.context.now.settings.now in
+        covered (module_of body.now.context.now) body.now.scope.now body.now.recipe.now }
+    ensures keeps { KeepsPromises (E.promised evaluation.old) (E.promised evaluation.new) }
+    ensures keeps_host { KeepsPromises (H.promised host.old) (H.promised host.new) }
+    ensures took { let first = kept_by (H.entries host.old) (E.requests evaluation.old) in
+        let last = kept_by (H.entries host.new) (E.requests evaluation.new) in
+        let steps = spec.body_steps (contents_of (S.answers body.now.syntax.now) body.now) in
+        Took (both (E.promised evaluation.old) (H.promised host.old)) steps first last result }
+{
+    if body.recipe.is_script(body.context.settings) {
+        run_script(alloc, body, evaluation, host)
+    } else {
+        run_shell(alloc, body, evaluation, host)
+    }
+}
+
+/// Runs a recipe by what its body runs by: what is shown before its body, and the body.
+pub fn run_recipe<'a, 'run, 'src, S: Syntax, E: Evaluation, H: Host>(
+    alloc: Global,
+    body: &Body<'a, 'run, 'src, S>,
+    evaluation: &mut E,
+    host: &mut H,
+) -> Result<(), Halt<'src>>
+    requires same { AgreesWith E.sigils E.continues (S.answers body.now.syntax.now) }
+    requires path { IsSome body.now.recipe.now.recipe_path }
+    requires covered { let covered = IsBodyCovered (S.answers body.now.syntax.now) body.now.context.now.settings.now in
+        covered (module_of body.now.context.now) body.now.scope.now body.now.recipe.now }
+    ensures keeps { KeepsPromises (E.promised evaluation.old) (E.promised evaluation.new) }
+    ensures keeps_host { KeepsPromises (H.promised host.old) (H.promised host.new) }
+    ensures took { let first = kept_by (H.entries host.old) (E.requests evaluation.old) in
+        let last = kept_by (H.entries host.new) (E.requests evaluation.new) in
+        let steps = spec.recipe_steps (contents_of (S.answers body.now.syntax.now) body.now) in
+        Took (both (E.promised evaluation.old) (H.promised host.old)) steps first last result }
+{
+    let config = body.context.config;
+    show_running(alloc, is_loquacious(config.verbosity), body.recipe.recipe_path(), host)?;
+    show_doc(alloc, config.explain, &body.recipe.doc, host)?;
+    run_body(alloc, body, evaluation, host)
 }

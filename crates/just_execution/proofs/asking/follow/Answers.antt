@@ -26,6 +26,6 @@ returns-clause-took g c =
     let rs = c.args.recipes.now in
     let r = c.recipe_at.result.now in
     let m = c.module_of-home.result.now in
-    followed-as (scene_of c.args.scopes.now.modules rs) c.args.task.now r (contents_of m) c.recipe_at.ensures (contents-there c.args.scopes.now.modules rs r m c.module_of-home.ensures.there)
+    followed-as (scene_of (g.S.Syntax.answers c.args.scopes.now.syntax.now) c.args.scopes.now.modules rs) c.args.task.now r (contents_of m) c.recipe_at.ensures (contents-there (g.S.Syntax.answers c.args.scopes.now.syntax.now) c.args.scopes.now.modules rs r m c.module_of-home.ensures.there)
     (g.E.Evaluation.promised c.args.evaluation.now) c.args.held.now _ _ c.subsequents_at-named.result.now
     (subsequents-are rs c.args.task.now.pair.recipe r c.recipe_at.ensures c.subsequents_at-named.result.now c.subsequents_at-named.ensures.is) (items_of c.ask_dependencies.result) c.ask_dependencies.ensures.took

@@ -1,22 +1,58 @@
-use Rattle.std.proofs.Common.{List, Option, Ok, sym, subst}
-use Rattle.just_run_layers.specs.declared.host.Entry.{Entry}
+use Rattle.std.proofs.Common.{◌≡◌, List, Option, Some, Ok, sym, subst}
+use Rattle.std.specs.Prelude.{Result}
+use Rattle.std.specs.List.{slice_get}
+use Rattle.just_errors.specs.declared.halt.Halt.{Halt}
+use Rattle.just_paths.specs.declared.modulepath.Modulepath.{Modulepath}
+use Rattle.just_recipe.specs.Recipes.{IsResolved}
+use Rattle.just_recipe.specs.declared.dependency.Dependency.{Dependency}
+use Rattle.just_recipe.specs.declared.recipe.Recipe.{Recipe}
+use Rattle.just_run_layers.specs.declared.environment.EnvironmentPair.{EnvironmentPair}
 use Rattle.just_run_layers.specs.declared.host.Entry.TheVariants.{Begin}
-use Rattle.just_run_layers.specs.Evaluation.{Inquiry}
 use Rattle.just_run_layers.specs.Host.{Answer, Done}
-use Rattle.just_run_layers.specs.Steps.{Give, Kept, Took, both, kept_by}
-use Rattle.just_run_layers.proofs.StepLemmas.{took-called, took-give}
-use Rattle.just_execution.specs.Leaves.{begin_steps, recipe_steps}
+use Rattle.just_run_layers.specs.Steps.{Give, Kept, Question, Took, and_then, both, kept_by}
+use Rattle.just_run_layers.proofs.StepLemmas.{keeps-both, keeps-self, took-called, took-give, took-then}
+use Rattle.just_recipe_run.specs.RecipeRun.{body_by, recipe_steps}
+use Rattle.just_execution.specs.Leaves.{begin_steps, body_of, execute_at, run_in}
+use Rattle.just_execution.specs.Scene.{ModuleContents, Scene, contents_of, scene_of}
+use Rattle.just_execution.proofs.Covered.{body-covered}
+use Rattle.just_execution.proofs.Homes.{All-got, contents-there, home-of, serves-in}
 use Rattle.just_execution.proofs.running.execute.Goals as goal
+
+pub module_of-home-requires : goal.module_of-home-requires
+module_of-home-requires g c = home-of (g.S.Syntax.answers c.args.scopes.now.syntax.now) c.args.scopes.now.modules c.args.recipes.now c.args.task.now c.requires.callable c.recipe_at-recipe.result.now c.recipe_at-recipe.ensures
+
+pub recipe_path-requires : goal.recipe_path-requires
+recipe_path-requires g c = (All-got IsResolved c.args.recipes.now c.args.task.now.pair.recipe c.recipe_at-recipe.result.now c.requires.resolved c.recipe_at-recipe.ensures).path
+
+pub run-requires-clause-covered : goal.run-requires-clause-covered
+run-requires-clause-covered g c =
+    let answers = g.S.Syntax.answers c.args.scopes.now.syntax.now in
+    let r = c.recipe_at-recipe.result.now in
+    let m = c.module_of-home.result.now in
+    body-covered answers m r c.args.held.now
+    (serves-in answers c.args.scopes.now.modules c.args.recipes.now c.args.task.now c.args.held.now m r c.recipe_at-recipe.ensures c.module_of-home.ensures.there c.requires.served)
 
 pub returns-clause-took : goal.returns-clause-took
 returns-clause-took g c =
-    let e : Inquiry → Option Answer = g.E.Evaluation.promised c.args._evaluation.now in
-    let h : Entry → Option Answer = g.H.Host.promised c.args.host.now in
-    let before : List Entry = g.H.Host.entries c.args.host.now in
-    let later : List Entry = g.H.Host.entries c.begin.new.self in
-    let requests = g.E.Evaluation.requests c.args._evaluation.now in
-    let old : Kept = kept_by before requests in
-    let new : Kept = kept_by later requests in
-    subst (λ r. Took (both e h) (recipe_steps c.args.task.now r) old new (Ok tt)) (sym c.recipe_at-recipe.ensures)
-    (subst (λ path. Took (both e h) (begin_steps c.args.task.now.pair.groups path) old new (Ok tt)) (sym c.recipe_path.ensures)
-    (took-called e h (Begin c.recipe_path.result.now c.args.task.now.pair.groups) (λ answer. Give tt) Done requests before later new (Ok tt) c.in_ok-begin.ensures.answers c.in_ok-begin.ensures.recorded (took-give (both e h) new tt)))
+    let answers = g.S.Syntax.answers c.args.scopes.now.syntax.now in
+    let rs : List (Recipe Dependency) = c.args.recipes.now in
+    let scene : Scene = scene_of answers c.args.scopes.now.modules rs in
+    let t = c.args.task.now in
+    let held = c.args.held.now in
+    let r : Recipe Dependency = c.recipe_at-recipe.result.now in
+    let m = c.module_of-home.result.now in
+    let e = g.E.Evaluation.promised c.args.evaluation.now in
+    let requests = g.E.Evaluation.requests c.args.evaluation.now in
+    let p : Question → Option Answer = both e (g.H.Host.promised c.args.host.now) in
+    let q : Question → Option Answer = both e (g.H.Host.promised c.begin.new.self) in
+    let old : Kept = kept_by (g.H.Host.entries c.args.host.now) requests in
+    let mid : Kept = kept_by (g.H.Host.entries c.begin.new.self) requests in
+    let new : Kept = kept_by (g.H.Host.entries c.run.new.host) (g.E.Evaluation.requests c.run.new.evaluation) in
+    let result : Result (Unit {0}) Halt = c.run.result in
+    let path : Modulepath = c.recipe_path.result.now in
+    subst (λ (o : Option (Recipe Dependency)). Took p (execute_at scene t held o) old new result) (sym c.recipe_at-recipe.ensures)
+    (subst (λ (o : Option ModuleContents). Took p (and_then (begin_steps t.pair.groups r.recipe_path) (λ _. run_in answers t held r o)) old new result) (sym (contents-there answers c.args.scopes.now.modules rs r m c.module_of-home.ensures.there))
+    (subst (λ (o : Option Modulepath). Took p (and_then (begin_steps t.pair.groups o) (λ _. recipe_steps (body_of answers t r (contents_of m) held))) old new result) (sym c.recipe_path.ensures)
+    (took-then p q (keeps-both e e _ _ (keeps-self e) c.in_ok-begin.ensures.keeps) (begin_steps t.pair.groups (Some path)) (λ _. recipe_steps (body_of answers t r (contents_of m) held)) old mid new tt result
+    (took-called e (g.H.Host.promised c.args.host.now) (Begin path t.pair.groups) (λ answer. Give tt) Done requests _ _ mid (Ok tt) c.in_ok-begin.ensures.answers c.in_ok-begin.ensures.recorded (took-give p mid tt))
+    (subst (λ (environment : List EnvironmentPair). Took q (recipe_steps (body_by answers (contents_of m).context r environment t.dependency held.positional held.scope)) mid new result) c.as_slice.ensures c.run.ensures.took))))

@@ -17,13 +17,13 @@ pub returns-in_err-course-clause-took : goal.returns-in_err-course-clause-took
 returns-in_err-course-clause-took g c =
     let p : Question → Option Answer = both (g.E.Evaluation.promised c.args.evaluation.now) (g.H.Host.promised c.args.host.now) in
     let rs = c.args.recipes.now in
-    ended-calls p _ _ _ _ c.from_residual.result (search rules) (took-out p (fresh_steps (walk_steps (leaves_of (scene_of c.args.scopes.now.modules rs)) (length rs)) c.args.tasks.items []) _ _ refl)
+    ended-calls p _ _ _ _ c.from_residual.result (search rules) (took-out p (fresh_steps (walk_steps (leaves_of (scene_of (g.S.Syntax.answers c.args.scopes.now.syntax.now) c.args.scopes.now.modules rs)) (length rs)) c.args.tasks.items []) _ _ refl)
 
 pub returns-in_err-push_calls-clause-took : goal.returns-in_err-push_calls-clause-took
 returns-in_err-push_calls-clause-took g c =
     let p : Question → Option Answer = both (g.E.Evaluation.promised c.args.evaluation.now) (g.H.Host.promised c.args.host.now) in
     let rs = c.args.recipes.now in
-    ended-calls p _ _ _ _ c.from_residual-in_err-push_calls.result (search rules) (took-out p (fresh_steps (walk_steps (leaves_of (scene_of c.args.scopes.now.modules rs)) (length rs)) c.args.tasks.items []) _ _ refl)
+    ended-calls p _ _ _ _ c.from_residual-in_err-push_calls.result (search rules) (took-out p (fresh_steps (walk_steps (leaves_of (scene_of (g.S.Syntax.answers c.args.scopes.now.syntax.now) c.args.scopes.now.modules rs)) (length rs)) c.args.tasks.items []) _ _ refl)
 
 pub finish-requires-clause-sound : goal.finish-requires-clause-sound
 finish-requires-clause-sound g c =
@@ -36,7 +36,7 @@ returns-in_err-finish-clause-took g c =
     let rs = c.args.recipes.now in
     let some : c.args.tasks.items ≢ [] = search rules in
     ended-calls p _ _ _ c.in_err-finish.field-0.0 c.from_residual-in_err-finish.result (search rules)
-    (whole-stop (leaves_of (scene_of c.args.scopes.now.modules c.args.recipes.now)) (leaves-lower (scene_of c.args.scopes.now.modules c.args.recipes.now) c.requires.ordered) (length rs) c.args.tasks.items some c.requires.below c.push_calls.new.frames.items (state_of c.in_ok-course.course)
+    (whole-stop (leaves_of (scene_of (g.S.Syntax.answers c.args.scopes.now.syntax.now) c.args.scopes.now.modules c.args.recipes.now)) (leaves-lower (scene_of (g.S.Syntax.answers c.args.scopes.now.syntax.now) c.args.scopes.now.modules c.args.recipes.now) c.requires.ordered) (length rs) c.args.tasks.items some c.requires.below c.push_calls.new.frames.items (state_of c.in_ok-course.course)
     (first-calls _ _ c.args.tasks.items c.in_ok-course.ensures.frames c.in_ok-push_calls.ensures) c.in_ok-course.ensures.state p _ _ c.in_err-finish.field-0.0 c.in_err-finish.ensures.took)
 
 pub returns-clause-took : goal.returns-clause-took
@@ -44,5 +44,5 @@ returns-clause-took g c =
     let p : Question → Option Answer = both (g.E.Evaluation.promised c.args.evaluation.now) (g.H.Host.promised c.args.host.now) in
     let rs = c.args.recipes.now in
     let some : c.args.tasks.items ≢ [] = search rules in
-    whole-took (leaves_of (scene_of c.args.scopes.now.modules c.args.recipes.now)) (leaves-lower (scene_of c.args.scopes.now.modules c.args.recipes.now) c.requires.ordered) (length rs) c.args.tasks.items some c.requires.below c.push_calls.new.frames.items (state_of c.in_ok-course.course)
+    whole-took (leaves_of (scene_of (g.S.Syntax.answers c.args.scopes.now.syntax.now) c.args.scopes.now.modules c.args.recipes.now)) (leaves-lower (scene_of (g.S.Syntax.answers c.args.scopes.now.syntax.now) c.args.scopes.now.modules c.args.recipes.now) c.requires.ordered) (length rs) c.args.tasks.items some c.requires.below c.push_calls.new.frames.items (state_of c.in_ok-course.course)
     (first-calls _ _ c.args.tasks.items c.in_ok-course.ensures.frames c.in_ok-push_calls.ensures) c.in_ok-course.ensures.state p _ _ (state_of c.finish.new.run) c.in_ok-finish.ensures.took
