@@ -1,0 +1,3 @@
+pub mod Executors
+pub mod ScriptAttributes
+pub mod ScriptBody
