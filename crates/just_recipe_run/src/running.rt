@@ -117,7 +117,12 @@ pub fn run_recipe<'a, 'run, 'src, S: Syntax, E: Evaluation, H: Host>(
         Took (both (E.promised evaluation.old) (H.promised host.old)) steps first last result }
 {
     let config = body.context.config;
-    show_running(alloc, is_loquacious(config.verbosity), body.recipe.recipe_path(), host)?;
+    show_running(
+        alloc,
+        is_loquacious(config.verbosity),
+        body.recipe.recipe_path(),
+        host,
+    )?;
     show_doc(alloc, config.explain, &body.recipe.doc, host)?;
     run_body(alloc, body, evaluation, host)
 }

@@ -1,4 +1,4 @@
-use Rattle.std.proofs.Common.{◌≡◌, Bool, Option, Some, Ok, ap, sym, subst}
+use Rattle.std.proofs.Common.{Bool, Option, Some, sym, subst}
 use Rattle.std.specs.Prelude.{Result}
 use Rattle.just_errors.specs.declared.halt.Halt.{Halt}
 use Rattle.just_paths.specs.declared.modulepath.Modulepath.{Modulepath}

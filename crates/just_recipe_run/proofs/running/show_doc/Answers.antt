@@ -1,4 +1,4 @@
-use Rattle.std.proofs.Common.{◌≡◌, true, Ok, Some, sym, subst, ap}
+use Rattle.std.proofs.Common.{◌≡◌, true, Ok, Some, sym, subst}
 use Rattle.std.proofs.lemmas.Bool.{cond-true}
 use Rattle.just_run_layers.specs.Steps.{Give, Kept, Took, both, kept_by}
 use Rattle.just_recipe_body.specs.Body.{show_steps}
