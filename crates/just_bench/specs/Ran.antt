@@ -1,9 +1,12 @@
 -- A run of words by the bench, and what it comes to.
+use Rattle.std.proofs.Common.{BuildHasherDefault, FoldHasher}
 use Rattle.std.specs.Prelude.{◌≡◌, List, [], Some, Result, Err, IsOk}
+use Rattle.std.specs.HashMap.{HashMap}
 use Rattle.just_errors.specs.declared.error.Error.{Error}
 use Rattle.just_execution.specs.declared.running.Report.{Report}
 use Rattle.just_justfile.specs.declared.justfile.Justfile.{Justfile}
 use Rattle.just_names.specs.Texts.{Text}
+use Rattle.just_names.specs.declared.number.Number.{Number}
 use Rattle.just_parts.specs.Evaluator.{count_fault_of}
 use Rattle.just_parts.specs.declared.layers.config.Config.{Config}
 use Rattle.just_recipe.specs.declared.dependency.Dependency.{Dependency}
@@ -12,15 +15,20 @@ use Rattle.just_run_layers.specs.declared.host.Entry.{Entry}
 use Rattle.just_run_layers.specs.Evaluation.{ScopeRequest}
 use Rattle.just_run_layers.specs.Steps.{kept_by}
 use Rattle.just_invoke.specs.Outcome.{IsOutcome}
-use Rattle.just_invoke.specs.Scopes.{Front}
+use Rattle.just_invoke.specs.Scopes.{Front, front_of}
 use Rattle.just_invoke.specs.Split.{Counts}
 use Rattle.just_bench_evaluation.specs.Answered.{plain_answer}
+use Rattle.just_bench_syntax.specs.Answers.{answers}
 use Rattle.just_bench_values.specs.Constants.{evaluator}
 use Rattle.just_bench.specs.Recorder.{script_promises}
 use Rattle.just_bench.specs.Script.{unscripted}
 use Rattle.just_bench.specs.declared.script.Script.{Script}
 use Rattle.just_bench.specs.declared.program_error.ProgramError.{ProgramError}
 use Rattle.just_bench.specs.declared.program_error.ProgramError.TheVariants as program
+
+-- what a run of the bench takes beside modules and words: the plain grammar, in which all settings may stand together
+abbrev pub plain_front : Config → HashMap Number Text (BuildHasherDefault FoldHasher) → Front
+plain_front config overrides = front_of (answers []) config overrides
 
 -- what the plain evaluation says of counts
 abbrev pub plain_counts : Counts

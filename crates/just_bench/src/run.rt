@@ -4,8 +4,7 @@ ghost use Rattle.std.specs.Io.KnownBytes.{Appends};
 ghost use Rattle.just_justfile.specs.Closed.{IsRooted};
 ghost use Rattle.just_names.specs.Texts.{texts};
 ghost use Rattle.just_bench.specs.Entries.{entry_lines};
-ghost use Rattle.just_invoke.specs.Scopes.{front_of};
-ghost use Rattle.just_bench.specs.Ran.{IsRunFault, Ran};
+ghost use Rattle.just_bench.specs.Ran.{IsRunFault, Ran, plain_front};
 
 use crate::entries::write_entries;
 use crate::program_error::ProgramError;
@@ -30,9 +29,9 @@ pub fn run_and_write<'src, W: Write>(
     output: &mut W,
 ) -> Result<(), ProgramError<'src>>
     requires { IsRooted root.now recipes.now }
-    ensures done { let ran = Ran root.now recipes.now config.now (front_of config.now overrides.now) (texts words.now) in
+    ensures done { let ran = Ran root.now recipes.now config.now (plain_front config.now overrides.now) (texts words.now) in
         OnOk result ((r : ran) × IsOk r.result × Appends (W.contents output.old) (W.contents output.new) (entry_lines r.entries)) }
-    ensures fault { let ran = Ran root.now recipes.now config.now (front_of config.now overrides.now) (texts words.now) in
+    ensures fault { let ran = Ran root.now recipes.now config.now (plain_front config.now overrides.now) (texts words.now) in
         IfErr result (λ e. (r : ran) × IsRunFault r.result e) }
 {
     let mut host = Recorder::new(alloc);

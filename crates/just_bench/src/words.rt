@@ -1,8 +1,7 @@
 //! The run of a compiled module over the layers of the bench.
 ghost use Rattle.just_justfile.specs.Closed.{IsRooted};
 ghost use Rattle.just_names.specs.Texts.{texts};
-ghost use Rattle.just_invoke.specs.Scopes.{front_of};
-ghost use Rattle.just_bench.specs.Ran.{IsPlainOutcome};
+ghost use Rattle.just_bench.specs.Ran.{IsPlainOutcome, plain_front};
 
 use crate::recorder::Recorder;
 use crate::stop_writer::StopWriter;
@@ -26,7 +25,7 @@ pub fn run_words<'src>(
     words: &[&str],
 ) -> Result<Report, Error<'src>>
     requires { IsRooted root.now recipes.now }
-    ensures { let front = front_of config.now overrides.now in
+    ensures { let front = plain_front config.now overrides.now in
         let outcome = IsPlainOutcome root.now recipes.now config.now front (texts words.now) host.old.script in
         outcome host.old.entries host.new.entries result }
 {

@@ -1,8 +1,8 @@
 -- What is asked of one task: what it comes to, and that it executes nothing.
-use Rattle.std.proofs.Common.{◌≡◌, ◌<◌, true, ℕ, zero, suc, List, [], ◌∷◌, ◌++◌, length, map, take, drop, get_or, set, Option, Some, None, Ok, Err, refl, sym, ◌∙◌, ap, subst, inl}
+use Rattle.std.proofs.Common.{◌≡◌, true, ℕ, zero, suc, List, [], ◌∷◌, ◌++◌, length, map, take, drop, get_or, set, Option, Some, None, Ok, Err, refl, sym, ◌∙◌, ap, subst, inl}
 use Rattle.std.specs.List.{All, position, slice_get}
 use Rattle.std.proofs.lemmas.List.{length-map, set-set}
-use Rattle.std.proofs.lemmas.List.Elements.{All-head, All-tail, All-nil, All-cons, All-append, All-weaker, All-map}
+use Rattle.std.proofs.lemmas.List.Elements.{All-head, All-tail, All-nil, All-append, All-weaker, All-map}
 use Rattle.just_names.specs.Texts.{Text}
 use Rattle.just_errors.specs.declared.fault.Fault.{Fault}
 use Rattle.just_errors.specs.declared.halt.Halt.{Halt}
@@ -19,12 +19,12 @@ use Rattle.just_recipes.specs.Places.{place_of}
 use Rattle.just_run_layers.specs.declared.held.Held.{Held}
 use Rattle.just_run_layers.specs.Evaluation.{Inquiry, Parameters, ScopeRequest, Surroundings, Value}
 use Rattle.just_run_layers.specs.Host.{Answer, Answers, Done, Given, Valued, Scoped, Bound, Paired, Changed, Ran, Refused}
-use Rattle.just_run_layers.specs.Steps.{Steps, Give, and_then, Gives, kept_by}
+use Rattle.just_run_layers.specs.Steps.{Give, and_then, Gives, kept_by}
 use Rattle.just_run_layers.proofs.StepLemmas.{took-asked}
 use Rattle.just_execution.specs.Account.{AreNamed, StandFor}
-use Rattle.just_execution.specs.Arguments.{argument_steps, dependencies_steps, dependency_steps, gathered, group_steps, groups_steps, spread, task_at, tasks_with, texts_given, texts_steps, unevaluated, value_steps, valued_answered, with_text}
+use Rattle.just_execution.specs.Arguments.{argument_steps, dependencies_steps, dependency_steps, group_steps, groups_steps, spread, task_at, tasks_with, texts_given, texts_steps, value_steps, valued_answered, with_text}
 use Rattle.just_execution.specs.Leaves.{AsksAlone, after_steps, ask_in, ask_steps, bound_answered, consent_by, consent_steps, follow_in, follow_steps, held_steps, parameters_steps, prepare_steps, prior_steps, surrounded}
-use Rattle.just_execution.specs.Pairs.{at_place, prior_dependencies, subsequent_dependencies}
+use Rattle.just_execution.specs.Pairs.{prior_dependencies, subsequent_dependencies}
 use Rattle.just_execution.specs.Scene.{ModuleContents, Scene}
 use Rattle.just_execution.specs.Walking.{Prepared}
 use Rattle.just_execution.specs.declared.task.Task.{Task}

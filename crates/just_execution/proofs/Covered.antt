@@ -1,6 +1,6 @@
 -- What is bound where a recipe is at home covers what is asked of it.
 use Rattle.std.proofs.Common.{◌≡◌, Bool, true, false, ◌||◌, List, [], ◌∷◌, ◌++◌, map, Option, Some, None, refl, sym, ◌∙◌, ap, subst}
-use Rattle.std.specs.Prelude.{IfSome, flat_map, option_to_list, if◌then◌else◌}
+use Rattle.std.specs.Prelude.{IfSome, flat_map, option_to_list}
 use Rattle.std.specs.List.{All, list_any}
 use Rattle.std.specs.Str.{bytes_eq}
 use Rattle.std.proofs.lemmas.List.Elements.{All-append, All-cons, All-head, All-nil, All-tail, All-weaker}
@@ -21,7 +21,7 @@ use Rattle.just_run_layers.specs.Covering.{AreCovered, BindsParameters, Covers, 
 use Rattle.just_run_layers.specs.declared.held.Held.{Held}
 use Rattle.just_recipe_body.specs.Covering.{IsBodyCovered}
 use Rattle.just_recipe_body.proofs.AllLemmas.{all-left, all-right}
-use Rattle.just_execution.specs.Arguments.{AreReadable, IsGivenIn, IsReadable}
+use Rattle.just_execution.specs.Arguments.{IsGivenIn, IsReadable}
 use Rattle.just_execution.specs.Homes.{IsBound, IsRead, ServesIn, arguments_of}
 use Rattle.just_execution.specs.declared.scopes.ModuleScope.{ModuleScope}
 use Rattle.just_execution.proofs.Places.{All-unmap}

@@ -21,7 +21,6 @@ use Rattle.just_execution.specs.Leaves.{IsAlike, ask_in, ask_steps, bound_answer
 use Rattle.just_execution.specs.Pairs.{task}
 use Rattle.just_execution.specs.Run.{Each, IsEven, IsEvenPart, parts, priors_in, subsequents_by}
 use Rattle.just_execution.specs.Scene.{ModuleContents, Scene}
-use Rattle.just_execution.specs.Walking.{Prepared}
 use Rattle.just_execution.specs.declared.pair.Pair.{Pair}
 use Rattle.just_execution.specs.declared.task.Task.{Task}
 

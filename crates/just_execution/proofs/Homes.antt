@@ -1,5 +1,5 @@
 -- What tasks at home lead to is at home.
-use Rattle.std.proofs.Common.{◌≡◌, ◌∙◌, ℕ, zero, suc, ◌<◌, List, [], ◌∷◌, map, length, drop, take, Option, None, Some, Ok, refl, sym, ap, subst, arith}
+use Rattle.std.proofs.Common.{◌≡◌, ℕ, zero, suc, ◌<◌, List, [], ◌∷◌, length, drop, take, Option, None, Some, Ok, refl, ap, subst, arith}
 use Rattle.std.specs.List.{All, Contains, slice_get}
 use Rattle.std.proofs.lemmas.List.Elements.{All-contains, All-contains_itself, All-drop, All-head, All-nil, All-tail, All-take, All-weaker}
 use Rattle.just_graph.specs.Steps.{Reached, from_start, from_member}
@@ -19,7 +19,7 @@ use Rattle.just_execution.specs.Homes.{AreHome, IsAmong, IsBound, IsCallable, Is
 use Rattle.just_execution.specs.Leaves.{AsksAlone, Prepares, ask_steps, follow_steps}
 use Rattle.just_execution.specs.Pairs.{AllBelow, at_place, needed, prior_dependencies, subsequent_dependencies}
 use Rattle.just_recipes.specs.Places.{place_of}
-use Rattle.just_execution.specs.Unready.{DependsOn, places}
+use Rattle.just_execution.specs.Leading.{DependsOn, places}
 use Rattle.just_execution.specs.Scene.{contents_found, contents_of, scene_of}
 use Rattle.just_execution.specs.Walking.{Prepared}
 use Rattle.just_execution.specs.declared.scopes.ModuleScope.{ModuleScope}

@@ -1,5 +1,5 @@
 -- The questions of one task, as they were taken.
-use Rattle.std.proofs.Common.{◌≡◌, ◌∙◌, ℕ, List, take, drop, Option, None, Some, Ok, Err, refl, sym, ap, subst}
+use Rattle.std.proofs.Common.{◌≡◌, ◌∙◌, ℕ, List, take, drop, Option, Some, Ok, Err, sym, subst}
 use Rattle.std.specs.Prelude.{Result}
 use Rattle.std.specs.List.{All, slice_get}
 use Rattle.std.proofs.lemmas.List.Elements.{All-drop, All-take}

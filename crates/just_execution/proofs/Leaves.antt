@@ -1,5 +1,5 @@
 -- What asking for a task comes to; the tasks that recipes name stand at lower places.
-use Rattle.std.proofs.Common.{◌≡◌, ◌<◌, ◌∙◌, ℕ, List, [], Option, None, Some, Result, Ok, Err, sym, ap, subst}
+use Rattle.std.proofs.Common.{◌≡◌, ◌<◌, ◌∙◌, ℕ, List, [], Option, None, Some, Ok, ap}
 use Rattle.std.specs.List.{All, slice_get}
 use Rattle.std.proofs.lemmas.List.Elements.{All-weaker}
 use Rattle.just_recipe.specs.declared.recipe.Recipe.{Recipe}
@@ -9,8 +9,7 @@ use Rattle.just_run_layers.specs.declared.held.Held.{Held}
 use Rattle.just_run_layers.specs.declared.host.Entry.{Entry}
 use Rattle.just_run_layers.specs.Evaluation.{Inquiry, ScopeRequest}
 use Rattle.just_run_layers.specs.Host.{Answer}
-use Rattle.just_errors.specs.declared.halt.Halt.{Halt}
-use Rattle.just_run_layers.specs.Steps.{Kept, Steps, Took, and_then, both, kept_by}
+use Rattle.just_run_layers.specs.Steps.{Kept, and_then, both, kept_by}
 use Rattle.just_run_layers.proofs.StepLemmas.{took-gives}
 use Rattle.just_execution.specs.Account.{AreNamed}
 use Rattle.just_execution.specs.Leaves.{AsksAlone, Prepares, ask_in, ask_steps, follow_in, follow_steps, after_steps, held_steps, leaves_of, parameters_steps, prepare_steps}

@@ -20,7 +20,6 @@ pub mod QuietBodies
 pub mod QuietRecipes
 pub mod QuietScripts
 pub mod Ranks
-pub mod Reaching
 pub mod Runs
 pub mod Scenes
 pub mod Standing

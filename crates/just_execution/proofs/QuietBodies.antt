@@ -1,24 +1,21 @@
 -- A body executes no recipe, and runs out of no counter: what it asks besides are its lines, programs and shows.
-use Rattle.std.proofs.Common.{◌≡◌, Bool, true, false, List, [], ◌∷◌, ◌++◌, Option, Some, None, Result, Ok, Err, refl, cond}
+use Rattle.std.proofs.Common.{Bool, true, false, List, [], ◌∷◌, ◌++◌, Option, Some, None, Result, Ok, Err, refl, cond}
 use Rattle.just_ast_definitions.specs.declared.line.Line.{Line}
 use Rattle.just_ast_expressions.specs.declared.expression.Expression.{Expression}
 use Rattle.just_errors.specs.declared.run_error.RunError.{RunError}
 use Rattle.just_names.specs.Texts.{Text}
-use Rattle.just_paths.specs.declared.modulepath.Modulepath.{Modulepath}
-use Rattle.just_run_layers.specs.declared.calls.ShellCall.{ShellCall}
 use Rattle.just_run_layers.specs.Host.{Answer, Done, Given, Valued, Scoped, Bound, Paired, Changed, Ran, Refused}
 use Rattle.just_run_layers.specs.Steps.{Give, Steps, and_then}
-use Rattle.just_recipe.specs.Script.{is_script}
 use Rattle.just_recipe_body.specs.Attributes.{changes_directory, continues_on, directory_of, first_said, timestamp_of}
-use Rattle.just_recipe_body.specs.Body.{BodyContents, changes_or, directory_steps, environment_steps, folder, format_steps, given, joined_steps, line_steps, prepare_steps, prepared, said_format_steps, show_steps, string_steps, telling_steps, text_or, time_steps, unevaluated, untimed, with_pairs}
-use Rattle.just_recipe_body.specs.Confirmation.{confirm_by, confirm_steps, confirmation_in, line_answered, prompt_steps, said_prompt, usual_prompt}
+use Rattle.just_recipe_body.specs.Body.{BodyContents, changes_or, directory_steps, environment_steps, format_steps, given, joined_steps, line_steps, prepare_steps, prepared, said_format_steps, show_steps, string_steps, telling_steps, text_or, time_steps, unevaluated, untimed}
+use Rattle.just_recipe_body.specs.Confirmation.{confirm_by, confirm_steps, confirmation_in, line_answered, prompt_steps, said_prompt}
 use Rattle.just_recipe_body.specs.Judging.{judged}
 use Rattle.just_recipe_body.specs.declared.body.Preparation.{Preparation}
 use Rattle.just_recipe_body.specs.declared.judging.Next.{Next}
 use Rattle.just_recipe_body.specs.declared.judging.Next.TheVariants.{Onward, Ended}
 use Rattle.just_recipe_body.specs.declared.judging.Program.TheVariants as program
 use Rattle.just_shell_body.specs.Lines.{command_of, group_command_steps, groups, is_skipped, text_steps, trimmed}
-use Rattle.just_shell_body.specs.ShellBody.{call_steps, command_steps, group_steps, groups_steps, is_shown, lines_steps, one_command_steps, shell_answered, shell_call, shell_call_steps, shell_steps, show_command_steps, shown_command, teller_of, timed_steps, unless_dry_steps, unless_ended}
+use Rattle.just_shell_body.specs.ShellBody.{call_steps, command_steps, group_steps, groups_steps, is_shown, lines_steps, shell_answered, shell_call, shell_call_steps, shell_steps, show_command_steps, shown_command, teller_of, timed_steps, unless_dry_steps, unless_ended}
 use Rattle.just_shell_body.specs.declared.lines.GroupCommand.{GroupCommand}
 use Rattle.just_execution.proofs.Quiet.{Quiet, failed-not, quiet-then}
 use Rattle.just_execution.proofs.Standing.{memory-not}

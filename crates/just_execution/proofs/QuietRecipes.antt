@@ -1,10 +1,9 @@
 -- A recipe executes none but itself: what it asks after it began is no beginning.
-use Rattle.std.proofs.Common.{◌≡◌, Bool, true, false, Option, Some, None, refl, cond}
-use Rattle.just_errors.specs.declared.halt.Halt.TheVariants.{Failed}
+use Rattle.std.proofs.Common.{Bool, true, false, Option, Some, None, refl}
 use Rattle.just_errors.specs.declared.run_error.RunError.TheVariants.{NotConfirmed}
 use Rattle.just_names.specs.Texts.{Text}
 use Rattle.just_paths.specs.declared.modulepath.Modulepath.{Modulepath}
-use Rattle.just_run_layers.specs.Steps.{Give, Steps, and_then}
+use Rattle.just_run_layers.specs.Steps.{Give, and_then}
 use Rattle.just_recipe.specs.Script.{is_script}
 use Rattle.just_recipe_body.specs.Body.{BodyContents, is_loquacious, name_of, show_steps}
 use Rattle.just_recipe_body.specs.Confirmation.{confirm_steps}

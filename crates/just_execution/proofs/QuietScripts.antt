@@ -1,12 +1,12 @@
 -- A script body executes no recipe, and runs out of no counter.
-use Rattle.std.proofs.Common.{Bool, true, false, List, [], ◌∷◌, Option, Some, None, refl}
+use Rattle.std.proofs.Common.{Bool, false, List, [], ◌∷◌, Option, Some, None, refl}
 use Rattle.just_ast_definitions.specs.declared.line.Line.{Line}
 use Rattle.just_names.specs.Texts.{Text}
 use Rattle.just_run_layers.specs.declared.calls.Executor.{Executor}
 use Rattle.just_run_layers.specs.Host.{Answer, Done, Given, Valued, Scoped, Bound, Paired, Changed, Ran, Refused}
 use Rattle.just_run_layers.specs.Steps.{Give, and_then}
 use Rattle.just_recipe_body.specs.Attributes.{continues_on}
-use Rattle.just_recipe_body.specs.Body.{BodyContents, directory_steps, environment_steps, format_steps, given, line_steps, show_steps, time_steps}
+use Rattle.just_recipe_body.specs.Body.{BodyContents, directory_steps, environment_steps, format_steps, given, line_steps, time_steps}
 use Rattle.just_recipe_body.specs.Judging.{judged, no_marks}
 use Rattle.just_recipe_body.specs.declared.judging.Program.TheVariants as program
 use Rattle.just_script_body.specs.Executors.{executor_of}

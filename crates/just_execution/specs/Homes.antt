@@ -19,7 +19,7 @@ use Rattle.just_run_layers.specs.Covering.{Covers, module_of}
 use Rattle.just_run_layers.specs.declared.held.Held.{Held}
 use Rattle.just_execution.specs.declared.scopes.ModuleScope.{ModuleScope}
 use Rattle.just_execution.specs.declared.task.Task.{Task}
-use Rattle.just_execution.specs.Unready.{LeadTo}
+use Rattle.just_execution.specs.Leading.{LeadTo}
 
 -- the modules of a run, by their paths
 abbrev pub Modules : Type 0

@@ -1,5 +1,5 @@
 -- Pairs and tasks, and the dependencies of recipes: those that run before one, and those that run after it.
-use Rattle.std.specs.Prelude.{ℕ, zero, suc, ◌==◌, ◌&&◌, ◌||◌, ◌<◌, Bool, true, false, List, [], ◌∷◌, map, take, drop, nat_eq}
+use Rattle.std.specs.Prelude.{ℕ, zero, suc, ◌==◌, ◌&&◌, ◌||◌, ◌<◌, Bool, false, List, [], ◌∷◌, take, drop, nat_eq}
 use Rattle.std.specs.List.{All}
 use Rattle.std.specs.Cmp.Lexicographic.{pointwise}
 use Rattle.just_recipe.specs.declared.dependency.Dependency.{Dependency}

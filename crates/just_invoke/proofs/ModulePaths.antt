@@ -37,7 +37,7 @@ own_paths recipes root closed i j here there same =
 -- and there is a scene of the root
 abbrev bare_found : Front → Option Justfile → Option ModuleContents
 bare_found front None = None
-bare_found front (Some j) = Some (bare_contents front j)
+bare_found front (Some j) = Some (bare_contents front.handed j)
 
 abbrev contents_under : Front → Justfile → Option Modulepath → Option ModuleContents
 contents_under front root None = None
@@ -45,6 +45,6 @@ contents_under front root (Some path) = bare_found front (at_path root path)
 
 pub scene_there : (front : Front) (recipes : List (Recipe Dependency)) (root : Justfile) → AreClosed recipes root → (scene : Scene) × IsSceneOf front root recipes scene
 scene_there front recipes root closed = (
-  record { recipes = recipes; modules = contents_under front root },
-  record { held = refl; modules = λ j stands. ap (bare_found front) (found_at recipes root j closed stands) },
+  record { syntax = front.syntax; recipes = recipes; modules = contents_under front root },
+  record { syntax = refl; held = refl; modules = λ j stands. ap (bare_found front) (found_at recipes root j closed stands) },
 )

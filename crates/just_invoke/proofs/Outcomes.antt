@@ -20,12 +20,11 @@ use Rattle.just_execution.specs.declared.running.Report.{Report}
 use Rattle.just_execution.specs.Reports.{IsAsExpected, Starts}
 use Rattle.just_execution.specs.Scene.{AreAlike, Scene}
 use Rattle.just_execution.proofs.Scenes.{same-expected, same-start}
-use Rattle.just_execution.specs.Unready.{IsUnready, AreReady}
 use Rattle.just_execution.specs.declared.task.Task.{Task}
 use Rattle.just_justfile.specs.declared.justfile.Justfile.{Justfile}
 use Rattle.just_invoke.specs.Cause as cause
-use Rattle.just_invoke.specs.Going.{RunsIn, TasksComeTo, IsHindered}
-use Rattle.just_invoke.specs.Outcome.{tops, Refuses, fault, excess, variables, not_yet, memory, MayRun, IsOutcome, refused, ran}
+use Rattle.just_invoke.specs.Going.{RunsIn, TasksComeTo}
+use Rattle.just_invoke.specs.Outcome.{tops, Refuses, fault, excess, variables, memory, MayRun, IsOutcome, refused, ran}
 use Rattle.just_invoke.specs.Scopes.{Front, IsSceneOf}
 use Rattle.just_invoke.specs.Split.{Counts, Invoked, IsSplit, IsFault}
 use Rattle.just_invoke.specs.Variables.{SomeVariable, IsHeldBack}
@@ -75,10 +74,6 @@ module _ (counts : Counts) (root : Justfile) (recipes : List (Recipe Dependency)
       (invoked : List Invoked) → MayRun counts root recipes words config.one invoked → IsSo front p q root recipes invoked old old r
   unread-so e x h r is p q old invoked may = subst (λ r. IsSo front p q root recipes invoked old old r) (sym (answered r e is)) (unread-expected e x h p q invoked may.split old)
 
-  -- what leads to a recipe that cannot be run is not ready
-  not-ready : (invoked : List Invoked) (name : List ℕ) → IsUnready recipes (tops recipes invoked) name → AreReady recipes (tops recipes invoked) → ⊥
-  not-ready invoked name (place, recipe, led, at, unready, is) ready = true≢false (sym unready ∙ ready place recipe led at)
-
   -- where there is a variable
   module _ (invoked : List Invoked) (split : IsSplit counts root recipes words invoked) (few : config.one ≡ true → length invoked ≤ 1) (old : Kept) where
     held-back : (e : Error) → IsHeldBack root invoked e → Refuses counts root recipes words config.one e
@@ -101,27 +96,17 @@ module _ (counts : Counts) (root : Justfile) (recipes : List (Recipe Dependency)
 
   module _ (p : Inquiry → Option Answer) (q : Entry → Option Answer) (invoked : List Invoked) (split : IsSplit counts root recipes words invoked) (few : config.one ≡ true → length invoked ≤ 1) (plain : SomeVariable root → ⊥)
       (old new : Kept) (result : Result Report Error) where
-    stopped : (e : Error) → IsHindered recipes (tops recipes invoked) e → Refuses counts root recipes words config.one e
-    stopped e (inl is) = subst (Refuses counts root recipes words config.one) (sym is) memory
-    stopped e (inr (name, is, unready)) = subst (Refuses counts root recipes words config.one) (sym is) (not_yet name invoked split few unready)
-
     pub went : TasksComeTo p q (IsSceneOf front root recipes) recipes (tops recipes invoked) old new result → IsOutcome counts root recipes words config front p q old new result
-    went (inl (e, is, stops, same)) = refused e is (stopped e stops) same
-    went (inr (ready, ended, is, run, runs)) = ran invoked ended (record { split = split; few = few; plain = plain; ready = ready }) is run (λ scene fits. (runs scene fits).taken)
+    went (inl (is, same)) = refused Memory is memory same
+    went (inr (ended, is, run, runs)) = ran invoked ended (record { split = split; few = few; plain = plain }) is run (λ scene fits. (runs scene fits).taken)
 
-    stopped-expected : (e : Error) → IsHindered recipes (tops recipes invoked) e → AreReady recipes (tops recipes invoked) → result ≡ Err e → new ≡ old → IsSo front p q root recipes invoked old new result
-    stopped-expected e (inl is) ready answer same =
-        subst (λ r. IsSo front p q root recipes invoked old new r) (sym (answer ∙ ap (λ e. Err e) is)) (subst (λ n. IsSo front p q root recipes invoked old n (Err Memory)) (sym same) (out p q invoked old))
-    stopped-expected e (inr (name, is, unready)) ready answer same = absurd (not-ready invoked name unready ready)
-
-    went-so : AreReady recipes (tops recipes invoked) → TasksComeTo p q (IsSceneOf front root recipes) recipes (tops recipes invoked) old new result → IsSo front p q root recipes invoked old new result
-    went-so ready (inl (e, is, stops, same)) = stopped-expected e stops ready is same
-    went-so ready (inr (all, ended, is, run, runs)) = (ended, is, λ scene fits. (runs scene fits).expected)
+    went-so : TasksComeTo p q (IsSceneOf front root recipes) recipes (tops recipes invoked) old new result → IsSo front p q root recipes invoked old new result
+    went-so (inl (is, same)) =
+        subst (λ r. IsSo front p q root recipes invoked old new r) (sym is) (subst (λ n. IsSo front p q root recipes invoked old n (Err Memory)) (sym same) (out p q invoked old))
+    went-so (inr (ended, is, run, runs)) = (ended, is, λ scene fits. (runs scene fits).expected)
 
     pub went-expected : TasksComeTo p q (IsSceneOf front root recipes) recipes (tops recipes invoked) old new result → (others : List Invoked) → MayRun counts root recipes words config.one others → IsSo front p q root recipes others old new result
-    went-expected goes others may =
-        let same : invoked ≡ others = split_once counts root recipes words invoked others split may.split in
-        subst (λ is. IsSo front p q root recipes is old new result) same (went-so (subst (λ is. AreReady recipes (tops recipes is)) (sym same) may.ready) goes)
+    went-expected goes others may = subst (λ is. IsSo front p q root recipes is old new result) (split_once counts root recipes words invoked others split may.split) (went-so goes)
 
   -- several invocations where one alone is allowed
   module _ (invoked : List Invoked) (split : IsSplit counts root recipes words invoked) (alone : config.one ≡ true) (n : ℕ) (count : n ≡ length invoked) (several : 1 < n) where
@@ -137,8 +122,8 @@ module _ (counts : Counts) (root : Justfile) (recipes : List (Recipe Dependency)
 -- what holds in each scene holds in some of them
 pub in-fewer : (p : Inquiry → Option Answer) (q : Entry → Option Answer) (IsSuch IsOther : Scene → Type 0) (recipes : List (Recipe Dependency)) (ts : List Task) (old new : Kept) (result : Result Report Error) →
     ((scene : Scene) → IsOther scene → IsSuch scene) → TasksComeTo p q IsSuch recipes ts old new result → TasksComeTo p q IsOther recipes ts old new result
-in-fewer p q IsSuch IsOther recipes ts old new result some (inl hindered) = inl hindered
-in-fewer p q IsSuch IsOther recipes ts old new result some (inr (ready, ended, is, run, runs)) = inr (ready, ended, is, run, λ scene fits. runs scene (some scene fits))
+in-fewer p q IsSuch IsOther recipes ts old new result some (inl stopped) = inl stopped
+in-fewer p q IsSuch IsOther recipes ts old new result some (inr (ended, is, run, runs)) = inr (ended, is, run, λ scene fits. runs scene (some scene fits))
 
 -- a run of these tasks in a scene is one in each that is alike
 pub runs-alike : (p : Inquiry → Option Answer) (q : Entry → Option Answer) (ts us : List Task) → ts ≡ us → (old new : Kept) (ended : Result Report Halt) (first second : Scene) → AreAlike first second →

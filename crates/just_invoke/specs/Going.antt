@@ -1,10 +1,9 @@
 -- For the private functions: what the run of tasks comes to.
-use Rattle.std.specs.Prelude.{◌≡◌, ◌⊎◌, ℕ, List, Option, Result, Err}
+use Rattle.std.specs.Prelude.{◌≡◌, ◌⊎◌, List, Option, Result, Err}
 use Rattle.just_run_layers.specs.Steps.{Kept}
 use Rattle.just_recipe.specs.declared.dependency.Dependency.{Dependency}
 use Rattle.just_errors.specs.declared.error.Error.{Error}
-use Rattle.just_errors.specs.declared.error.Error.TheVariants.{Run, Memory}
-use Rattle.just_errors.specs.declared.run_error.RunError.TheVariants.{NotYet}
+use Rattle.just_errors.specs.declared.error.Error.TheVariants.{Memory}
 use Rattle.just_errors.specs.declared.halt.Halt.{Halt}
 use Rattle.just_run_layers.specs.declared.host.Entry.{Entry}
 use Rattle.just_recipe.specs.declared.recipe.Recipe.{Recipe}
@@ -15,24 +14,19 @@ use Rattle.just_execution.specs.declared.running.Report.{Report}
 use Rattle.just_execution.specs.declared.task.Task.{Task}
 use Rattle.just_execution.specs.Reports.{IsRun, IsAsExpected, Starts}
 use Rattle.just_execution.specs.Scene.{Scene}
-use Rattle.just_execution.specs.Unready.{IsUnready, AreReady}
 use Rattle.just_invoke.specs.declared.invocation.Invocation.{Invocation}
 use Rattle.just_invoke.specs.Outcome.{tops_of}
-
--- why tasks are not run: memory is refused, or they lead to a recipe that cannot be run yet
-abbrev pub IsHindered : List (Recipe Dependency) → List Task → Error → Type 0
-IsHindered recipes ts e = (e ≡ Memory) ⊎ ((name : List ℕ) × (e ≡ Run (NotYet name)) × IsUnready recipes ts name)
 
 -- a run in a scene: its steps were taken, and it is as is expected
 pub record RunsIn (evaluator : Inquiry → Option Answer) (host : Entry → Option Answer) (scene : Scene) (ts : List Task) (old new : Kept) (ended : Result Report Halt) : Type 0 where
   pub taken : Starts evaluator host scene ts old new ended
   pub expected : IsAsExpected evaluator host scene ts old new ended
 
--- tasks are not run, and what is kept is as it was; or they are, in each such scene
+-- tasks are not run for want of memory, and what is kept is as it was; or they are, in each such scene
 abbrev pub TasksComeTo : (Inquiry → Option Answer) → (Entry → Option Answer) → (Scene → Type 0) → List (Recipe Dependency) → List Task → Kept → Kept → Result Report Error → Type 0
 TasksComeTo evaluator host IsSuch recipes ts old new result =
-    ((e : Error) × (result ≡ Err e) × IsHindered recipes ts e × (new ≡ old))
-    ⊎ (AreReady recipes ts × (ended : Result Report Halt) × (result ≡ come_to ended)
+    ((result ≡ Err Memory) × (new ≡ old))
+    ⊎ ((ended : Result Report Halt) × (result ≡ come_to ended)
     × IsRun recipes ts old new ended × ((scene : Scene) → IsSuch scene → RunsIn evaluator host scene ts old new ended))
 
 -- likewise of invocations

@@ -18,7 +18,6 @@ use Rattle.just_execution.specs.Pairs.{task}
 use Rattle.just_recipes.specs.Places.{place_of}
 use Rattle.just_execution.specs.Reports.{IsRun, IsAsExpected, Starts}
 use Rattle.just_execution.specs.Scene.{Scene}
-use Rattle.just_execution.specs.Unready.{IsUnready, AreReady}
 use Rattle.just_invoke.specs.declared.invocation.Invocation as parsed
 use Rattle.just_justfile.specs.declared.justfile.Justfile.{Justfile}
 use Rattle.just_invoke.specs.Cause.{Cause, cause_of}
@@ -39,24 +38,20 @@ abbrev pub tops_of : List (Recipe Dependency) → List parsed.Invocation → Lis
 tops_of recipes invocations = tops recipes (map invoked_of invocations)
 
 -- Why words are not run, where one invocation alone is allowed or not: they have a fault; they are several; the root or a module in it has a
--- variable, of which the first recipe's name tells; they lead to a recipe that cannot be run yet; or memory is refused.
+-- variable, of which the first recipe's name tells; or memory is refused.
 pub data Refuses (counts : Counts) (root : Justfile) (recipes : List (Recipe Dependency)) (words : List (List ℕ)) (one : Bool) : Error → Type 0 where
   fault : (e : Error) (c : Cause) → cause_of e ≡ Some c → IsFault counts root recipes words c → Refuses counts root recipes words one e
   excess : (invoked : List Invoked) → IsSplit counts root recipes words invoked → one ≡ true → 1 < length invoked →
       Refuses counts root recipes words one (Run (ExcessInvocations (length invoked)))
   variables : (first : Invoked) (rest : List Invoked) → IsSplit counts root recipes words (first ∷ rest) → (one ≡ true → length (first ∷ rest) ≤ 1) →
       SomeVariable root → Refuses counts root recipes words one (Run (NotYet (name_of first.recipe)))
-  not_yet : (name : List ℕ) (invoked : List Invoked) → IsSplit counts root recipes words invoked → (one ≡ true → length invoked ≤ 1) →
-      IsUnready recipes (tops recipes invoked) name → Refuses counts root recipes words one (Run (NotYet name))
   memory : Refuses counts root recipes words one Memory
 
--- words that may be run: they are these invocations, one where one alone is allowed, neither the root nor a module in it has a variable, and
--- what they lead to can be run
+-- words that may be run: they are these invocations, one where one alone is allowed, and neither the root nor a module in it has a variable
 pub record MayRun (counts : Counts) (root : Justfile) (recipes : List (Recipe Dependency)) (words : List (List ℕ)) (one : Bool) (invoked : List Invoked) : Type 0 where
   pub split : IsSplit counts root recipes words invoked
   pub few : one ≡ true → length invoked ≤ 1
   pub plain : SomeVariable root → ⊥
-  pub ready : AreReady recipes (tops recipes invoked)
 
 -- The words are refused, and what is kept is as it was; or they may be run, and are: the steps of the run were taken, in each scene of the root.
 pub data IsOutcome (counts : Counts) (root : Justfile) (recipes : List (Recipe Dependency)) (words : List (List ℕ)) (config : Config) (front : Front)

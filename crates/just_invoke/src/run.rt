@@ -19,6 +19,7 @@ pub trait Run<'src> {
     ghost use Rattle.std.specs.Prelude.{◌≡◌};
     ghost use Rattle.just_parts.specs.Evaluator.{count_fault_of};
     ghost use Rattle.just_run_layers.specs.Host.{KeepsPromises};
+    ghost use Rattle.just_run_layers.specs.LineTexts.{AgreesWith};
     ghost use Rattle.just_run_layers.specs.Steps.{kept_by};
     ghost use Rattle.just_names.specs.Texts.{texts};
     ghost use Rattle.just_justfile.specs.Closed.{IsRooted};
@@ -29,14 +30,15 @@ pub trait Run<'src> {
     ghost root: { Self → Justfile };
 
     /// Runs what the words mean: each invocation in turn under one once table, where a recipe with equal arguments runs
-    /// once, its prior dependencies before it, and its subsequent ones after it under a table of their own. The run ends
-    /// at the first step that fails, with its error. Where the words are refused, or can't be run yet, the host is left as
-    /// it was.
+    /// once, its prior dependencies before it, and its subsequent ones after it under a table of their own. A recipe that
+    /// runs is asked for its parameters, its confirmation and the arguments of its dependencies; then it begins, and its
+    /// body runs. The run ends at the first step that fails, with its error. Where the words are refused, or can't be run
+    /// yet, the host is left as it was.
     ///
-    /// `NotYet` comes where the module or one in it has a variable, with the name of the first recipe that the words mean,
-    /// and where they lead to a recipe with a line or an attribute, with that recipe's name. It comes after
-    /// `ExcessInvocations`. `Evaluate` comes where the evaluation has no value of a parameter or of an argument of a
-    /// dependency.
+    /// `NotYet` comes where the module or one in it has a variable, with the name of the first recipe that the words mean.
+    /// It comes after `ExcessInvocations`. `Evaluate` comes where the evaluation has no value of what it is asked.
+    ///
+    /// The evaluation takes the lines of bodies as the grammar does: which sigils they begin with, and which go on.
     ///
     /// The writer is asked nothing yet.
     fn run<S: Syntax, E: Evaluation, H: Host, W: Output>(
@@ -51,7 +53,8 @@ pub trait Run<'src> {
         words: &[&str],
         overrides: &HashMap<Number, Text>,
     ) -> Result<Report, Error<'src>>
-        requires { IsRooted (root self.now) recipes.now }
+        requires rooted { IsRooted (root self.now) recipes.now }
+        requires same { AgreesWith E.sigils E.continues (S.answers syntax.now) }
         // Promises are kept.
         ensures keeps { KeepsPromises (E.promised evaluation.old) (E.promised evaluation.new) }
         ensures keeps_host { KeepsPromises (H.promised host.old) (H.promised host.new) }
@@ -59,12 +62,12 @@ pub trait Run<'src> {
         ensures outcome { let counts = count_fault_of (E.answers evaluation.old) in
             let first = kept_by (H.entries host.old) (E.requests evaluation.old) in
             let last = kept_by (H.entries host.new) (E.requests evaluation.new) in
-            let front = front_of config.now overrides.now in
+            let front = front_of (S.answers syntax.now) config.now overrides.now in
             let outcome = IsOutcome counts (root self.now) recipes.now (texts words.now) config.now front (E.promised evaluation.old) (H.promised host.old) in
             outcome first last result }
         // For promised answers.
         ensures expected { let counts = count_fault_of (E.answers evaluation.old) in
-            let front = front_of config.now overrides.now in
+            let front = front_of (S.answers syntax.now) config.now overrides.now in
             let expected = IsExpected counts (root self.now) recipes.now (texts words.now) config.now front (E.promised evaluation.old) (H.promised host.old) in
             let first = kept_by (H.entries host.old) (E.requests evaluation.old) in
             let last = kept_by (H.entries host.new) (E.requests evaluation.new) in

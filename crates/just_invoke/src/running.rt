@@ -1,5 +1,6 @@
 ghost use Rattle.std.specs.List.{All};
 ghost use Rattle.just_run_layers.specs.Host.{KeepsPromises};
+ghost use Rattle.just_run_layers.specs.LineTexts.{AgreesWith};
 ghost use Rattle.just_recipe.specs.Recipes.{IsResolved};
 ghost use Rattle.just_run_layers.specs.Steps.{kept_by};
 ghost use Rattle.just_invoke.specs.declared.invocation.Invocation.{Invocation};
@@ -10,14 +11,13 @@ ghost use Rattle.just_invoke.specs.Going.{ComesTo};
 
 use crate::invocation::Invocation;
 use crate::naming::name_tops;
-use just_execution::{Report, Scopes, find_unready, run_tasks};
-use just_parts::layers::{Error, RunError, Syntax};
+use just_execution::{Report, Scopes, run_tasks};
+use just_parts::layers::{Error, Syntax};
 use just_recipes::Recipes;
 use just_run_layers::{Evaluation, Host};
 use std::alloc::Global;
 
-/// Runs the invocations under one once table, each recipe in its module. Where a recipe that they lead to cannot be run
-/// yet, nothing is run.
+/// Runs the invocations under one once table, each recipe in its module.
 pub(crate) fn run_invocations<'src, S: Syntax, E: Evaluation, H: Host>(
     alloc: Global,
     recipes: &Recipes<'src>,
@@ -26,6 +26,7 @@ pub(crate) fn run_invocations<'src, S: Syntax, E: Evaluation, H: Host>(
     host: &mut H,
     invocations: &[Invocation<'_, 'src, '_>],
 ) -> Result<Report, Error<'src>>
+    requires same { AgreesWith E.sigils E.continues (S.answers scopes.now.syntax.now) }
     requires resolved { All IsResolved recipes.now }
     requires among { All (IsAmong scopes.now.modules) recipes.now }
     requires held { All (λ (i : Invocation). IsHeld recipes.now i.recipe.now) invocations.now }
@@ -33,12 +34,9 @@ pub(crate) fn run_invocations<'src, S: Syntax, E: Evaluation, H: Host>(
     ensures keeps_host { KeepsPromises (H.promised host.old) (H.promised host.new) }
     ensures comes { let first = kept_by (H.entries host.old) (E.requests evaluation.old) in
         let last = kept_by (H.entries host.new) (E.requests evaluation.new) in
-        let alike = AreAlike (scene_of scopes.now.modules recipes.now) in
+        let alike = AreAlike (scene_of (S.answers scopes.now.syntax.now) scopes.now.modules recipes.now) in
         ComesTo (E.promised evaluation.old) (H.promised host.old) alike recipes.now invocations.now first last result }
 {
     let tops = name_tops(alloc, recipes, invocations)?;
-    if let Some(recipe) = find_unready(alloc, recipes, &tops)? {
-        return Err(Error::Run(RunError::NotYet { recipe }));
-    }
     Ok(run_tasks(alloc, recipes, scopes, evaluation, host, tops)?)
 }

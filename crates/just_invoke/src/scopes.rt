@@ -1,6 +1,6 @@
 //! The modules of a run.
 ghost use Rattle.std.specs.Prelude.{◌≡◌, IfOk};
-ghost use Rattle.just_invoke.specs.Scopes.{HasScopes, HaveOwnPaths, IsScopeOf, front_of};
+ghost use Rattle.just_invoke.specs.Scopes.{HasScopes, HaveOwnPaths, IsScopeOf, handed_of};
 
 use crate::modules::modules_in;
 use just_data::{Chain, Text};
@@ -19,7 +19,7 @@ fn bare_scope<'run, 'src>(
     module: &'run Justfile<'src>,
     overrides: &'run HashMap<Number, Text>,
 ) -> ModuleScope<'run, 'src>
-    ensures { IsScopeOf (front_of config.now overrides.now) «module».now result }
+    ensures { IsScopeOf (handed_of config.now overrides.now) «module».now result }
 {
     ModuleScope {
         context: Context {
@@ -48,7 +48,7 @@ fn bare_modules<'run, 'src>(
     overrides: &'run HashMap<Number, Text>,
 ) -> Result<HashMap<Modulepath, ModuleScope<'run, 'src>>, AllocError>
     requires { HaveOwnPaths root.now }
-    ensures { IfOk result (HasScopes (front_of config.now overrides.now) root.now) }
+    ensures { IfOk result (HasScopes (handed_of config.now overrides.now) root.now) }
 {
     let mut modules = HashMap::new(alloc);
     for module in modules_in(alloc, root)? {
@@ -67,7 +67,7 @@ pub(crate) fn bare_scopes<'run, 'src, S: Syntax>(
     overrides: &'run HashMap<Number, Text>,
 ) -> Result<Scopes<'run, 'src, S>, AllocError>
     requires { HaveOwnPaths root.now }
-    ensures modules { IfOk result (λ scopes. HasScopes (front_of config.now overrides.now) root.now scopes.modules) }
+    ensures modules { IfOk result (λ scopes. HasScopes (handed_of config.now overrides.now) root.now scopes.modules) }
     ensures syntax { IfOk result (λ scopes. scopes.syntax.now ≡ syntax.now) }
 {
     Ok(Scopes {

@@ -10,13 +10,12 @@ use Rattle.just_parts.specs.Layers.{IsByDefault}
 use Rattle.just_loader.specs.Reached.{world_of}
 use Rattle.just_loader.specs.Sources.{Files, text_at}
 use Rattle.just_compiler.specs.Compiled.{Compilation, Compiles}
-use Rattle.just_invoke.specs.Scopes.{front_of}
 use Rattle.just_bench_syntax.specs.Answers.{answers}
 use Rattle.just_bench_values.specs.Constants.{evaluator}
 use Rattle.just_bench_bundle.specs.Bundle.{HoldsBundle, IsNoBundle}
 use Rattle.just_bench_bundle.specs.Near.{paths_like}
 use Rattle.just_bench.specs.Entries.{entry_lines}
-use Rattle.just_bench.specs.Ran.{IsRunFault, Ran}
+use Rattle.just_bench.specs.Ran.{IsRunFault, Ran, plain_front}
 use Rattle.just_bench.specs.declared.program_error.ProgramError.{ProgramError}
 use Rattle.just_bench.specs.declared.program_error.ProgramError.TheVariants as program
 
@@ -30,7 +29,7 @@ pub record RunsOver (files : Files) (root : Text) (words : List Text) : Type 0 w
   pub plain : IsByDefault config
   pub compilation : Compilation
   pub compiled : Comes files config root (Ok compilation)
-  pub ran : Ran compilation.justfile compilation.recipes config (front_of config compilation.overrides) words
+  pub ran : Ran compilation.justfile compilation.recipes config (plain_front config compilation.overrides) words
 
 -- they ran, and what is written is a line for each recipe that began
 pub record IsDoneOver (files : Files) (root : Text) (words : List Text) (old new : Option (List ℕ)) : Type 0 where

@@ -4,9 +4,8 @@ ghost use Rattle.std.specs.Io.KnownBytes.{Appends};
 ghost use Rattle.just_analyzer.specs.Words.{IsClean, IsRooted, texts};
 ghost use Rattle.just_names.specs.Texts.{Text};
 ghost use Rattle.just_loader.specs.Sources.{text_at};
-ghost use Rattle.just_invoke.specs.Scopes.{front_of};
 ghost use Rattle.just_bench.specs.Entries.{entry_lines};
-ghost use Rattle.just_bench.specs.Ran.{IsRunFault, Ran};
+ghost use Rattle.just_bench.specs.Ran.{IsRunFault, Ran, plain_front};
 ghost use Rattle.justrun_program.specs.Answers.{Comes, HasRun, IsDone, IsDoneOver, IsFault, IsFaultOver};
 
 use just_analyzer::layers::{Config, Error};
@@ -53,10 +52,10 @@ fn run_compiled<'src, W: Write>(
     output: &mut W,
 ) -> Result<(), ProgramError<'src>>
     requires { IsRooted compilation.now.justfile compilation.now.recipes }
-    ensures done { let front = front_of config.now compilation.now.overrides in
+    ensures done { let front = plain_front config.now compilation.now.overrides in
         let ran = Ran compilation.now.justfile compilation.now.recipes config.now front (texts words.now) in
         OnOk result ((r : ran) × IsOk r.result × Appends (W.contents output.old) (W.contents output.new) (entry_lines r.entries)) }
-    ensures fault { let front = front_of config.now compilation.now.overrides in
+    ensures fault { let front = plain_front config.now compilation.now.overrides in
         let ran = Ran compilation.now.justfile compilation.now.recipes config.now front (texts words.now) in
         IfErr result (λ e. (r : ran) × IsRunFault r.result e) }
 {

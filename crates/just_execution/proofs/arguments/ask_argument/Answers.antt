@@ -1,8 +1,8 @@
-use Rattle.std.proofs.Common.{[], sym, ap, subst, rules}
+use Rattle.std.proofs.Common.{[], sym, subst, rules}
 use Rattle.just_errors.specs.declared.halt.Halt.TheVariants.{Memory}
 use Rattle.just_run_layers.specs.Evaluation.{surroundings}
 use Rattle.just_run_layers.specs.Steps.{Give}
-use Rattle.just_run_layers.proofs.StepLemmas.{exited, keeps-self}
+use Rattle.just_run_layers.proofs.StepLemmas.{exited}
 use Rattle.just_execution.specs.Arguments.{argument_steps, texts_given, value_steps}
 use Rattle.just_execution.specs.Leaves.{AsksAlone}
 use Rattle.just_execution.proofs.Gathered.{alone-give, alone-out, alone-stop, alone-then}

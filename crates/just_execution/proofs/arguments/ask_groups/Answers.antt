@@ -1,13 +1,12 @@
-use Rattle.std.proofs.Common.{◌≡◌, ◌++◌, ◌+◌, ◌∷◌, List, [], Ok, Err, sym, ap, subst, ◌∙◌, arith, rules}
+use Rattle.std.proofs.Common.{◌≡◌, ◌++◌, ◌+◌, ◌∷◌, List, [], sym, subst, ◌∙◌, arith, rules}
 use Rattle.just_errors.specs.declared.halt.Halt.TheVariants.{Memory}
 use Rattle.just_names.specs.Texts.{Text}
-use Rattle.just_recipe.specs.declared.dependency.DependencyArgument.{DependencyArgument}
 use Rattle.just_run_layers.specs.Covering.{module_of}
 use Rattle.just_run_layers.specs.Evaluation.{surroundings}
 use Rattle.just_run_layers.proofs.StepLemmas.{exited, keeps-self, keeps-then}
-use Rattle.just_execution.specs.Arguments.{AreReadable, group_steps, groups_steps, texts_steps}
+use Rattle.just_execution.specs.Arguments.{AreReadable, group_steps, groups_steps}
 use Rattle.just_execution.specs.Leaves.{AsksAlone}
-use Rattle.just_execution.proofs.Gathered.{Continues, alone-map, alone-stop, gathered-all, gathered-next, gathered-out, gathered-start, gathered-stop}
+use Rattle.just_execution.proofs.Gathered.{Continues, gathered-all, gathered-next, gathered-out, gathered-start, gathered-stop}
 use Rattle.just_execution.proofs.Asked.{group-failed, group-given}
 use Rattle.just_execution.proofs.arguments.ask_groups.Goals as goal
 

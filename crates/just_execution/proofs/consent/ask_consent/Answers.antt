@@ -1,4 +1,4 @@
-use Rattle.std.proofs.Common.{◌≡◌, Bool, true, false, Option, Ok, Err, cond, sym, subst, ◌∙◌}
+use Rattle.std.proofs.Common.{◌≡◌, true, false, Option, Ok, Err, cond, sym, subst, ◌∙◌}
 use Rattle.std.specs.Prelude.{Result, flat_map}
 use Rattle.std.proofs.lemmas.Bool.{cond-false}
 use Rattle.just_errors.specs.declared.halt.Halt.{Halt}

@@ -1,4 +1,4 @@
-use Rattle.std.proofs.Common.{sym, ◌∙◌, subst, map, take, List}
+use Rattle.std.proofs.Common.{sym, ◌∙◌, subst, take}
 use Rattle.std.specs.List.{All, Contains}
 use Rattle.std.proofs.lemmas.List.Elements.{All-take}
 use Rattle.just_recipe.specs.declared.dependency.Dependency.{Dependency}

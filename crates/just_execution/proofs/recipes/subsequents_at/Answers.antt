@@ -1,4 +1,4 @@
-use Rattle.std.proofs.Common.{sym, ◌∙◌, subst, map, drop, List}
+use Rattle.std.proofs.Common.{sym, ◌∙◌, subst, drop}
 use Rattle.std.specs.List.{All, Contains}
 use Rattle.std.proofs.lemmas.List.Elements.{All-drop}
 use Rattle.just_recipe.specs.declared.dependency.Dependency.{Dependency}

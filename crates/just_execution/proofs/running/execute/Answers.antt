@@ -1,6 +1,5 @@
-use Rattle.std.proofs.Common.{◌≡◌, List, Option, Some, Ok, sym, subst}
+use Rattle.std.proofs.Common.{List, Option, Some, Ok, sym, subst}
 use Rattle.std.specs.Prelude.{Result}
-use Rattle.std.specs.List.{slice_get}
 use Rattle.just_errors.specs.declared.halt.Halt.{Halt}
 use Rattle.just_paths.specs.declared.modulepath.Modulepath.{Modulepath}
 use Rattle.just_recipe.specs.Recipes.{IsResolved}

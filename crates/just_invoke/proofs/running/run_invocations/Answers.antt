@@ -9,7 +9,6 @@ run_tasks-requires-clause-home g c =
 
 pub returns-in_err-run_tasks-clause-comes : goal.returns-in_err-run_tasks-clause-comes
 returns-in_err-run_tasks-clause-comes g c = inr (
-  search rules,
   Err c.in_err-run_tasks.field-0.0,
   search rules,
   search rules,
@@ -19,7 +18,6 @@ returns-in_err-run_tasks-clause-comes g c = inr (
 
 pub returns-clause-comes : goal.returns-clause-comes
 returns-clause-comes g c = inr (
-  search rules,
   Ok c.in_ok-run_tasks.field-0,
   search rules,
   search rules,

@@ -1,4 +1,4 @@
-use Rattle.std.proofs.Common.{◌++◌, ◌∷◌, [], List, Option, Ok, arith, refl, false}
+use Rattle.std.proofs.Common.{◌++◌, ◌+◌, ℕ, drop, ◌∷◌, [], List, Option, Ok, arith, refl, false}
 use Rattle.just_ast_definitions.specs.declared.line.Line.{Line}
 use Rattle.just_names.specs.Texts.{Text}
 use Rattle.just_run_layers.specs.Host.{Answer}
@@ -9,8 +9,8 @@ use Rattle.just_recipe_body.proofs.StepEnds.{took-exit, took-gone}
 use Rattle.just_script_body.proofs.ScriptLemmas.{behind_steps, no-line, of-line, of-texts, took-none, took-one}
 use Rattle.just_script_body.proofs.lines.ask_texts.Goals as goal
 
-abbrev next : BodyContents → List Text → List Line → Text → Steps (List Text)
-next b done lines text = behind_steps b (done ++ text ∷ []) lines
+abbrev next : BodyContents → List Text → List Line → ℕ → Text → Steps (List Text)
+next b done lines i text = behind_steps b (done ++ text ∷ []) (drop (i + 1) lines)
 
 pub loop-line-init : goal.loop-line-init
 loop-line-init g c = record {
@@ -36,7 +36,7 @@ returns-in_err-text-clause-took g c = λ h entries.
     c.loop-line.invariant.rest h entries _ r
     (took-one p (behind_steps b done) c.args.lines.now c.loop-line.line-index line _ _ r c.loop-line-test.true c.line-item.is
     (of-line p b done line _ _ _ r
-    (took-exit p (line_steps b line false) (next b done _) _ _ c.in_err-text.field-0.0 r c.from_residual.ensures.1 (c.in_err-text.ensures.took h entries))))
+    (took-exit p (line_steps b line false) (next b done c.args.lines.now c.loop-line.line-index) _ _ c.in_err-text.field-0.0 r c.from_residual.ensures.1 (c.in_err-text.ensures.took h entries))))
 
 pub returns-in_err-push-clause-took : goal.returns-in_err-push-clause-took
 returns-in_err-push-clause-took g c = λ h entries.
@@ -49,7 +49,7 @@ returns-in_err-push-clause-took g c = λ h entries.
     c.loop-line.invariant.rest h entries _ r
     (took-one p (behind_steps b done) c.args.lines.now c.loop-line.line-index line _ _ r c.loop-line-test.true c.line-item.is
     (of-line p b done line _ _ _ r
-    (took-then p q (keeps-both _ _ h h c.in_ok-text.ensures.keeps (keeps-self h)) (line_steps b line false) (next b done _) _ _ _ c.in_ok-text.text r (c.in_ok-text.ensures.took h entries)
+    (took-then p q (keeps-both _ _ h h c.in_ok-text.ensures.keeps (keeps-self h)) (line_steps b line false) (next b done c.args.lines.now c.loop-line.line-index) _ _ _ c.in_ok-text.text r (c.in_ok-text.ensures.took h entries)
     (took-gone q _ _ _ r c.from_residual-in_err-push.ensures.1 refl))))
 
 pub loop-line-preserved : goal.loop-line-preserved
@@ -65,7 +65,7 @@ loop-line-preserved g c =
           c.loop-line.invariant.rest h entries new r
           (took-one p (behind_steps b done) c.args.lines.now c.loop-line.line-index line _ new r c.loop-line-test.true c.line-item.is
           (of-line p b done line _ _ new r
-          (took-then p q (keeps-both _ _ h h c.in_ok-text.ensures.keeps (keeps-self h)) (line_steps b line false) (next b done _) _ _ new c.in_ok-text.text r (c.in_ok-text.ensures.took h entries)
+          (took-then p q (keeps-both _ _ h h c.in_ok-text.ensures.keeps (keeps-self h)) (line_steps b line false) (next b done c.args.lines.now c.loop-line.line-index) _ _ new c.in_ok-text.text r (c.in_ok-text.ensures.took h entries)
           (rw c.in_ok-push.ensures.ok at t))));
     }
 
