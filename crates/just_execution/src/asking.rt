@@ -85,7 +85,16 @@ pub fn ask<'src, S: Syntax, E: Evaluation, H: Host>(
     let recipe = recipe_at(recipes, task.pair.recipe);
     let home = module_of(scopes, recipe);
     let held = ask_parameters(alloc, recipe, home, evaluation, task)?;
-    ask_consent(alloc, scopes.syntax, home, recipe, evaluation, host, task, &held)?;
+    ask_consent(
+        alloc,
+        scopes.syntax,
+        home,
+        recipe,
+        evaluation,
+        host,
+        task,
+        &held,
+    )?;
     let named = priors_at(recipes, task.pair.recipe);
     let priors = ask_dependencies(alloc, recipes, evaluation, home, task, &held, named)?;
     Ok(Preparation { held, priors })
