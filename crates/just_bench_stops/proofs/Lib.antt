@@ -1,4 +1,6 @@
+pub mod BadParts
 pub mod Fails
+pub mod Openings
 pub mod Properties
 pub mod Seen
 pub mod Starts
