@@ -6,6 +6,7 @@ pub mod body;
 pub mod definitions;
 pub mod halt;
 pub mod heading;
+pub mod laws;
 pub mod marks;
 pub mod parts;
 pub mod stops;
