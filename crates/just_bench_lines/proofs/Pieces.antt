@@ -95,7 +95,7 @@ twice_front_by byte b c rest false test is = let found = some_of_suc (twice_at b
     never m h = omega (arith, h)
 
 -- two at the front
-twice_front : (byte : ℕ) (bytes : List ℕ) → twice_at byte bytes ≡ Some 0 → (after : List ℕ) × (bytes ≡ byte ∷ byte ∷ after)
+pub twice_front : (byte : ℕ) (bytes : List ℕ) → twice_at byte bytes ≡ Some 0 → (after : List ℕ) × (bytes ≡ byte ∷ byte ∷ after)
 twice_front byte [] is = cc
 twice_front byte (b ∷ []) is = cc
 twice_front byte (b ∷ c ∷ rest) is = twice_front_by byte b c rest (b == byte && c == byte) refl is

@@ -83,9 +83,9 @@ fn closes_at(bytes: &[u8], at: usize) -> bool
     bytes[at + 1] == b'}'
 }
 
-// How many bytes stand before the first `}}` that stands in no quoted text.
+/// How many bytes stand before the first `}}` that stands in no quoted text.
 #[tactic(auto, using(crate::proofs::Closing::closing_start, crate::proofs::Closing::closing_quoted, crate::proofs::Closing::closing_other, crate::proofs::Closing::closing_here, crate::proofs::Closing::closing_past, crate::proofs::Closing::closing_within))]
-fn close_at(bytes: &[u8]) -> Option<usize>
+pub fn close_at(bytes: &[u8]) -> Option<usize>
     ensures is { result ≡ spec.close_at bytes.now }
     ensures within { IfSome result (λ at. at + 2 ≤ length bytes.now) }
 {
@@ -199,9 +199,10 @@ fn interpolation_at<'src>(
     }
 }
 
-// The part of a line that begins at a column.
+/// The part of a line that begins at a column, or `None` where that is an interpolation which nothing ends or in which no
+/// expression stands. The error is want of memory.
 #[tactic(auto, unfolding(crate::specs::Body::part), using(crate::proofs::Bounds::line_ends))]
-fn read_part<'src>(
+pub fn read_part<'src>(
     alloc: Global,
     path: &'src str,
     text: &'src str,

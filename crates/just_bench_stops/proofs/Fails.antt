@@ -1,5 +1,5 @@
 -- Where reading stops in a part.
-use Rattle.std.proofs.Common.{◌≡◌, ℕ, ◌∙◌, ap, Result, Ok, Err}
+use Rattle.std.proofs.Common.{◌≡◌, ℕ, ◌∙◌, ap, Result, Err}
 use Rattle.just_bench_stops.specs.declared.halt.Halt.{Halt}
 use Rattle.just_bench_stops.specs.declared.halt.Halt.TheVariants as halt
 use Rattle.just_bench_stops.specs.Marks.{Goes, goes_on}

@@ -1,6 +1,16 @@
+pub mod Alike
+pub mod BadParts
+pub mod Bracketed
+pub mod Ends
 pub mod Fails
+pub mod Functions
+pub mod Headed
+pub mod Lists
+pub mod Openings
 pub mod Properties
+pub mod Readings
 pub mod Seen
+pub mod Settings
 pub mod Starts
 pub mod Told
 pub mod Walks

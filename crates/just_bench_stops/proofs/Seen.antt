@@ -1,5 +1,5 @@
 -- What was read, with what was seen.
-use Rattle.std.proofs.Common.{◌≡◌, ℕ, List, ap, Result, Ok, Err}
+use Rattle.std.proofs.Common.{ℕ, List, ap, Result, Ok, Err}
 use Rattle.just_bench_expressions.specs.declared.lexer.Lexeme.{Lexeme}
 use Rattle.just_bench_stops.specs.declared.attributes.Seen.{Seen}
 use Rattle.just_bench_stops.specs.declared.halt.Halt.{Halt}

@@ -1,5 +1,5 @@
 -- What is told of a line is a part of it.
-use Rattle.std.proofs.Common.{suc, zero, ◌≡◌, ℕ, ◌+◌, ◌-◌, ◌<◌, ◌≤◌, sym, ap, refl, List, [], ◌∷◌, length, take, drop, Bool, true, false, arith, length-drop, Option, Some, None}
+use Rattle.std.proofs.Common.{suc, zero, ◌≡◌, ℕ, ◌+◌, ◌-◌, ◌<◌, ◌≤◌, refl, List, [], ◌∷◌, length, take, drop, Bool, true, false, arith, length-drop, Option, Some, None}
 use Rattle.std.specs.Prelude.{IfSome, if◌then◌else◌, ◌==◌, ◌&&◌}
 use Rattle.std.specs.List.{prefix_len, position, slice_get}
 use Rattle.std.specs.Option.{option_map}
@@ -13,7 +13,14 @@ use Rattle.just_bench_expressions.specs.declared.lexer.Lexeme.{Lexeme}
 use Rattle.just_bench_expressions.specs.declared.lines.TextLine.{TextLine}
 use Rattle.just_bench_expressions.specs.Lexemes.{is_blank, is_quote, quoted, double_mark, single_mark, mark, first, place, before, lexemes_from, lexemes, lexed_from, lexed_to, past}
 use Rattle.just_bench_expressions.proofs.Lexing.{quote_found}
-use Rattle.just_bench_stops.specs.Stops.{line_stop, lexemes_between, or_nothing, or_rest, rest_of, stop, told_at}
+use Rattle.just_bench_lines.specs.Body.{close_at, part}
+use Rattle.just_bench_lines.proofs.Closing.{closing_within}
+use Rattle.just_bench_stops.specs.Body.{bad_part, body_stop, end_or_line, expression_stop, inner_end, stop_in}
+use Rattle.just_bench_stops.specs.Definitions.{whole_end}
+use Rattle.just_bench_stops.specs.Stops.{line_stop, place_of, stop}
+use Rattle.just_bench_stops.specs.Tokens.{lexemes_between, or_nothing, or_rest, rest_of, told_at}
+use Rattle.just_bench_stops.proofs.BadParts.{bad_part_is}
+use Rattle.just_bench_stops.proofs.Openings.{opens, opens_within}
 
 -- a part of a line
 pub record IsPart (path text : List ℕ) (line : TextLine) (token : Place) : Type 0 where
@@ -68,11 +75,11 @@ from_within zero (b ∷ rest) =
     let beyond : past (first (b ∷ rest)) (λ m. lexed_from m rest) ≤ length rest + 1 = past_within (length rest) (first (b ∷ rest)) (λ m. lexed_from m rest) (λ m. from_within m rest) in
     either_within (is_blank b) (lexed_from 0 rest + 1) (past (first (b ∷ rest)) (λ m. lexed_from m rest)) (length (b ∷ rest)) (omega (arith, more)) (omega (arith, beyond))
 
-lexed_within : (line : TextLine) → lexed_to line 0 (length line.text) ≤ length line.text
+lexed_within : (line : TextLine) (start end : ℕ) → start ≤ end → end ≤ length line.text → (start ≤ lexed_to line start end) × (lexed_to line start end ≤ length line.text)
 unfolding lexed_to
-lexed_within line =
-    let more = from_within 0 (drop 0 (take (length line.text) line.text)) in
-    omega (arith, more, length-drop 0 (take (length line.text) line.text), length-take (length line.text) line.text)
+lexed_within line start end ordered h =
+    let more = from_within 0 (drop start (take end line.text)) in
+    (omega arith, omega (arith, ordered, h, more, length-drop start (take end line.text), length-take end line.text))
 
 module _ (path text : List ℕ) (line : TextLine) where
   abbrev Part : Place → Type 0
@@ -109,9 +116,9 @@ module _ (path text : List ℕ) (line : TextLine) where
       (before_parts at (length (b ∷ rest)) (first (b ∷ rest)) (λ more. lexemes_from (place path text line) (at + 1) more rest) h (first_fits (b ∷ rest))
       (λ more. from_parts (at + 1) more rest (omega (arith, h))))
 
-  lexemes_parts : (end : ℕ) → end ≤ length line.text → IfParts (lexemes path text line 0 end)
+  lexemes_parts : (start end : ℕ) → start ≤ end → end ≤ length line.text → IfParts (lexemes path text line start end)
   unfolding lexemes
-  lexemes_parts end h = from_parts 0 0 (drop 0 (take end line.text)) (omega (arith, h, length-drop 0 (take end line.text), length-take end line.text))
+  lexemes_parts start end ordered h = from_parts start 0 (drop start (take end line.text)) (omega (arith, ordered, h, length-drop start (take end line.text), length-take end line.text))
 
   nothing_parts : (o : Option (List Lexeme)) → IfParts o → Parts (or_nothing o)
   nothing_parts None ps = tt
@@ -125,12 +132,34 @@ module _ (path text : List ℕ) (line : TextLine) where
   rest_part : (at : ℕ) → at ≤ length line.text → Part (rest_of path text line at)
   rest_part at h = record { within = omega (arith, h); is = refl }
 
-  told_part : (end at : ℕ) → end ≤ length line.text → Part (told_at path text line 0 end at)
-  told_part end at h =
-      stands_part (rest_of path text line end) (lexemes_between path text line 0 end) at (rest_part end h)
-      (nothing_parts (lexemes path text line 0 end) (lexemes_parts end h))
+  told_part : (start end at : ℕ) → start ≤ end → end ≤ length line.text → Part (told_at path text line start end at)
+  told_part start end at ordered h =
+      stands_part (rest_of path text line end) (lexemes_between path text line start end) at (rest_part end h)
+      (nothing_parts (lexemes path text line start end) (lexemes_parts start end ordered h))
 
   pub stop_part : IsPart path text line (line_stop path text line)
   unfolding line_stop
   stop_part =
-      told_part (lexed_to line 0 (length line.text)) (stop (lexemes_between path text line 0 (lexed_to line 0 (length line.text)))) (lexed_within line)
+      let w = lexed_within line 0 (length line.text) (omega arith) (omega arith) in
+      told_part 0 (lexed_to line 0 (length line.text)) (stop (lexemes_between path text line 0 (lexed_to line 0 (length line.text)))) w.0 w.1
+
+  -- of a line of a body
+  expression_part : (start end : ℕ) → start ≤ end → end ≤ length line.text → Part (expression_stop path text line start end)
+  unfolding expression_stop
+  expression_part start end ordered h =
+      let w = lexed_within line start end ordered h in
+      told_part start (lexed_to line start end) (place_of (whole_end (lexemes_between path text line start (lexed_to line start end)) 0)) w.0 w.1
+
+  inner_within : (inner : ℕ) (o : Option ℕ) → inner ≤ length line.text → IfSome o (λ n. n + 2 ≤ length (drop inner line.text)) → (inner ≤ end_or_line line inner o) × (end_or_line line inner o ≤ length line.text)
+  inner_within inner None h found = (h, omega arith)
+  inner_within inner (Some n) h found = (omega arith, omega (arith, h, found, length-drop inner line.text))
+
+  in_part : (o : Option ℕ) → IfSome o (λ k. None ≡ part path text line k) → Part (stop_in path text line o)
+  in_part None h = rest_part (length line.text) (omega arith)
+  in_part (Some at) h =
+      let w = inner_within (at + 2) (close_at (drop (at + 2) line.text)) (opens_within line at (opens path text line at h)) (closing_within (drop (at + 2) line.text) (close_at (drop (at + 2) line.text)) refl) in
+      expression_part (at + 2) (inner_end line (at + 2)) w.0 w.1
+
+  pub body_part : (start : ℕ) → IsPart path text line (body_stop path text line start)
+  unfolding body_stop
+  body_part start = in_part (bad_part path text line start) (bad_part_is path text line start)

@@ -1,12 +1,12 @@
 -- The lines of attributes.
-use Rattle.std.specs.Prelude.{◌≡◌, zero, suc, ℕ, ◌+◌, ◌-◌, Bool, true, false, not, ◌&&◌, if◌then◌else◌, List, [], ◌∷◌, drop, codes, is_some, Option, Some, None, Result, Ok, Err}
+use Rattle.std.specs.Prelude.{◌≡◌, zero, suc, ℕ, ◌+◌, ◌-◌, true, false, not, ◌&&◌, if◌then◌else◌, List, [], ◌∷◌, drop, codes, is_some, Option, Some, None, Result, Ok, Err}
 use Rattle.std.specs.Str.{bytes_eq}
 use Rattle.just_names.specs.Token.{lexeme}
 use Rattle.just_names.specs.declared.name.Name.{Name}
 use Rattle.just_bench_expressions.specs.declared.lexer.Lexeme.{Lexeme}
 use Rattle.just_bench_expressions.specs.Expressions.{expression_end}
 use Rattle.just_bench_lines.specs.Attributes.{bare, char_of}
-use Rattle.just_bench_lines.specs.Places.{literal_at, name_at, is_bracket_close, is_bracket_open, is_equals, is_name, is_paren_close, is_paren_open, is_quoted}
+use Rattle.just_bench_lines.specs.Places.{literal_at, name_at, is_bracket_close, is_bracket_open, is_equals, is_paren_close, is_paren_open, is_quoted}
 use Rattle.just_bench_stops.specs.Marks.{goes_on, mark_end, line_end}
 use Rattle.just_bench_stops.specs.Parts.{after_part_end}
 use Rattle.just_bench_stops.specs.declared.attributes.Seen.{Seen}

@@ -1,5 +1,5 @@
 -- The line that a recipe begins with.
-use Rattle.std.specs.Prelude.{ℕ, ◌+◌, ◌==◌, Bool, true, false, if◌then◌else◌, List, length, Result, Ok, Err}
+use Rattle.std.specs.Prelude.{ℕ, ◌+◌, ◌==◌, false, if◌then◌else◌, List, length, Result, Ok}
 use Rattle.just_bench_expressions.specs.declared.lexer.Lexeme.{Lexeme}
 use Rattle.just_bench_lines.specs.Places.{stands, is_at_sign, is_colon, is_name}
 use Rattle.just_bench_stops.specs.Marks.{goes_on, mark_end, line_end}

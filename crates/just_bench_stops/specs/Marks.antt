@@ -1,5 +1,5 @@
 -- How far a line is read, in places among its lexemes. Each part ends at the place after it, or reading stops in it: at the first lexeme that it does not go on with, or at the end of the line where that ends too early.
-use Rattle.std.specs.Prelude.{◌≡◌, ℕ, ◌+◌, ◌==◌, Bool, true, false, if◌then◌else◌, List, length, Option, Some, None, Result, Ok, Err}
+use Rattle.std.specs.Prelude.{◌≡◌, ℕ, ◌+◌, ◌==◌, Bool, if◌then◌else◌, List, length, Option, Some, None, Result, Ok, Err}
 use Rattle.just_names.specs.declared.name.Namepath.{Namepath}
 use Rattle.just_bench_expressions.specs.declared.lexer.Kind.{Kind}
 use Rattle.just_bench_expressions.specs.declared.lexer.Lexeme.{Lexeme}

@@ -1,16 +1,16 @@
 -- Where reading of a line stops, and what stands there.
-use Rattle.std.specs.Prelude.{ℕ, ◌-◌, if◌then◌else◌, nat_le, codes, List, [], ◌∷◌, length, Option, Some, None, Result, Ok, Err}
-use Rattle.std.specs.List.{slice_get}
+use Rattle.std.specs.Prelude.{ℕ, if◌then◌else◌, nat_le, codes, List, [], ◌∷◌, length, Result, Ok, Err}
 use Rattle.just_names.specs.Token.{Place}
 use Rattle.just_names.specs.Texts.{Text}
 use Rattle.just_bench_expressions.specs.declared.lexer.Lexeme.{Lexeme}
 use Rattle.just_bench_expressions.specs.declared.lines.TextLine.{TextLine}
-use Rattle.just_bench_expressions.specs.Lexemes.{lexed_to, lexemes, place}
+use Rattle.just_bench_expressions.specs.Lexemes.{lexed_to}
 use Rattle.just_bench_stops.specs.declared.stops.Form.{Form}
 use Rattle.just_bench_stops.specs.declared.stops.Form.TheVariants as form
 use Rattle.just_bench_stops.specs.Attributes.{attribute_end}
 use Rattle.just_bench_stops.specs.Definitions.{alias_end, prefixed_end, assignment_end, function_end, import_end, module_end, set_end, unexport_end}
 use Rattle.just_bench_stops.specs.Heading.{heading_end}
+use Rattle.just_bench_stops.specs.Tokens.{lexemes_between, told_at}
 
 -- how far a line is read as one of a kind
 unfoldable pub form_end : Form → List Lexeme → Result ℕ ℕ
@@ -51,27 +51,6 @@ forms =
 -- the place at which reading a line stops: the furthest to which it is read as one of some kind
 unfoldable pub stop : List Lexeme → ℕ
 stop all = furthest all 0 forms
-
--- the lexemes from one column to another, none where a part of that is no lexeme
-abbrev pub or_nothing : Option (List Lexeme) → List Lexeme
-or_nothing None = []
-or_nothing (Some all) = all
-
-abbrev pub lexemes_between : Text → Text → TextLine → ℕ → ℕ → List Lexeme
-lexemes_between path text line start end = or_nothing (lexemes path text line start end)
-
--- a line from a column on
-abbrev pub rest_of : Text → Text → TextLine → ℕ → Place
-rest_of path text line at = place path text line at (length line.text - at)
-
--- a lexeme, or the rest of the line behind them all
-abbrev pub or_rest : Place → Option Lexeme → Place
-or_rest rest None = rest
-or_rest rest (Some l) = l.token
-
--- what stands at a place among the lexemes from one column to another
-abbrev pub told_at : Text → Text → TextLine → ℕ → ℕ → ℕ → Place
-told_at path text line start end at = or_rest (rest_of path text line end) (slice_get (lexemes_between path text line start end) at)
 
 -- where a line is told that is none of the grammar: what stands where reading stops of its lexemes, before the first part that is none
 unfoldable pub line_stop : Text → Text → TextLine → Place

@@ -41,9 +41,9 @@ pub fn module_line<'src>(lexemes: &[Lexeme<'src>]) -> Result<usize, Halt>
     line_end(lexemes, end)
 }
 
-// The place after an expression that ends the line.
+/// The place after an expression that ends the line.
 #[tactic(auto, using(crate::proofs::Fails::fails))]
-fn whole_expression<'src>(spelling: &Spelling<'src>, at: usize) -> Result<usize, Halt>
+pub fn whole_expression<'src>(spelling: &Spelling<'src>, at: usize) -> Result<usize, Halt>
     ensures { Goes result (spec.whole_end spelling.now at) }
 {
     let at = expression(spelling, at)?;

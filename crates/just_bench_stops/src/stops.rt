@@ -1,8 +1,5 @@
 //! Where reading of a line stops, and what stands there.
-ghost use Rattle.std.specs.Prelude.{◌≡◌, ◌≤◌, ◌+◌, length, IfOk};
-ghost use Rattle.std.specs.List.{All};
-ghost use Rattle.std.specs.Str.{IsCharBoundary};
-ghost use Rattle.just_bench_expressions.specs.Lexemes.{HasQuotes};
+ghost use Rattle.std.specs.Prelude.{◌≡◌, IfOk};
 ghost use Rattle.just_bench_expressions.specs.Lines.{IsLineOf};
 ghost use Rattle.just_bench_stops.specs.Marks.{Goes};
 ghost use Rattle.just_bench_stops.specs.Stops as spec;
@@ -13,10 +10,10 @@ use crate::definitions::{
 };
 use crate::halt::Halt;
 use crate::heading::heading;
-use just_bench_expressions::lexer::{Lexeme, lex, lexed_to};
+use crate::tokens::{lexemes_between, token_at};
+use just_bench_expressions::lexer::lexed_to;
 use just_bench_expressions::lines::TextLine;
 use just_bench_expressions::spelling::Spelling;
-use just_data::{BorrowedText, Sequence};
 use just_names::Token;
 use std::alloc::{AllocError, Global};
 
@@ -103,44 +100,6 @@ fn stop<'src>(spelling: &Spelling<'src>) -> Result<usize, AllocError>
     further(spelling, Form::Heading, far)
 }
 
-// The lexemes from one column to another, or none where a part of that is none.
-fn lexemes_between<'src>(
-    alloc: Global,
-    path: &'src str,
-    text: &'src str,
-    line: &TextLine<'src>,
-    start: usize,
-    end: usize,
-) -> Result<Sequence<Lexeme<'src>>, AllocError>
-    requires line { IsLineOf text.now line.now }
-    requires ordered { start ≤ end }
-    requires within { end ≤ length line.now.text }
-    ensures is { IfOk result (λ all. all ≡ spec.lexemes_between path.now text.now line.now start end) }
-    ensures quoted { IfOk result (All HasQuotes) }
-{
-    match lex(alloc, path, text, line, start, end)? {
-        Some(lexemes) => Ok(lexemes),
-        None => Ok(Sequence::new(alloc)),
-    }
-}
-
-// The line from a column on, as a token.
-fn rest_of<'src>(path: &'src str, text: &'src str, line: &TextLine<'src>, at: usize) -> Token<'src>
-    requires line { IsLineOf text.now line.now }
-    requires within { at ≤ length line.now.text }
-    requires starts { IsCharBoundary text.now (line.now.offset + at) }
-    ensures { result ≡ spec.rest_of path.now text.now line.now at }
-{
-    Token::new(
-        line.number,
-        at,
-        line.offset + at,
-        line.text.as_str().len() - at,
-        BorrowedText::new(path),
-        BorrowedText::new(text),
-    )
-}
-
 /// Where a line that is none of the grammar is told: the first lexeme that no kind of lines goes on with. Where no lexeme
 /// stands there it is the rest of the line, which is empty at its end. The error is want of memory.
 #[tactic(auto, unfolding(crate::specs::Stops::line_stop), using(crate::proofs::Starts::line_starts))]
@@ -157,8 +116,5 @@ pub fn line_stop<'src>(
     let lexemes = lexemes_between(alloc, path, text, line, 0, end)?;
     let spelling = Spelling::new(alloc, lexemes)?;
     let place = stop(&spelling)?;
-    match spelling.as_slice().get(place) {
-        Some(lexeme) => Ok(lexeme.token.copied()),
-        None => Ok(rest_of(path, text, line, end)),
-    }
+    Ok(token_at(path, text, line, &spelling, end, place))
 }

@@ -23,8 +23,9 @@ use Rattle.just_bench_lines.specs.declared.meaning.Meaning.{Meaning}
 use Rattle.just_bench_lines.specs.declared.meaning.Meaning.TheVariants as meaning
 use Rattle.just_bench_lines.specs.Body.{body_line, indent}
 use Rattle.just_bench_lines.specs.Meaning as said
+use Rattle.just_bench_stops.specs.Body.{body_stop}
 use Rattle.just_bench_stops.specs.Stops.{line_stop}
-use Rattle.just_bench_stops.proofs.Told.{IsPart, stop_part}
+use Rattle.just_bench_stops.proofs.Told.{IsPart, body_part, stop_part}
 use Rattle.just_bench_syntax.specs.declared.items.Items.{Items}
 use Rattle.just_bench_syntax.specs.declared.items.Reading.{Reading}
 use Rattle.just_bench_syntax.specs.declared.recipe.Spoken.{Spoken}
@@ -55,8 +56,18 @@ part_told path text line k token within here part =
       is = part.is;
     }
 
-stop_told : (path text : List ℕ) (line : TextLine) (k : ℕ) → k < length (lines_of text) → get_or (lines_of text) k line ≡ line → IsInLine path text (line_stop path text line)
-stop_told path text line k within here = part_told path text line k (line_stop path text line) within here (stop_part path text line)
+-- where reading of it stops, in a body too
+pub record AreInLine (path text : List ℕ) (line : TextLine) : Type 0 where
+  pub whole : IsInLine path text (line_place path text line)
+  pub stop : IsInLine path text (line_stop path text line)
+  pub body : (start : ℕ) → IsInLine path text (body_stop path text line start)
+
+places_told : (path text : List ℕ) (line : TextLine) (k : ℕ) → k < length (lines_of text) → get_or (lines_of text) k line ≡ line → AreInLine path text line
+places_told path text line k within here = record {
+  whole = line_told path text line k within here;
+  stop = part_told path text line k (line_stop path text line) within here (stop_part path text line);
+  body = λ start. part_told path text line k (body_stop path text line start) within here (body_part path text line start);
+}
 
 -- what would be told stands in a line
 module _ (path text : List ℕ) where
@@ -114,26 +125,26 @@ module _ (path text : List ℕ) where
   spoken_told spoken at None all here = all
   spoken_told spoken at (Some options) all here = All-push (λ (s : Spoken). Told s.at) spoken (record { options = options; at = at }) all here
 
-  body_told : (line : TextLine) (size : ℕ) (r : Reading) (made : Option BodyLine) → Told (line_place path text line) → AreTold r → Goes (items.with_body_line path text line size r made)
-  body_told line size r None here told = here
-  body_told line size r (Some made) here told = record { first = told.first; spoken = told.spoken }
+  body_told : (line : TextLine) (size start : ℕ) (r : Reading) (made : Option BodyLine) → Told (body_stop path text line start) → AreTold r → Goes (items.with_body_line path text line size start r made)
+  body_told line size start r None here told = here
+  body_told line size start r (Some made) here told = record { first = told.first; spoken = told.spoken }
 
-  dropped_told : (line : TextLine) (size : ℕ) (r : Reading) (start : Option ℕ) → Told (line_place path text line) → AreTold r → Goes (items.with_dropped path text line size r start)
-  dropped_told line size r None here told = here
-  dropped_told line size r (Some start) here told = body_told line size r (body_line path text line start) here told
+  dropped_told : (line : TextLine) (size : ℕ) (r : Reading) (start : Option ℕ) → AreInLine path text line → AreTold r → Goes (items.with_dropped path text line size r start)
+  dropped_told line size r None places told = places.whole
+  dropped_told line size r (Some start) places told = body_told line size start r (body_line path text line start) (places.body start) told
 
-  meaning_told : (line : TextLine) (m : Meaning) (r : Reading) → Told (line_stop path text line) → Told (line_place path text line) → AreTold r → Goes (items.with_meaning path text line m r)
-  meaning_told line meaning.Bad r stop here told = stop
-  meaning_told line meaning.Ignored r stop here told = told
-  meaning_told line meaning.Indented r stop here told = dropped_told line (indent line) r (items.dropped r.body line (indent line)) here told
-  meaning_told line (meaning.Marks m) r stop here told = record {
-    first = first_told r.first (line_place path text line) told.first here;
-    spoken = spoken_told r.spoken (line_place path text line) m.options told.spoken here;
+  meaning_told : (line : TextLine) (m : Meaning) (r : Reading) → AreInLine path text line → AreTold r → Goes (items.with_meaning path text line m r)
+  meaning_told line meaning.Bad r places told = places.stop
+  meaning_told line meaning.Ignored r places told = told
+  meaning_told line meaning.Indented r places told = dropped_told line (indent line) r (items.dropped r.body line (indent line)) places told
+  meaning_told line (meaning.Marks m) r places told = record {
+    first = first_told r.first (line_place path text line) told.first places.whole;
+    spoken = spoken_told r.spoken (line_place path text line) m.options told.spoken places.whole;
   }
-  meaning_told line (meaning.Begins h) r stop here told = begun_told r (recipe.recipe h r.attributes r.spoken) (recipe_told h r.attributes r.spoken told.spoken)
-  meaning_told line (meaning.Declares d) r stop here told = module_told r d r.spoken refl told
-  meaning_told line (meaning.Aliases a) r stop here told = item_told r (items.alias_item a) r.first refl told
-  meaning_told line (meaning.States s) r stop here told = item_told r (items.item_of s) r.first refl told
+  meaning_told line (meaning.Begins h) r places told = begun_told r (recipe.recipe h r.attributes r.spoken) (recipe_told h r.attributes r.spoken told.spoken)
+  meaning_told line (meaning.Declares d) r places told = module_told r d r.spoken refl told
+  meaning_told line (meaning.Aliases a) r places told = item_told r (items.alias_item a) r.first refl told
+  meaning_told line (meaning.States s) r places told = item_told r (items.item_of s) r.first refl told
 
   onward_told : {B : Type 0} (P : Result B Place → Type 0) (r : Result Reading Place) (more : Reading → Result B Place) → Goes r → ((at : Place) → Told at → P (Err at)) → ((x : Reading) → AreTold x → P (more x))
       → P (items.onward r more)
@@ -144,25 +155,19 @@ module _ (path text : List ℕ) where
   uses_told lists (Ok r) told = record { first = told.first; spoken = told.spoken }
   uses_told lists (Err at) told = told
 
-  lines_told : (r : Reading) (ls : List TextLine) → All (λ (l : TextLine). Told (line_stop path text l)) ls → All (λ (l : TextLine). Told (line_place path text l)) ls → AreTold r
-      → Goes (items.with_lines path text r ls)
-  lines_told r [] stops all told = told
-  lines_told r (line ∷ rest) stops all told =
+  lines_told : (r : Reading) (ls : List TextLine) → All (AreInLine path text) ls → AreTold r → Goes (items.with_lines path text r ls)
+  lines_told r [] all told = told
+  lines_told r (line ∷ rest) all told =
       onward_told Goes (items.with_said path text line (said.said path text line) r) (λ more. items.with_lines path text more rest)
       (uses_told (said.said path text line).lists (items.with_meaning path text line (said.said path text line).meaning r)
-      (meaning_told line (said.said path text line).meaning r (stops 0 line (omega arith)) (all 0 line (omega arith)) told))
+      (meaning_told line (said.said path text line).meaning r (all 0 line (omega arith)) told))
       (λ at here. here)
-      (λ more t. lines_told more rest (λ k d within. stops (suc k) d (omega (arith, within))) (λ k d within. all (suc k) d (omega (arith, within))) t)
+      (λ more t. lines_told more rest (λ k d within. all (suc k) d (omega (arith, within))) t)
 
-  each_line : All (λ (l : TextLine). Told (line_place path text l)) (lines_of text)
+  each_line : All (AreInLine path text) (lines_of text)
   each_line k d within =
       let l = get_or (lines_of text) k d in
-      line_told path text l k within (get_or_default (lines_of text) k l d within)
-
-  each_stop : All (λ (l : TextLine). Told (line_stop path text l)) (lines_of text)
-  each_stop k d within =
-      let l = get_or (lines_of text) k d in
-      stop_told path text l k within (get_or_default (lines_of text) k l d within)
+      places_told path text l k within (get_or_default (lines_of text) k l d within)
 
   ends_told : (r : Reading) (first : Option Place) → IfSome first Told → IfErr (items.finished_by r first) Told
   ends_told r None told = tt
@@ -172,7 +177,7 @@ module _ (path text : List ℕ) where
   unfolding items.items_of
   fault_told =
       onward_told (λ (found : Result Items Place). IfErr found Told) (items.with_lines path text items.unread (lines_of text)) items.finished
-      (lines_told items.unread (lines_of text) each_stop each_line (record { first = tt; spoken = All-nil (λ (s : Spoken). Told s.at) }))
+      (lines_told items.unread (lines_of text) each_line (record { first = tt; spoken = All-nil (λ (s : Spoken). Told s.at) }))
       (λ at here. here)
       (λ r told. ends_told r r.first told.first)
 

@@ -314,13 +314,13 @@ last_proper f (x ∷ []) keeps all (suc k) d within = absurd (omega (arith, with
 last_proper f (x ∷ y ∷ rest) keeps all zero d within = all 0 d (omega arith)
 last_proper f (x ∷ y ∷ rest) keeps all (suc k) d within = last_proper f (y ∷ rest) keeps (λ n e h. all (suc n) e (omega (arith, h))) k d (omega (arith, within))
 
-body_steady : (path text : List ℕ) (line : TextLine) (size : ℕ) (r : Reading) (made : Option BodyLine) → IsSteady r → Goes (items.with_body_line path text line size r made)
-body_steady path text line size r None steady = tt
-body_steady path text line size r (Some made) steady = record { proper = last_proper (items.add_line made.line) r.items (line_proper made.line) steady.proper; said = steady.said }
+body_steady : (path text : List ℕ) (line : TextLine) (size start : ℕ) (r : Reading) (made : Option BodyLine) → IsSteady r → Goes (items.with_body_line path text line size start r made)
+body_steady path text line size start r None steady = tt
+body_steady path text line size start r (Some made) steady = record { proper = last_proper (items.add_line made.line) r.items (line_proper made.line) steady.proper; said = steady.said }
 
 dropped_steady : (path text : List ℕ) (line : TextLine) (size : ℕ) (r : Reading) (start : Option ℕ) → IsSteady r → Goes (items.with_dropped path text line size r start)
 dropped_steady path text line size r None steady = tt
-dropped_steady path text line size r (Some start) steady = body_steady path text line size r (body_line path text line start) steady
+dropped_steady path text line size r (Some start) steady = body_steady path text line size start r (body_line path text line start) steady
 
 meaning_steady : (path text : List ℕ) (line : TextLine) (m : Meaning) (r : Reading) → IsSteady r → IsFine m → Goes (items.with_meaning path text line m r)
 meaning_steady path text line meaning.Bad r steady fine = tt

@@ -30,6 +30,7 @@ use Rattle.just_bench_lines.specs.declared.meaning.Statement.{Statement}
 use Rattle.just_bench_lines.specs.declared.meaning.Statement.TheVariants as statements
 use Rattle.just_bench_lines.specs.Body.{body_line, indent}
 use Rattle.just_bench_lines.specs.Meaning.{said}
+use Rattle.just_bench_stops.specs.Body.{body_stop}
 use Rattle.just_bench_stops.specs.Stops.{line_stop}
 use Rattle.just_bench_syntax.specs.Recipe.{recipe}
 
@@ -126,14 +127,15 @@ abbrev pub begun : TextLine → ℕ → Body → Body
 begun line size body.Begins = if size == length line.text then body.Begins else body.Goes (take size line.text)
 begun line size it = it
 
-abbrev pub with_body_line : List ℕ → List ℕ → TextLine → ℕ → Reading → Option BodyLine → Result Reading Place
-with_body_line path text line size reading None = Err (line_place path text line)
-with_body_line path text line size reading (Some made) =
+abbrev pub with_body_line : List ℕ → List ℕ → TextLine → ℕ → ℕ → Reading → Option BodyLine → Result Reading Place
+with_body_line path text line size start reading None = Err (body_stop path text line start)
+with_body_line path text line size start reading (Some made) =
     Ok (record reading { items = at_last (add_line made.line) reading.items; lists = reading.lists ++ made.lists; body = begun line size reading.body })
 
+-- an indented line: one of a body, or told as a whole where none may stand
 abbrev pub with_dropped : List ℕ → List ℕ → TextLine → ℕ → Reading → Option ℕ → Result Reading Place
 with_dropped path text line size reading None = Err (line_place path text line)
-with_dropped path text line size reading (Some start) = with_body_line path text line size reading (body_line path text line start)
+with_dropped path text line size reading (Some start) = with_body_line path text line size start reading (body_line path text line start)
 
 abbrev pub with_body : List ℕ → List ℕ → TextLine → Reading → Result Reading Place
 with_body path text line reading = with_dropped path text line (indent line) reading (dropped reading.body line (indent line))
@@ -179,6 +181,6 @@ finished_by reading (Some first) = Err first
 abbrev pub finished : Reading → Result Items Place
 finished reading = finished_by reading reading.first
 
--- the items of a text, or where it does not follow the grammar: at the line of an attribute that does not fit, where reading of a line stops, or at a line of a body
+-- the items of a text, or where it does not follow the grammar: at the line of an attribute that does not fit, at an indented line that may not stand there, or where reading of a line stops
 unfoldable pub items_of : List ℕ → List ℕ → Result Items Place
 items_of path text = onward (with_lines path text unread (lines_of text)) finished

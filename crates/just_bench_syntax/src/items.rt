@@ -17,6 +17,7 @@ use just_bench_lines::attributes::Mark;
 use just_bench_lines::body::{BodyLine, indent, read_body};
 use just_bench_lines::heading::Heading;
 use just_bench_lines::meaning::{Declaration, Meaning, Said, Statement, read_line};
+use just_bench_stops::body::body_stop;
 use just_bench_stops::stops::line_stop;
 use just_data::{BorrowedText, Sequence};
 use just_names::Token;
@@ -277,7 +278,7 @@ fn add_body<'src>(
         return Ok(Err(line_token(path, text, line)));
     };
     let Some(BodyLine { line: made, lists }) = read_body(alloc, path, text, line, size)? else {
-        return Ok(Err(line_token(path, text, line)));
+        return Ok(Err(body_stop(alloc, path, text, line, size)?));
     };
     begin_body(line, blanks, &mut reading.body);
     reading.lists.append(lists)?;
@@ -384,8 +385,8 @@ fn finished<'src>(reading: Reading<'src>) -> Result<Items<'src>, Token<'src>>
     })
 }
 
-/// The items of a text, without numbers, or where it does not follow the grammar: at an attribute that does not fit, at
-/// what stands where reading of a line stops, or at a line of a body. The error is want of memory.
+/// The items of a text, without numbers, or where it does not follow the grammar: at an attribute that does not fit, at an
+/// indented line that may not stand there, or at what stands where reading of a line stops. The error is want of memory.
 #[tactic(auto, unfolding(crate::specs::Items::items_of))]
 pub fn read_items<'src>(
     alloc: Global,
