@@ -23,16 +23,7 @@ fn add_words<'src>(
     requires { IsRooted root.now recipes.now }
 {
     add_split(root, recipes, alloc, words, text)?;
-    add_run(
-        root,
-        recipes,
-        overrides,
-        alloc,
-        &asked.config,
-        words,
-        asked.memory_at,
-        text,
-    )
+    add_run(root, recipes, overrides, alloc, asked, words, text)
 }
 
 /// Adds what a compilation of so many texts has, what the words mean in it, and what running them does.

@@ -6,6 +6,7 @@ mod answers;
 mod bundles;
 pub mod compiled;
 mod copies;
+mod entries;
 pub mod held;
 mod items;
 mod readings;

@@ -2,20 +2,13 @@
 use just_bench::{Recorder, Script};
 use just_data::{Sequence, Text};
 use just_examples_format::lists::before;
-use just_parts::layers::{Fault, Interpreter, Refusal};
+use just_examples_format::written::unmarked;
+use just_parts::layers::{Fault, Interpreter, Refusal, Signal};
 use just_paths::Modulepath;
 use just_run_layers::{
     CommandCall, Entry, EnvironmentPair, Executor, Host, RunAnswer, ScriptCall, ShellCall, Status,
 };
 use std::alloc::{AllocError, Global};
-
-// How a program ended that was sent no signal.
-fn ended(status: Status) -> RunAnswer {
-    RunAnswer {
-        status,
-        signal: None,
-    }
-}
 
 fn fault_of(alloc: Global, message: &str) -> Result<Fault, AllocError> {
     let message = Text::from_str(alloc, message)?;
@@ -35,14 +28,18 @@ fn pairs_of(alloc: Global, written: &str) -> Result<Sequence<EnvironmentPair>, A
 // Puts how a program ends.
 fn put_run(alloc: Global, script: &mut Script, kind: &str, rest: &str) -> Result<(), AllocError> {
     let status = match kind {
-        "code" => Status::Code(rest.parse::<i32>().unwrap_or(0)),
+        "code" | "interrupted" => Status::Code(rest.parse::<i32>().unwrap_or(0)),
         "killed" => Status::NoCode(rest.parse::<i32>().ok()),
         _ => Status::NotStarted(Text::from_str(alloc, rest)?),
     };
-    script.runs.push(ended(status))
+    let signal = match kind {
+        "interrupted" => Some(Signal::Interrupt),
+        _ => None,
+    };
+    script.runs.push(RunAnswer { status, signal })
 }
 
-// Puts an answer, or a fault, behind those of its kind: `code=N`, `killed=N`, `missing=TEXT`, `line=TEXT`, `pair=NAME=TEXT`,
+// Puts an answer, or a fault, behind those of its kind: `code=N`, `interrupted=N`, `killed=N`, `missing=TEXT`, `line=TEXT`, `pair=NAME=TEXT`,
 // `time=TEXT`, `no-line=TEXT`, `no-pairs=TEXT`, `no-time=TEXT`.
 fn put(alloc: Global, script: &mut Script, word: &str) -> Result<(), AllocError> {
     let (kind, rest) = word.split_once('=').unwrap_or((word, ""));
@@ -193,16 +190,21 @@ fn add_kept(entries: &[Entry], text: &mut String) -> Result<(), AllocError> {
     text.push('\n')
 }
 
+/// A recorder that answers from a script of these words.
+pub fn scripted(alloc: Global, words: &str) -> Result<Recorder, AllocError> {
+    let mut script = Script::new(alloc);
+    for word in words.split_whitespace() {
+        put(alloc, &mut script, unmarked(alloc, word)?.as_str())?;
+    }
+    Ok(Recorder::scripted(alloc, script))
+}
+
 // A recorder that answers from a script of these words, or that is refused memory at the call of a number.
 fn recorder(alloc: Global, kind: &str, words: &str) -> Result<Recorder, AllocError> {
     if kind == "Recorder::memory_at" {
         return Ok(Recorder::memory_at(alloc, words.parse::<usize>().unwrap_or(0)));
     }
-    let mut script = Script::new(alloc);
-    for word in words.split_whitespace() {
-        put(alloc, &mut script, word)?;
-    }
-    Ok(Recorder::scripted(alloc, script))
+    scripted(alloc, words)
 }
 
 /// Answers what a recorder is answered to the calls that stand behind a ` | `, and which it keeps. Before that stand the

@@ -1,7 +1,7 @@
 //! What a line `$ just` asks.
 use crate::written::unmarked;
 use just_data::Text;
-use just_parts::layers::Config;
+use just_parts::layers::{Config, Verbosity};
 use just_paths::Modulepath;
 use std::alloc::{AllocError, Global};
 
@@ -14,6 +14,7 @@ enum Part {
     Conflicts,
     Override,
     Memory,
+    Answer,
     Word,
 }
 
@@ -31,7 +32,7 @@ fn module_path(alloc: Global, names: &str) -> Result<Modulepath, AllocError> {
 /// A root, a configuration and words.
 #[derive(Drop)]
 pub struct Asked {
-    /// What `--one`, `--home` and `--override` say.
+    /// What `--one`, `--home`, `--override` and the options of a run say.
     pub config: Config,
     /// The path of the root, which may be one that is not clean.
     pub root: String,
@@ -39,6 +40,8 @@ pub struct Asked {
     pub conflicts: String,
     /// The call at which the host is refused memory, where there is one. Calls count from 1.
     pub memory_at: Option<usize>,
+    /// What the host answers, as `--answer` says, a blank after each.
+    pub answers: String,
     words: Vec<String>,
     next: Part,
 }
@@ -51,6 +54,7 @@ impl Asked {
             root: String::from_str(alloc, "/justfile")?,
             conflicts: String::new(alloc),
             memory_at: None,
+            answers: String::new(alloc),
             words: Vec::new(alloc),
             next: Part::OptionOrWord,
         })
@@ -78,6 +82,14 @@ impl Asked {
             "--conflicts" => self.next = Part::Conflicts,
             "--override" => self.next = Part::Override,
             "--memory" => self.next = Part::Memory,
+            "--answer" => self.next = Part::Answer,
+            "--dry-run" => self.config.dry_run = true,
+            "--explain" => self.config.explain = true,
+            "--timestamp" => self.config.timestamp = true,
+            "--yes" => self.config.yes = true,
+            "--quiet" => self.config.verbosity = Verbosity::Quiet,
+            "--loquacious" => self.config.verbosity = Verbosity::Loquacious,
+            "--grandiloquent" => self.config.verbosity = Verbosity::Grandiloquent,
             _ => {
                 self.next = Part::Word;
                 self.words.push(unmarked(alloc, part)?)?;
@@ -107,6 +119,7 @@ impl Asked {
             Part::Conflicts => write!(self.conflicts, "{part} ")?,
             Part::Override => self.take_override(alloc, part)?,
             Part::Memory => self.memory_at = part.parse::<usize>().ok(),
+            Part::Answer => write!(self.answers, "{part} ")?,
             Part::Word => {
                 self.words.push(unmarked(alloc, part)?)?;
                 return Ok(());
@@ -118,7 +131,8 @@ impl Asked {
 }
 
 /// What stands behind `$ just`: the options `--one`, `--home PATH`, `--justfile PATH`, `--conflicts A,B`,
-/// `--override PATH=VALUE` and `--memory CALL`, then words.
+/// `--override PATH=VALUE`, `--memory CALL`, `--answer ANSWER`, `--dry-run`, `--explain`, `--timestamp`, `--yes`, `--quiet`,
+/// `--loquacious` and `--grandiloquent`, then words.
 pub fn read_asked(alloc: Global, line: &str) -> Result<Asked, AllocError> {
     let mut asked = Asked::new(alloc)?;
     for part in line.split_whitespace() {
