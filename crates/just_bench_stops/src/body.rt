@@ -76,7 +76,7 @@ fn interpolation_stop<'src>(
 /// Where a line of a body that is none is told, from a column on: the first lexeme with which its first interpolation
 /// that is none does not go on. Where no lexeme stands there it is the rest of the line, which is empty at its end. The
 /// error is want of memory.
-#[tactic(auto, using(crate::proofs::Openings::opens, crate::proofs::BadParts::parts_start, crate::proofs::BadParts::parts_push, crate::proofs::BadParts::parts_stop, crate::proofs::BadParts::parts_end))]
+#[tactic(auto, using(crate::proofs::Openings::opens, crate::proofs::BadParts::parts_start, crate::proofs::BadParts::parts_push, crate::proofs::BadParts::parts_end))]
 pub fn body_stop<'src>(
     alloc: Global,
     path: &'src str,
