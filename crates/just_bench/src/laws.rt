@@ -23,9 +23,9 @@ pub fn each_answer_is_promised(host: &Recorder, evaluation: &PlainEvaluation)
 
 /// The plain grammar and the plain evaluation take the lines of bodies alike: which sigils a line begins with, and whether the
 /// next one goes on with it. The call does nothing.
-pub fn layers_agree_on_lines(syntax: &PlainSyntax)
+pub fn layers_agree_on_lines<'a>(syntax: &PlainSyntax<'a>)
     ensures { let evaluation = ⟦<PlainEvaluation as Evaluation>⟧ in
-        AgreesWith evaluation.sigils evaluation.continues (⟦<PlainSyntax as Syntax>⟧.answers syntax.now) }
+        AgreesWith evaluation.sigils evaluation.continues (⟦<PlainSyntax<'a> as Syntax>⟧.answers syntax.now) }
 {}
 
 /// What a script promises of a call is what it answers. The call does nothing.
