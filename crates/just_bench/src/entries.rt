@@ -1,7 +1,7 @@
 //! What is written of a run.
 ghost use Rattle.std.specs.Prelude.{OnOk};
 ghost use Rattle.std.specs.Io.KnownBytes.{Appends};
-ghost use Rattle.just_bench.specs.Entries.{entry_line, entry_lines, further, group_text, groups_text};
+ghost use Rattle.just_bench.specs.Entries.{entry_line, entry_lines, further, group_text, groups_text, script_lines};
 
 use just_data::{Sequence, Text};
 use just_run_layers::Entry;
@@ -39,7 +39,17 @@ fn write_groups<W: Write>(output: &mut W, groups: &[Sequence<Text>]) -> io::Resu
     Ok(())
 }
 
-// Writes the line of a recipe that began, and nothing of other calls.
+// Writes lines of a script.
+fn write_script<W: Write>(output: &mut W, lines: &[Text]) -> io::Result<()>
+    ensures { OnOk result (Appends (W.contents output.old) (W.contents output.new) (script_lines lines.now)) }
+{
+    for line in lines {
+        writeln!(output, "    script {line}")?;
+    }
+    Ok(())
+}
+
+// Writes the lines of a call: of a recipe that began, of a prompt, of what is shown and of what runs.
 fn write_entry<W: Write>(output: &mut W, entry: &Entry) -> io::Result<()>
     ensures { OnOk result (Appends (W.contents output.old) (W.contents output.new) (entry_line entry.now)) }
 {
@@ -49,11 +59,16 @@ fn write_entry<W: Write>(output: &mut W, entry: &Entry) -> io::Result<()>
             write_groups(output, groups.as_slice())?;
             writeln!(output)
         }
+        Entry::Confirm { prompt } => writeln!(output, "    confirm {prompt}"),
+        Entry::Show { line } => writeln!(output, "    show {line}"),
+        Entry::Shell(call) => writeln!(output, "    shell {}", call.command),
+        Entry::Script(call) => write_script(output, call.lines.as_slice()),
         _ => Ok(()),
     }
 }
 
-/// Writes a line for each recipe that began, and sees that all is written.
+/// Writes what a host was asked: a line for each recipe that began, and behind blanks one for each prompt, each line that was
+/// shown, each command of a shell and each line of a script. It sees that all is written.
 pub fn write_entries<W: Write>(output: &mut W, entries: &[Entry]) -> io::Result<()>
     ensures { OnOk result (Appends (W.contents output.old) (W.contents output.new) (entry_lines entries.now)) }
 {
