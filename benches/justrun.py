@@ -130,7 +130,7 @@ def star(count):
 
 
 def options(count):
-    """One recipe with many options, each of them given. Of a recipe with options nothing is run yet."""
+    """One recipe with many options, each of them given."""
     names = [f"o{n}" for n in range(count)]
     given = [part for name in names for part in (f"--{name}", "v")]
     return bundle(*(f"[arg('{name}', long='{name}')]" for name in names), f"p {' '.join(names)}:"), ["p", *given]

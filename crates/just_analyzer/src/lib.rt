@@ -68,10 +68,11 @@ pub mod dependency {
     pub use just_parts::Dependency;
 }
 
-/// Recipes that are resolved, and all of a compilation by their numbers.
+/// Recipes that are resolved, all of a compilation by their numbers, and the run of one.
 pub mod recipe {
     pub use just_justfile::Recipes;
     pub use just_parts::Recipe;
+    pub use just_recipe_run::RunRecipe;
 }
 
 /// Recipes as a text says them, and how one is resolved.
@@ -114,7 +115,7 @@ pub use dependency::Dependency;
 pub use invocation_parser::{Invocation, InvocationParser};
 pub use justfile::{Justfile, RecipeKey, Report, Run};
 pub use modulepath::Modulepath;
-pub use recipe::{Recipe, Recipes};
+pub use recipe::{Recipe, Recipes, RunRecipe};
 pub use recipe_resolver::RecipeResolver;
 pub use references::{Reference, References};
 pub use resolution::{Disabled, Resolution};

@@ -17,7 +17,7 @@ use std::alloc::Global;
 use std::collections::HashMap;
 use std::io::Write;
 
-/// Runs words over a compiled module, and writes which recipes began, before an error too. The error is that of the run, or
+/// Runs words over a compiled module, and writes what the host was asked, before an error too. The error is that of the run, or
 /// else tells that the lines could not be written.
 pub fn run_and_write<'src, W: Write>(
     alloc: Global,

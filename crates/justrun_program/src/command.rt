@@ -168,7 +168,7 @@ fn run_input<R: Read, W: Write, E: Write>(
 /// Runs the program on the words after its name, or on none where one of them is not UTF-8, and answers its status.
 ///
 /// The first word is the path of the root, and the input is a bundle of files. Status 0: the other words were run over the
-/// root, the output has a line for each recipe that began, and nothing was written to `errors`. Status 1: the input or the
+/// root, the output has the lines of what the host was asked, and nothing was written to `errors`. Status 1: the input or the
 /// root cannot be read, compiling or the run failed, or the output could not be written; the error is told. Status 2: the
 /// program was not used well, which is told.
 pub fn program<R: Read, W: Write, E: Write>(
