@@ -314,6 +314,32 @@ def bodies(count, width=10):
     return bundle("a:", *(line for n in range(count) for line in (f"r{n}:", *["    echo"] * width))), ["a"]
 
 
+def lines_that_run(count):
+    """A recipe whose body runs."""
+    return bundle("a:", *("    echo {{ 'a' }}" for _ in range(count))), ["a"]
+
+
+def recipes_that_run(count, width=3):
+    """A chain of recipes with some lines each."""
+    rows = [line for n in range(count - 1) for line in (f"r{n}: r{n + 1}", *["    echo"] * width)]
+    return bundle(*rows, f"r{count - 1}:"), ["r0"]
+
+
+def line_of_interpolations(count):
+    """A line of many interpolations."""
+    return bundle("a:", "    echo " + "{{ 'a' }}" * count), ["a"]
+
+
+def line_that_goes_on(count):
+    """A line that goes on in many others."""
+    return bundle("a:", *["    echo \\"] * count, "    b"), ["a"]
+
+
+def script(count):
+    """A script of many lines."""
+    return bundle("a:", "    #!/bin/sh", *["    echo"] * count), ["a"]
+
+
 def attributes(count):
     """A recipe with so many attributes, beside the one that is run."""
     return bundle("a:", *["[group('g')]"] * count, "b:"), ["a"]
@@ -363,7 +389,7 @@ def aliases(count):
 
 
 def dependency_arguments(count):
-    """A dependency with many arguments. Nothing is run where there are arguments, so the program refuses the word."""
+    """A dependency with many arguments."""
     return bundle("d *x:", "a: (d " + " ".join(f"'{n}'" for n in range(count)) + ")"), ["a"]
 
 
@@ -425,6 +451,13 @@ INPUTS = {
     "sum of 1,000,000 parts": parts(1_000_000),
     "body of 100,000 lines": body(100_000),
     "10,000 recipes with ten lines each": bodies(10_000),
+    "body of 100,000 lines that run": lines_that_run(100_000),
+    "chain of 10,000 recipes of three lines that run": recipes_that_run(10_000),
+    "line of 1,000 interpolations": line_of_interpolations(1_000),
+    "line of 100,000 interpolations": line_of_interpolations(100_000),
+    "line that goes on 10,000 times": line_that_goes_on(10_000),
+    "line that goes on 100,000 times": line_that_goes_on(100_000),
+    "script of 100,000 lines": script(100_000),
     "recipe with 10,000 attributes": attributes(10_000),
     "2,000 modules with three attributes each": labels(2_000),
     "20,000 optional modules without a file": absent(20_000),
