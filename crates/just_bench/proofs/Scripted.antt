@@ -3,7 +3,7 @@ use Rattle.std.proofs.Common.{◌≡◌, List, [], ◌∷◌, Some, Ok, codes, r
 use Rattle.just_run_layers.specs.declared.host.Entry.{Entry}
 use Rattle.just_run_layers.specs.declared.host.Entry.TheVariants as entry
 use Rattle.just_run_layers.specs.Evaluation.{Inquiry}
-use Rattle.just_run_layers.specs.Host.{Answer, Done, Ran, given, paired}
+use Rattle.just_run_layers.specs.Host.{Answer, Ran, given, paired}
 use Rattle.just_run_layers.specs.Steps.{ToHost, ToEvaluator}
 use Rattle.just_bench_evaluation.specs.Answered.{plain_answer}
 use Rattle.just_bench.specs.declared.script.Script.{Script}

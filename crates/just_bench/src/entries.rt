@@ -1,7 +1,7 @@
 //! What is written of a run.
 ghost use Rattle.std.specs.Prelude.{OnOk};
 ghost use Rattle.std.specs.Io.KnownBytes.{Appends};
-ghost use Rattle.just_bench.specs.Entries.{entry_line, entry_lines, further, group_text, groups_text, script_lines};
+ghost use Rattle.just_bench.specs.Entries.{entry_line, entry_lines, further, group_text, groups_text, script_line, script_lines};
 
 use just_data::{Sequence, Text};
 use just_run_layers::Entry;
@@ -39,12 +39,18 @@ fn write_groups<W: Write>(output: &mut W, groups: &[Sequence<Text>]) -> io::Resu
     Ok(())
 }
 
-// Writes lines of a script.
+// Writes a line of a script.
+fn write_script_line<W: Write>(output: &mut W, line: &Text) -> io::Result<()>
+    ensures { OnOk result (Appends (W.contents output.old) (W.contents output.new) (script_line line.now)) }
+{
+    writeln!(output, "    script {line}")
+}
+
 fn write_script<W: Write>(output: &mut W, lines: &[Text]) -> io::Result<()>
     ensures { OnOk result (Appends (W.contents output.old) (W.contents output.new) (script_lines lines.now)) }
 {
     for line in lines {
-        writeln!(output, "    script {line}")?;
+        write_script_line(output, line)?;
     }
     Ok(())
 }

@@ -30,12 +30,13 @@ pub fn run_words<'src>(
         outcome host.old.entries host.new.entries result }
 {
     let mut writer = StopWriter::new(alloc, 0)?;
+    let syntax = PlainSyntax::new();
     let mut evaluation = PlainEvaluation::new(alloc);
     root.run(
         alloc,
         config,
         recipes,
-        &PlainSyntax::new(),
+        &syntax,
         &mut evaluation,
         host,
         &mut writer,

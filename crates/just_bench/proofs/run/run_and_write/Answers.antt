@@ -3,7 +3,7 @@ use Rattle.std.specs.Prelude.{is_ok}
 use Rattle.std.specs.Io.KnownBytes.{Appends}
 use Rattle.just_names.specs.Texts.{texts}
 use Rattle.just_bench.specs.Entries.{entry_lines}
-use Rattle.just_bench.specs.Ran.{IsPlainOutcome, Ran, plain_front}
+use Rattle.just_bench.specs.Ran.{IsPlainOutcome, plain_front}
 use Rattle.just_bench.specs.Recorder.{Recording}
 use Rattle.just_bench.proofs.run.run_and_write.Goals as goal
 

@@ -5,7 +5,10 @@ use Rattle.just_run_layers.specs.Evaluation.{ScopeRequest}
 use Rattle.just_run_layers.specs.Steps.{kept_by}
 use Rattle.just_invoke.specs.Outcome.{IsOutcome, memory, refused}
 use Rattle.just_bench_evaluation.specs.Answered.{plain_answer, request_of}
-use Rattle.just_bench.specs.Ran.{plain_counts, plain_front}
+use Rattle.just_ast_expressions.specs.declared.keyword.Keyword.{Keyword}
+use Rattle.just_invoke.specs.Scopes.{front_of}
+use Rattle.just_bench_syntax.specs.Answers.{answers}
+use Rattle.just_bench.specs.Ran.{plain_counts}
 use Rattle.just_bench.specs.Recorder.{script_promises}
 use Rattle.just_bench.proofs.words.run_words.Goals as goal
 
@@ -18,7 +21,6 @@ returns-in_err-writer c = ([], refused Memory (search rules) memory refl)
 pub returns : goal.returns
 returns c =
     let asked = map request_of c.run.new.evaluation.asked.items in
-    let outcome = subst
-    (λ (requests : List ScopeRequest). IsOutcome plain_counts c.args.root.now c.args.recipes.now (texts c.args.words.now) c.args.config.now (plain_front c.args.config.now c.args.overrides.now) (λ inquiry. Some (plain_answer inquiry)) (script_promises c.args.host.now.script) (kept_by c.args.host.now.entries requests) (kept_by c.run.new.host.entries asked) c.run.result)
-    c.new-evaluation.ensures (rw c.new.ensures at c.run.ensures.outcome) in
-    (asked, outcome)
+    let ran : List (Keyword × Keyword) → List ScopeRequest → Type 0 = λ pairs requests.
+    IsOutcome plain_counts c.args.root.now c.args.recipes.now (texts c.args.words.now) c.args.config.now (front_of (answers pairs) c.args.config.now c.args.overrides.now) (λ inquiry. Some (plain_answer inquiry)) (script_promises c.args.host.now.script) (kept_by c.args.host.now.entries requests) (kept_by c.run.new.host.entries asked) c.run.result in
+    (asked, subst (ran []) c.new-evaluation.ensures (subst (λ pairs. ran pairs (map request_of c.new-evaluation.result.asked.items)) c.new-syntax.ensures c.run.ensures.outcome))
