@@ -1,5 +1,5 @@
 -- What tasks at home lead to is at home.
-use Rattle.std.proofs.Common.{◌≡◌, ℕ, zero, suc, ◌<◌, List, [], ◌∷◌, length, drop, take, Option, None, Some, Ok, refl, ap, subst, arith}
+use Rattle.std.proofs.Common.{◌≡◌, Bool, true, false, ℕ, zero, suc, ◌<◌, List, [], ◌∷◌, length, map, drop, take, Option, None, Some, Ok, refl, sym, ◌∙◌, ap, subst, arith}
 use Rattle.std.specs.List.{All, Contains, slice_get}
 use Rattle.std.proofs.lemmas.List.Elements.{All-contains, All-contains_itself, All-drop, All-head, All-nil, All-tail, All-take, All-weaker}
 use Rattle.just_graph.specs.Steps.{Reached, from_start, from_member}
@@ -17,10 +17,11 @@ use Rattle.just_run_layers.proofs.StepLemmas.{took-gives}
 use Rattle.just_execution.specs.Account.{AreNamed}
 use Rattle.just_execution.specs.Homes.{AreHome, IsAmong, IsBound, IsCallable, IsHome, IsServed, Modules, ServesIn, module_at}
 use Rattle.just_execution.specs.Leaves.{AsksAlone, Prepares, ask_steps, follow_steps}
-use Rattle.just_execution.specs.Pairs.{AllBelow, at_place, needed, prior_dependencies, subsequent_dependencies}
+use Rattle.just_execution.specs.Pairs.{AllBelow, at_place, needed}
 use Rattle.just_recipes.specs.Places.{place_of}
 use Rattle.just_execution.specs.Leading.{DependsOn, places}
-use Rattle.just_execution.specs.Scene.{contents_found, contents_of, scene_of}
+use Rattle.just_execution.specs.Scene.{Scene, contents_found, contents_of, lone, running, scene_of}
+use Rattle.just_execution.proofs.Lone.{as_run, none-after, none-before, same-module}
 use Rattle.just_execution.specs.Walking.{Prepared}
 use Rattle.just_execution.specs.declared.scopes.ModuleScope.{ModuleScope}
 use Rattle.just_execution.specs.declared.task.Task.{Task}
@@ -71,24 +72,35 @@ module _ (answers : SyntaxAnswers) (modules : Modules) (rs : List (Recipe Depend
         All-weaker (λ (u : Task). step u.pair.recipe) (IsCallable answers modules rs) (λ u q. record { place = q.0; home = next-home u q.1 }) ts (named-all rs step ds ts named steps)
 
     -- the tasks that it was asked for
-    module _ (ordered : IsOrdered rs) (e : Inquiry → Option Answer) where
-      pub asked-callable : (h : Entry → Option Answer) (old new : Kept) (a : Prepared) → Prepares e h (scene_of answers modules rs) t old new (Ok a) → All (IsCallable answers modules rs) a.priors
-      asked-callable h old new a took =
-          named-callable (prior_dependencies rs t.pair.recipe) (part-needed (λ r. take r.priors r.dependencies) (λ r P h. All-take P r.priors r.dependencies h) rs t.pair.recipe)
-          (priors-before rs t.pair.recipe ordered) a.priors (ask-named (scene_of answers modules rs) t a (took-gives (both e h) (ask_steps (scene_of answers modules rs) t) old new a took))
+    -- where no dependencies run they are none
+    ran-callable : (part : Recipe Dependency → List Dependency) → ((rs : List (Recipe Dependency)) (k : ℕ) → at_place part (map lone rs) k ≡ []) → All (Contains (needed rs t.pair.recipe)) (at_place part rs t.pair.recipe) → All (IsBefore rs t.pair.recipe) (at_place part rs t.pair.recipe) →
+        (b : Bool) (ts : List Task) → AreNamed (running b rs) (at_place part (running b rs) t.pair.recipe) ts → All (IsCallable answers modules rs) ts
+    ran-callable part none some before true ts named =
+        subst (All (IsCallable answers modules rs)) (sym (subst (λ (ds : List Dependency). AreNamed (map lone rs) ds ts) (none rs t.pair.recipe) named)) (All-nil (IsCallable answers modules rs))
+    ran-callable part none some before false ts named = named-callable (at_place part rs t.pair.recipe) some before ts named
 
-      pub followed-callable : (held : Held) (before later : List ScopeRequest) (ts : List Task) → AsksAlone e (follow_steps (scene_of answers modules rs) t held) before later (Ok ts) → All (IsCallable answers modules rs) ts
+    module _ (b : Bool) (ordered : IsOrdered rs) (e : Inquiry → Option Answer) where
+      abbrev seen : Scene
+      seen = scene_of answers modules (running b rs)
+
+      pub asked-callable : (h : Entry → Option Answer) (old new : Kept) (a : Prepared) → Prepares e h seen t old new (Ok a) → All (IsCallable answers modules rs) a.priors
+      asked-callable h old new a took =
+          ran-callable (λ r. take r.priors r.dependencies) none-before (part-needed (λ r. take r.priors r.dependencies) (λ r P h. All-take P r.priors r.dependencies h) rs t.pair.recipe)
+          (priors-before rs t.pair.recipe ordered) b a.priors (ask-named seen t a (took-gives (both e h) (ask_steps seen t) old new a took))
+
+      pub followed-callable : (held : Held) (before later : List ScopeRequest) (ts : List Task) → AsksAlone e (follow_steps seen t held) before later (Ok ts) → All (IsCallable answers modules rs) ts
       followed-callable held before later ts took =
-          named-callable (subsequent_dependencies rs t.pair.recipe) (part-needed (λ r. drop r.priors r.dependencies) (λ r P h. All-drop P r.priors r.dependencies h) rs t.pair.recipe)
-          (subsequents-before rs t.pair.recipe ordered) ts
-          (follow-named (scene_of answers modules rs) t held ts (took-gives (both e (λ entry. None)) (follow_steps (scene_of answers modules rs) t held) (kept_by [] before) (kept_by [] later) ts (took (λ entry. None) [])))
+          ran-callable (λ r. drop r.priors r.dependencies) none-after (part-needed (λ r. drop r.priors r.dependencies) (λ r P h. All-drop P r.priors r.dependencies h) rs t.pair.recipe)
+          (subsequents-before rs t.pair.recipe ordered) b ts
+          (follow-named seen t held ts (took-gives (both e (λ entry. None)) (follow_steps seen t held) (kept_by [] before) (kept_by [] later) ts (took (λ entry. None) [])))
 
 -- what serves a task in its module serves it wherever it runs, and the other way round
 one-value : {A : Type 0} (o : Option A) (x y : A) → o ≡ Some x → o ≡ Some y → x ≡ y
 one-value o x y h k = cc
 
-pub contents-there : (answers : SyntaxAnswers) (modules : Modules) (rs : List (Recipe Dependency)) (r : Recipe Dependency) (m : ModuleScope) → module_at modules r.module_path ≡ Some m → (scene_of answers modules rs).modules r.module_path ≡ Some (contents_of m)
-contents-there answers modules rs r m there = ap contents_found there
+pub contents-there : (answers : SyntaxAnswers) (modules : Modules) (b : Bool) (rs : List (Recipe Dependency)) (r : Recipe Dependency) (m : ModuleScope) → module_at modules r.module_path ≡ Some m →
+    (scene_of answers modules (running b rs)).modules (as_run b r).module_path ≡ Some (contents_of m)
+contents-there answers modules b rs r m there = ap (λ path. contents_found (module_at modules path)) (same-module r b) ∙ ap contents_found there
 
 module _ (answers : SyntaxAnswers) (modules : Modules) (rs : List (Recipe Dependency)) (t : Task) (h : Held) (m : ModuleScope) (r : Recipe Dependency) (at : slice_get rs t.pair.recipe ≡ Some r)
     (there : module_at modules r.module_path ≡ Some m) where

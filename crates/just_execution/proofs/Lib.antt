@@ -13,6 +13,8 @@ pub mod Keeps
 pub mod Keyed
 pub mod LeafTook
 pub mod Leaves
+pub mod Lone
+pub mod LoneTook
 pub mod Pairs
 pub mod Places
 pub mod Quiet

@@ -9,11 +9,11 @@ ghost use Rattle.just_run_layers.specs.Steps.{kept_by};
 ghost use Rattle.just_execution.specs.Frames.{items_of};
 ghost use Rattle.just_execution.specs.Homes.{IsCallable, IsServed};
 ghost use Rattle.just_execution.specs.Leaves.{AsksAlone, Prepares, follow_steps, parameters_steps, prepared_of};
-ghost use Rattle.just_execution.specs.Scene.{contents_of, scene_of};
+ghost use Rattle.just_execution.specs.Scene.{contents_of, scene_in};
 
 use crate::arguments::ask_dependencies;
 use crate::consent::ask_consent;
-use crate::recipes::{priors_at, recipe_at, subsequents_at};
+use crate::recipes::{priors_in, recipe_at, subsequents_in};
 use crate::scopes::{ModuleScope, Scopes, module_of};
 use crate::task::Task;
 use just_errors::Refusal;
@@ -77,7 +77,7 @@ pub fn ask<'src, S: Syntax, E: Evaluation, H: Host>(
     ensures keepshost { KeepsPromises (H.promised host.old) (H.promised host.new) }
     ensures took { let first = kept_by (H.entries host.old) (E.requests evaluation.old) in
         let last = kept_by (H.entries host.new) (E.requests evaluation.new) in
-        let scene = scene_of (S.answers scopes.now.syntax.now) scopes.now.modules recipes.now in
+        let scene = scene_in (S.answers scopes.now.syntax.now) scopes.now recipes.now in
         Prepares (E.promised evaluation.old) (H.promised host.old) scene task.now first last (prepared_of result) }
     ensures serves { let serves = IsServed (S.answers scopes.now.syntax.now) scopes.now.modules recipes.now task.now in
         IfOk result (λ preparation. serves preparation.held) }
@@ -95,7 +95,7 @@ pub fn ask<'src, S: Syntax, E: Evaluation, H: Host>(
         task,
         &held,
     )?;
-    let named = priors_at(recipes, task.pair.recipe);
+    let named = priors_in(scopes, recipes, task.pair.recipe);
     let priors = ask_dependencies(alloc, recipes, evaluation, home, task, &held, named)?;
     Ok(Preparation { held, priors })
 }
@@ -113,10 +113,10 @@ pub fn follow<'src, S: Syntax, E: Evaluation>(
     requires callable { IsCallable (S.answers scopes.now.syntax.now) scopes.now.modules recipes.now task.now }
     requires served { IsServed (S.answers scopes.now.syntax.now) scopes.now.modules recipes.now task.now held.now }
     ensures keeps { KeepsPromises (E.promised evaluation.old) (E.promised evaluation.new) }
-    ensures took { let steps = follow_steps (scene_of (S.answers scopes.now.syntax.now) scopes.now.modules recipes.now) task.now held.now in
+    ensures took { let steps = follow_steps (scene_in (S.answers scopes.now.syntax.now) scopes.now recipes.now) task.now held.now in
         AsksAlone (E.promised evaluation.old) steps (E.requests evaluation.old) (E.requests evaluation.new) (items_of result) }
 {
     let home = module_of(scopes, recipe_at(recipes, task.pair.recipe));
-    let named = subsequents_at(recipes, task.pair.recipe);
+    let named = subsequents_in(scopes, recipes, task.pair.recipe);
     ask_dependencies(alloc, recipes, evaluation, home, task, held, named)
 }

@@ -5,8 +5,10 @@ ghost use Rattle.just_recipe.specs.declared.dependency.Dependency.{Dependency};
 ghost use Rattle.just_recipe.specs.Recipes.{numbers, IsResolved};
 ghost use Rattle.just_recipes.specs.Places.{place_of};
 ghost use Rattle.just_execution.specs.Pairs.{needed, prior_dependencies, subsequent_dependencies};
+ghost use Rattle.just_execution.specs.Scene.{running};
 
-use just_parts::layers::Number;
+use crate::scopes::Scopes;
+use just_parts::layers::{Number, Syntax};
 use just_parts::{Dependency, Recipe};
 use just_recipes::Recipes;
 
@@ -33,10 +35,7 @@ pub(crate) fn dependencies_at<'a, 'src>(
 }
 
 // Those that run before it.
-pub(crate) fn priors_at<'a, 'src>(
-    recipes: &'a Recipes<'src>,
-    place: usize,
-) -> &'a [Dependency<'src>]
+fn priors_at<'a, 'src>(recipes: &'a Recipes<'src>, place: usize) -> &'a [Dependency<'src>]
     requires place { place < length recipes.now }
     requires resolved { All IsResolved recipes.now }
     ensures is { result.now ≡ prior_dependencies recipes.now place }
@@ -47,10 +46,7 @@ pub(crate) fn priors_at<'a, 'src>(
 }
 
 // Those that run after it.
-pub(crate) fn subsequents_at<'a, 'src>(
-    recipes: &'a Recipes<'src>,
-    place: usize,
-) -> &'a [Dependency<'src>]
+fn subsequents_at<'a, 'src>(recipes: &'a Recipes<'src>, place: usize) -> &'a [Dependency<'src>]
     requires place { place < length recipes.now }
     requires resolved { All IsResolved recipes.now }
     ensures is { result.now ≡ subsequent_dependencies recipes.now place }
@@ -58,6 +54,40 @@ pub(crate) fn subsequents_at<'a, 'src>(
 {
     recipes.are_ordered();
     recipes.as_slice()[place].subsequents()
+}
+
+// Those that run before it in a run: none where no dependencies run.
+pub(crate) fn priors_in<'a, 'run, 'src, S: Syntax>(
+    scopes: &Scopes<'run, 'src, S>,
+    recipes: &'a Recipes<'src>,
+    place: usize,
+) -> &'a [Dependency<'src>]
+    requires place { place < length recipes.now }
+    requires resolved { All IsResolved recipes.now }
+    ensures is { result.now ≡ prior_dependencies (running scopes.now.no_dependencies recipes.now) place }
+    ensures held { All (λ (d : Dependency). Contains (numbers recipes.now) d.recipe.0) result.now }
+{
+    if scopes.no_dependencies {
+        return &[];
+    }
+    priors_at(recipes, place)
+}
+
+// Those that run after it in a run.
+pub(crate) fn subsequents_in<'a, 'run, 'src, S: Syntax>(
+    scopes: &Scopes<'run, 'src, S>,
+    recipes: &'a Recipes<'src>,
+    place: usize,
+) -> &'a [Dependency<'src>]
+    requires place { place < length recipes.now }
+    requires resolved { All IsResolved recipes.now }
+    ensures is { result.now ≡ subsequent_dependencies (running scopes.now.no_dependencies recipes.now) place }
+    ensures held { All (λ (d : Dependency). Contains (numbers recipes.now) d.recipe.0) result.now }
+{
+    if scopes.no_dependencies {
+        return &[];
+    }
+    subsequents_at(recipes, place)
 }
 
 // The recipe at a place.

@@ -10,7 +10,7 @@ ghost use Rattle.just_execution.specs.Leaves.{Executes};
 ghost use Rattle.just_execution.specs.Pairs.{AllBelow};
 ghost use Rattle.just_recipe.specs.Recipes.{IsOrdered, IsResolved};
 ghost use Rattle.just_execution.specs.Reports.{IsAsExpected, IsRun, Starts};
-ghost use Rattle.just_execution.specs.Scene.{scene_of};
+ghost use Rattle.just_execution.specs.Scene.{running, scene_in};
 
 use crate::asking::{Preparation, ask, follow};
 use crate::course::{Course, count_call, push_calls};
@@ -49,7 +49,7 @@ fn execute<'src, S: Syntax, E: Evaluation, H: Host>(
     ensures keeps_host { KeepsPromises (H.promised host.old) (H.promised host.new) }
     ensures took { let first = kept_by (H.entries host.old) (E.requests evaluation.old) in
         let last = kept_by (H.entries host.new) (E.requests evaluation.new) in
-        let executes = Executes (E.promised evaluation.old) (H.promised host.old) (scene_of (S.answers scopes.now.syntax.now) scopes.now.modules recipes.now) in
+        let executes = Executes (E.promised evaluation.old) (H.promised host.old) (scene_in (S.answers scopes.now.syntax.now) scopes.now recipes.now) in
         executes task.now held.now first last result }
 {
     let recipe = recipe_at(recipes, task.pair.recipe);
@@ -86,7 +86,7 @@ fn call_task<'src, S: Syntax, E: Evaluation, H: Host>(
     ensures keeps_host { KeepsPromises (H.promised host.old) (H.promised host.new) }
     ensures goes { let first = kept_by (H.entries host.old) (E.requests evaluation.old) in
         let last = kept_by (H.entries host.new) (E.requests evaluation.new) in
-        let calls = Calls (E.promised evaluation.old) (H.promised host.old) (scene_of (S.answers scopes.now.syntax.now) scopes.now.modules recipes.now) in
+        let calls = Calls (E.promised evaluation.old) (H.promised host.old) (scene_in (S.answers scopes.now.syntax.now) scopes.now recipes.now) in
         calls task run.old first run.new last result }
     ensures sound { OnOk result (IsSoundIn (S.answers scopes.now.syntax.now) scopes.now.modules recipes.now run.new) }
     ensures lighter { OnOk result (IsLighter run.new.frames.items run.old.frames.items (Frame.Call task)) }
@@ -123,7 +123,7 @@ fn run_block<'src, S: Syntax, E: Evaluation, H: Host>(
     ensures keeps_host { KeepsPromises (H.promised host.old) (H.promised host.new) }
     ensures goes { let first = kept_by (H.entries host.old) (E.requests evaluation.old) in
         let last = kept_by (H.entries host.new) (E.requests evaluation.new) in
-        let blocks = Blocks (E.promised evaluation.old) (H.promised host.old) (scene_of (S.answers scopes.now.syntax.now) scopes.now.modules recipes.now) in
+        let blocks = Blocks (E.promised evaluation.old) (H.promised host.old) (scene_in (S.answers scopes.now.syntax.now) scopes.now recipes.now) in
         blocks task held.entry run.old first run.new last result }
     ensures sound { OnOk result (IsSoundIn (S.answers scopes.now.syntax.now) scopes.now.modules recipes.now run.new) }
     ensures lighter { OnOk result (IsLighter run.new.frames.items run.old.frames.items (Frame.Block task held.entry)) }
@@ -154,7 +154,7 @@ fn take<'src, S: Syntax, E: Evaluation, H: Host>(
     ensures keeps_host { KeepsPromises (H.promised host.old) (H.promised host.new) }
     ensures goes { let first = kept_by (H.entries host.old) (E.requests evaluation.old) in
         let last = kept_by (H.entries host.new) (E.requests evaluation.new) in
-        let leads = Leads (E.promised evaluation.old) (H.promised host.old) (scene_of (S.answers scopes.now.syntax.now) scopes.now.modules recipes.now) in
+        let leads = Leads (E.promised evaluation.old) (H.promised host.old) (scene_in (S.answers scopes.now.syntax.now) scopes.now recipes.now) in
         leads frame.entry run.old first run.new last result }
     ensures sound { OnOk result (IsSoundIn (S.answers scopes.now.syntax.now) scopes.now.modules recipes.now run.new) }
     ensures lighter { OnOk result (IsLighter run.new.frames.items run.old.frames.items frame.entry) }
@@ -188,7 +188,7 @@ fn finish<'src, S: Syntax, E: Evaluation, H: Host>(
     ensures keeps_host { KeepsPromises (H.promised host.old) (H.promised host.new) }
     ensures took { let first = kept_by (H.entries host.old) (E.requests evaluation.old) in
         let last = kept_by (H.entries host.new) (E.requests evaluation.new) in
-        let scene = scene_of (S.answers scopes.now.syntax.now) scopes.now.modules recipes.now in
+        let scene = scene_in (S.answers scopes.now.syntax.now) scopes.now recipes.now in
         Finishes (E.promised evaluation.old) (H.promised host.old) scene run.old first run.new last result }
 {
     while let Some(frame) = run.frames.pop() {
@@ -215,7 +215,7 @@ fn start<'src, S: Syntax, E: Evaluation, H: Host>(
     ensures keeps_host { KeepsPromises (H.promised host.old) (H.promised host.new) }
     ensures took { let first = kept_by (H.entries host.old) (E.requests evaluation.old) in
         let last = kept_by (H.entries host.new) (E.requests evaluation.new) in
-        let scene = scene_of (S.answers scopes.now.syntax.now) scopes.now.modules recipes.now in
+        let scene = scene_in (S.answers scopes.now.syntax.now) scopes.now recipes.now in
         Starts (E.promised evaluation.old) (H.promised host.old) scene tasks.items first last result }
 {
     if tasks.is_empty() {
@@ -254,14 +254,14 @@ pub fn run_tasks<'src, S: Syntax, E: Evaluation, H: Host>(
     ensures keeps_host { KeepsPromises (H.promised host.old) (H.promised host.new) }
     ensures took { let first = kept_by (H.entries host.old) (E.requests evaluation.old) in
         let last = kept_by (H.entries host.new) (E.requests evaluation.new) in
-        let scene = scene_of (S.answers scopes.now.syntax.now) scopes.now.modules recipes.now in
+        let scene = scene_in (S.answers scopes.now.syntax.now) scopes.now recipes.now in
         Starts (E.promised evaluation.old) (H.promised host.old) scene tops.items first last result }
     ensures account { let first = kept_by (H.entries host.old) (E.requests evaluation.old) in
         let last = kept_by (H.entries host.new) (E.requests evaluation.new) in
-        IsRun recipes.now tops.items first last result }
+        IsRun (running scopes.now.no_dependencies recipes.now) tops.items first last result }
     ensures expected { let first = kept_by (H.entries host.old) (E.requests evaluation.old) in
         let last = kept_by (H.entries host.new) (E.requests evaluation.new) in
-        let scene = scene_of (S.answers scopes.now.syntax.now) scopes.now.modules recipes.now in
+        let scene = scene_in (S.answers scopes.now.syntax.now) scopes.now recipes.now in
         IsAsExpected (E.promised evaluation.old) (H.promised host.old) scene tops.items first last result }
 {
     recipes.are_ordered();

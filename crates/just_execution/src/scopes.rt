@@ -22,6 +22,8 @@ pub struct ModuleScope<'run, 'src> {
 pub struct Scopes<'run, 'src, S> {
     /// The grammar, which tells the lines of bodies apart.
     pub syntax: &'run S,
+    /// Whether no dependencies run.
+    pub no_dependencies: bool,
     /// The modules of the run, by their paths.
     pub modules: HashMap<Modulepath, ModuleScope<'run, 'src>>,
 }

@@ -4,7 +4,7 @@ use Rattle.just_names.specs.Texts.{Text}
 use Rattle.just_paths.specs.declared.modulepath.Modulepath.{Modulepath}
 use Rattle.just_recipe.specs.declared.dependency.Dependency.{Dependency}
 use Rattle.just_recipe.specs.declared.recipe.Recipe.{Recipe}
-use Rattle.just_execution.specs.Scene.{ModuleContents, Scene}
+use Rattle.just_execution.specs.Scene.{ModuleContents, Scene, running}
 use Rattle.just_justfile.specs.Closed.{AreClosed, StandsIn}
 use Rattle.just_justfile.specs.Walks.{inner_along}
 use Rattle.just_justfile.specs.declared.justfile.Justfile.{Justfile, out-Justfile}
@@ -45,6 +45,6 @@ contents_under front root (Some path) = bare_found front (at_path root path)
 
 pub scene_there : (front : Front) (recipes : List (Recipe Dependency)) (root : Justfile) → AreClosed recipes root → (scene : Scene) × IsSceneOf front root recipes scene
 scene_there front recipes root closed = (
-  record { syntax = front.syntax; recipes = recipes; modules = contents_under front root },
+  record { syntax = front.syntax; recipes = running front.handed.config.no_dependencies recipes; modules = contents_under front root },
   record { syntax = refl; held = refl; modules = λ j stands. ap (bare_found front) (found_at recipes root j closed stands) },
 )

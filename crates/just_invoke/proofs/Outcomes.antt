@@ -1,7 +1,6 @@
 -- From the words' invocations to the outcome of their run.
-use Rattle.std.proofs.Common.{◌≡◌, ◌≤◌, ◌<◌, ℕ, true, List, [], length, Option, Ok, Err, IfSome, refl, sym, ◌∙◌, ap, subst, inl, inr, arith}
+use Rattle.std.proofs.Common.{◌≡◌, ◌≤◌, ◌<◌, ℕ, Bool, true, List, [], length, Option, Ok, Err, IfSome, refl, sym, ap, subst, inl, inr, arith}
 use Rattle.std.specs.Prelude.{IsErrAnd, Result}
-use Rattle.std.proofs.lemmas.Bool.{true≢false}
 use Rattle.just_run_layers.proofs.StepLemmas.{after-none}
 use Rattle.just_run_layers.specs.Steps.{Kept}
 use Rattle.just_recipe.specs.declared.dependency.Dependency.{Dependency}
@@ -96,16 +95,16 @@ module _ (counts : Counts) (root : Justfile) (recipes : List (Recipe Dependency)
 
   module _ (p : Inquiry → Option Answer) (q : Entry → Option Answer) (invoked : List Invoked) (split : IsSplit counts root recipes words invoked) (few : config.one ≡ true → length invoked ≤ 1) (plain : SomeVariable root → ⊥)
       (old new : Kept) (result : Result Report Error) where
-    pub went : TasksComeTo p q (IsSceneOf front root recipes) recipes (tops recipes invoked) old new result → IsOutcome counts root recipes words config front p q old new result
+    pub went : TasksComeTo p q (IsSceneOf front root recipes) front.handed.config.no_dependencies recipes (tops recipes invoked) old new result → IsOutcome counts root recipes words config front p q old new result
     went (inl (is, same)) = refused Memory is memory same
     went (inr (ended, is, run, runs)) = ran invoked ended (record { split = split; few = few; plain = plain }) is run (λ scene fits. (runs scene fits).taken)
 
-    went-so : TasksComeTo p q (IsSceneOf front root recipes) recipes (tops recipes invoked) old new result → IsSo front p q root recipes invoked old new result
+    went-so : TasksComeTo p q (IsSceneOf front root recipes) front.handed.config.no_dependencies recipes (tops recipes invoked) old new result → IsSo front p q root recipes invoked old new result
     went-so (inl (is, same)) =
         subst (λ r. IsSo front p q root recipes invoked old new r) (sym is) (subst (λ n. IsSo front p q root recipes invoked old n (Err Memory)) (sym same) (out p q invoked old))
     went-so (inr (ended, is, run, runs)) = (ended, is, λ scene fits. (runs scene fits).expected)
 
-    pub went-expected : TasksComeTo p q (IsSceneOf front root recipes) recipes (tops recipes invoked) old new result → (others : List Invoked) → MayRun counts root recipes words config.one others → IsSo front p q root recipes others old new result
+    pub went-expected : TasksComeTo p q (IsSceneOf front root recipes) front.handed.config.no_dependencies recipes (tops recipes invoked) old new result → (others : List Invoked) → MayRun counts root recipes words config.one others → IsSo front p q root recipes others old new result
     went-expected goes others may = subst (λ is. IsSo front p q root recipes is old new result) (split_once counts root recipes words invoked others split may.split) (went-so goes)
 
   -- several invocations where one alone is allowed
@@ -120,10 +119,10 @@ module _ (counts : Counts) (root : Justfile) (recipes : List (Recipe Dependency)
         omega arith
 
 -- what holds in each scene holds in some of them
-pub in-fewer : (p : Inquiry → Option Answer) (q : Entry → Option Answer) (IsSuch IsOther : Scene → Type 0) (recipes : List (Recipe Dependency)) (ts : List Task) (old new : Kept) (result : Result Report Error) →
-    ((scene : Scene) → IsOther scene → IsSuch scene) → TasksComeTo p q IsSuch recipes ts old new result → TasksComeTo p q IsOther recipes ts old new result
-in-fewer p q IsSuch IsOther recipes ts old new result some (inl stopped) = inl stopped
-in-fewer p q IsSuch IsOther recipes ts old new result some (inr (ended, is, run, runs)) = inr (ended, is, run, λ scene fits. runs scene (some scene fits))
+pub in-fewer : (p : Inquiry → Option Answer) (q : Entry → Option Answer) (IsSuch IsOther : Scene → Type 0) (alone : Bool) (recipes : List (Recipe Dependency)) (ts : List Task) (old new : Kept) (result : Result Report Error) →
+    ((scene : Scene) → IsOther scene → IsSuch scene) → TasksComeTo p q IsSuch alone recipes ts old new result → TasksComeTo p q IsOther alone recipes ts old new result
+in-fewer p q IsSuch IsOther alone recipes ts old new result some (inl stopped) = inl stopped
+in-fewer p q IsSuch IsOther alone recipes ts old new result some (inr (ended, is, run, runs)) = inr (ended, is, run, λ scene fits. runs scene (some scene fits))
 
 -- a run of these tasks in a scene is one in each that is alike
 pub runs-alike : (p : Inquiry → Option Answer) (q : Entry → Option Answer) (ts us : List Task) → ts ≡ us → (old new : Kept) (ended : Result Report Halt) (first second : Scene) → AreAlike first second →

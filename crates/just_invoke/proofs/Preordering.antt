@@ -1,8 +1,8 @@
 -- A walk in preorder: what is listed, and what is left.
-use Rattle.std.proofs.Common.{◌≡◌, ℕ, ◌+◌, ◌<◌, List, [], ◌∷◌, ◌++◌, length, map, reverse, Option, Some, None, refl, sym, ap, subst, ◌∙◌, inl, inr, ◌⊎◌, arith}
+use Rattle.std.proofs.Common.{◌≡◌, ℕ, ◌+◌, ◌<◌, List, [], ◌∷◌, ◌++◌, length, reverse, Some, None, refl, sym, ap, subst, ◌∙◌, arith}
 use Rattle.std.specs.List.{sum_by}
 use Rattle.std.proofs.lemmas.List.Sums.{sum_by-append, sum_by-cons}
-use Rattle.std.proofs.lemmas.List.{append-nil, append_assoc, map-append, length-append, reverse-append, reverse-reverse}
+use Rattle.std.proofs.lemmas.List.{append-nil, append_assoc, length-append, reverse-append}
 use Rattle.just_justfile.specs.declared.justfile.Justfile.{Justfile, out-Justfile}
 use Rattle.just_justfile.proofs.Counts.{count, count_is}
 use Rattle.just_invoke.specs.Preorder.{Placed, AreBelow, none, one, IsPreorder, inner_modules}

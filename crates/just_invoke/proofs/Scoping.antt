@@ -1,9 +1,9 @@
 -- The modules of a run are those that stand in the root.
-use Rattle.std.proofs.Common.{◌≡◌, ◌∙◌, cond, true, List, [], ◌∷◌, ◌++◌, Some, refl, sym, ap, subst, inl, inr}
+use Rattle.std.proofs.Common.{◌≡◌, ◌∙◌, Bool, cond, false, true, List, [], ◌∷◌, ◌++◌, map, Some, refl, sym, ap, subst, inl, inr}
 use Rattle.std.specs.HashMap as hash
 use Rattle.std.specs.List.{All}
 use Rattle.std.proofs.lemmas.Bool.{cases_Bool}
-use Rattle.std.proofs.lemmas.List.Elements.{All-weaker}
+use Rattle.std.proofs.lemmas.List.Elements.{All-cons, All-head, All-nil, All-tail, All-weaker}
 use Rattle.just_paths.specs.contracts.modulepath.ModulepathPartialEq.TheImpl as path_eq
 use Rattle.just_paths.specs.declared.modulepath.Modulepath.{Modulepath}
 use Rattle.just_parts.specs.Asts.{AstKey}
@@ -84,10 +84,22 @@ alike-at front root modules recipes scene has fits r (j, stands, is) =
     let h = has j stands in
     ap (λ path. scenes.contents_found (module_at modules path)) is ∙ ap scenes.contents_found h.there ∙ ap (λ c. Some c) (handed-on front.handed j h.scope h.own) ∙ sym (fits.modules j stands) ∙ ap scene.modules (sym is)
 
+-- a recipe that depends on nothing stands where it did
+lone-placed : (root : Justfile) (recipes : List (Recipe Dependency)) → All (IsPlaced root) recipes → All (IsPlaced root) (map scenes.lone recipes)
+lone-placed root [] h = All-nil (IsPlaced root)
+lone-placed root (r ∷ rs) h = All-cons (IsPlaced root) (scenes.lone r) (map scenes.lone rs) (All-head (IsPlaced root) r rs h) (lone-placed root rs (All-tail (IsPlaced root) r rs h))
+
+running-placed : (root : Justfile) (alone : Bool) (recipes : List (Recipe Dependency)) → All (IsPlaced root) recipes → All (IsPlaced root) (scenes.running alone recipes)
+running-placed root true recipes h = lone-placed root recipes h
+running-placed root false recipes h = h
+
 pub are-alike : (front : Front) (root : Justfile) (modules : Modules) (recipes : List (Recipe Dependency)) → HasScopes front.handed root modules → All (IsPlaced root) recipes → (scene : scenes.Scene) → IsSceneOf front root recipes scene →
-    scenes.AreAlike (scenes.scene_of front.syntax modules recipes) scene
-are-alike front root modules recipes has placed scene fits = record {
-  syntax = sym fits.syntax;
-  recipes = sym fits.held;
-  modules = All-weaker (IsPlaced root) (λ (r : Recipe Dependency). (scenes.scene_of front.syntax modules recipes).modules r.module_path ≡ scene.modules r.module_path) (alike-at front root modules recipes scene has fits) recipes placed;
-}
+    scenes.AreAlike (scenes.scene_of front.syntax modules (scenes.running front.handed.config.no_dependencies recipes)) scene
+are-alike front root modules recipes has placed scene fits =
+    let rs : List (Recipe Dependency) = scenes.running front.handed.config.no_dependencies recipes in
+    record {
+      syntax = sym fits.syntax;
+      recipes = sym fits.held;
+      modules = All-weaker (IsPlaced root) (λ (r : Recipe Dependency). (scenes.scene_of front.syntax modules rs).modules r.module_path ≡ scene.modules r.module_path) (alike-at front root modules recipes scene has fits) rs
+          (running-placed root front.handed.config.no_dependencies recipes placed);
+    }

@@ -1,5 +1,5 @@
 -- For the private functions: what the run of tasks comes to.
-use Rattle.std.specs.Prelude.{◌≡◌, ◌⊎◌, List, Option, Result, Err}
+use Rattle.std.specs.Prelude.{◌≡◌, ◌⊎◌, Bool, List, Option, Result, Err}
 use Rattle.just_run_layers.specs.Steps.{Kept}
 use Rattle.just_recipe.specs.declared.dependency.Dependency.{Dependency}
 use Rattle.just_errors.specs.declared.error.Error.{Error}
@@ -13,7 +13,7 @@ use Rattle.just_run_layers.specs.Host.{Answer}
 use Rattle.just_execution.specs.declared.running.Report.{Report}
 use Rattle.just_execution.specs.declared.task.Task.{Task}
 use Rattle.just_execution.specs.Reports.{IsRun, IsAsExpected, Starts}
-use Rattle.just_execution.specs.Scene.{Scene}
+use Rattle.just_execution.specs.Scene.{Scene, running}
 use Rattle.just_invoke.specs.declared.invocation.Invocation.{Invocation}
 use Rattle.just_invoke.specs.Outcome.{tops_of}
 
@@ -23,12 +23,12 @@ pub record RunsIn (evaluator : Inquiry → Option Answer) (host : Entry → Opti
   pub expected : IsAsExpected evaluator host scene ts old new ended
 
 -- tasks are not run for want of memory, and what is kept is as it was; or they are, in each such scene
-abbrev pub TasksComeTo : (Inquiry → Option Answer) → (Entry → Option Answer) → (Scene → Type 0) → List (Recipe Dependency) → List Task → Kept → Kept → Result Report Error → Type 0
-TasksComeTo evaluator host IsSuch recipes ts old new result =
+abbrev pub TasksComeTo : (Inquiry → Option Answer) → (Entry → Option Answer) → (Scene → Type 0) → Bool → List (Recipe Dependency) → List Task → Kept → Kept → Result Report Error → Type 0
+TasksComeTo evaluator host IsSuch alone recipes ts old new result =
     ((result ≡ Err Memory) × (new ≡ old))
     ⊎ ((ended : Result Report Halt) × (result ≡ come_to ended)
-    × IsRun recipes ts old new ended × ((scene : Scene) → IsSuch scene → RunsIn evaluator host scene ts old new ended))
+    × IsRun (running alone recipes) ts old new ended × ((scene : Scene) → IsSuch scene → RunsIn evaluator host scene ts old new ended))
 
 -- likewise of invocations
-abbrev pub ComesTo : (Inquiry → Option Answer) → (Entry → Option Answer) → (Scene → Type 0) → List (Recipe Dependency) → List Invocation → Kept → Kept → Result Report Error → Type 0
-ComesTo evaluator host IsSuch recipes invocations old new result = TasksComeTo evaluator host IsSuch recipes (tops_of recipes invocations) old new result
+abbrev pub ComesTo : (Inquiry → Option Answer) → (Entry → Option Answer) → (Scene → Type 0) → Bool → List (Recipe Dependency) → List Invocation → Kept → Kept → Result Report Error → Type 0
+ComesTo evaluator host IsSuch alone recipes invocations old new result = TasksComeTo evaluator host IsSuch alone recipes (tops_of recipes invocations) old new result

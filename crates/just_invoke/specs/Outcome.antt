@@ -17,7 +17,7 @@ use Rattle.just_execution.specs.declared.task.Task.{Task}
 use Rattle.just_execution.specs.Pairs.{task}
 use Rattle.just_recipes.specs.Places.{place_of}
 use Rattle.just_execution.specs.Reports.{IsRun, IsAsExpected, Starts}
-use Rattle.just_execution.specs.Scene.{Scene}
+use Rattle.just_execution.specs.Scene.{Scene, running}
 use Rattle.just_invoke.specs.declared.invocation.Invocation as parsed
 use Rattle.just_justfile.specs.declared.justfile.Justfile.{Justfile}
 use Rattle.just_invoke.specs.Cause.{Cause, cause_of}
@@ -58,7 +58,7 @@ pub data IsOutcome (counts : Counts) (root : Justfile) (recipes : List (Recipe D
     (evaluator : Inquiry → Option Answer) (host : Entry → Option Answer) (old new : Kept) (result : Result Report Error) : Type 0 where
   refused : (e : Error) → result ≡ Err e → Refuses counts root recipes words config.one e → new ≡ old → IsOutcome counts root recipes words config front evaluator host old new result
   ran : (invoked : List Invoked) (ended : Result Report Halt) → MayRun counts root recipes words config.one invoked → result ≡ come_to ended →
-      IsRun recipes (tops recipes invoked) old new ended →
+      IsRun (running front.handed.config.no_dependencies recipes) (tops recipes invoked) old new ended →
       ((scene : Scene) → IsSceneOf front root recipes scene → Starts evaluator host scene (tops recipes invoked) old new ended) →
       IsOutcome counts root recipes words config front evaluator host old new result
 

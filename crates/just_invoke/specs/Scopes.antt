@@ -13,7 +13,7 @@ use Rattle.just_run_layers.specs.Evaluation.{ConfigContents, ContextContents, co
 use Rattle.just_recipe.specs.declared.dependency.Dependency.{Dependency}
 use Rattle.just_recipe.specs.declared.recipe.Recipe.{Recipe}
 use Rattle.just_execution.specs.Homes.{Modules, module_at}
-use Rattle.just_execution.specs.Scene.{ModuleContents, Scene}
+use Rattle.just_execution.specs.Scene.{ModuleContents, Scene, running}
 use Rattle.just_execution.specs.declared.scopes.ModuleScope.{ModuleScope}
 use Rattle.just_justfile.specs.Closed.{StandsIn}
 use Rattle.just_justfile.specs.declared.justfile.Justfile.{Justfile, out-Justfile}
@@ -56,10 +56,10 @@ bare_context handed j = record {
 abbrev pub bare_contents : Handed → Justfile → ModuleContents
 bare_contents handed j = record { context = bare_context handed j; scope = no_values }
 
--- A scene of the root and these recipes: it has the grammar, and under the path of each module that stands in the root, it has what that module's recipes run by.
+-- A scene of the root and these recipes: it has the grammar and the recipes as they run, and under the path of each module that stands in the root, it has what that module's recipes run by.
 pub record IsSceneOf (front : Front) (root : Justfile) (recipes : List (Recipe Dependency)) (scene : Scene) : Type 0 where
   pub syntax : scene.syntax ≡ front.syntax
-  pub held : scene.recipes ≡ recipes
+  pub held : scene.recipes ≡ running front.handed.config.no_dependencies recipes
   pub modules : (j : Justfile) → StandsIn root j → scene.modules (Some (out-Justfile j).module_path) ≡ Some (bare_contents front.handed j)
 
 -- for the private functions: these are the modules that stand in the root

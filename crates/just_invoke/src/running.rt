@@ -5,7 +5,7 @@ ghost use Rattle.just_recipe.specs.Recipes.{IsResolved};
 ghost use Rattle.just_run_layers.specs.Steps.{kept_by};
 ghost use Rattle.just_invoke.specs.declared.invocation.Invocation.{Invocation};
 ghost use Rattle.just_execution.specs.Homes.{IsAmong};
-ghost use Rattle.just_execution.specs.Scene.{AreAlike, scene_of};
+ghost use Rattle.just_execution.specs.Scene.{AreAlike, scene_in};
 ghost use Rattle.just_justfile.specs.Closed.{IsHeld};
 ghost use Rattle.just_invoke.specs.Going.{ComesTo};
 
@@ -34,8 +34,8 @@ pub(crate) fn run_invocations<'src, S: Syntax, E: Evaluation, H: Host>(
     ensures keeps_host { KeepsPromises (H.promised host.old) (H.promised host.new) }
     ensures comes { let first = kept_by (H.entries host.old) (E.requests evaluation.old) in
         let last = kept_by (H.entries host.new) (E.requests evaluation.new) in
-        let alike = AreAlike (scene_of (S.answers scopes.now.syntax.now) scopes.now.modules recipes.now) in
-        ComesTo (E.promised evaluation.old) (H.promised host.old) alike recipes.now invocations.now first last result }
+        let alike = AreAlike (scene_in (S.answers scopes.now.syntax.now) scopes.now recipes.now) in
+        ComesTo (E.promised evaluation.old) (H.promised host.old) alike scopes.now.no_dependencies recipes.now invocations.now first last result }
 {
     let tops = name_tops(alloc, recipes, invocations)?;
     Ok(run_tasks(alloc, recipes, scopes, evaluation, host, tops)?)

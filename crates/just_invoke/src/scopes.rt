@@ -69,9 +69,11 @@ pub(crate) fn bare_scopes<'run, 'src, S: Syntax>(
     requires { HaveOwnPaths root.now }
     ensures modules { IfOk result (λ scopes. HasScopes (handed_of config.now overrides.now) root.now scopes.modules) }
     ensures syntax { IfOk result (λ scopes. scopes.syntax.now ≡ syntax.now) }
+    ensures alone { IfOk result (λ scopes. scopes.no_dependencies ≡ config.now.no_dependencies) }
 {
     Ok(Scopes {
         syntax,
+        no_dependencies: config.no_dependencies,
         modules: bare_modules(alloc, config, root, overrides)?,
     })
 }

@@ -5,11 +5,12 @@ use Rattle.just_run_layers.specs.Steps.{kept_by}
 use Rattle.just_run_layers.proofs.StepLemmas.{exited, keeps-then}
 use Rattle.just_execution.specs.Arguments.{IsGivenIn}
 use Rattle.just_execution.specs.Leaves.{Prepares, prepared_of}
-use Rattle.just_execution.specs.Scene.{contents_of, scene_of}
+use Rattle.just_execution.specs.Scene.{scene_in}
 use Rattle.just_execution.specs.declared.asking.Preparation.{Preparation}
 use Rattle.just_execution.proofs.Covered.{arguments-given, held-serves, parameters-covered}
-use Rattle.just_execution.proofs.Homes.{contents-there, home-of, is-served}
-use Rattle.just_execution.proofs.LeafTook.{consent-failed, parameters-failed, priors-all, priors-are, priors-failed, priors-given}
+use Rattle.just_execution.proofs.Homes.{home-of, is-served}
+use Rattle.just_execution.proofs.Lone.{running-priors}
+use Rattle.just_execution.proofs.LoneTook.{consent-failed, parameters-failed, priors-failed, priors-given, priors-seen}
 use Rattle.just_execution.proofs.asking.ask.Goals as goal
 
 pub module_of-home-requires : goal.module_of-home-requires
@@ -28,9 +29,10 @@ ask_dependencies-requires-clause-given g c =
     let r = c.recipe_at-recipe.result.now in
     let m = c.module_of-home.result.now in
     let h = c.in_ok-held.held in
-    priors-all (IsGivenIn (module_of m.context) h.scope) r c.priors_at-named.result.now
-    (priors-are c.args.recipes.now c.args.task.now.pair.recipe r c.recipe_at-recipe.ensures c.priors_at-named.result.now c.priors_at-named.ensures.is)
-    (arguments-given answers m r h (held-serves answers m r h c.module_of-home.ensures.own.bound c.in_ok-held.ensures.binds))
+    let b = c.args.scopes.now.no_dependencies in
+    running-priors (IsGivenIn (module_of m.context) h.scope) r c.priors_in-named.result.now
+    (arguments-given answers m r h (held-serves answers m r h c.module_of-home.ensures.own.bound c.in_ok-held.ensures.binds)) b
+    (priors-seen answers c.args.scopes.now.modules b c.args.recipes.now c.args.task.now r m c.recipe_at-recipe.ensures c.module_of-home.ensures.there c.priors_in-named.result.now c.priors_in-named.ensures.is)
 
 pub returns-in_err-held-clause-took : goal.returns-in_err-held-clause-took
 returns-in_err-held-clause-took g c =
@@ -38,12 +40,13 @@ returns-in_err-held-clause-took g c =
     let e = g.E.Evaluation.promised c.args.evaluation.now in
     let h = g.H.Host.promised c.args.host.now in
     let rs = c.args.recipes.now in
-    let scene = scene_of answers c.args.scopes.now.modules rs in
+    let b = c.args.scopes.now.no_dependencies in
+    let scene = scene_in answers c.args.scopes.now rs in
     let r = c.recipe_at-recipe.result.now in
     let m = c.module_of-home.result.now in
     let entries = g.H.Host.entries c.args.host.now in
     subst (Prepares e h scene c.args.task.now (kept_by entries (g.E.Evaluation.requests c.args.evaluation.now)) _) (sym (ap prepared_of (exited c.from_residual.result c.in_err-held.field-0.0 (search rules))))
-    (parameters-failed scene c.args.task.now r (contents_of m) c.recipe_at-recipe.ensures (contents-there answers c.args.scopes.now.modules rs r m c.module_of-home.ensures.there) e h entries _ _
+    (parameters-failed answers c.args.scopes.now.modules b rs c.args.task.now r m c.recipe_at-recipe.ensures c.module_of-home.ensures.there e h entries _ _
     c.in_err-held.field-0.0 c.in_err-held.ensures.took)
 
 pub returns-in_err-ask_consent-clause-took : goal.returns-in_err-ask_consent-clause-took
@@ -52,13 +55,14 @@ returns-in_err-ask_consent-clause-took g c =
     let e = g.E.Evaluation.promised c.args.evaluation.now in
     let h = g.H.Host.promised c.args.host.now in
     let rs = c.args.recipes.now in
-    let scene = scene_of answers c.args.scopes.now.modules rs in
+    let b = c.args.scopes.now.no_dependencies in
+    let scene = scene_in answers c.args.scopes.now rs in
     let r = c.recipe_at-recipe.result.now in
     let m = c.module_of-home.result.now in
     let entries = g.H.Host.entries c.args.host.now in
     let failed : Result Preparation Halt = c.from_residual-in_err-ask_consent.result in
     subst (Prepares e h scene c.args.task.now (kept_by entries (g.E.Evaluation.requests c.args.evaluation.now)) _) (sym (ap prepared_of (exited failed c.in_err-ask_consent.field-0.0 (search rules))))
-    (consent-failed scene c.args.task.now r (contents_of m) c.recipe_at-recipe.ensures (contents-there answers c.args.scopes.now.modules rs r m c.module_of-home.ensures.there) e h entries _
+    (consent-failed answers c.args.scopes.now.modules b rs c.args.task.now r m c.recipe_at-recipe.ensures c.module_of-home.ensures.there e h entries _
     (g.E.Evaluation.promised c.ask_parameters.new.evaluation) c.in_ok-held.ensures.keeps _ c.in_ok-held.held c.in_ok-held.ensures.took _ c.in_err-ask_consent.field-0.0 c.in_err-ask_consent.ensures.took)
 
 pub returns-in_err-priors-clause-took : goal.returns-in_err-priors-clause-took
@@ -67,16 +71,17 @@ returns-in_err-priors-clause-took g c =
     let e = g.E.Evaluation.promised c.args.evaluation.now in
     let h = g.H.Host.promised c.args.host.now in
     let rs = c.args.recipes.now in
-    let scene = scene_of answers c.args.scopes.now.modules rs in
+    let b = c.args.scopes.now.no_dependencies in
+    let scene = scene_in answers c.args.scopes.now rs in
     let r = c.recipe_at-recipe.result.now in
     let m = c.module_of-home.result.now in
     let entries = g.H.Host.entries c.args.host.now in
     let failed : Result Preparation Halt = c.from_residual-in_err-priors.result in
     subst (Prepares e h scene c.args.task.now (kept_by entries (g.E.Evaluation.requests c.args.evaluation.now)) _) (sym (ap prepared_of (exited failed c.in_err-priors.field-0.0 (search rules))))
-    (priors-failed scene c.args.task.now r (contents_of m) c.recipe_at-recipe.ensures (contents-there answers c.args.scopes.now.modules rs r m c.module_of-home.ensures.there) e h entries _
+    (priors-failed answers c.args.scopes.now.modules b rs c.args.task.now r m c.recipe_at-recipe.ensures c.module_of-home.ensures.there e h entries _
     (g.E.Evaluation.promised c.ask_parameters.new.evaluation) c.in_ok-held.ensures.keeps _ c.in_ok-held.held c.in_ok-held.ensures.took
     (g.E.Evaluation.promised c.ask_consent.new.evaluation) (g.H.Host.promised c.ask_consent.new.host) c.in_ok-ask_consent.ensures.keeps c.in_ok-ask_consent.ensures.keeps_host (g.H.Host.entries c.ask_consent.new.host) _ _ c.in_ok-ask_consent.ensures.took
-    c.priors_at-named.result.now (priors-are rs c.args.task.now.pair.recipe r c.recipe_at-recipe.ensures c.priors_at-named.result.now c.priors_at-named.ensures.is) c.in_err-priors.field-0.0 c.in_err-priors.ensures.took)
+    c.priors_in-named.result.now (priors-seen answers c.args.scopes.now.modules b rs c.args.task.now r m c.recipe_at-recipe.ensures c.module_of-home.ensures.there c.priors_in-named.result.now c.priors_in-named.ensures.is) c.in_err-priors.field-0.0 c.in_err-priors.ensures.took)
 
 pub returns-clause-took : goal.returns-clause-took
 returns-clause-took g c =
@@ -84,13 +89,14 @@ returns-clause-took g c =
     let e = g.E.Evaluation.promised c.args.evaluation.now in
     let h = g.H.Host.promised c.args.host.now in
     let rs = c.args.recipes.now in
+    let b = c.args.scopes.now.no_dependencies in
     let r = c.recipe_at-recipe.result.now in
     let m = c.module_of-home.result.now in
     let entries = g.H.Host.entries c.args.host.now in
-    priors-given (scene_of answers c.args.scopes.now.modules rs) c.args.task.now r (contents_of m) c.recipe_at-recipe.ensures (contents-there answers c.args.scopes.now.modules rs r m c.module_of-home.ensures.there) e h entries _
+    priors-given answers c.args.scopes.now.modules b rs c.args.task.now r m c.recipe_at-recipe.ensures c.module_of-home.ensures.there e h entries _
     (g.E.Evaluation.promised c.ask_parameters.new.evaluation) c.in_ok-held.ensures.keeps _ c.in_ok-held.held c.in_ok-held.ensures.took
     (g.E.Evaluation.promised c.ask_consent.new.evaluation) (g.H.Host.promised c.ask_consent.new.host) c.in_ok-ask_consent.ensures.keeps c.in_ok-ask_consent.ensures.keeps_host (g.H.Host.entries c.ask_consent.new.host) _ _ c.in_ok-ask_consent.ensures.took
-    c.priors_at-named.result.now (priors-are rs c.args.task.now.pair.recipe r c.recipe_at-recipe.ensures c.priors_at-named.result.now c.priors_at-named.ensures.is) c.in_ok-priors.priors.items c.in_ok-priors.ensures.took
+    c.priors_in-named.result.now (priors-seen answers c.args.scopes.now.modules b rs c.args.task.now r m c.recipe_at-recipe.ensures c.module_of-home.ensures.there c.priors_in-named.result.now c.priors_in-named.ensures.is) c.in_ok-priors.priors.items c.in_ok-priors.ensures.took
 
 pub returns-clause-serves : goal.returns-clause-serves
 returns-clause-serves g c =

@@ -8,7 +8,7 @@ use Rattle.just_execution.specs.declared.frame.Frame.{Frame}
 use Rattle.just_execution.specs.Frames.{left, left_of, state_of}
 use Rattle.just_execution.specs.Leaves.{leaves_of}
 use Rattle.just_execution.specs.Walking.{Leaves, State}
-use Rattle.just_execution.specs.Scene.{scene_of}
+use Rattle.just_execution.specs.Scene.{scene_in}
 use Rattle.just_execution.proofs.Goings.{ended-took, none-took}
 use Rattle.just_execution.proofs.running.finish.Goals as goal
 
@@ -16,7 +16,7 @@ pub loop-frame-preserved : goal.loop-frame-preserved
 loop-frame-preserved g c =
     let p : Question → Option Answer = both (g.E.Evaluation.promised c.loop-frame.evaluation) (g.H.Host.promised c.loop-frame.host) in
     let q : Question → Option Answer = both (g.E.Evaluation.promised c.take.new.evaluation) (g.H.Host.promised c.take.new.host) in
-    let L : Leaves = leaves_of (scene_of (g.S.Syntax.answers c.args.scopes.now.syntax.now) c.args.scopes.now.modules c.args.recipes.now) in
+    let L : Leaves = leaves_of (scene_in (g.S.Syntax.answers c.args.scopes.now.syntax.now) c.args.scopes.now c.args.recipes.now) in
     let old : Kept = kept_by (g.H.Host.entries c.loop-frame.host) (g.E.Evaluation.requests c.loop-frame.evaluation) in
     let mid : Kept = kept_by (g.H.Host.entries c.take.new.host) (g.E.Evaluation.requests c.take.new.evaluation) in
     let s : State = state_of c.loop-frame.run in
@@ -32,7 +32,7 @@ pub returns-in_err-take-clause-took : goal.returns-in_err-take-clause-took
 returns-in_err-take-clause-took g c =
     let p : Question → Option Answer = both (g.E.Evaluation.promised c.loop-frame.evaluation) (g.H.Host.promised c.loop-frame.host) in
     let first : Question → Option Answer = both (g.E.Evaluation.promised c.args.evaluation.now) (g.H.Host.promised c.args.host.now) in
-    let L : Leaves = leaves_of (scene_of (g.S.Syntax.answers c.args.scopes.now.syntax.now) c.args.scopes.now.modules c.args.recipes.now) in
+    let L : Leaves = leaves_of (scene_in (g.S.Syntax.answers c.args.scopes.now.syntax.now) c.args.scopes.now c.args.recipes.now) in
     let old : Kept = kept_by (g.H.Host.entries c.loop-frame.host) (g.E.Evaluation.requests c.loop-frame.evaluation) in
     let mid : Kept = kept_by (g.H.Host.entries c.take.new.host) (g.E.Evaluation.requests c.take.new.evaluation) in
     let s : State = state_of c.loop-frame.run in
@@ -43,7 +43,7 @@ returns-in_err-take-clause-took g c =
 pub returns-clause-took : goal.returns-clause-took
 returns-clause-took g c =
     let p : Question → Option Answer = both (g.E.Evaluation.promised c.loop-frame.evaluation) (g.H.Host.promised c.loop-frame.host) in
-    let L : Leaves = leaves_of (scene_of (g.S.Syntax.answers c.args.scopes.now.syntax.now) c.args.scopes.now.modules c.args.recipes.now) in
+    let L : Leaves = leaves_of (scene_in (g.S.Syntax.answers c.args.scopes.now.syntax.now) c.args.scopes.now c.args.recipes.now) in
     let none : c.loop-frame.run.frames.items ≡ [] = search rules in
     c.loop-frame.invariant.rest _ _ (none-took L p c.loop-frame.run.frames.items (state_of c.loop-frame.run) (kept_by (g.H.Host.entries c.loop-frame.host) (g.E.Evaluation.requests c.loop-frame.evaluation)) none)
 

@@ -4,7 +4,7 @@ use Rattle.just_run_layers.specs.Steps.{Kept, Question, Took, both, kept_by}
 use Rattle.just_execution.specs.declared.frame.Frame.{Frame}
 use Rattle.just_execution.specs.Frames.{Goes, left_of, left_with, state_of}
 use Rattle.just_execution.specs.Leaves.{leaves_of}
-use Rattle.just_execution.specs.Scene.{scene_of}
+use Rattle.just_execution.specs.Scene.{scene_in}
 use Rattle.just_execution.proofs.FrameLemmas.{back-left}
 use Rattle.just_execution.proofs.WeightLemmas.{taken-lighter}
 use Rattle.just_execution.proofs.running.take.Goals as goal
@@ -12,7 +12,7 @@ use Rattle.just_execution.proofs.running.take.Goals as goal
 pub returns-in-Call-clause-goes : goal.returns-in-Call-clause-goes
 returns-in-Call-clause-goes g c =
     let p : Question → Option Answer = both (g.E.Evaluation.promised c.args.evaluation.now) (g.H.Host.promised c.args.host.now) in
-    let L = leaves_of (scene_of (g.S.Syntax.answers c.args.scopes.now.syntax.now) c.args.scopes.now.modules c.args.recipes.now) in
+    let L = leaves_of (scene_in (g.S.Syntax.answers c.args.scopes.now.syntax.now) c.args.scopes.now c.args.recipes.now) in
     let old : Kept = kept_by (g.H.Host.entries c.args.host.now) (g.E.Evaluation.requests c.args.evaluation.now) in
     let new : Kept = kept_by (g.H.Host.entries c.call_task.new.host) (g.E.Evaluation.requests c.call_task.new.evaluation) in
     subst (λ (x : Frame). Goes p (left_with L x c.args.run.now) old (left_of L c.call_task.new.run) new c.call_task.result) (sym c.in-Call.is)
@@ -21,7 +21,7 @@ returns-in-Call-clause-goes g c =
 pub returns-in-Block-clause-goes : goal.returns-in-Block-clause-goes
 returns-in-Block-clause-goes g c =
     let p : Question → Option Answer = both (g.E.Evaluation.promised c.args.evaluation.now) (g.H.Host.promised c.args.host.now) in
-    let L = leaves_of (scene_of (g.S.Syntax.answers c.args.scopes.now.syntax.now) c.args.scopes.now.modules c.args.recipes.now) in
+    let L = leaves_of (scene_in (g.S.Syntax.answers c.args.scopes.now.syntax.now) c.args.scopes.now c.args.recipes.now) in
     let old : Kept = kept_by (g.H.Host.entries c.args.host.now) (g.E.Evaluation.requests c.args.evaluation.now) in
     let new : Kept = kept_by (g.H.Host.entries c.run_block.new.host) (g.E.Evaluation.requests c.run_block.new.evaluation) in
     subst (λ (x : Frame). Goes p (left_with L x c.args.run.now) old (left_of L c.run_block.new.run) new c.run_block.result) (sym c.in-Block.is)
@@ -30,7 +30,7 @@ returns-in-Block-clause-goes g c =
 pub returns-in-Back-clause-goes : goal.returns-in-Back-clause-goes
 returns-in-Back-clause-goes g c = λ new r t.
     let p : Question → Option Answer = both (g.E.Evaluation.promised c.args.evaluation.now) (g.H.Host.promised c.args.host.now) in
-    let L = leaves_of (scene_of (g.S.Syntax.answers c.args.scopes.now.syntax.now) c.args.scopes.now.modules c.args.recipes.now) in
+    let L = leaves_of (scene_in (g.S.Syntax.answers c.args.scopes.now.syntax.now) c.args.scopes.now c.args.recipes.now) in
     let old : Kept = kept_by (g.H.Host.entries c.args.host.now) (g.E.Evaluation.requests c.args.evaluation.now) in
     subst (λ (x : Frame). Took p (left_with L x c.args.run.now) old new r) (sym c.in-Back.is)
     (subst (λ u. Took p u old new r) (sym (back-left L c.args.run.now.frames.items c.in-Back.outer (state_of c.args.run.now))) t)

@@ -1,4 +1,4 @@
-use Rattle.std.proofs.Common.{◌≡◌, ◌++◌, [], ◌∷◌, map, reverse, length, None, rules, ◌∙◌, ap, sym, subst}
+use Rattle.std.proofs.Common.{◌≡◌, ◌++◌, [], ◌∷◌, map, length, rules, ◌∙◌, ap, sym}
 use Rattle.std.proofs.lemmas.List.{length-map, map-append}
 use Rattle.just_justfile.specs.declared.justfile.Justfile.{out-Justfile}
 use Rattle.just_invoke.specs.Preorder.{inner_modules, placed, waiting}

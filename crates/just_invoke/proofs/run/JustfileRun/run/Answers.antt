@@ -3,10 +3,9 @@ use Rattle.std.proofs.lemmas.List.{length-map}
 use Rattle.just_parts.specs.Evaluator.{count_fault_of}
 use Rattle.just_run_layers.specs.LineTexts.{AgreesWith}
 use Rattle.just_run_layers.specs.Steps.{kept_by}
-use Rattle.just_errors.specs.declared.error.Error.TheVariants.{Memory}
 use Rattle.just_names.specs.Texts.{texts}
 use Rattle.just_justfile.specs.Closed.{is_closed, is_ordered}
-use Rattle.just_execution.specs.Scene.{AreAlike, scene_of}
+use Rattle.just_execution.specs.Scene.{AreAlike, running, scene_in, scene_of}
 use Rattle.just_invoke.specs.Going.{ComesTo}
 use Rattle.just_invoke.specs.Outcome.{refused}
 use Rattle.just_invoke.specs.Scopes.{IsSceneOf, front_of, handed_of}
@@ -118,9 +117,10 @@ returns-clause-outcome g c =
     ] in
     went (count_fault_of (g.E.ConstantEvaluation.answers c.args.evaluation.now)) c.args.self.now c.args.recipes.now (texts c.args.words.now) c.args.config.now (front_of (g.S.Syntax.answers c.args.syntax.now) c.args.config.now c.args.overrides.now) p q (map invoked_of c.in_ok-invocations.invocations.items) c.in_ok-invocations.ensures.split
     (λ yes. subst (λ n. n ≤ 1) (sym (length-map c.in_ok-invocations.invocations.items invoked_of)) (few yes)) c.in_ok-check_variables.ensures.ok _ _ c.run_invocations.result
-    (in-fewer p q (AreAlike (scene_of (g.S.Syntax.answers c.args.syntax.now) c.in_ok-scopes.scopes.modules c.args.recipes.now)) (IsSceneOf (front_of (g.S.Syntax.answers c.args.syntax.now) c.args.config.now c.args.overrides.now) c.args.self.now c.args.recipes.now) c.args.recipes.now _ _ _ _ (are-alike (front_of (g.S.Syntax.answers c.args.syntax.now) c.args.config.now c.args.overrides.now) c.args.self.now c.in_ok-scopes.scopes.modules c.args.recipes.now c.in_ok-scopes.ensures.modules c.requires.rooted.placed)
-    (subst (λ syntax. ComesTo p q (AreAlike (scene_of (g.S.Syntax.answers syntax) c.in_ok-scopes.scopes.modules c.args.recipes.now)) c.args.recipes.now c.in_ok-invocations.invocations.items (kept_by (g.H.Host.entries c.args.host.now) (g.E.Evaluation.requests c.args.evaluation.now)) (kept_by (g.H.Host.entries c.run_invocations.new.host) (g.E.Evaluation.requests c.run_invocations.new.evaluation)) c.run_invocations.result) c.in_ok-scopes.ensures.syntax
-    (subst (λ is. ComesTo p q (AreAlike (scene_of (g.S.Syntax.answers c.in_ok-scopes.scopes.syntax.now) c.in_ok-scopes.scopes.modules c.args.recipes.now)) c.args.recipes.now is (kept_by (g.H.Host.entries c.args.host.now) (g.E.Evaluation.requests c.args.evaluation.now)) (kept_by (g.H.Host.entries c.run_invocations.new.host) (g.E.Evaluation.requests c.run_invocations.new.evaluation)) c.run_invocations.result) c.as_slice-2.ensures.value c.run_invocations.ensures.comes)))
+    (in-fewer p q (AreAlike (scene_of (g.S.Syntax.answers c.args.syntax.now) c.in_ok-scopes.scopes.modules (running c.args.config.now.no_dependencies c.args.recipes.now))) (IsSceneOf (front_of (g.S.Syntax.answers c.args.syntax.now) c.args.config.now c.args.overrides.now) c.args.self.now c.args.recipes.now) c.args.config.now.no_dependencies c.args.recipes.now _ _ _ _ (are-alike (front_of (g.S.Syntax.answers c.args.syntax.now) c.args.config.now c.args.overrides.now) c.args.self.now c.in_ok-scopes.scopes.modules c.args.recipes.now c.in_ok-scopes.ensures.modules c.requires.rooted.placed)
+    (subst (λ alone. ComesTo p q (AreAlike (scene_of (g.S.Syntax.answers c.args.syntax.now) c.in_ok-scopes.scopes.modules (running alone c.args.recipes.now))) alone c.args.recipes.now c.in_ok-invocations.invocations.items (kept_by (g.H.Host.entries c.args.host.now) (g.E.Evaluation.requests c.args.evaluation.now)) (kept_by (g.H.Host.entries c.run_invocations.new.host) (g.E.Evaluation.requests c.run_invocations.new.evaluation)) c.run_invocations.result) c.in_ok-scopes.ensures.alone
+    (subst (λ syntax. ComesTo p q (AreAlike (scene_of (g.S.Syntax.answers syntax) c.in_ok-scopes.scopes.modules (running c.in_ok-scopes.scopes.no_dependencies c.args.recipes.now))) c.in_ok-scopes.scopes.no_dependencies c.args.recipes.now c.in_ok-invocations.invocations.items (kept_by (g.H.Host.entries c.args.host.now) (g.E.Evaluation.requests c.args.evaluation.now)) (kept_by (g.H.Host.entries c.run_invocations.new.host) (g.E.Evaluation.requests c.run_invocations.new.evaluation)) c.run_invocations.result) c.in_ok-scopes.ensures.syntax
+    (subst (λ is. ComesTo p q (AreAlike (scene_in (g.S.Syntax.answers c.in_ok-scopes.scopes.syntax.now) c.in_ok-scopes.scopes c.args.recipes.now)) c.in_ok-scopes.scopes.no_dependencies c.args.recipes.now is (kept_by (g.H.Host.entries c.args.host.now) (g.E.Evaluation.requests c.args.evaluation.now)) (kept_by (g.H.Host.entries c.run_invocations.new.host) (g.E.Evaluation.requests c.run_invocations.new.evaluation)) c.run_invocations.result) c.as_slice-2.ensures.value c.run_invocations.ensures.comes))))
 
 pub returns-clause-expected : goal.returns-clause-expected
 returns-clause-expected g c =
@@ -132,6 +132,7 @@ returns-clause-expected g c =
     ] in
     went-expected (count_fault_of (g.E.ConstantEvaluation.answers c.args.evaluation.now)) c.args.self.now c.args.recipes.now (texts c.args.words.now) c.args.config.now (front_of (g.S.Syntax.answers c.args.syntax.now) c.args.config.now c.args.overrides.now) p q (map invoked_of c.in_ok-invocations.invocations.items) c.in_ok-invocations.ensures.split
     (λ yes. subst (λ n. n ≤ 1) (sym (length-map c.in_ok-invocations.invocations.items invoked_of)) (few yes)) c.in_ok-check_variables.ensures.ok _ _ c.run_invocations.result
-    (in-fewer p q (AreAlike (scene_of (g.S.Syntax.answers c.args.syntax.now) c.in_ok-scopes.scopes.modules c.args.recipes.now)) (IsSceneOf (front_of (g.S.Syntax.answers c.args.syntax.now) c.args.config.now c.args.overrides.now) c.args.self.now c.args.recipes.now) c.args.recipes.now _ _ _ _ (are-alike (front_of (g.S.Syntax.answers c.args.syntax.now) c.args.config.now c.args.overrides.now) c.args.self.now c.in_ok-scopes.scopes.modules c.args.recipes.now c.in_ok-scopes.ensures.modules c.requires.rooted.placed)
-    (subst (λ syntax. ComesTo p q (AreAlike (scene_of (g.S.Syntax.answers syntax) c.in_ok-scopes.scopes.modules c.args.recipes.now)) c.args.recipes.now c.in_ok-invocations.invocations.items (kept_by (g.H.Host.entries c.args.host.now) (g.E.Evaluation.requests c.args.evaluation.now)) (kept_by (g.H.Host.entries c.run_invocations.new.host) (g.E.Evaluation.requests c.run_invocations.new.evaluation)) c.run_invocations.result) c.in_ok-scopes.ensures.syntax
-    (subst (λ is. ComesTo p q (AreAlike (scene_of (g.S.Syntax.answers c.in_ok-scopes.scopes.syntax.now) c.in_ok-scopes.scopes.modules c.args.recipes.now)) c.args.recipes.now is (kept_by (g.H.Host.entries c.args.host.now) (g.E.Evaluation.requests c.args.evaluation.now)) (kept_by (g.H.Host.entries c.run_invocations.new.host) (g.E.Evaluation.requests c.run_invocations.new.evaluation)) c.run_invocations.result) c.as_slice-2.ensures.value c.run_invocations.ensures.comes)))
+    (in-fewer p q (AreAlike (scene_of (g.S.Syntax.answers c.args.syntax.now) c.in_ok-scopes.scopes.modules (running c.args.config.now.no_dependencies c.args.recipes.now))) (IsSceneOf (front_of (g.S.Syntax.answers c.args.syntax.now) c.args.config.now c.args.overrides.now) c.args.self.now c.args.recipes.now) c.args.config.now.no_dependencies c.args.recipes.now _ _ _ _ (are-alike (front_of (g.S.Syntax.answers c.args.syntax.now) c.args.config.now c.args.overrides.now) c.args.self.now c.in_ok-scopes.scopes.modules c.args.recipes.now c.in_ok-scopes.ensures.modules c.requires.rooted.placed)
+    (subst (λ alone. ComesTo p q (AreAlike (scene_of (g.S.Syntax.answers c.args.syntax.now) c.in_ok-scopes.scopes.modules (running alone c.args.recipes.now))) alone c.args.recipes.now c.in_ok-invocations.invocations.items (kept_by (g.H.Host.entries c.args.host.now) (g.E.Evaluation.requests c.args.evaluation.now)) (kept_by (g.H.Host.entries c.run_invocations.new.host) (g.E.Evaluation.requests c.run_invocations.new.evaluation)) c.run_invocations.result) c.in_ok-scopes.ensures.alone
+    (subst (λ syntax. ComesTo p q (AreAlike (scene_of (g.S.Syntax.answers syntax) c.in_ok-scopes.scopes.modules (running c.in_ok-scopes.scopes.no_dependencies c.args.recipes.now))) c.in_ok-scopes.scopes.no_dependencies c.args.recipes.now c.in_ok-invocations.invocations.items (kept_by (g.H.Host.entries c.args.host.now) (g.E.Evaluation.requests c.args.evaluation.now)) (kept_by (g.H.Host.entries c.run_invocations.new.host) (g.E.Evaluation.requests c.run_invocations.new.evaluation)) c.run_invocations.result) c.in_ok-scopes.ensures.syntax
+    (subst (λ is. ComesTo p q (AreAlike (scene_in (g.S.Syntax.answers c.in_ok-scopes.scopes.syntax.now) c.in_ok-scopes.scopes c.args.recipes.now)) c.in_ok-scopes.scopes.no_dependencies c.args.recipes.now is (kept_by (g.H.Host.entries c.args.host.now) (g.E.Evaluation.requests c.args.evaluation.now)) (kept_by (g.H.Host.entries c.run_invocations.new.host) (g.E.Evaluation.requests c.run_invocations.new.evaluation)) c.run_invocations.result) c.as_slice-2.ensures.value c.run_invocations.ensures.comes))))
