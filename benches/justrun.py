@@ -176,7 +176,7 @@ def settings_twice(count):
 
 
 def variables(count):
-    """Many variables. Nothing is run where there are variables, so the program refuses the word."""
+    """Many variables."""
     return bundle(*(f"v{n} := '{n}'" for n in range(count)), "a:"), ["a"]
 
 
@@ -371,14 +371,38 @@ def disabled_by_many(count):
 
 
 def lines_that_read(count, variables):
-    """A recipe of many lines, each of which reads one of the variables. Nothing is run where there are variables."""
+    """A recipe of many lines, each of which reads one of the variables."""
     return bundle(*(f"v{n} := '{n}'" for n in range(variables)), "a:", *(f"  {{{{v{n % variables}}}}}" for n in range(count))), ["a"]
 
 
 def recipes_that_read(count, variables):
-    """Many recipes, each of which reads the first of variables in a chain. Nothing is run where there are variables."""
+    """Many recipes, each of which reads the first of variables in a chain."""
     chain = (f"v{n} := v{n + 1}" for n in range(variables - 1))
     return bundle(*chain, f"v{variables - 1} := ''", *(line for n in range(count) for line in (f"r{n}:", "  {{v0}}"))), ["r0"]
+
+
+def laziness(lazy):
+    return ["set lazy"] if lazy else []
+
+
+def modules_that_are_read(count, width, lazy):
+    """Many modules with some variables each, of which the recipe reads the first, and each the next."""
+    names = range(count)
+    root = [*laziness(lazy), *(f"mod m{n}" for n in names), "a: " + " ".join(f"m{n}::r" for n in names)]
+    own = "\n".join([*(f"v{n} := v{n + 1}" for n in range(width - 1)), f"v{width - 1} := 'a'", "r:", "  {{v0}}"])
+    return listed(root, [(f"/m{n}.just", own) for n in names]), ["a"]
+
+
+def chain_that_is_read(count, lazy):
+    """A recipe that reads the first of many variables, each of which reads the next."""
+    chain = (f"v{n} := v{n + 1}" for n in range(count - 1))
+    return bundle(*laziness(lazy), *chain, f"v{count - 1} := 'a'", "a:", "  {{v0}}"), ["a"]
+
+
+def read_by_many(count, lazy):
+    """A chain of recipes that read one variable."""
+    rows = [line for n in range(count - 1) for line in (f"r{n}: r{n + 1}", "  {{v}}")]
+    return bundle(*laziness(lazy), "v := 'a'", *rows, f"r{count - 1}:", "  {{v}}"), ["r0"]
 
 
 def aliases(count):
@@ -473,6 +497,12 @@ INPUTS = {
     "a recipe with 10,000 lines that each read one of 2,000 variables": lines_that_read(10_000, 2_000),
     "10,000 recipes that read the first of a chain of 2,000 variables": recipes_that_read(10_000, 2_000),
     "dependency with 10,000 arguments": dependency_arguments(10_000),
+    "2,000 modules with 10 variables that are read": modules_that_are_read(2_000, 10, False),
+    "2,000 lazy modules with 10 variables that are read": modules_that_are_read(2_000, 10, True),
+    "20,000 variables in a chain that a recipe reads": chain_that_is_read(20_000, False),
+    "20,000 lazy variables in a chain that a recipe reads": chain_that_is_read(20_000, True),
+    "chain of 10,000 recipes that read one variable": read_by_many(10_000, False),
+    "chain of 10,000 recipes that read one lazy variable": read_by_many(10_000, True),
 }
 
 

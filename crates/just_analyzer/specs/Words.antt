@@ -13,6 +13,7 @@ pub use Rattle.just_justfile.specs.Closed.{AreClosed, IsClosed, IsHeld, IsRooted
 pub use Rattle.just_invoke.specs.Cause.{IsOfWords, cause_of}
 pub use Rattle.just_invoke.specs.Outcome.{IsExpected, IsOutcome}
 pub use Rattle.just_invoke.specs.Split.{IsFault, IsSplit, invoked_of}
+pub use Rattle.just_justfile.specs.Running.{CanRun, HoldsOverridden, TellsBareLines}
 pub use Rattle.just_justfile.specs.Walks.{AreOrdered, IsOrdered}
 pub use Rattle.just_overrides.specs.Inserted.{AreAsBefore}
 pub use Rattle.just_compiler.specs.Analyzed.{Analyzes, NamesAnalyzed}

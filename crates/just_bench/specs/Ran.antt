@@ -15,7 +15,7 @@ use Rattle.just_run_layers.specs.declared.host.Entry.{Entry}
 use Rattle.just_run_layers.specs.Evaluation.{ScopeRequest}
 use Rattle.just_run_layers.specs.Steps.{kept_by}
 use Rattle.just_invoke.specs.Outcome.{IsOutcome}
-use Rattle.just_invoke.specs.Scopes.{Front, front_of}
+use Rattle.just_scopes.specs.Opening.{Front, front_of}
 use Rattle.just_invoke.specs.Split.{Counts}
 use Rattle.just_bench_evaluation.specs.Answered.{plain_answer}
 use Rattle.just_bench_syntax.specs.Answers.{answers}

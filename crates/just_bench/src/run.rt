@@ -1,8 +1,9 @@
 //! The run of a compiled module, and what is written of it.
-ghost use Rattle.std.specs.Prelude.{IfErr, IsOk, OnOk};
+ghost use Rattle.std.specs.Prelude.{[], IfErr, IsOk, OnOk};
 ghost use Rattle.std.specs.Io.KnownBytes.{Appends};
-ghost use Rattle.just_justfile.specs.Closed.{IsRooted};
+ghost use Rattle.just_justfile.specs.Running.{CanRun, HoldsOverridden};
 ghost use Rattle.just_names.specs.Texts.{texts};
+ghost use Rattle.just_bench_syntax.specs.Answers.{answers};
 ghost use Rattle.just_bench.specs.Entries.{entry_lines};
 ghost use Rattle.just_bench.specs.Ran.{IsRunFault, Ran, plain_front};
 
@@ -28,7 +29,8 @@ pub fn run_and_write<'src, W: Write>(
     words: &[&str],
     output: &mut W,
 ) -> Result<(), ProgramError<'src>>
-    requires { IsRooted root.now recipes.now }
+    requires can_run { CanRun (answers []) root.now recipes.now }
+    requires overridden { HoldsOverridden root.now overrides.now }
     ensures done { let ran = Ran root.now recipes.now config.now (plain_front config.now overrides.now) (texts words.now) in
         OnOk result ((r : ran) × IsOk r.result × Appends (W.contents output.old) (W.contents output.new) (entry_lines r.entries)) }
     ensures fault { let ran = Ran root.now recipes.now config.now (plain_front config.now overrides.now) (texts words.now) in

@@ -1,8 +1,11 @@
 //! The run of a compiled module over the layers of the bench.
-ghost use Rattle.just_justfile.specs.Closed.{IsRooted};
+ghost use Rattle.std.specs.Prelude.{[]};
+ghost use Rattle.just_justfile.specs.Running.{CanRun, HoldsOverridden};
 ghost use Rattle.just_names.specs.Texts.{texts};
+ghost use Rattle.just_bench_syntax.specs.Answers.{answers};
 ghost use Rattle.just_bench.specs.Ran.{IsPlainOutcome, plain_front};
 
+use crate::laws::layers_agree_on_lines;
 use crate::recorder::Recorder;
 use crate::stop_writer::StopWriter;
 use just_bench_evaluation::PlainEvaluation;
@@ -24,13 +27,15 @@ pub fn run_words<'src>(
     host: &mut Recorder,
     words: &[&str],
 ) -> Result<Report, Error<'src>>
-    requires { IsRooted root.now recipes.now }
+    requires can_run { CanRun (answers []) root.now recipes.now }
+    requires overridden { HoldsOverridden root.now overrides.now }
     ensures { let front = plain_front config.now overrides.now in
         let outcome = IsPlainOutcome root.now recipes.now config.now front (texts words.now) host.old.script in
         outcome host.old.entries host.new.entries result }
 {
     let mut writer = StopWriter::new(alloc, 0)?;
     let syntax = PlainSyntax::new();
+    layers_agree_on_lines(&syntax);
     let mut evaluation = PlainEvaluation::new(alloc);
     root.run(
         alloc,

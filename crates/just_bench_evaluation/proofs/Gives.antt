@@ -1,6 +1,5 @@
 -- What is told in a run where there is no value.
 use Rattle.std.proofs.Common.{◌≡◌, refl, sym, ◌∙◌, ap, subst, Option, None, Some, Result, Ok, Err}
-use Rattle.just_names.specs.Token.{Place}
 use Rattle.just_errors.specs.declared.error.Error.{Error}
 use Rattle.just_errors.specs.declared.error.Error.TheVariants as error
 use Rattle.just_errors.specs.declared.refusal.Refusal.{Refusal}
@@ -8,7 +7,7 @@ use Rattle.just_errors.specs.declared.refusal.Refusal.TheVariants as refusal
 use Rattle.just_parts.specs.Evaluator.{FaultsAt}
 use Rattle.just_run_layers.specs.Host.{Answer, Answers, Refused, answered}
 use Rattle.just_bench_evaluation.specs.Answered.{or_refused}
-use Rattle.just_bench_evaluation.specs.Refusals.{Gives, IsRefusalOf, TellsNone, no_value}
+use Rattle.just_bench_evaluation.specs.Refusals.{Gives, IsRefusalOf, TellsNone}
 
 -- nothing is told where there is no value
 pub gives_none : {A : Type 0} (o : Option A) (told : Refusal) → o ≡ None → TellsNone told → Gives o (Err told)

@@ -1,5 +1,5 @@
 -- What the plain evaluation answers in runs.
-use Rattle.std.specs.Prelude.{◌≡◌, Bool, List, map, Option, Some, None}
+use Rattle.std.specs.Prelude.{Bool, List, Option, Some, None}
 use Rattle.std.specs.HashSet.{HashSet, contains}
 use Rattle.std.specs.Option.{option_map}
 use Rattle.std.proofs.Common.{BuildHasherDefault, FoldHasher}
@@ -10,10 +10,10 @@ use Rattle.just_ast_expressions.specs.declared.expression.Expression.{Expression
 use Rattle.just_ast_expressions.specs.declared.scope.Scope.{Scope}
 use Rattle.just_names.specs.Texts.{Text}
 use Rattle.just_names.specs.declared.number.Number.{Number}
-use Rattle.just_parts.specs.Evaluator.{functions_by_name, override_by, values_of, wanted_by, Wanted}
+use Rattle.just_parts.specs.Evaluator.{functions_by_name, values_of, wanted_by, Wanted}
 use Rattle.just_parts.specs.Needs.{same_number}
 use Rattle.just_run_layers.specs.declared.held.Held.{Held}
-use Rattle.just_run_layers.specs.Evaluation.{ContextContents, Inquiry, Assignments, Parameters, Value, StringOf, LineOf, Environment, NumberSet, ScopeRequest, Surroundings, in_set}
+use Rattle.just_run_layers.specs.Evaluation.{ContextContents, Inquiry, Assignments, Parameters, Value, StringOf, LineOf, Environment, NumberSet, ScopeRequest, in_set}
 use Rattle.just_run_layers.specs.Host.{Answer, Bound, Changed, Given, Refused, Scoped, Valued}
 use Rattle.just_bench_values.specs.Constants.{scope_of}
 use Rattle.just_bench_evaluation.specs.Dependency.{dependency_function}

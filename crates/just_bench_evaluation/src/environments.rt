@@ -3,24 +3,25 @@ ghost use Rattle.std.specs.Prelude.{◌≡◌, ◌++◌, IfOk, OnOk, map, revers
 ghost use Rattle.std.specs.List.{flat_map};
 ghost use Rattle.just_bench_evaluation.specs.Environments as spec;
 
-use just_data::{Sequence, Text};
+use just_data::{Chain, Sequence, Text};
 use just_parts::layers::{Binding, Name, Scope, Settings, joined};
 use just_run_layers::{EnvironmentChange, EnvironmentPair};
 use std::alloc::{AllocError, Global};
 
-// The pairs of dotenv files, each as it stands.
-fn push_pairs(
-    changes: &mut Sequence<EnvironmentChange>,
-    pairs: &[EnvironmentPair],
-) -> Result<(), AllocError>
-    ensures { OnOk result (changes.new ≡ changes.old ++ map spec.pair_change pairs.now) }
+// The pairs of dotenv files, each as it stands, from the last to the first.
+fn stand(
+    alloc: Global,
+    pairs: &Chain<EnvironmentPair>,
+) -> Result<Vec<EnvironmentChange>, AllocError>
+    ensures { IfOk result (λ found. found.items ≡ map spec.pair_change (reverse pairs.now)) }
 {
-    for pair in pairs {
+    let mut found = Vec::new(alloc);
+    for pair in pairs.iter() {
         let name = pair.name.clone()?;
         let value = Some(pair.value.clone()?);
-        changes.push(EnvironmentChange { name, value })?;
+        found.push(EnvironmentChange { name, value })?;
     }
-    Ok(())
+    Ok(found)
 }
 
 // A binding, whose value is one text.
@@ -65,18 +66,19 @@ fn push_removals<'src>(
 }
 
 /// The pairs of dotenv files, the bindings that are exported, and the names that are removed, each in order.
-#[tactic(auto, using(crate::proofs::Turned::turned))]
+#[tactic(auto, using(crate::proofs::Turned::turned, crate::proofs::Turned::turned_pairs))]
 pub fn environment_changes<'src>(
     alloc: Global,
-    dotenv: &[EnvironmentPair],
+    dotenv: &Chain<EnvironmentPair>,
     scope: &Scope<'src>,
     settings: &Settings,
     unexports: &[Name<'src>],
 ) -> Result<Sequence<EnvironmentChange>, AllocError>
     ensures { IfOk result (λ changes. changes ≡ spec.environment_changes dotenv.now scope.now settings.now unexports.now) }
 {
-    let mut changes = Sequence::new(alloc);
-    push_pairs(&mut changes, dotenv)?;
+    let mut pairs = stand(alloc, dotenv)?;
+    pairs.reverse();
+    let mut changes = Sequence::from_vec(pairs);
     let mut exports = exports(alloc, scope, settings.export)?;
     exports.reverse();
     changes.append(Sequence::from_vec(exports))?;

@@ -11,7 +11,7 @@ use crate::requests::Asked;
 use crate::variables::{names_of, run_scope};
 use just_ast_definitions::Line;
 use just_bench_values::{constants_of, count_fault, settings_of, value_of};
-use just_data::{Sequence, Shared, Text};
+use just_data::{Chain, Sequence, Shared, Text};
 use just_errors::Refusal;
 use just_parts::layers::{
     Assignment, ConstantEvaluation, Error, Expression, Fault, FunctionDefinition, Name, Number,
@@ -162,7 +162,7 @@ impl Evaluation for PlainEvaluation {
     fn environment<'src>(
         &mut self,
         alloc: Global,
-        dotenv: &[EnvironmentPair],
+        dotenv: &Chain<EnvironmentPair>,
         scope: &Scope<'src>,
         settings: &Settings,
         unexports: &[Name<'src>],

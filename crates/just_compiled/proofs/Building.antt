@@ -1,5 +1,5 @@
 -- Each justfile that stands in what is compiled is what a module of the forest is compiled to.
-use Rattle.std.proofs.Common.{◌≡◌, ◌∙◌, List, Option, inl, inr, sym, subst}
+use Rattle.std.proofs.Common.{◌∙◌, List, Option, inl, inr, sym, subst}
 use Rattle.std.specs.List.{Contains}
 use Rattle.just_graph.proofs.Members.{In, is_in}
 use Rattle.just_justfile.specs.Closed.{StandsIn}

@@ -5,6 +5,7 @@ pub mod Bridges
 pub mod Building
 pub mod ByName
 pub mod Closing
+pub mod InOrder
 pub mod Linking
 pub mod Makings
 pub mod Meanings
@@ -13,7 +14,10 @@ pub mod NumbersApart
 pub mod OwnNumbers
 pub mod Placing
 pub mod RecipeKeys
+pub mod RecipeNeeds
 pub mod Saying
+pub mod ScopesAlike
+pub mod ScopesRead
 pub mod Settling
 pub mod StandingRecipes
 pub mod TableValues

@@ -38,6 +38,7 @@ module _ (S T : Text → Type 0) (on : (name : Text) → S name → T name) (bac
     target = is.target;
     held = found_more all more made.recipe.0 is.target is.held;
     arguments = is.arguments;
+    whole = is.whole;
   }
 
   linked_each : (ds : List UnresolvedDependency) (made : List Dependency) → AllZip (IsLinked S M (completion by Needs) lists all) ds made → AllZip (IsLinked T N (completion by Needs-2) lists (all ++ more)) ds made

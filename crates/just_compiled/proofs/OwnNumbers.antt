@@ -23,9 +23,9 @@ use Rattle.just_module_tree.specs.Modules.{AreModules, Forest, Heading, IsModule
 use Rattle.just_module_variables.specs.Numbered.{numbered_assignment}
 use Rattle.just_module_variables.specs.Variables.{known_with_numbers}
 use Rattle.just_justfile.specs.Closed.{StandsIn}
+use Rattle.just_justfile.specs.Running.{HaveOwnNumbers}
 use Rattle.just_justfile.specs.declared.justfile.Justfile.{Justfile, out-Justfile}
 use Rattle.just_compiled.specs.Justfiles.{AreCompiled, Built, IsCompiled, Made, contents_in, none, one, recipes_of_all}
-use Rattle.just_compiled.specs.Variables.{HaveOwnNumbers}
 use Rattle.just_compiled.proofs.ByName.{files_path}
 use Rattle.just_compiled.proofs.Closing.{named_in, stands_cases}
 use Rattle.just_compiled.proofs.NumbersApart.{found_among, name_of, number_of, one_of}

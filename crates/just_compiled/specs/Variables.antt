@@ -1,8 +1,4 @@
 -- The variables and functions of a module, as its justfile has them.
-use Rattle.std.specs.Prelude.{◌≡◌, Some}
-use Rattle.just_ast_definitions.specs.declared.assignment.Assignment.{Assignment}
-use Rattle.just_names.specs.Texts.{Text}
-use Rattle.just_table.specs.Entries.{find}
 use Rattle.just_justfile.specs.declared.justfile.Justfile.{Justfile, out-Justfile}
 use Rattle.just_justfile.specs.Closed.{StandsIn}
 use Rattle.just_module_contents.specs.Contents.{Contents}
@@ -20,9 +16,3 @@ HasTables j = AreTables (out-Justfile j).assignments (out-Justfile j).functions
 -- the same of each module that stands in one
 abbrev pub HaveTables : Justfile → Type 0
 HaveTables root = (j : Justfile) → StandsIn root j → HasTables j
-
--- No two variables of modules that stand in one have one number: where two have, they are one variable of one module, by its path and by the name.
-abbrev pub HaveOwnNumbers : Justfile → Type 0
-HaveOwnNumbers root = (i j : Justfile) (x y : Text) (a b : Assignment) → StandsIn root i → StandsIn root j
-    → find x (out-Justfile i).assignments ≡ Some a → find y (out-Justfile j).assignments ≡ Some b → a.number ≡ b.number
-    → ((out-Justfile i).module_path ≡ (out-Justfile j).module_path) × (x ≡ y)

@@ -76,6 +76,7 @@ refused evaluator overrides w (Err e) none h = record {
   all_closed = tt;
   tables = tt;
   numbers = tt;
+  can_run = tt;
   overridden = tt;
   root = tt;
   root_ast = tt;

@@ -17,5 +17,6 @@ pub mod OwnNumbers
 mod OwnRules
 pub mod Placed
 pub mod Readings
+pub mod Runnable
 pub mod ShownPaths
 mod Numbered

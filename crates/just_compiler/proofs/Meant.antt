@@ -168,7 +168,7 @@ walks_on root [] j k e = e
 walks_on root (name ∷ names) j k e = walks_next root name names j k (λ inner. walks_on root names inner k) (module_named name (out-Justfile j).modules) refl e
 
 -- what is built under a key is built once
-built_once : (built : List Built) → AreApart (map (λ (b : Built). b.0) built) → (k : AstKey) (a b : Made) → Contains built (k, a) → Contains built (k, b) → a ≡ b
+pub built_once : (built : List Built) → AreApart (map (λ (b : Built). b.0) built) → (k : AstKey) (a b : Made) → Contains built (k, a) → Contains built (k, b) → a ≡ b
 built_once built apart k a b x y =
     let keys = λ (n : ℕ) (m : Made) (c : slice_get built n ≡ Some (k, m)). map_get (λ (z : Built). z.0) built n (k, m) c in
     let got_a : slice_get built x.0 ≡ Some (k, a) = slice_get-get_or built x.0 (k, a) x.1 ∙ ap Some x.2 in

@@ -16,11 +16,12 @@ use Rattle.just_overrides.specs.Inserted.{AreInserted}
 use Rattle.just_paths.specs.declared.modulepath.Modulepath.{Modulepath}
 use Rattle.just_recipe.specs.declared.recipe.Recipe.{Recipe}
 use Rattle.just_justfile.specs.Closed.{AreClosed, IsPlaced}
+use Rattle.just_justfile.specs.Running.{HaveOwnNumbers}
 use Rattle.just_justfile.specs.declared.justfile.Justfile.{Justfile}
 use Rattle.just_module_tree.specs.Groups.{KeepsModules, NamesModules}
 use Rattle.just_module_tree.specs.Standing.{told_in}
 use Rattle.just_compiled.specs.Labelled.{label_in}
-use Rattle.just_compiled.specs.Variables.{HaveOwnNumbers, HaveTables}
+use Rattle.just_compiled.specs.Variables.{HaveTables}
 use Rattle.just_compiled.specs.Justfiles.{AreCompiled, Built, overridden_of_all, recipes_of_all}
 use Rattle.just_module_tree.specs.Modules.{AreModules, Empty, Forest, Heading, IsHeading, Module, Tree, heading}
 use Rattle.just_module_headers.specs.Reading.{reading_of}

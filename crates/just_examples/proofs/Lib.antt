@@ -1,1 +1,1 @@
-mod InOrder
+pub mod Standing

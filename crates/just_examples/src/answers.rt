@@ -1,11 +1,11 @@
 //! What is answered to the questions of a case.
 ghost use Rattle.std.specs.Prelude.{IfOk, IsSome};
 ghost use Rattle.std.specs.HashMap.{get};
-ghost use Rattle.just_analyzer.specs.Words.{IsClean, IsOrdered, IsRooted, root_ast_key, same_ast_key};
+ghost use Rattle.just_analyzer.specs.Words.{CanRun, HoldsOverridden, IsClean, root_ast_key, same_ast_key};
 ghost use Rattle.just_examples_values.specs.Bound.{IsInOrder, TellApart};
 
 use crate::find::answer_find;
-use just_analyzer::layers::{Config, Error};
+use just_analyzer::layers::{Config, Error, Syntax};
 use just_analyzer::{Compilation, Compiler, Sources, is_clean};
 use just_bench::{PlainEvaluation, PlainSyntax, read_sources};
 use just_examples_answers::compiled::add_compiled;
@@ -20,27 +20,24 @@ use just_examples_values::add_evaluation;
 use std::alloc::{AllocError, Global};
 
 // Compiles the file at a path.
-fn compile<'src>(
+fn compile<'src, 'pairs>(
     alloc: Global,
     sources: &Sources<'src>,
-    syntax: &PlainSyntax,
+    syntax: &PlainSyntax<'pairs>,
     config: &Config,
     root: &str,
 ) -> Result<Compilation<'src>, Error<'src>>
     requires { IsClean root.now }
-    ensures rooted { IfOk result (λ c. IsRooted c.justfile c.recipes) }
-    ensures ordered { IfOk result (λ c. IsOrdered c.justfile) }
-    ensures in_order { IfOk result (λ c. IsInOrder c.justfile) }
-    ensures apart { IfOk result (λ c. TellApart c.justfile) }
+    ensures can_run { IfOk result (λ c. CanRun (⟦<PlainSyntax<'pairs> as Syntax>⟧.answers syntax.now) c.justfile c.recipes) }
+    ensures overridden { IfOk result (λ c. HoldsOverridden c.justfile c.overrides) }
     ensures root_ast { IfOk result (λ c. IsSome (get same_ast_key c.asts (root_ast_key c.root))) }
 {
     let evaluation = PlainEvaluation::new(alloc);
     Compiler::compile(alloc, config, syntax, &evaluation, sources, root)
 }
 
-// Adds what is asked of a compilation: what it has and what words do, what a variable of the root's module refers to and which
-// variables it needs, or what a call gives.
-fn add_compilation(
+// Adds what a call of the evaluation gives in the root's module of a compilation, and for which variables it asked.
+fn add_evaluated(
     text: &mut String,
     alloc: Global,
     compilation: &Compilation,
@@ -48,10 +45,36 @@ fn add_compilation(
     kind: &str,
     asked: &Asked,
 ) -> Result<(), AllocError>
-    requires rooted { IsRooted compilation.now.justfile compilation.now.recipes }
-    requires ordered { IsOrdered compilation.now.justfile }
     requires in_order { IsInOrder compilation.now.justfile }
     requires apart { TellApart compilation.now.justfile }
+{
+    let mut evaluation = PlainEvaluation::new(alloc);
+    add_evaluation(
+        &compilation.justfile,
+        &compilation.recipes,
+        &compilation.overrides,
+        alloc,
+        syntax,
+        &mut evaluation,
+        kind,
+        asked,
+        text,
+    )?;
+    add_requests(evaluation.asked(), text)
+}
+
+// Adds what is asked of a compilation: what it has and what words do, what a variable of the root's module refers to and which
+// variables it needs, or what a call gives.
+fn add_compilation<'pairs>(
+    text: &mut String,
+    alloc: Global,
+    compilation: &Compilation,
+    syntax: &PlainSyntax<'pairs>,
+    kind: &str,
+    asked: &Asked,
+) -> Result<(), AllocError>
+    requires can_run { CanRun (⟦<PlainSyntax<'pairs> as Syntax>⟧.answers syntax.now) compilation.now.justfile compilation.now.recipes }
+    requires overridden { HoldsOverridden compilation.now.justfile compilation.now.overrides }
     requires root_ast { IsSome (get same_ast_key compilation.now.asts (root_ast_key compilation.now.root)) }
 {
     let Compilation {
@@ -63,7 +86,16 @@ fn add_compilation(
     } = compilation;
     let word = asked.first_word();
     match kind {
-        "just" => add_compiled(justfile, recipes, overrides, asts.len(), alloc, asked, text),
+        "just" => add_compiled(
+            justfile,
+            recipes,
+            overrides,
+            asts.len(),
+            alloc,
+            syntax,
+            asked,
+            text,
+        ),
         "variable" => add_variable(alloc, justfile, word, text),
         "Compilation::root_ast" => add_items(text, compilation.root_ast().items.as_slice()),
         "Justfile::name" | "Justfile::is_submodule" => add_justfile(justfile, kind, text),
@@ -78,21 +110,7 @@ fn add_compilation(
         | "Evaluation::line"
         | "Evaluation::parameters"
         | "Evaluation::string"
-        | "Evaluation::value" => {
-            let mut evaluation = PlainEvaluation::new(alloc);
-            add_evaluation(
-                justfile,
-                recipes,
-                overrides,
-                alloc,
-                syntax,
-                &mut evaluation,
-                kind,
-                asked,
-                text,
-            )?;
-            add_requests(evaluation.asked(), text)
-        }
+        | "Evaluation::value" => add_evaluated(text, alloc, compilation, syntax, kind, asked),
         _ => add_recipes(justfile, recipes, kind, word, text),
     }
 }

@@ -1,6 +1,7 @@
 //! The lines that tell what a host was asked.
 use just_data::{Sequence, Text};
 use just_examples_format::lists::{add_group, before};
+use just_paths::Modulepath;
 use just_run_layers::{Entry, EnvironmentChange, Executor, Groups, ScriptCall, ShellCall};
 use std::alloc::AllocError;
 
@@ -117,6 +118,15 @@ fn add_script(text: &mut String, call: &ScriptCall) -> Result<(), AllocError> {
     add_changes(text, call.environment.as_slice())
 }
 
+// Adds the module whose pairs are asked for: its path, which the root has none of, and its folder.
+fn add_dotenv(text: &mut String, path: &Modulepath, folder: &Text) -> Result<(), AllocError> {
+    text.push_str(" dotenv")?;
+    if !path.components.is_empty() {
+        write!(text, " {path}")?;
+    }
+    write!(text, " | in {folder}")
+}
+
 // Adds a call: its kind, and what it was handed.
 fn add_entry(text: &mut String, entry: &Entry) -> Result<(), AllocError> {
     match entry {
@@ -135,7 +145,10 @@ fn add_entry(text: &mut String, entry: &Entry) -> Result<(), AllocError> {
         Entry::Command(call) => write!(text, " command {}", call.binary),
         Entry::Confirm { prompt } => write!(text, " confirm {prompt}"),
         Entry::Show { line } => write!(text, " show {line}"),
-        Entry::Dotenv { module_path, .. } => write!(text, " dotenv {module_path}"),
+        Entry::Dotenv {
+            module_path,
+            working_directory,
+        } => add_dotenv(text, module_path, working_directory),
         Entry::Timestamp { format } => write!(text, " timestamp {format}"),
     }
 }

@@ -14,6 +14,24 @@ fn add_request(asked: &Asked, text: &mut String) -> Result<(), AllocError> {
     text.push('\n')
 }
 
+/// Adds the line of the names that were bound in a run: those of each question for variables, behind the path of its module,
+/// which the root has none of.
+pub(crate) fn add_bound(requests: &[Asked], text: &mut String) -> Result<(), AllocError> {
+    text.push_str("bound")?;
+    for (place, asked) in requests.iter().enumerate() {
+        text.push_str(if place == 0 { "" } else { "," })?;
+        if !asked.path.components.is_empty() {
+            write!(text, " {}", asked.path)?;
+        }
+        add_group(text, asked.names.as_slice())?;
+    }
+    text.push_str(if requests.is_empty() {
+        " nothing\n"
+    } else {
+        "\n"
+    })
+}
+
 /// Adds a line for each question for variables.
 pub fn add_requests(requests: &[Asked], text: &mut String) -> Result<(), AllocError> {
     for asked in requests {

@@ -1,17 +1,19 @@
 //! The lines that tell what words mean, and what a run of them did.
 ghost use Rattle.just_justfile.specs.Closed.{IsRooted};
+ghost use Rattle.just_justfile.specs.Running.{CanRun, HoldsOverridden};
 
 use crate::entries::{add_entries, add_executed};
 use crate::recorders::scripted;
-use just_bench::{Recorder, run_words};
-use just_bench_evaluation::PlainEvaluation;
+use crate::requests::add_bound;
+use just_bench::laws::layers_agree_on_lines;
+use just_bench::{PlainEvaluation, PlainSyntax, Recorder, StopWriter};
 use just_data::Text;
 use just_examples_format::asked::Asked;
 use just_examples_format::faults::add_fault;
 use just_examples_format::lists::{add_group, add_list, before};
-use just_invoke::{Invocation, InvocationParser};
+use just_invoke::{Invocation, InvocationParser, Report, Run};
 use just_justfile::{Justfile, Recipes};
-use just_parts::layers::Number;
+use just_parts::layers::{Config, Error, Number, Syntax};
 use std::alloc::{AllocError, Global};
 use std::collections::HashMap;
 
@@ -60,29 +62,97 @@ fn add_calls(text: &mut String, calls: &[u64]) -> Result<(), AllocError> {
     text.push('\n')
 }
 
-/// Adds what a run of words did, and what it answered. The host answers as it was asked to, and is refused memory at a call
-/// where one is given.
-pub fn add_run<'src>(
+// A host that answers as it is asked to, and is refused memory at a call where one is given.
+fn host_of(alloc: Global, asked: &Asked) -> Result<Recorder, AllocError> {
+    match asked.memory_at {
+        Some(call) => Ok(Recorder::memory_at(alloc, call)),
+        None => scripted(alloc, asked.answers.as_str()),
+    }
+}
+
+// Runs words over a compiled module under a grammar.
+fn run_under<'src, 'pairs>(
     root: &Justfile<'src>,
     recipes: &Recipes<'src>,
     overrides: &HashMap<Number, Text>,
     alloc: Global,
+    syntax: &PlainSyntax<'pairs>,
+    evaluation: &mut PlainEvaluation,
+    host: &mut Recorder,
+    config: &Config,
+    words: &[&str],
+) -> Result<Report, Error<'src>>
+    requires can_run { CanRun (⟦<PlainSyntax<'pairs> as Syntax>⟧.answers syntax.now) root.now recipes.now }
+    requires overridden { HoldsOverridden root.now overrides.now }
+{
+    let mut writer = StopWriter::new(alloc, 0)?;
+    layers_agree_on_lines(syntax);
+    root.run(
+        alloc,
+        config,
+        recipes,
+        syntax,
+        evaluation,
+        host,
+        &mut writer,
+        words,
+        overrides,
+    )
+}
+
+// Adds what a run of words comes to: the counts of its calls, or its fault.
+fn add_ended<'src, 'pairs>(
+    root: &Justfile<'src>,
+    recipes: &Recipes<'src>,
+    overrides: &HashMap<Number, Text>,
+    alloc: Global,
+    syntax: &PlainSyntax<'pairs>,
+    evaluation: &mut PlainEvaluation,
+    host: &mut Recorder,
+    config: &Config,
+    words: &[&str],
+    text: &mut String,
+) -> Result<(), AllocError>
+    requires can_run { CanRun (⟦<PlainSyntax<'pairs> as Syntax>⟧.answers syntax.now) root.now recipes.now }
+    requires overridden { HoldsOverridden root.now overrides.now }
+{
+    match run_under(
+        root, recipes, overrides, alloc, syntax, evaluation, host, config, words,
+    ) {
+        Ok(report) => add_calls(text, report.calls.as_slice()),
+        Err(error) => add_fault(text, &error),
+    }
+}
+
+/// Adds what a run of words under a grammar comes to, which variables were bound for it, and what it did.
+pub fn add_run<'src, 'pairs>(
+    root: &Justfile<'src>,
+    recipes: &Recipes<'src>,
+    overrides: &HashMap<Number, Text>,
+    alloc: Global,
+    syntax: &PlainSyntax<'pairs>,
     asked: &Asked,
     words: &[&str],
     text: &mut String,
 ) -> Result<(), AllocError>
-    requires { IsRooted root.now recipes.now }
+    requires can_run { CanRun (⟦<PlainSyntax<'pairs> as Syntax>⟧.answers syntax.now) root.now recipes.now }
+    requires overridden { HoldsOverridden root.now overrides.now }
 {
-    let config = &asked.config;
-    let mut host = match asked.memory_at {
-        Some(call) => Recorder::memory_at(alloc, call),
-        None => scripted(alloc, asked.answers.as_str())?,
-    };
-    let ran = run_words(alloc, root, recipes, overrides, config, &mut host, words);
+    let mut host = host_of(alloc, asked)?;
+    let mut evaluation = PlainEvaluation::new(alloc);
+    add_ended(
+        root,
+        recipes,
+        overrides,
+        alloc,
+        syntax,
+        &mut evaluation,
+        &mut host,
+        &asked.config,
+        words,
+        text,
+    )?;
+    add_bound(evaluation.asked(), text)?;
     add_executed(text, host.entries())?;
-    add_entries(text, host.entries())?;
-    match ran {
-        Ok(report) => add_calls(text, report.calls.as_slice()),
-        Err(error) => add_fault(text, &error),
-    }
+    add_entries(text, host.entries())
 }

@@ -10,6 +10,7 @@ use std::alloc::{AllocError, Global};
 enum Part {
     OptionOrWord,
     Home,
+    Folder,
     Root,
     Conflicts,
     Override,
@@ -32,7 +33,7 @@ fn module_path(alloc: Global, names: &str) -> Result<Modulepath, AllocError> {
 /// A root, a configuration and words.
 #[derive(Drop)]
 pub struct Asked {
-    /// What `--one`, `--home`, `--override` and the options of a run say.
+    /// What `--one`, `--home`, `--folder`, `--override` and the options of a run say.
     pub config: Config,
     /// The path of the root, which may be one that is not clean.
     pub root: String,
@@ -78,11 +79,14 @@ impl Asked {
         match part {
             "--one" => self.config.one = true,
             "--home" => self.next = Part::Home,
+            "--folder" => self.next = Part::Folder,
             "--justfile" => self.next = Part::Root,
             "--conflicts" => self.next = Part::Conflicts,
             "--override" => self.next = Part::Override,
             "--memory" => self.next = Part::Memory,
             "--answer" => self.next = Part::Answer,
+            "--no-dependencies" => self.config.no_dependencies = true,
+            "--load-dotenv" => self.config.load_dotenv = true,
             "--dry-run" => self.config.dry_run = true,
             "--explain" => self.config.explain = true,
             "--timestamp" => self.config.timestamp = true,
@@ -115,6 +119,7 @@ impl Asked {
         match self.next {
             Part::OptionOrWord => return self.take_option(alloc, part),
             Part::Home => self.config.home = Some(Text::from_str(alloc, part)?),
+            Part::Folder => self.config.working_directory = Some(Text::from_str(alloc, part)?),
             Part::Root => self.root = unmarked(alloc, part)?,
             Part::Conflicts => write!(self.conflicts, "{part} ")?,
             Part::Override => self.take_override(alloc, part)?,
@@ -130,9 +135,9 @@ impl Asked {
     }
 }
 
-/// What stands behind `$ just`: the options `--one`, `--home PATH`, `--justfile PATH`, `--conflicts A,B`,
-/// `--override PATH=VALUE`, `--memory CALL`, `--answer ANSWER`, `--dry-run`, `--explain`, `--timestamp`, `--yes`, `--quiet`,
-/// `--loquacious` and `--grandiloquent`, then words.
+/// What stands behind `$ just`: the options `--one`, `--home PATH`, `--folder PATH`, `--justfile PATH`, `--conflicts A,B`,
+/// `--override PATH=VALUE`, `--memory CALL`, `--answer ANSWER`, `--no-dependencies`, `--load-dotenv`, `--dry-run`, `--explain`,
+/// `--timestamp`, `--yes`, `--quiet`, `--loquacious` and `--grandiloquent`, then words.
 pub fn read_asked(alloc: Global, line: &str) -> Result<Asked, AllocError> {
     let mut asked = Asked::new(alloc)?;
     for part in line.split_whitespace() {

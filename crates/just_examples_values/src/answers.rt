@@ -9,7 +9,7 @@ use crate::handed::{Handed, read_handed};
 use crate::parameters::{add_held, bound};
 use crate::place::Place;
 use crate::variables::{add_variables, all_values};
-use just_data::Text;
+use just_data::{Chain, Text};
 use just_errors::Refusal;
 use just_examples_format::asked::Asked;
 use just_justfile::{Justfile, Recipes};
@@ -24,7 +24,7 @@ fn context_of<'a, 'src>(
     module: &'a Justfile<'src>,
     config: &'a Config,
     overrides: &'a HashMap<Number, Text>,
-    dotenv: &'a [EnvironmentPair],
+    dotenv: Chain<EnvironmentPair>,
 ) -> Context<'a, 'src>
     requires order { IsInOrder «module».now }
     requires apart { TellApart «module».now }
@@ -138,7 +138,7 @@ pub fn add_evaluation<'src, S: Syntax, E: Evaluation>(
     let (_, call) = kind.split_once("::").unwrap_or(("", kind));
     let words = asked.words(alloc)?;
     let handed = read_handed(alloc, words.as_slice())?;
-    let context = context_of(root, &asked.config, overrides, handed.dotenv.as_slice());
+    let context = context_of(root, &asked.config, overrides, handed.dotenv.clone()?);
     if call == "assignments" {
         let given = add_variables(alloc, evaluation, &context, handed.name, text);
         return add_refusal(given, text);

@@ -24,7 +24,7 @@ pub fn add_environment<'src, E: Evaluation>(
     let unexports = context.unexports.as_slice();
     let changes = evaluation.environment(
         alloc,
-        context.dotenv,
+        &context.dotenv,
         scope,
         context.settings,
         unexports,

@@ -1,5 +1,5 @@
 //! What a question hands over beside a module.
-use just_data::{Sequence, Text};
+use just_data::{Chain, Sequence, Text};
 use just_run_layers::{EnvironmentPair, Groups};
 use std::alloc::{AllocError, Global};
 
@@ -7,7 +7,7 @@ use std::alloc::{AllocError, Global};
 #[derive(Drop)]
 pub struct Handed<'words> {
     /// The pairs of dotenv files: those of the words `--dotenv=NAME=TEXT`.
-    pub dotenv: Vec<EnvironmentPair>,
+    pub dotenv: Chain<EnvironmentPair>,
     /// Whether the recipe that runs is a dependency: whether there is the word `--dependency`.
     pub is_dependency: bool,
     /// The first other word, where there is one: the name of a recipe or of a variable.
@@ -43,7 +43,7 @@ pub fn read_handed<'words>(
     words: &[&'words str],
 ) -> Result<Handed<'words>, AllocError> {
     let mut handed = Handed {
-        dotenv: Vec::new(alloc),
+        dotenv: Chain::new(),
         is_dependency: false,
         name: None,
         groups: Vec::new(alloc),
@@ -52,7 +52,7 @@ pub fn read_handed<'words>(
         let (option, rest) = word.split_once('=').unwrap_or((*word, ""));
         match option {
             "--dependency" => handed.is_dependency = true,
-            "--dotenv" => handed.dotenv.push(pair_of(alloc, rest)?)?,
+            "--dotenv" => handed.dotenv = handed.dotenv.pushed(alloc, pair_of(alloc, rest)?)?,
             _ => handed.take(*word)?,
         }
     }

@@ -15,7 +15,7 @@ use Rattle.just_run_layers.specs.Host.{Answer}
 use Rattle.just_run_layers.specs.Steps.{both, Kept, kept_by}
 use Rattle.just_run_layers.proofs.StepLemmas.{took-gives}
 use Rattle.just_execution.specs.Account.{AreNamed}
-use Rattle.just_execution.specs.Homes.{AreHome, IsAmong, IsBound, IsCallable, IsHome, IsServed, Modules, ServesIn, module_at}
+use Rattle.just_execution.specs.Homes.{AreHome, IsCallable, IsHome, IsServed, Modules, ServesIn, module_at}
 use Rattle.just_execution.specs.Leaves.{AsksAlone, Prepares, ask_steps, follow_steps}
 use Rattle.just_execution.specs.Pairs.{AllBelow, at_place, needed}
 use Rattle.just_recipes.specs.Places.{place_of}
@@ -118,13 +118,3 @@ pub All-got : {A : Type 0} (P : A → Type 0) (xs : List A) (k : ℕ) (x : A) �
 All-got P [] k x h e = cc
 All-got P (y ∷ xs) zero x h e = let same : y ≡ x = cc in subst P same (All-head P y xs h)
 All-got P (y ∷ xs) (suc k) x h e = All-got P xs k x (All-tail P y xs h) e
-
--- where there are no variables, what is read is bound
-read-none : (answers : SyntaxAnswers) (m : ModuleScope) (r : Recipe Dependency) → m.context.assignments.now ≡ [] → IsBound answers m r m.scope
-read-none answers m r none = λ k s l name a read found. absurd (let lost = rw none at found in cc)
-
--- where the module of each recipe is among those of a run, and has no variables, recipes are at home
-pub plain-home : (answers : SyntaxAnswers) (modules : Modules) (rs : List (Recipe Dependency)) (ts : List Task) → All (IsAmong modules) rs → AreHome answers modules rs ts
-plain-home answers modules rs ts among place r led at =
-    let found = All-got (IsAmong modules) rs place r among at in
-    record { home = found.0; there = found.1; own = record { path = found.2; bound = read-none answers found.0 r found.3 } }

@@ -70,8 +70,3 @@ pub record ServesIn (answers : SyntaxAnswers) (m : ModuleScope) (r : Recipe Depe
 abbrev pub IsServed : SyntaxAnswers → Modules → List (Recipe Dependency) → Task → Held → Type 0
 IsServed answers modules recipes t h =
     (m : ModuleScope) (recipe : Recipe Dependency) → slice_get recipes t.pair.recipe ≡ Some recipe → module_at modules recipe.module_path ≡ Some m → ServesIn answers m recipe h
-
--- the module of a recipe is under its path among those of a run, and has no variables
-abbrev pub IsAmong : Modules → Recipe Dependency → Type 0
-IsAmong modules r =
-    (m : ModuleScope) × (module_at modules r.module_path ≡ Some m) × (r.module_path ≡ Some m.context.module_path.now) × (m.context.assignments.now ≡ [])

@@ -12,8 +12,8 @@ use just_parts::layers::{Number, Syntax};
 use just_parts::{Dependency, Recipe};
 use just_recipes::Recipes;
 
-// The place of a number that a recipe has.
-pub(crate) fn place_in(recipes: &Recipes, number: Number) -> usize
+/// The place of a number that a recipe has.
+pub fn place_in(recipes: &Recipes, number: Number) -> usize
     requires { Contains (numbers recipes.now) number.0 }
     ensures is { result ≡ place_of recipes.now number.0 }
     ensures within { result < length recipes.now }
@@ -21,11 +21,8 @@ pub(crate) fn place_in(recipes: &Recipes, number: Number) -> usize
     recipes.place_of(number).unwrap()
 }
 
-// What the recipe at a place depends on: it stands earlier.
-pub(crate) fn dependencies_at<'a, 'src>(
-    recipes: &'a Recipes<'src>,
-    place: usize,
-) -> &'a [Dependency<'src>]
+/// What the recipe at a place depends on: it stands earlier.
+pub fn dependencies_at<'a, 'src>(recipes: &'a Recipes<'src>, place: usize) -> &'a [Dependency<'src>]
     requires { place < length recipes.now }
     ensures is { result.now ≡ needed recipes.now place }
     ensures held { All (λ (d : Dependency). Contains (numbers recipes.now) d.recipe.0) result.now }
@@ -90,8 +87,8 @@ pub(crate) fn subsequents_in<'a, 'run, 'src, S: Syntax>(
     subsequents_at(recipes, place)
 }
 
-// The recipe at a place.
-pub(crate) fn recipe_at<'a, 'src>(recipes: &'a Recipes<'src>, place: usize) -> &'a Recipe<'src>
+/// The recipe at a place.
+pub fn recipe_at<'a, 'src>(recipes: &'a Recipes<'src>, place: usize) -> &'a Recipe<'src>
     requires { place < length recipes.now }
     ensures { slice_get recipes.now place ≡ Some result.now }
 {

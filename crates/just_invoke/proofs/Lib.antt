@@ -3,12 +3,9 @@ pub mod Decides
 pub mod Faults
 pub mod HeadLemmas
 pub mod Holding
-pub mod ModuleLemmas
-pub mod ModulePaths
 pub mod Namings
 pub mod Outcomes
-pub mod Preordering
 pub mod Readings
-pub mod Scoping
 pub mod SplitLemmas
 pub mod Unique
+pub mod Wholes

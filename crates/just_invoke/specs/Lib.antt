@@ -3,8 +3,6 @@ pub mod Going
 pub mod Head
 pub mod Meaning
 pub mod Outcome
-pub mod Preorder
-pub mod Scopes
 pub mod Split
-pub mod Variables
+pub mod Whole
 pub mod Words

@@ -5,9 +5,7 @@ ghost use Rattle.just_run_layers.specs.Host.{Answer, KeepsPromises};
 ghost use Rattle.just_run_layers.specs.Steps.{Question, IsSteady};
 ghost use Rattle.just_invoke.specs.Cause.{Cause};
 ghost use Rattle.just_tail.specs.Words.{Words};
-ghost use Rattle.just_execution.specs.Scene.{Scene};
-ghost use Rattle.just_justfile.specs.Closed.{AreClosed, Held, IsHeld};
-ghost use Rattle.just_invoke.specs.Scopes.{Front, IsSceneOf};
+ghost use Rattle.just_justfile.specs.Closed.{Held, IsHeld};
 ghost use Rattle.just_invoke.specs.Split.{Counts, Invoked, Invokes, IsSplit, IsFault};
 ghost use Rattle.just_justfile.specs.declared.justfile.Justfile.{Justfile};
 
@@ -55,9 +53,4 @@ pub fn holds_recipes()
 /// Answers that are promised to some questions stay so while promises are kept, as they are in a run.
 pub fn stays_steady()
     ensures { (old new : _) (f : Question → Answer) (asked : List Question) → KeepsPromises old new → IsSteady old f asked → IsSteady new f asked }
-{}
-
-/// Where the root and the modules below it are closed, there is a scene of the root and its recipes.
-pub fn has_a_scene()
-    ensures { (front : Front) (root : Justfile) (recipes : Held) → AreClosed recipes root → (scene : Scene) × IsSceneOf front root recipes scene }
 {}

@@ -7,14 +7,11 @@ mod invocation;
 pub mod invocation_parser;
 pub mod laws;
 mod lookup;
-mod modules;
 mod naming;
 mod paths;
 pub mod run;
 mod running;
-mod scopes;
 mod texts;
-mod variables;
 mod walking;
 
 pub use invocation::Invocation;

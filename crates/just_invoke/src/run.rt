@@ -1,10 +1,11 @@
 //! The run of what command words mean.
+ghost use Rattle.std.specs.Prelude.{◌≡◌, ◌≤◌, true, length, IfErr, OnOk};
 ghost use Rattle.just_justfile.specs.declared.justfile.Justfile.{Justfile};
+ghost use Rattle.just_invoke.specs.Outcome.{IsExcess};
 
+use crate::invocation::Invocation;
 use crate::invocation_parser::InvocationParser;
 use crate::running::run_invocations;
-use crate::scopes::bare_scopes;
-use crate::variables::check_variables;
 use just_data::Text;
 use just_execution::Report;
 use just_justfile::Justfile;
@@ -14,6 +15,22 @@ use just_run_layers::{Evaluation, Host};
 use std::alloc::Global;
 use std::collections::HashMap;
 
+// Refuses several invocations where one alone is allowed.
+fn allow_few<'src>(
+    config: &Config,
+    invocations: &[Invocation<'_, 'src, '_>],
+) -> Result<(), Error<'src>>
+    ensures few { OnOk result (config.now.one ≡ true → length invocations.now ≤ 1) }
+    ensures many { IfErr result (IsExcess config.now.one (length invocations.now)) }
+{
+    if config.one && invocations.len() > 1 {
+        return Err(Error::Run(RunError::ExcessInvocations {
+            invocations: invocations.len(),
+        }));
+    }
+    Ok(())
+}
+
 /// Modules that can be run, as a compiled one can: `Justfile::run`.
 pub trait Run<'src> {
     ghost use Rattle.std.specs.Prelude.{◌≡◌};
@@ -22,23 +39,27 @@ pub trait Run<'src> {
     ghost use Rattle.just_run_layers.specs.LineTexts.{AgreesWith};
     ghost use Rattle.just_run_layers.specs.Steps.{kept_by};
     ghost use Rattle.just_names.specs.Texts.{texts};
-    ghost use Rattle.just_justfile.specs.Closed.{IsRooted};
+    ghost use Rattle.just_justfile.specs.Running.{CanRun, HoldsOverridden, TellsBareLines};
     ghost use Rattle.just_invoke.specs.Outcome.{IsExpected, IsOutcome};
-    ghost use Rattle.just_invoke.specs.Scopes.{front_of};
+    ghost use Rattle.just_scopes.specs.Opening.{front_of};
 
     /// The module that is run.
     ghost root: { Self → Justfile };
 
-    /// Runs what the words mean: each invocation in turn under one once table, where a recipe with equal arguments runs
-    /// once, its prior dependencies before it, and its subsequent ones after it under a table of their own. A recipe that
-    /// runs is asked for its parameters, its confirmation and the arguments of its dependencies; then it begins, and its
-    /// body runs. The run ends at the first step that fails, with its error. Where the words are refused, or can't be run
-    /// yet, the host is left as it was.
+    /// Runs what the words mean. First the modules are opened, each before those in it: the host is asked for the pairs of
+    /// its dotenv files, where the configuration says so, and the evaluation for the values of its variables, in a lazy
+    /// module of exactly those that are needed. So whatever a recipe reads that runs has its value before the first one
+    /// begins. Then each invocation runs in turn under one once table, where a recipe with equal arguments runs once, its
+    /// prior dependencies before it, and its subsequent ones after it under a table of their own. A recipe that runs is asked
+    /// for its parameters, its confirmation and the arguments of its dependencies; then it begins, and its body runs. The run
+    /// ends at the first step that fails, with its error. Where the words are refused, the host is left as it was; where the
+    /// modules do not open, nothing is executed.
     ///
-    /// `NotYet` comes where the module or one in it has a variable, with the name of the first recipe that the words mean.
-    /// It comes after `ExcessInvocations`. `Evaluate` comes where the evaluation has no value of what it is asked.
+    /// `Dotenv` and `Evaluate` come where the host or the evaluation has no answer to what it is asked.
     ///
-    /// The evaluation takes the lines of bodies as the grammar does: which sigils they begin with, and which go on.
+    /// What compiling answers can run, and its overrides have all that the analysis saw. The evaluation takes the lines of
+    /// bodies as the grammar does: which sigils they begin with, and which go on; and what a line is does not hang on the
+    /// numbers in it.
     ///
     /// The writer is asked nothing yet.
     fn run<S: Syntax, E: Evaluation, H: Host, W: Output>(
@@ -53,8 +74,10 @@ pub trait Run<'src> {
         words: &[&str],
         overrides: &HashMap<Number, Text>,
     ) -> Result<Report, Error<'src>>
-        requires rooted { IsRooted (root self.now) recipes.now }
+        requires can_run { CanRun (S.answers syntax.now) (root self.now) recipes.now }
+        requires overridden { HoldsOverridden (root self.now) overrides.now }
         requires same { AgreesWith E.sigils E.continues (S.answers syntax.now) }
+        requires bare { TellsBareLines (S.answers syntax.now) }
         // Promises are kept.
         ensures keeps { KeepsPromises (E.promised evaluation.old) (E.promised evaluation.new) }
         ensures keeps_host { KeepsPromises (H.promised host.old) (H.promised host.new) }
@@ -99,17 +122,14 @@ impl<'src> Run<'src> for Justfile<'src> {
             &*evaluation,
             words,
         )?;
-        if config.one && invocations.len() > 1 {
-            return Err(Error::Run(RunError::ExcessInvocations {
-                invocations: invocations.len(),
-            }));
-        }
-        check_variables(alloc, self, invocations.as_slice())?;
-        let scopes = bare_scopes(alloc, config, syntax, self, overrides)?;
+        allow_few(config, invocations.as_slice())?;
         run_invocations(
             alloc,
+            config,
             recipes,
-            &scopes,
+            syntax,
+            self,
+            overrides,
             evaluation,
             host,
             invocations.as_slice(),

@@ -1,3 +1,4 @@
 pub mod Closed
 pub mod Module
+pub mod Running
 pub mod Walks

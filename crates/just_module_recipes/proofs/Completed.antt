@@ -7,7 +7,7 @@ use Rattle.just_ast_definitions.specs.declared.attribute.NamedAttribute.{NamedAt
 use Rattle.just_ast_definitions.specs.declared.parameter.Parameter.{Parameter}
 use Rattle.just_ast_expressions.specs.declared.expression.Expression.{Expression}
 use Rattle.just_module_recipes.specs.Completed.{completed_by, value_here}
-use Rattle.just_module_recipes.specs.Completing.{IsCompleting, paths_of}
+use Rattle.just_module_recipes.specs.Completing.{IsCompleting, counts_of, paths_of}
 use Rattle.just_module_recipes.specs.declared.completing.Completing.{Completing}
 use Rattle.just_names.specs.Texts.{Text}
 use Rattle.just_names.specs.declared.number.Number.{Number}
@@ -16,7 +16,7 @@ use Rattle.just_parts.specs.Syntax.{SyntaxAnswers}
 use Rattle.just_recipe.specs.Grouping.{grouped, share}
 use Rattle.just_recipe.specs.declared.dependency.UnresolvedDependency.{UnresolvedDependency}
 use Rattle.just_recipe.specs.declared.recipe.Recipe.{Recipe}
-use Rattle.just_recipe_names.specs.Numbered.{dependency_by, number_under, numbered_by, numbered_parameters, under}
+use Rattle.just_recipe_names.specs.Numbered.{dependency_by, given_by, number_under, numbered_by, numbered_parameters, under}
 use Rattle.just_recipe_values.specs.Valued.{informed, valued_named}
 
 -- arguments are grouped for parameters with numbers as for those without
@@ -27,6 +27,10 @@ grouped_alike number lists before (p ∷ ps) left = ap (λ groups. take (share l
 same_paths : (by : Expression → Expression) (ds : List UnresolvedDependency) → paths_of (map (dependency_by by) ds) ≡ paths_of ds
 same_paths by [] = refl
 same_paths by (d ∷ ds) = ap (λ ps. d.recipe ∷ ps) (same_paths by ds)
+
+same_counts : (by : Expression → Expression) (ds : List UnresolvedDependency) → counts_of (map (dependency_by by) ds) ≡ counts_of ds
+same_counts by [] = refl
+same_counts by (d ∷ ds) = λ i. length-map d.arguments (given_by by) i ∷ same_counts by ds i
 
 -- and as for those that are told of by attributes
 grouped_informed : {A : Type 0} (attributes : List (NamedAttribute Expression)) (lists : Bool) (ps : List Parameter) (left : List A) → grouped lists (map (informed attributes) ps) left ≡ grouped lists ps left
@@ -42,6 +46,7 @@ is_completing answers evaluator it =
       number = λ r. refl;
       priors = λ r. refl;
       paths = λ r. same_paths (under number r.parameters) r.dependencies;
+      counts = λ r. same_counts (under number r.parameters) r.dependencies;
       grouping = λ lists r arguments.
           grouped_informed (map (valued_named (value_here answers evaluator it)) (numbered r).attributes) lists (numbered r).parameters arguments
           ∙ grouped_alike number lists [] r.parameters arguments;

@@ -1,5 +1,5 @@
 -- The rules of the arguments of dependencies.
-use Rattle.std.proofs.Common.{◌≡◌, ℕ, ◌+◌, ◌<◌, Bool, true, false, List, [], length, take, get_or, None, Some, refl, sym, ◌∙◌, ap, subst, subst₂, arith, inl, inr}
+use Rattle.std.proofs.Common.{◌≡◌, ℕ, ◌+◌, ◌<◌, ◌≤◌, Bool, true, false, List, [], length, take, get_or, None, Some, refl, sym, ◌∙◌, ap, subst, subst₂, arith, inl, inr}
 use Rattle.std.specs.BTreeSet.{BTreeSet}
 use Rattle.std.specs.List.{All}
 use Rattle.std.proofs.lemmas.Bool.{cases_lt}
@@ -66,6 +66,15 @@ module _ (lists : Bool) (rs : List (Recipe UnresolvedDependency)) (it : Around) 
     misgiven_told s least most is_least is_most c (of_count wrong) =
         let takes : Takes lists rs it d.recipe least most = record { parameters = parameters_of rs it.held t; has = has_parameters t target there; least_is = sym is_least; most_is = sym is_most } in
         argument_count s takes refl wrong
+
+    -- where no rule of arguments is broken, there are no more than it takes
+    pub fits_target : StandsWith (Stands rs it) rs d → Keeps (BreaksLinks lists rs it) → length d.arguments ≤ most_arguments lists (parameters_of rs it.held t)
+    fits_target s kept =
+        let takes : Takes lists rs it d.recipe (least_arguments (parameters_of rs it.held t)) (most_arguments lists (parameters_of rs it.held t)) = record { parameters = parameters_of rs it.held t; has = has_parameters t target there; least_is = refl; most_is = refl } in
+        elim (cases_lt (most_arguments lists (parameters_of rs it.held t)) (length d.arguments)) [
+          | inl wrong ↦ absurd (kept _ (argument_count s takes refl (inr wrong)))
+          | inr few ↦ few
+        ]
 
     pub is_given : AreDifferent (names_of rs) → (least most : ℕ) → least ≡ least_arguments (parameters_of rs it.held t) → most ≡ most_arguments lists (parameters_of rs it.held t) → Keeps (Misgiven lists d least most) → IsGiven lists rs it d
     is_given different least most is_least is_most kept = record {

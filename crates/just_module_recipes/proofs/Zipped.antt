@@ -3,7 +3,7 @@ use Rattle.std.proofs.Common.{◌≡◌, ℕ, zero, suc, ◌+◌, ◌<◌, List,
 use Rattle.std.specs.List.{AllZip}
 use Rattle.just_graph.proofs.Members.{In}
 use Rattle.just_module_recipes.proofs.SameSets.{taken}
-use Rattle.just_module_recipes.specs.Completing.{paths_of}
+use Rattle.just_module_recipes.specs.Completing.{counts_of, paths_of}
 use Rattle.just_names.specs.declared.name.Namepath.{Namepath}
 use Rattle.just_recipe.specs.declared.dependency.UnresolvedDependency.{UnresolvedDependency}
 
@@ -52,3 +52,11 @@ zip_paths R [] (d ∷ es) ys e a = cc
 zip_paths R (d ∷ ds) [] ys e a = cc
 zip_paths R (d ∷ ds) (x ∷ es) [] e a = absurd a
 zip_paths R (d ∷ ds) (x ∷ es) (y ∷ ys) e a = (subst (λ (p : Namepath). R p y) (ap (λ ps. get_or ps 0 d.recipe) e) a.0, zip_paths R ds es ys (ap (λ ps. drop 1 ps) e) a.1)
+
+-- and what relates to how many arguments they are given to those of others that are given as many
+pub zip_counts : {B : Type 0} (R : ℕ → B → Type 0) (ds es : List UnresolvedDependency) (ys : List B) → counts_of ds ≡ counts_of es → AllZip (λ (d : UnresolvedDependency) y. R (length d.arguments) y) ds ys → AllZip (λ (d : UnresolvedDependency) y. R (length d.arguments) y) es ys
+zip_counts R [] [] ys e a = a
+zip_counts R [] (d ∷ es) ys e a = cc
+zip_counts R (d ∷ ds) [] ys e a = cc
+zip_counts R (d ∷ ds) (x ∷ es) [] e a = absurd a
+zip_counts R (d ∷ ds) (x ∷ es) (y ∷ ys) e a = (subst (λ (n : ℕ). R n y) (ap (λ ns. get_or ns 0 0) e) a.0, zip_counts R ds es ys (ap (λ ns. drop 1 ns) e) a.1)

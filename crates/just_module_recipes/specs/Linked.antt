@@ -13,7 +13,7 @@ use Rattle.just_names.specs.Name.{text_of_name}
 use Rattle.just_names.specs.declared.name.Namepath.{Namepath}
 use Rattle.just_names.specs.declared.number.Number.{Number}
 use Rattle.just_paths.specs.declared.modulepath.Modulepath.{Modulepath}
-use Rattle.just_recipe.specs.Grouping.{grouped}
+use Rattle.just_recipe.specs.Grouping.{grouped, joined}
 use Rattle.just_recipe.specs.Recipes.{IsResolved, find_number}
 use Rattle.just_recipe.specs.declared.dependency.Dependency.{Dependency}
 use Rattle.just_recipe.specs.declared.dependency.UnresolvedDependency.{UnresolvedDependency}
@@ -32,13 +32,14 @@ pub data HasNumber (recipes : List (Recipe UnresolvedDependency)) (it : Around) 
 
 -- What recipes are linked to, where some stand, paths lead to numbers, and recipes are completed first.
 module _ (Stands : Text → Type 0) (HasNumber : Namepath → Number → Type 0) (completed : Completion) (lists : Bool) (all : List (Recipe Dependency)) where
-  -- A dependency is linked to one of all recipes: it has the number that its path leads to, under which that recipe is held, and its arguments are grouped for the parameters of that.
+  -- A dependency is linked to one of all recipes: it has the number that its path leads to, under which that recipe is held, and its arguments are grouped for the parameters of that, with none left over.
   pub record IsLinked (d : UnresolvedDependency) (made : Dependency) : Type 0 where
     pub path : made.path ≡ d.recipe
     pub number : HasNumber d.recipe made.recipe
     pub target : Recipe Dependency
     pub held : find_number all made.recipe.0 ≡ Some target
     pub arguments : made.arguments ≡ grouped lists target.parameters d.arguments
+    pub whole : joined made.arguments ≡ d.arguments
 
   -- What is made of a recipe of the module at a path: it is that of the source, completed, with the numbers of what it needs, and each of its dependencies is linked.
   pub record IsMadeOf (path : Modulepath) (source : Recipe UnresolvedDependency) (made : Recipe Dependency) : Type 0 where

@@ -265,7 +265,7 @@ pub fn ask_changes<'a, 'run, 'src, S: Syntax, E: Evaluation>(
     let context = body.context;
     match evaluation.environment(
         alloc,
-        context.dotenv,
+        &context.dotenv,
         body.scope,
         context.settings,
         context.unexports.as_slice(),

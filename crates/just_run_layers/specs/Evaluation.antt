@@ -81,7 +81,7 @@ pub record ContextContents : Type 0 where
 abbrev pub contents_of : Context → ContextContents
 contents_of context = record {
   config = config_contents context.config.now;
-  dotenv = context.dotenv.now;
+  dotenv = context.dotenv;
   module_path = context.module_path.now;
   working_directory = context.working_directory.now;
   assignments = context.assignments.now;

@@ -18,7 +18,7 @@ use crate::held::Held;
 use crate::host::Groups;
 use just_ast_definitions::{Line, Parameter};
 use just_ast_expressions::{Expression, Scope, Settings};
-use just_data::{Sequence, Shared, Text};
+use just_data::{Chain, Sequence, Shared, Text};
 use just_errors::Refusal;
 use just_names::{Name, Number};
 use just_parts::layers::ConstantEvaluation;
@@ -135,7 +135,7 @@ pub trait Evaluation: ConstantEvaluation {
     fn environment<'src>(
         &mut self,
         alloc: Global,
-        dotenv: &[EnvironmentPair],
+        dotenv: &Chain<EnvironmentPair>,
         scope: &Scope<'src>,
         settings: &Settings,
         unexports: &[Name<'src>],

@@ -1,9 +1,10 @@
 //! The program, over a reader and two writers.
 ghost use Rattle.std.specs.Prelude.{◌≡◌, ◌≢◌, ◌<◌, [], ◌∷◌, List, None, slice_get, IsNone, IsOk, IfErr, IfSome, OnOk};
 ghost use Rattle.std.specs.Io.KnownBytes.{Appends};
-ghost use Rattle.just_analyzer.specs.Words.{IsClean, IsRooted, texts};
+ghost use Rattle.just_analyzer.specs.Words.{CanRun, HoldsOverridden, IsClean, texts};
 ghost use Rattle.just_names.specs.Texts.{Text};
 ghost use Rattle.just_loader.specs.Sources.{text_at};
+ghost use Rattle.just_bench_syntax.specs.Answers.{answers};
 ghost use Rattle.just_bench.specs.Entries.{entry_lines};
 ghost use Rattle.just_bench.specs.Ran.{IsRunFault, Ran, plain_front};
 ghost use Rattle.justrun_program.specs.Answers.{Comes, HasRun, IsDone, IsDoneOver, IsFault, IsFaultOver};
@@ -51,7 +52,8 @@ fn run_compiled<'src, W: Write>(
     words: &[&str],
     output: &mut W,
 ) -> Result<(), ProgramError<'src>>
-    requires { IsRooted compilation.now.justfile compilation.now.recipes }
+    requires can_run { CanRun (answers []) compilation.now.justfile compilation.now.recipes }
+    requires overridden { HoldsOverridden compilation.now.justfile compilation.now.overrides }
     ensures done { let front = plain_front config.now compilation.now.overrides in
         let ran = Ran compilation.now.justfile compilation.now.recipes config.now front (texts words.now) in
         OnOk result ((r : ran) × IsOk r.result × Appends (W.contents output.old) (W.contents output.new) (entry_lines r.entries)) }

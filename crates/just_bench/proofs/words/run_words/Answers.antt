@@ -1,19 +1,22 @@
-use Rattle.std.proofs.Common.{List, [], Some, map, refl, rules, subst}
+use Rattle.std.proofs.Common.{List, [], Some, map, refl, rules, subst, sym}
 use Rattle.just_errors.specs.declared.error.Error.TheVariants.{Memory}
+use Rattle.just_justfile.specs.Running.{CanRun}
 use Rattle.just_names.specs.Texts.{texts}
 use Rattle.just_run_layers.specs.Evaluation.{ScopeRequest}
 use Rattle.just_run_layers.specs.Steps.{kept_by}
 use Rattle.just_invoke.specs.Outcome.{IsOutcome, memory, refused}
 use Rattle.just_bench_evaluation.specs.Answered.{plain_answer, request_of}
 use Rattle.just_ast_expressions.specs.declared.keyword.Keyword.{Keyword}
-use Rattle.just_invoke.specs.Scopes.{front_of}
+use Rattle.just_scopes.specs.Opening.{front_of}
 use Rattle.just_bench_syntax.specs.Answers.{answers}
 use Rattle.just_bench.specs.Ran.{plain_counts}
 use Rattle.just_bench.specs.Recorder.{script_promises}
 use Rattle.just_bench.proofs.words.run_words.Goals as goal
 
-pub run-requires-clause-same : goal.run-requires-clause-same
-run-requires-clause-same c = record { sigils_of = λ line settings. refl; goes_on = λ line. refl }
+pub run-requires-clause-can_run : goal.run-requires-clause-can_run
+run-requires-clause-can_run c =
+    let can : List (Keyword × Keyword) → Type 0 = λ pairs. CanRun (answers pairs) c.args.root.now c.args.recipes.now in
+    subst can (sym c.new-syntax.ensures) c.requires.can_run
 
 pub returns-in_err-writer : goal.returns-in_err-writer
 returns-in_err-writer c = ([], refused Memory (search rules) memory refl)

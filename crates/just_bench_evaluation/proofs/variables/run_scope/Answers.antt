@@ -1,8 +1,8 @@
-use Rattle.std.proofs.Common.{◌≡◌, sym, ap, subst, Bool, Some}
+use Rattle.std.proofs.Common.{◌≡◌, ap, subst, Bool, Some}
 use Rattle.std.specs.HashMap.{get}
 use Rattle.std.specs.Option.{option_map}
 use Rattle.just_names.specs.declared.number.Number.{Number}
-use Rattle.just_parts.specs.Evaluator.{Binds, FaultsAt, Wanted, wanted_by}
+use Rattle.just_parts.specs.Evaluator.{Binds, FaultsAt, wanted_by}
 use Rattle.just_parts.specs.Needs.{same_number}
 use Rattle.just_run_layers.specs.Evaluation.{contents_of, set_of}
 use Rattle.just_bench_values.specs.Constants.{constants_of, scope_along, scope_of}

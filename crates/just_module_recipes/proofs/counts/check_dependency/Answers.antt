@@ -1,4 +1,3 @@
-use Rattle.std.proofs.Common.{◌≡◌, rules}
 use Rattle.std.proofs.lemmas.Result.{IfErr-weaker, on_ok_weaker}
 use Rattle.just_errors.proofs.Lifts.{reports_by}
 use Rattle.just_errors.specs.Causes.{Reports}

@@ -67,7 +67,7 @@ returns-clause-linked g c =
     let needed = done.references.now in
     let lists = done.meanings.settings.now.lists in
     let path = c.args.module_path.now in
-    adds_linked rs it sets plan.exact c.requires.different rows plan.rows by (is_completing answers evaluator done) needed lists path c.requires.once c.requires.priors c.requires.apart order plan.order plan.there c.in_ok-all.all
+    adds_linked rs it sets plan.exact c.requires.different rows plan.rows by (is_completing answers evaluator done) needed lists path c.requires.once c.requires.priors c.requires.apart order plan.order plan.there c.in_ok-rows.ensures.kept c.in_ok-all.all
     (c.in_ok-all.ensures.made ∙ (ap (λ (xs : List (List Target)). c.args.recipes ++ made by needed lists rs c.args.recipes path xs c.as_slice-3.result.now c.as_slice-2.result.now) read
     ∙ (ap (λ (xs : List (BTreeSet Modulepath)). c.args.recipes ++ made by needed lists rs c.args.recipes path rows xs c.as_slice-2.result.now) told
     ∙ ap (λ (xs : List ℕ). c.args.recipes ++ made by needed lists rs c.args.recipes path rows sets xs) listed)))

@@ -20,6 +20,7 @@ use Rattle.just_compiler.specs.Rules.{MayTell, in_files, in_modules}
 use Rattle.just_compiler.proofs.Compilations.{all_kept, none_named, put_onto, refused, told}
 use Rattle.just_compiler.proofs.Meant.{by_keys, held_meant, is_meant, rooted}
 use Rattle.just_compiler.proofs.Readings.{are_analyzable, is_reading}
+use Rattle.just_compiler.proofs.Runnable.{can_run}
 use Rattle.just_compiler.proofs.compiler.Compiler.compile.Goals as goal
 
 pub returns-in_err-path : goal.returns-in_err-path
@@ -118,6 +119,7 @@ returns g c =
       all_closed = analyzed.closed;
       tables = analyzed.tables;
       numbers = analyzed.numbers;
+      can_run = can_run evaluator values w asts paths loaded c.in_ok-justfile.justfile c.in_ok-justfile.recipes made.overridden analyzed;
       overridden = λ j n stands has.
           let held = held_meant evaluator values w asts paths loaded c.in_ok-justfile.justfile c.in_ok-justfile.recipes made.overridden analyzed j n stands has in
           ap is_some (put_onto _ _ _ _ _ (search rules) (made.added n) (c.in_ok-apply_overrides.ensures.applied.1 n)

@@ -1,0 +1,14 @@
+pub mod Asking
+pub mod Facts
+pub mod Homes
+pub mod Keeping
+pub mod Needed
+pub mod OneOpened
+pub mod OwnPaths
+pub mod Preordering
+pub mod Standing
+pub mod Tables
+pub mod Turning
+pub mod Under
+pub mod Using
+pub mod Wanting

@@ -1,0 +1,8 @@
+use Rattle.just_scopes.proofs.Standing.{are-standing, one-order}
+use Rattle.just_scopes.proofs.laws.lists_modules_in_one_order.Goals as goal
+
+pub returns-clause-one : goal.returns-clause-one
+returns-clause-one c = one-order
+
+pub returns-clause-all : goal.returns-clause-all
+returns-clause-all c = are-standing

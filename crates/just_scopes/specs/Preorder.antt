@@ -1,0 +1,38 @@
+-- Modules in the order of a walk: each before those in it, and these in the order of their names.
+use Rattle.std.specs.Prelude.{◌≡◌, ◌+◌, ◌||◌, ℕ, Bool, false, List, [], ◌∷◌, ◌++◌, length, map, reverse, Option, Some, None}
+use Rattle.just_justfile.specs.declared.justfile.Justfile.{Justfile, out-Justfile}
+use Rattle.just_scopes.specs.declared.modules.PlacedModule.{PlacedModule}
+
+-- a module, the place of the one that it stands in, and whether it is lazy
+pub record Placed : Type 0 where
+  pub justfile : Justfile
+  pub parent : Option ℕ
+  pub lazy : Bool
+
+-- a module is lazy where it sets so, or one above it does
+abbrev pub is_lazy_under : Bool → Justfile → Bool
+is_lazy_under above j = above || (out-Justfile j).settings.lazy
+
+abbrev pub placed_under : Option ℕ → Bool → Justfile → Placed
+placed_under parent above j = record { justfile = j; parent = parent; lazy = is_lazy_under above j }
+
+-- The modules of one at a place, which is lazy or not, listed from another place on: each, and after it those in it, before the next.
+pub data AreBelow : ℕ → Bool → ℕ → List Justfile → List Placed → Type 0 where
+  none : {parent start : ℕ} {above : Bool} → AreBelow parent above start [] []
+  one : {parent start : ℕ} {above : Bool} {j : Justfile} {js : List Justfile} {below rest : List Placed} → AreBelow start (is_lazy_under above j) (start + 1) (out-Justfile j).modules below →
+      AreBelow parent above (start + 1 + length below) js rest → AreBelow parent above start (j ∷ js) (placed_under (Some parent) above j ∷ (below ++ rest))
+
+-- all that stand in the root: it first, and after it those in it
+abbrev pub IsPreorder : Justfile → List Placed → Type 0
+IsPreorder root modules =
+    (below : List Placed) × (modules ≡ placed_under None false root ∷ below) × AreBelow 0 (is_lazy_under false root) 1 (out-Justfile root).modules below
+
+-- for the private functions: a module as data; those that wait, the last of which is taken next; and the modules of the one at a place
+abbrev pub placed : PlacedModule → Placed
+placed m = record { justfile = m.justfile.now; parent = m.parent; lazy = m.is_lazy }
+
+abbrev pub waiting : List PlacedModule → List Placed
+waiting modules = reverse (map placed modules)
+
+abbrev pub inner_modules : ℕ → Bool → List Justfile → List Placed
+inner_modules place above = map (placed_under (Some place) above)

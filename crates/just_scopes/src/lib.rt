@@ -1,0 +1,13 @@
+//! The scopes of a run: which variables of each module are evaluated, and what the modules have before the first recipe runs.
+#![tactic(auto)]
+
+mod context;
+pub mod laws;
+mod modules;
+mod opening;
+mod scopes;
+mod used;
+mod wanted;
+
+pub use opening::{OpenedModule, open_modules};
+pub use scopes::scopes_of;

@@ -1,0 +1,60 @@
+//! What recipes run in, once the modules are open.
+ghost use Rattle.std.specs.Prelude.{◌≡◌, map, IfOk};
+ghost use Rattle.just_execution.specs.Homes.{AreHome};
+ghost use Rattle.just_execution.specs.Scene.{scene_in};
+ghost use Rattle.just_scopes.specs.Open.{AreOpen};
+ghost use Rattle.just_scopes.specs.Opening.{front_of, handed_of, opened_of, scene_of};
+ghost use Rattle.just_scopes.specs.Scoped.{AreModulesOf};
+
+use crate::context::context_of;
+use crate::opening::OpenedModule;
+use just_data::Text;
+use just_execution::{ModuleScope, Scopes};
+use just_parts::layers::{Config, Number, Syntax};
+use just_paths::Modulepath;
+use std::alloc::{AllocError, Global};
+use std::collections::HashMap;
+
+// The modules by their paths.
+fn modules_of<'run, 'src>(
+    alloc: Global,
+    config: &'run Config,
+    overrides: &'run HashMap<Number, Text>,
+    opened: Vec<OpenedModule<'run, 'src>>,
+) -> Result<HashMap<Modulepath, ModuleScope<'run, 'src>>, AllocError>
+    ensures { IfOk result (AreModulesOf (handed_of config.now overrides.now) (map opened_of opened.entry.items)) }
+{
+    let mut modules = HashMap::new(alloc);
+    for module in opened {
+        let path = module.justfile.module_path.clone()?;
+        let context = context_of(config, overrides, module.justfile, module.dotenv);
+        let scope = module.scope;
+        modules.insert(path, ModuleScope { context, scope })?;
+    }
+    Ok(modules)
+}
+
+/// What recipes run in under a grammar: these modules, which are open. Each recipe is at home to which the tasks lead that
+/// they were opened for. The error is want of memory.
+pub fn scopes_of<'run, 'src, S: Syntax>(
+    alloc: Global,
+    config: &'run Config,
+    syntax: &'run S,
+    overrides: &'run HashMap<Number, Text>,
+    opened: Vec<OpenedModule<'run, 'src>>,
+) -> Result<Scopes<'run, 'src, S>, AllocError>
+    ensures scene { let front = front_of (S.answers syntax.now) config.now overrides.now in
+        let scene = scene_of front in
+        IfOk result (λ scopes. (recipes : _) → scene_in (S.answers scopes.syntax.now) scopes recipes ≡ scene recipes (map opened_of opened.entry.items)) }
+    ensures home { let is_open = AreOpen (S.answers syntax.now) in
+        IfOk result (λ scopes. (root : _) (recipes : _) (tops : _) → is_open root recipes tops (map opened_of opened.entry.items) →
+        AreHome (S.answers scopes.syntax.now) scopes.modules recipes tops) }
+    ensures syntax { IfOk result (λ scopes. scopes.syntax.now ≡ syntax.now) }
+    ensures alone { IfOk result (λ scopes. scopes.no_dependencies ≡ config.now.no_dependencies) }
+{
+    Ok(Scopes {
+        syntax,
+        no_dependencies: config.no_dependencies,
+        modules: modules_of(alloc, config, overrides, opened)?,
+    })
+}
