@@ -83,7 +83,6 @@ invocation_name (invocation.ArgumentPatternMismatch recipe parameter argument) =
 
 abbrev pub run_name : RunError → List ℕ
 run_name (run.ExcessInvocations invocations) = codes "ExcessInvocations"
-run_name (run.NotYet recipe) = codes "NotYet"
 run_name (run.NotConfirmed recipe) = codes "NotConfirmed"
 run_name (run.GetConfirmation fault) = codes "GetConfirmation"
 run_name (run.Code recipe line code print) = codes "Code"
@@ -222,7 +221,6 @@ signal_text signal.Terminate = codes "SIGTERM"
 -- what a fault of a run says
 abbrev pub run_text : RunError → List ℕ
 run_text (run.ExcessInvocations invocations) = codes "Expected 1 command-line recipe invocation but found " ++ decimal invocations
-run_text (run.NotYet recipe) = codes "Recipe `" ++ (recipe ++ codes "` cannot be run yet")
 run_text (run.NotConfirmed recipe) = codes "Recipe `" ++ (recipe ++ codes "` was not confirmed")
 run_text (run.GetConfirmation fault) = fault.message
 run_text (run.Code recipe line code print) = codes "Recipe `" ++ (recipe ++ (codes "` failed" ++ (on_line_text line ++ (codes " with exit code " ++ signed_decimal code))))

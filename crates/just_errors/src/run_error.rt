@@ -15,10 +15,6 @@ pub enum RunError<'src> {
     ExcessInvocations {
         invocations: usize,
     },
-    /// A reachable recipe has what can't be run yet.
-    NotYet {
-        recipe: BorrowedText<'src>,
-    },
     /// A recipe asks before it runs, and the answer is no.
     NotConfirmed {
         recipe: BorrowedText<'src>,
@@ -111,7 +107,6 @@ impl<'src> RunError<'src> {
     {
         match self {
             RunError::ExcessInvocations { .. } => "ExcessInvocations",
-            RunError::NotYet { .. } => "NotYet",
             RunError::NotConfirmed { .. } => "NotConfirmed",
             RunError::GetConfirmation(_) => "GetConfirmation",
             RunError::Code { .. } => "Code",
@@ -149,7 +144,6 @@ impl<'src> fmt::Display for RunError<'src> {
                     "Expected 1 command-line recipe invocation but found {invocations}"
                 )
             }
-            RunError::NotYet { recipe } => { write!(f, "Recipe `{recipe}` cannot be run yet") }
             RunError::NotConfirmed { recipe } => write!(f, "Recipe `{recipe}` was not confirmed"),
             RunError::GetConfirmation(fault) => write!(f, "{fault}"),
             RunError::Code {

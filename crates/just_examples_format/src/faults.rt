@@ -189,9 +189,7 @@ fn add_line(text: &mut String, line_number: &Option<usize>) -> Result<(), AllocE
 fn add_run(text: &mut String, error: &RunError) -> Result<(), AllocError> {
     match error {
         RunError::ExcessInvocations { invocations } => write!(text, ": {invocations}"),
-        RunError::NotYet { recipe } | RunError::NotConfirmed { recipe } => {
-            write!(text, ": recipe {recipe}")
-        }
+        RunError::NotConfirmed { recipe } => write!(text, ": recipe {recipe}"),
         RunError::Code {
             recipe,
             line_number,

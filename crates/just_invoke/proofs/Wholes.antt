@@ -12,7 +12,7 @@ use Rattle.just_execution.specs.declared.task.Task.{Task}
 use Rattle.just_justfile.specs.declared.justfile.Justfile.{Justfile}
 use Rattle.just_recipe.specs.declared.dependency.Dependency.{Dependency}
 use Rattle.just_recipe.specs.declared.recipe.Recipe.{Recipe}
-use Rattle.just_run_layers.proofs.StepLemmas.{after-none, keeps-both, took-kept}
+use Rattle.just_run_layers.proofs.StepLemmas.{after-none, follows-asked, keeps-both, took-kept}
 use Rattle.just_run_layers.specs.Evaluation.{Inquiry, requests_of}
 use Rattle.just_run_layers.specs.Host.{Answer, KeepsPromises}
 use Rattle.just_run_layers.specs.Steps.{Asks, Fail, Follows, Give, IsSteady, Kept, Question, Steps, ToEvaluator, ToHost, Took, after, after_all, and_then, both, calls, executed_in, kept_by, outcome, path, requests_in}
@@ -20,15 +20,6 @@ use Rattle.just_run_layers.specs.declared.host.Entry.{Entry}
 use Rattle.just_scopes.specs.Opening.{Front, Opened, all_opened, scene_of}
 use Rattle.just_invoke.specs.Going.{RunsIn, RunsOpen, TasksComeTo, out, ran, shut}
 use Rattle.just_invoke.specs.Whole.{HasOpened, IsWholeRun}
-
--- a question before others
-asked-first : (q : Question) (qs : List Question) (old : Kept) → after_all qs (after q old) ≡ after_all (q ∷ qs) old
-asked-first (ToHost x) qs old = λ i. kept_by (append_assoc old.entries (x ∷ []) (calls qs) i) (old.requests ++ requests_in qs)
-asked-first (ToEvaluator x) qs old = λ i. kept_by (old.entries ++ calls qs) (append_assoc old.requests (requests_of x) (requests_in qs) i)
-
-follows-asked : {A : Type 0} (q : Question) (qs : List Question) (end : Result A Halt) (old new : Kept) (r : Result A Halt) → Follows qs end (after q old) new r → Follows (q ∷ qs) end old new r
-follows-asked q qs end old new r (inl (n, h)) = inl (n ∙ asked-first q qs old, h)
-follows-asked q qs end old new r (inr (h, (xs, ys, e, n))) = inr (h, (q ∷ xs, ys, ap (λ t. q ∷ t) e, n ∙ asked-first q xs old))
 
 -- nothing is asked for want of memory
 out-follows : {A : Type 0} (qs : List Question) (end : Result A Halt) (old new : Kept) (r : Result A Halt) → r ≡ Err halt.Memory → new ≡ old → Follows qs end old new r

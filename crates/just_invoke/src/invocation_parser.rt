@@ -41,7 +41,8 @@ impl InvocationParser {
         words: &[&'words str],
     ) -> Result<Vec<Invocation<'run, 'src, 'words>>, Error<'src>>
         requires { IsOrdered root.now }
-        ensures split { IfOk result (λ found. IsSplit (count_fault_of (E.answers evaluation.now)) root.now recipes.now (texts words.now) (map invoked_of found.items)) }
+        ensures split { let splits = IsSplit (count_fault_of (E.answers evaluation.now)) root.now recipes.now (texts words.now) in
+            IfOk result (λ found. splits (map invoked_of found.items)) }
         ensures held { IfOk result (λ found. All (λ i. IsHeld recipes.now i.recipe.now) found.items) }
         ensures fault { IfErr result (λ e. IfSome (cause_of e) (IsFault (count_fault_of (E.answers evaluation.now)) root.now recipes.now (texts words.now))) }
         ensures words { IfErr result (λ e. IsOfWords e) }
@@ -104,7 +105,8 @@ fn take_tail<'src, 'words, E: ConstantEvaluation>(
     words: &[&'words str],
 ) -> Result<Tail<'words>, TailError<'src>>
     ensures within { IfOk result (λ t. t.taken ≤ length words.now) }
-    ensures ok { IfOk result (λ t. TakesArguments (count_fault_of (E.answers evaluation.now)) recipe.now (texts (take t.taken words.now)) (texts (drop t.taken words.now)) (shown t.groups.items)) }
+    ensures ok { let takes = TakesArguments (count_fault_of (E.answers evaluation.now)) recipe.now in
+        IfOk result (λ t. takes (texts (take t.taken words.now)) (texts (drop t.taken words.now)) (shown t.groups.items)) }
     ensures err { IfErr result (λ e. IfSome (tail.cause_of e) (NoArguments (count_fault_of (E.answers evaluation.now)) recipe.now (texts words.now))) }
 {
     take_arguments(
@@ -127,7 +129,8 @@ fn parse_invocation<'run, 'src, 'words, E: ConstantEvaluation>(
     requires { IsOrdered root.now }
     ensures within { IfOk result (λ found. found.1 ≤ length words.now) }
     ensures moves { IfOk result (λ found. 0 < length words.now → 0 < found.1) }
-    ensures ok { IfOk result (λ found. Invokes (count_fault_of (E.answers evaluation.now)) root.now recipes.now (texts words.now) (texts (drop found.1 words.now)) (invoked_of found.0)) }
+    ensures ok { let invokes = Invokes (count_fault_of (E.answers evaluation.now)) root.now recipes.now (texts words.now) in
+        IfOk result (λ found. invokes (texts (drop found.1 words.now)) (invoked_of found.0)) }
     ensures err { IfErr result (λ e. IfSome (cause_of e) (Stops (count_fault_of (E.answers evaluation.now)) root.now recipes.now (texts words.now))) }
     ensures words { IfErr result (λ e. IsOfWords e) }
 {
@@ -159,7 +162,8 @@ fn parse_none<'run, 'src, 'words, E: ConstantEvaluation>(
 ) -> Result<Vec<Invocation<'run, 'src, 'words>>, Error<'src>>
     requires root { IsOrdered root.now }
     requires none { words.now ≡ [] }
-    ensures split { IfOk result (λ found. IsSplit (count_fault_of (E.answers evaluation.now)) root.now recipes.now (texts words.now) (map invoked_of found.items)) }
+    ensures split { let splits = IsSplit (count_fault_of (E.answers evaluation.now)) root.now recipes.now (texts words.now) in
+        IfOk result (λ found. splits (map invoked_of found.items)) }
     ensures fault { IfErr result (λ e. IfSome (cause_of e) (IsFault (count_fault_of (E.answers evaluation.now)) root.now recipes.now (texts words.now))) }
     ensures words { IfErr result (λ e. IsOfWords e) }
 {
@@ -183,7 +187,8 @@ fn parse_some<'run, 'src, 'words, E: ConstantEvaluation>(
 ) -> Result<Vec<Invocation<'run, 'src, 'words>>, Error<'src>>
     requires root { IsOrdered root.now }
     requires some { 0 < length words.now }
-    ensures chain { IfOk result (λ found. Chain (count_fault_of (E.answers evaluation.now)) root.now recipes.now (texts words.now) (map invoked_of found.items) []) }
+    ensures chain { let chain = Chain (count_fault_of (E.answers evaluation.now)) root.now recipes.now (texts words.now) in
+        IfOk result (λ found. chain (map invoked_of found.items) []) }
     ensures fault { IfErr result (λ e. IfSome (cause_of e) (IsFault (count_fault_of (E.answers evaluation.now)) root.now recipes.now (texts words.now))) }
     ensures words { IfErr result (λ e. IsOfWords e) }
 {

@@ -169,7 +169,8 @@ fn next_step<'run, 'src>(
     requires root { IsOrdered root.now }
     requires here { IsOrdered here.now }
     ensures ok { IfOk result (λ s. IsStep (meaning root.now recipes.now here.now name.now) go s) }
-    ensures err { IfErr result (λ e. IfSome (cause_of e) (BadName (meaning root.now recipes.now here.now name.now) one go (texts path.now) (place_of here.now name.now))) }
+    ensures err { let bad = BadName (meaning root.now recipes.now here.now name.now) one go (texts path.now) (place_of here.now name.now) in
+        IfErr result (λ e. IfSome (cause_of e) bad) }
     ensures words { IfErr result (λ e. IsOfWords e) }
 {
     let found = look_up(root, recipes, here, name);

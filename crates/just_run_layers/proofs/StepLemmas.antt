@@ -93,12 +93,12 @@ took-split {A} {B} p (Asks q g) next old new r (inr (a, l, t)) = elim (took-spli
 pub after-none : (old : Kept) → after_all [] old ≡ old
 after-none old = λ i. kept_by (append-nil old.entries i) (append-nil old.requests i)
 
-after-one : (q : Question) (qs : List Question) (old : Kept) → after_all qs (after q old) ≡ after_all (q ∷ qs) old
+pub after-one : (q : Question) (qs : List Question) (old : Kept) → after_all qs (after q old) ≡ after_all (q ∷ qs) old
 after-one (ToHost x) qs old = λ i. kept_by (append_assoc old.entries (x ∷ []) (calls qs) i) (old.requests ++ requests_in qs)
 after-one (ToEvaluator x) qs old = λ i. kept_by (old.entries ++ calls qs) (append_assoc old.requests (requests_of x) (requests_in qs) i)
 
 -- steps under fixed answers
-follows-asked : {A : Type 0} (q : Question) (qs : List Question) (end : Result A Halt) (old new : Kept) (r : Result A Halt) → Follows qs end (after q old) new r → Follows (q ∷ qs) end old new r
+pub follows-asked : {A : Type 0} (q : Question) (qs : List Question) (end : Result A Halt) (old new : Kept) (r : Result A Halt) → Follows qs end (after q old) new r → Follows (q ∷ qs) end old new r
 follows-asked q qs end old new r (inl (n, h)) = inl (n ∙ after-one q qs old, h)
 follows-asked q qs end old new r (inr (h, (xs, ys, e, n))) = inr (h, (q ∷ xs, ys, ap (λ t. q ∷ t) e, n ∙ after-one q xs old))
 

@@ -13,7 +13,6 @@ use Rattle.just_execution.specs.Arguments.{unevaluated}
 use Rattle.just_execution.specs.Scene.{ModuleContents, Scene, running}
 use Rattle.just_justfile.specs.declared.justfile.Justfile.{Justfile, out-Justfile}
 use Rattle.just_names.specs.Texts.{Text}
-use Rattle.just_names.specs.declared.name.Name.{Name}
 use Rattle.just_names.specs.declared.number.Number.{Number}
 use Rattle.just_parts.specs.Needs.{same_number}
 use Rattle.just_parts.specs.Syntax.{SyntaxAnswers}
@@ -22,6 +21,7 @@ use Rattle.just_paths.specs.contracts.modulepath.ModulepathPartialEq.TheImpl as 
 use Rattle.just_paths.specs.declared.modulepath.Modulepath.{Modulepath}
 use Rattle.just_recipe.specs.declared.dependency.Dependency.{Dependency}
 use Rattle.just_recipe.specs.declared.recipe.Recipe.{Recipe}
+use Rattle.just_recipe_body.specs.Body as body
 use Rattle.just_run_layers.specs.Evaluation.{Assignments, ConfigContents, ContextContents, NumberSet, config_contents}
 use Rattle.just_run_layers.specs.Host.{Answer, Paired, Refused, Scoped}
 use Rattle.just_run_layers.specs.Steps.{Asks, Fail, Give, Steps, ToEvaluator, ToHost, and_then}
@@ -77,14 +77,9 @@ abbrev pub around : List Opened → Option ℕ → Around
 around opened None = nothing
 around opened (Some place) = hands (slice_get opened place)
 
--- the folder for which dotenv files are asked: the module's, and of the root the configuration's, where it has one
-abbrev pub folder_for : Option Text → Option Name → Text → Text
-folder_for None name own = own
-folder_for (Some folder) None own = folder
-folder_for (Some folder) (Some name) own = own
-
+-- the folder for which dotenv files are asked, which is that of bodies: the module's, and of the root the configuration's, where it has one
 abbrev pub folder_of : Option Text → Justfile → Text
-folder_of folder j = folder_for folder (out-Justfile j).name (out-Justfile j).working_directory
+folder_of configured j = body.folder_of (out-Justfile j).module_path.components configured (out-Justfile j).working_directory
 
 -- its own pairs stand behind those around it; no file is asked for where the front says so
 abbrev pub pairs_answered : List EnvironmentPair → Answer → Steps (List EnvironmentPair)

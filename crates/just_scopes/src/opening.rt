@@ -84,10 +84,12 @@ fn handed_on<'src>(
 fn folder_for<'a>(config: &'a Config, justfile: &'a Justfile) -> &'a Text
     ensures { result.now ≡ folder_of config.now.working_directory justfile.now }
 {
-    match (&config.working_directory, &justfile.name) {
-        (Some(folder), None) => folder,
-        _ => &justfile.working_directory,
+    if justfile.module_path.components.is_empty() {
+        if let Some(configured) = &config.working_directory {
+            return configured;
+        }
     }
+    &justfile.working_directory
 }
 
 // Pairs behind others.
