@@ -3,8 +3,8 @@
 
     printf -- '--- /justfile\na: b\nb:\n' | python3 benches/reading.py /justfile a
 
-It was written from docs/plain.md, docs/rules.md and docs/definitions.md alone and shares nothing with the code: plain
-definitions, as slow as they like. benches/odd.py compares the program with it. Its parts are reading_grammar.py (what a
+It was written from docs/plain.md, docs/rules.md and docs/definitions.md and shares nothing with the code: plain
+definitions, as slow as they like. What these do not tell, as the wording of some messages, is what the program printed. benches/odd.py compares the program with it. Its parts are reading_grammar.py (what a
 text says), reading_files.py (which files there are), reading_values.py (what expressions come to), reading_rules.py
 (what is broken), reading_words.py (what words mean) and reading_run.py (what a run prints).
 """

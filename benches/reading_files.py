@@ -1,7 +1,7 @@
 """Bundles, paths and files, read a second time by docs/rules.md and docs/definitions.md: which files a root reaches,
 what is broken of the rules of files, and the modules that the files make.
 
-It is part of the second reading (benches/reading.py) and was written from the documents alone.
+It is part of the second reading (benches/reading.py) and was written from the documents.
 """
 from dataclasses import dataclass, field
 

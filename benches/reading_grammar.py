@@ -1,6 +1,6 @@
 """The plain grammar of docs/plain.md, read a second time: what the lines of a text say, and where reading stops.
 
-It is part of the second reading (benches/reading.py) and was written from the documents alone. Texts are Python's,
+It is part of the second reading (benches/reading.py) and was written from the documents. Texts are Python's,
 lines and columns count from 0, columns in characters.
 
 An expression is a tuple: ('text', t), ('name', n, place), ('call', f, arguments, place), ('group', e), ('list', es,

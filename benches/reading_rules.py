@@ -1,6 +1,6 @@
 """The rules of compilation, read a second time by docs/rules.md: all that is broken of each group in each module.
 
-It is part of the second reading (benches/reading.py) and was written from the documents alone.
+It is part of the second reading (benches/reading.py) and was written from the documents.
 """
 import reading_grammar as grammar
 from reading_files import Fault, at_place

@@ -1,7 +1,7 @@
 """The run, read a second time by docs/rules.md and docs/definitions.md: the modules are opened, and then come the first
 occurrences of the unshared expansion, up to the first step that fails.
 
-It is part of the second reading (benches/reading.py) and was written from the documents alone.
+It is part of the second reading (benches/reading.py) and was written from the documents.
 """
 from dataclasses import dataclass
 

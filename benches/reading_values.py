@@ -1,6 +1,6 @@
 """What expressions read, need and come to, read a second time by docs/definitions.md and docs/plain.md.
 
-It is part of the second reading (benches/reading.py) and was written from the documents alone. A value is a list of
+It is part of the second reading (benches/reading.py) and was written from the documents. A value is a list of
 texts.
 """
 import re

@@ -1,6 +1,6 @@
 """Command words, read a second time by docs/rules.md: how they split into invocations, and which fault is the first.
 
-It is part of the second reading (benches/reading.py) and was written from the documents alone.
+It is part of the second reading (benches/reading.py) and was written from the documents.
 """
 from dataclasses import dataclass
 
